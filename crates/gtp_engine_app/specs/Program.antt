@@ -51,8 +51,8 @@ streams ends errors = record { ends = ends; errors = errors }
 pub data FreshCameOut {P : Type 0} (may : May P) (rule : KoRule) (fault : Fault) (policy : P)
     : Result Served ServeFault → Ends → Ends → Type 0 where
   held : {engine : Engine P} {served : Result Served ServeFault} {before after : Ends}
-      → CameOut may fault most_reads (fresh_under rule policy) engine served before.input after.input
-      before.output after.output
+      → CameOut may fault most_reads (fresh_under rule policy) engine before.input after.input
+      before.output after.output served
       → FreshCameOut may rule fault policy served before after
 
 -- what the words ask for: the options, with the book and the fault that their texts spell

@@ -1,8 +1,8 @@
--- What one read gives to the loop over the reads, and what the writer was after the answers to it.
-use Rattle.std.specs.Prelude.{◌≡◌, ℕ, ◌<◌, ◌≤◌, false, List, [], length, take, Option, Some, None, Result, Ok, Err}
+-- What one read gives to the loop over the reads.
+use Rattle.std.specs.Prelude.{◌≡◌, ℕ, ◌<◌, ◌≤◌, List, [], length, take, Option, Some, None, Result, Ok, Err}
 use Rattle.std.specs.Io.KnownBytes.{Consumes, Keeps, IsAtEnd}
 use Rattle.byte_streams.specs.Counts.{raised}
-use Rattle.byte_streams.specs.Streams.{Source, Sink}
+use Rattle.byte_streams.specs.Streams.{Source}
 
 -- the reader gave these bytes, at least one, and put them at the front of the buffer
 pub record GivesBytes (gives gives_now : Option (List ℕ)) (count : ℕ) (buffer : List ℕ) : Type 0 where
@@ -22,8 +22,3 @@ module _ {E : Type 0} where
   EndsBy reader reader_now (Ok (Some count)) = (reader_now.ends ≡ reader.ends) × (reader_now.last ≡ Some count)
   EndsBy reader reader_now (Ok None) = (reader_now.ends ≡ raised reader.ends 1) × (reader_now.last ≡ Some 0)
   EndsBy reader reader_now (Err _) = (reader_now.ends ≡ reader.ends) × (reader_now.last ≡ None)
-
--- No call of the writer failed, and where nothing waited for a flush, nothing does now.
-pub record WentWell (writer writer_now : Sink) : Type 0 where
-  pub held : writer_now.failures ≡ writer.failures
-  pub flushed : writer.waiting ≡ false → writer_now.waiting ≡ false
