@@ -3,7 +3,6 @@ ghost use Rattle.std.specs.Prelude.{◌≡◌, ◌+◌, ◌<◌, ◌≤◌, ◌+
 ghost use Rattle.arrayvec.specs.ArrayVec.{array_vec_len};
 ghost use Rattle.gtp_match.specs.Losing.{CanBeShown};
 ghost use Rattle.gtp_wire.specs.Replies.{most_shown};
-ghost use Rattle.gtp_match.specs.ResultLine.{side_name};
 ghost use Rattle.std.specs.Fmt.{decimal};
 ghost use Rattle.std.specs.List.{join_with_byte};
 ghost use Rattle.go_base.specs.Bytes.{space};
@@ -17,7 +16,7 @@ use crate::why::TurnLoss;
 use arrayvec::ArrayVec;
 use go_base::{Side, push, write_int};
 use go_board::PlayFault;
-use gtp_match::{LossCause, Owed, Retake, SentCommand, SideFault};
+use gtp_match::{LossCause, Owed, Retake, SentCommand, SideFault, side_name};
 use gtp_process::{Ending, PipeCause, pipe_text, push_ending, push_quoted, push_unstarted};
 use gtp_wire::{Command, CommandText, write_command};
 
@@ -97,16 +96,6 @@ fn push_loss(line: &mut ReportLine, loss: &TurnLoss, ending: Ending)
             push(line, wrong_text(loss.cause));
             push_wrote(line, &loss.owed.bytes);
         }
-    }
-}
-
-fn side_name(side: Side) -> &'static [u8]
-    ensures text { result.now ≡ side_name side }
-    ensures few { length result.now ≤ 5 }
-{
-    match side {
-        Side::Black => b"black",
-        Side::White => b"white",
     }
 }
 
