@@ -113,7 +113,7 @@ pub fn text_at<'a>(matches: &ArgMatches<'a>, name: &str) -> &'a str
 }
 
 /// The texts of an option that is used any number of times, and none where it has none.
-pub fn texts_at<'a>(matches: &'a ArgMatches<'a>, name: &str) -> &'a [&'a str]
+pub fn texts_at<'m, 'a>(matches: &'m ArgMatches<'a>, name: &str) -> &'m [&'a str]
     ensures { map (λ text. text.now) result.now
         ≡ option_texts name.now (rows_of (found_of matches.now)) }
 {

@@ -1,20 +1,18 @@
 //! The options of the command line.
-ghost use Rattle.std.specs.Prelude.{◌≡◌, ◌⊎◌, ◌<◌, ◌+◌, ◌≤◌, [], ◌∷◌, ◌++◌, codes, length, map, unwrap_or};
-ghost use Rattle.std.specs.Prelude.{false, if◌then◌else◌, option_map, IfOk, IfErr};
+ghost use Rattle.std.specs.Prelude.{◌≡◌, ◌⊎◌, ◌<◌, ◌+◌, ◌≤◌, [], ◌∷◌, ◌++◌, codes, length, map};
+ghost use Rattle.std.specs.Prelude.{false, if◌then◌else◌, IfOk, IfErr};
 ghost use Rattle.std.specs.List.{list_any};
 ghost use Rattle.std.specs.Str.{bytes_eq};
 ghost use Rattle.arrayvec.specs.ArrayVec.{array_vec_len};
-ghost use Rattle.clap.specs.Words.{all_of, app_of, first_of, first_value, found_of, kind_of, rows_of, rule_of};
+ghost use Rattle.clap.specs.Words.{app_of, found_of, kind_of, rows_of, rule_of};
 ghost use Rattle.clap.specs.declared.error.kind.ErrorKind.TheVariants.{OutOfMemory};
-ghost use Rattle.clap.specs.declared.builder.value_parser.ValueParser.TheVariants as the_parser;
-ghost use Rattle.gtp_check_app.specs.Options.{Ask, AsksFor, HasFault, HasFlag, HasNumber, default_rule, flag_rule};
-ghost use Rattle.gtp_check_app.specs.Options.{is_named, ko_rule_named, lessons_named, lessons_of, list_rule, program};
-ghost use Rattle.gtp_check_app.specs.Options.{value_rule, word_rule};
-ghost use Rattle.gtp_check_app.specs.private.CommandLine.{IsCommandLine, rule_of_row, with_options};
+ghost use Rattle.gtp_check_app.specs.Options.{Ask, AsksFor, HasFault, is_named, ko_rule_named, lessons_named};
+ghost use Rattle.gtp_check_app.specs.Options.{program, word_rule};
+ghost use Rattle.gtp_check_app.specs.private.CommandLine.{IsCommandLine};
 
-use clap::builder::ValueParser;
-use clap::{Arg, ArgAction, ArgMatches, Command, Error};
+use clap::{Arg, ArgMatches, Command, Error};
 use cli::VERSION;
+use cli::options::{OptionRow, Takes, flag_at, number_at, text_at, texts_at, with_options};
 use go_board::KoRule;
 use gtp_check_questions::{LESSONS, Lesson, Lessons};
 use std::alloc::{AllocError, Global};
@@ -64,48 +62,39 @@ pub struct Options<'a> {
     pub restarts: u32,
 }
 
-/// An option of the command line.
-#[derive(Clone, Copy)]
-struct OptionRow<'a> {
-    /// The name that follows the two dashes.
-    name: &'a str,
-    /// What follows the name.
-    takes: Takes<'a>,
-    /// What the help says.
-    help: &'a str,
-}
-
-/// What an option takes.
-#[derive(Clone, Copy)]
-enum Takes<'a> {
-    /// No value.
-    Nothing,
-    /// A whole number, from the first to the second; what the text spells where the words don't say.
-    Number(i64, i64, &'a str),
-    /// A whole number, from the first to the second, or none.
-    MaybeNumber(i64, i64),
-    /// One of these names; the second where the words don't say.
-    Name(&'a [&'a str], &'a str),
-    /// One of these names, any number of times.
-    Names(&'a [&'a str]),
-}
+/// The names of the lessons, in the order of a course.
+static LESSON_NAMES: [&str; 13] = [
+    "start",
+    "sizes",
+    "ko",
+    "captures",
+    "suicide",
+    "joining",
+    "handicaps",
+    "komi",
+    "drawn",
+    "record",
+    "genmoves",
+    "games",
+    "restarts",
+];
 
 /// The options, in the order of the help.
 static OPTIONS: [OptionRow<'static>; 9] = [
     OptionRow {
         name: "size",
-        takes: Takes::MaybeNumber(5, 25),
+        takes: Takes::MaybeNumber("N", 5, 25),
         help: "Size of the boards of scenes, 5 to 25 [default: the\n\
             smallest from 5 that the engine takes]",
     },
     OptionRow {
         name: "ko",
-        takes: Takes::Name(&["simple", "positional"], "simple"),
+        takes: Takes::Name("RULE", &["simple", "positional"], "simple"),
         help: "Rule of ko: simple or positional",
     },
     OptionRow {
         name: "seed",
-        takes: Takes::Number(0, 4294967295, "1"),
+        takes: Takes::Number("N", 0, 4294967295, "1"),
         help: "Seed of what is drawn, 0 to 4294967295",
     },
     OptionRow {
@@ -115,41 +104,13 @@ static OPTIONS: [OptionRow<'static>; 9] = [
     },
     OptionRow {
         name: "only",
-        takes: Takes::Names(&[
-            "start",
-            "sizes",
-            "ko",
-            "captures",
-            "suicide",
-            "joining",
-            "handicaps",
-            "komi",
-            "drawn",
-            "record",
-            "genmoves",
-            "games",
-            "restarts",
-        ]),
+        takes: Takes::Names("LESSON", &LESSON_NAMES),
         help: "Ask this lesson, and no others but those that are\n\
             named so too",
     },
     OptionRow {
         name: "skip",
-        takes: Takes::Names(&[
-            "start",
-            "sizes",
-            "ko",
-            "captures",
-            "suicide",
-            "joining",
-            "handicaps",
-            "komi",
-            "drawn",
-            "record",
-            "genmoves",
-            "games",
-            "restarts",
-        ]),
+        takes: Takes::Names("LESSON", &LESSON_NAMES),
         help: "Leave this lesson out",
     },
     OptionRow {
@@ -164,7 +125,7 @@ static OPTIONS: [OptionRow<'static>; 9] = [
     },
     OptionRow {
         name: "restarts",
-        takes: Takes::Number(0, 1000, "200"),
+        takes: Takes::Number("N", 0, 1000, "200"),
         help: "Starts after something was found,\n\
             0 to 1000",
     },
@@ -188,55 +149,24 @@ fn options_of<'a>(matches: &ArgMatches<'a>) -> Options<'a>
     Options {
         command: text_at(matches, "CMD"),
         size: number_at(matches, "size"),
-        rule: ko_rule_of(matches),
+        rule: ko_rule_named(text_at(matches, "ko")),
         seed: number_at(matches, "seed"),
         quick: flag_at(matches, "quick"),
-        only: lessons_at(matches, "only"),
-        skip: lessons_at(matches, "skip"),
+        only: lessons_named(texts_at(matches, "only")),
+        skip: lessons_named(texts_at(matches, "skip")),
         list: flag_at(matches, "list"),
         singly: flag_at(matches, "singly"),
         restarts: number_at(matches, "restarts"),
     }
 }
 
-/// The text of an option, and none where it has none.
-fn text_at<'a>(matches: &ArgMatches<'a>, name: &str) -> &'a str
-    ensures { result.now ≡ unwrap_or (first_of name.now (rows_of (found_of matches.now))) [] }
+/// The ko rule of this name.
+fn ko_rule_named(name: &str) -> KoRule
+    ensures { result ≡ ko_rule_named name.now }
 {
-    matches.get_str(name).unwrap_or("")
-}
-
-/// The number of an option, and 0 where it has none.
-fn number_at(matches: &ArgMatches<'_>, name: &str) -> u32
-    ensures { HasNumber name.now (rows_of (found_of matches.now)) result }
-{
-    matches.get_one::<u32>(name).unwrap_or(0)
-}
-
-/// Whether a flag is used.
-fn flag_at(matches: &ArgMatches<'_>, name: &str) -> bool
-    ensures { HasFlag name.now (rows_of (found_of matches.now)) result }
-{
-    matches.get_flag(name)
-}
-
-/// The ko rule that the matches name.
-fn ko_rule_of(matches: &ArgMatches<'_>) -> KoRule
-    ensures { result ≡ ko_rule_named (first_value (found_of matches.now) (codes "ko")) }
-{
-    match matches.get_str("ko") {
-        Some("positional") => KoRule::Positional,
+    match name {
+        "positional" => KoRule::Positional,
         _ => KoRule::Simple,
-    }
-}
-
-/// The lessons that an option names, in the order of a course.
-fn lessons_at(matches: &ArgMatches<'_>, name: &str) -> Lessons
-    ensures { result.items ≡ lessons_of name.now (rows_of (found_of matches.now)) }
-{
-    match matches.get_strs(name) {
-        Some(names) => lessons_named(names),
-        None => Lessons::new(),
     }
 }
 
@@ -284,7 +214,7 @@ fn command<'a>(alloc: Global) -> Result<Command<'a>, AllocError>
     with_options(alloc, program(alloc)?, OPTIONS.as_slice())
 }
 
-/// The command line with the engine's command alone.
+/// The command line with the word of the engine's command, and no option yet.
 fn program<'a>(alloc: Global) -> Result<Command<'a>, AllocError>
     ensures { IfOk result (λ command. app_of command ≡ program) }
 {
@@ -304,92 +234,4 @@ fn engine_word<'a>(alloc: Global) -> Arg<'a>
     Arg::new(alloc, "CMD")
         .value_name("CMD")
         .help("Command of the engine, split at spaces")
-}
-
-/// A command line, and the options of these rows after its own.
-fn with_options<'a>(
-    alloc: Global,
-    mut command: Command<'a>,
-    rows: &[OptionRow<'a>],
-) -> Result<Command<'a>, AllocError>
-    ensures { IfOk result (λ with. app_of with ≡ with_options (app_of command.entry) rows.now) }
-{
-    for row in rows {
-        command = command.arg(option(alloc, *row))?;
-    }
-    Ok(command)
-}
-
-/// The option of a row.
-fn option<'a>(alloc: Global, row: OptionRow<'a>) -> Arg<'a>
-    ensures rule { rule_of result ≡ rule_of_row row.entry }
-    ensures local { result.global ≡ false }
-{
-    match row.takes {
-        Takes::Number(least, most, default) => {
-            value(
-                alloc,
-                row.name,
-                ValueParser::Signed(least, most),
-                "N",
-                row.help,
-            )
-            .default_value(default)
-        }
-        Takes::MaybeNumber(least, most) => {
-            value(
-                alloc,
-                row.name,
-                ValueParser::Signed(least, most),
-                "N",
-                row.help,
-            )
-        }
-        Takes::Name(names, default) => {
-            value(alloc, row.name, ValueParser::Names(names), "RULE", row.help)
-                .default_value(default)
-                .hide_possible_values(true)
-        }
-        Takes::Names(names) => {
-            value(
-                alloc,
-                row.name,
-                ValueParser::Names(names),
-                "LESSON",
-                row.help,
-            )
-            .action(ArgAction::Append)
-            .hide_possible_values(true)
-        }
-        Takes::Nothing => flag(alloc, row.name, row.help),
-    }
-}
-
-/// An option that takes a value.
-fn value<'a>(
-    alloc: Global,
-    name: &'a str,
-    parser: ValueParser<'a>,
-    value_name: &'a str,
-    help: &'a str,
-) -> Arg<'a>
-    ensures rule { rule_of result ≡ value_rule name.entry.now parser.entry }
-    ensures local { result.global ≡ false }
-{
-    Arg::new(alloc, name)
-        .long(name)
-        .value_name(value_name)
-        .value_parser(parser)
-        .help(help)
-}
-
-/// An option that takes no value.
-fn flag<'a>(alloc: Global, name: &'a str, help: &'a str) -> Arg<'a>
-    ensures rule { rule_of result ≡ flag_rule name.entry.now }
-    ensures local { result.global ≡ false }
-{
-    Arg::new(alloc, name)
-        .long(name)
-        .action(ArgAction::SetTrue)
-        .help(help)
 }

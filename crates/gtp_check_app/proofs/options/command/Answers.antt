@@ -7,8 +7,8 @@ pub returns : goal.returns
 returns c =
     let are : AreOptions c.as_slice.result.now = rw c.as_slice.ensures (record {
       names = record { rules = _; only = _; skip = _ };
-      are_names = record { rules = refl; only = refl; skip = refl };
-      is = refl;
+      are_kept = record { rules = refl; only = refl; skip = refl };
+      are = refl;
     }) in
     IfOk-weaker c.with_options.result _ _
     (λ with made. command_line-from_rows _ _ c.as_slice.result.now are c.in_ok-program.ensures made)

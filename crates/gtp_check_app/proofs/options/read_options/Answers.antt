@@ -12,7 +12,7 @@ returns-clause-asked g c =
     let words = map g.S.AsStr.text c.args.words.now in
     record {
       names = line.names;
-      are_names = line.are_names;
+      are_kept = line.are_kept;
       no_fault = sym (ap (λ app. fault_of app words) line.is)
           ∙ c.in_ok-matches.ensures.kinds
           (ap is_simple_and_free line.is ∙ is_simple_and_free-command_line line.names);
@@ -29,6 +29,6 @@ returns-in_err-matches-clause-fault g c =
     let error = c.in_err-matches.field-0.0 in
     let exit = c.from_residual-in_err-matches in
     let is_given = err_from_is_err_and exit.result exit.ensures.1 in
-    rw (is_given.1, is_given.2) (fault_from_kind line.names words error line.are_names
+    rw (is_given.1, is_given.2) (fault_from_kind line.names words error line.are_kept
     (subst (λ (app : App). HasKind (fault_of app words) error) line.is
     (c.in_err-matches.ensures.kinds (ap is_simple_and_free line.is ∙ is_simple_and_free-command_line line.names))))
