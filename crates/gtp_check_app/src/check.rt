@@ -247,9 +247,7 @@ impl<S: Starter> Check<S> {
     /// What was asked is sent, and the engine is heard.
     fn exchange(&mut self) -> Option<Fault>
         requires { IsSome self.old.engine }
-        ensures heard {
-            IsHeardOut S.Process.Process (state_of self.old) result (state_of self.new)
-        }
+        ensures heard { IsHeardOut S.Process.Process (state_of self.old) result (state_of self.new) }
         ensures there { IsSome self.new.engine }
     {
         match &mut self.engine {

@@ -53,8 +53,7 @@ pub fn run<S: AsStr, R: Incoming, W: Outgoing, E: WriteOnce>(
     // Any other status is that of the conversation that the words ask for; or they ask for help,
     // and nothing was read; or nothing was read, nothing went to the output, and it is
     // reported that memory was refused. With status 3 the failure is reported, and nothing else.
-    ensures served {
-        let before = streams (ends (R.shown input.old) (W.shown output.old)) errors.old in
+    ensures served { let before = streams (ends (R.shown input.old) (W.shown output.old)) errors.old in
         let after = streams (ends (R.shown input.new) (W.shown output.new)) errors.new in
         result ≢ usage_failure → HasServed E.WriteOnce (map S.text words.now) result before after
         ⊎ ((input.new ≡ input.old)

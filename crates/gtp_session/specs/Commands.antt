@@ -152,21 +152,22 @@ asked_by row game arguments = asked_by_effect row.effect (row.refusal game) argu
 
 -- ---- what is against a command
 
--- sizes are 1 to 25
+-- why a size is refused: it is not 1 to 25
 abbrev pub size_refusal : ℕ → Option (List ℕ)
 size_refusal size = if nat_le 1 size && nat_le size most_size then None else Some (codes "unacceptable size")
 
--- the record has room for a move
+-- why a move is refused before it is known: the record has no room for one
 abbrev pub full_refusal : GameRecord → Option (List ℕ)
 full_refusal game = if nat_le most_moves (length game.moves) then Some (codes "record full") else None
 
--- the record has room, and the move is legal
+-- why a move is refused: the record has no room for it, or else it is not legal
 abbrev pub move_refusal : GameRecord → Move → Option (List ℕ)
 move_refusal game move =
     if nat_le most_moves (length game.moves) then Some (codes "record full")
     else elim (legal? game move.colour move.vertex) [ yes _ ↦ None | no _ ↦ Some (codes "illegal move") ]
 
--- no stone is on the board and no move in the record, and the size allows that number of stones
+-- why handicap stones are refused: a stone is on the board or a move in the record, or else the size does not allow
+-- that number of them
 abbrev pub handicap_refusal : GameRecord → ℕ → Option (List ℕ)
 handicap_refusal game stones =
     elim (touched? game) [
@@ -174,7 +175,7 @@ handicap_refusal game stones =
       | no _ ↦ elim (allows? game.size stones) [ yes _ ↦ None | no _ ↦ Some (codes "invalid number of stones") ]
     ]
 
--- there is a move to take back
+-- why `undo` is refused: there is no move to take back
 abbrev pub undo_refusal : GameRecord → Option (List ℕ)
 undo_refusal game = if nat_le 1 (length game.moves) then None else Some (codes "cannot undo")
 

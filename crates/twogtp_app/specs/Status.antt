@@ -9,7 +9,7 @@ use Rattle.twogtp_app.specs.declared.failure.Mistake.{Mistake}
 use Rattle.twogtp_app.specs.declared.failure.Mistake.TheVariants.{NoBlackCommand, NoWhiteCommand, BadKomi, BadHandicap}
 use Rattle.byte_streams.specs.declared.calls.WriteOnce.{Ghosts}
 
--- in some game a side was unfit or given up
+-- in some game a side was unfit or abandoned
 abbrev pub some_given_up : ℕ
 some_given_up = 1
 

@@ -22,7 +22,8 @@ use gtp_match::{Action, Match, Setup, Verdict};
 use gtp_process::{READ_ROOM, StartFault, Starter, Unstarted, end};
 use std::alloc::AllocError;
 
-/// How many turns a game has at most. No match within the limits has this number.
+/// How many turns a game has at most. A turn is one start, one send or one read, and no move. No match within the
+/// limits has this number.
 const MOST_TURNS: u64 = 1_000_000_000_000;
 
 /// A game that is played. It is not `Drop`: its processes have to be ended.

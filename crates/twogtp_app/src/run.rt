@@ -22,7 +22,7 @@ use std::convert::AsStr;
 /// text of each to `output`, and returns the status that the program ends with:
 ///
 /// - 0 where each game ended by the rules, and where the words ask for help or the version, which goes to `output`;
-/// - 1 where in some game a side was unfit or given up;
+/// - 1 where in some game a side was unfit or abandoned;
 /// - 2 where the words have a mistake;
 /// - 3 where the output or a line of `--why` can't be written, memory was refused, or a game had too many turns.
 ///

@@ -19,7 +19,6 @@ use Rattle.gtp_match.specs.declared.unanswered.SentCommand.{SentCommand}
 use Rattle.gtp_match.specs.declared.verdicts.Action.TheVariants as action
 use Rattle.gtp_match.proofs.hearing.LeftAlone.{send_leaves, sent_is_owed}
 use Rattle.gtp_match.proofs.scripts.Lines.{sent_line}
-use Rattle.vintsaky_calls.specs.Codes.{colour_code}
 use Rattle.vintsaky_calls.specs.Laws.{unanswered_by, unanswered_of, WroteOneMore, SentWereWritten, WrittenWereSent}
 use Rattle.vintsaky_calls.specs.Matches.{most_command, Sends}
 use Rattle.vintsaky_calls.specs.Texts.{Puts}
@@ -81,18 +80,17 @@ where_sent old new number before after count side sound sends =
     (at_side old sends.side _ sends.text before after count refl sound sends.due sends.is sends.puts sends.room
     sends.count_is))
 
--- two colours of one number are one
-same_colour : (s t : Colour) → colour_code s ≡ colour_code t → s ≡ t
-same_colour Black Black e = refl
-same_colour White White e = refl
-
 pub were_sent : WrittenWereSent
-were_sent side old new text_old text_new count_old count_new sound did =
-    let sends = did.sent in
-    rw sends.new_is
-    (rw (same_colour side sends.side sends.number_is)
-    (at_side old sends.side _ sends.text text_old text_new count_new refl sound sends.due sends.is sends.puts sends.room
-    sends.count_is))
+were_sent number old new text_old text_new count_old count_new sound did =
+    let sends = did.sent in (
+      sends.side,
+      (
+        sends.number_is,
+        rw sends.new_is
+            (at_side old sends.side _ sends.text text_old text_new count_new refl sound sends.due sends.is sends.puts sends.room
+            sends.count_is),
+      ),
+    )
 
 pub were_written : SentWereWritten
 were_written number old new text_old text_new count_old count_new (Ok done) side sound did =

@@ -47,12 +47,13 @@ SentWereWritten =
     → (unanswered_of new side ≡ unanswered_of old side)
     ⊎ WroteOneMore (unanswered_of old side) (unanswered_of new side) text_new count_new
 
--- What was written counts as sent: where `send` succeeds for a side, that side has one command more unanswered.
+-- What was written counts as sent: where `send` succeeds, the side of its number has one command more unanswered.
 abbrev pub WrittenWereSent : Type 0
 WrittenWereSent =
-    (side : Colour) (old new : Controller) (text_old text_new : List ℕ) (count_old count_new : ℕ) → IsSound old
-    → SendCall (colour_code side) old new text_old text_new count_old count_new (Ok tt)
-    → WroteOneMore (unanswered_of old side) (unanswered_of new side) text_new count_new
+    (number : ℕ) (old new : Controller) (text_old text_new : List ℕ) (count_old count_new : ℕ) → IsSound old
+    → SendCall number old new text_old text_new count_old count_new (Ok tt)
+    → (side : Colour) × (number ≡ colour_code side)
+    × WroteOneMore (unanswered_of old side) (unanswered_of new side) text_new count_new
 
 -- ---- own commands of an engine
 
