@@ -53,13 +53,6 @@ pub now-unwrap_or : (o : Option (Bor Text)) (d : Bor Text) → d.now ≡ []
 now-unwrap_or None d e = e
 now-unwrap_or (Some s) d e = refl
 
--- texts, or none
-pub texts-unwrap_or : (o : Option (Bor (List (Bor Text)))) (d : Bor (List (Bor Text))) → d.now ≡ []
-    → map (λ text. text.now) (unwrap_or o d).now
-    ≡ unwrap_or (option_map (λ s. map (λ text. text.now) s.now) o) []
-texts-unwrap_or None d e = ap (λ (texts : List (Bor Text)). map (λ text. text.now) texts) e
-texts-unwrap_or (Some s) d e = refl
-
 -- what a getter of numbers of 32 bits read of a text is what the text spells
 pub ReadsOne-spells : (E : Type 0) (G : List ℕ → Result ℕ E → Type 0) (text : Text) (read : Option ℕ) (default : ℕ)
     → ReadsOne G text read → ((x : Result ℕ E) → G text x → ParsesUnsigned 32 10 text x)

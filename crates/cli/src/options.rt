@@ -1,7 +1,7 @@
 //! The options of a command line: a table of them, and what was found of each in the words.
-ghost use Rattle.std.specs.Prelude.{◌≡◌, false, map, IfOk};
-ghost use Rattle.clap.specs.Words.{app_of, found_of, rows_of, rule_of};
-ghost use Rattle.cli.specs.Options.{HasFlag, HasNumber, named_rule, option_text, option_texts};
+ghost use Rattle.std.specs.Prelude.{◌≡◌, false, map, option_map, IfOk};
+ghost use Rattle.clap.specs.Words.{all_of, app_of, found_of, rows_of, rule_of};
+ghost use Rattle.cli.specs.Options.{HasFlag, HasNumber, named_rule, option_text};
 ghost use Rattle.cli.specs.Options.{rule_of_row, value_rule, with_rules};
 
 use clap::builder::ValueParser;
@@ -112,12 +112,12 @@ pub fn text_at<'a>(matches: &ArgMatches<'a>, name: &str) -> &'a str
     matches.get_str(name).unwrap_or("")
 }
 
-/// The texts of an option that is used any number of times, and none where it has none.
-pub fn texts_at<'m, 'a>(matches: &'m ArgMatches<'a>, name: &str) -> &'m [&'a str]
-    ensures { map (λ text. text.now) result.now
-        ≡ option_texts name.now (rows_of (found_of matches.now)) }
+/// The texts of an option that is used any number of times, or `None` where the words don't use it.
+pub fn texts_at<'m, 'a>(matches: &'m ArgMatches<'a>, name: &str) -> Option<&'m [&'a str]>
+    ensures { option_map (λ texts. map (λ text. text.now) texts.now) result
+        ≡ all_of name.now (rows_of (found_of matches.now)) }
 {
-    matches.get_strs(name).unwrap_or(&[])
+    matches.get_strs(name)
 }
 
 /// The number of an option, and 0 where it has none.

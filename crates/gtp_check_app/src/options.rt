@@ -6,6 +6,7 @@ ghost use Rattle.std.specs.Str.{bytes_eq};
 ghost use Rattle.arrayvec.specs.ArrayVec.{array_vec_len};
 ghost use Rattle.clap.specs.Words.{app_of, found_of, kind_of, rows_of, rule_of};
 ghost use Rattle.clap.specs.declared.error.kind.ErrorKind.TheVariants.{OutOfMemory};
+ghost use Rattle.cli.specs.Options.{option_texts};
 ghost use Rattle.gtp_check_app.specs.Options.{Ask, AsksFor, HasFault, is_named, ko_rule_named, lessons_named};
 ghost use Rattle.gtp_check_app.specs.Options.{program, word_rule};
 ghost use Rattle.gtp_check_app.specs.private.CommandLine.{IsCommandLine};
@@ -152,8 +153,8 @@ fn options_of<'a>(matches: &ArgMatches<'a>) -> Options<'a>
         rule: ko_rule_named(text_at(matches, "ko")),
         seed: number_at(matches, "seed"),
         quick: flag_at(matches, "quick"),
-        only: lessons_named(texts_at(matches, "only")),
-        skip: lessons_named(texts_at(matches, "skip")),
+        only: lessons_at(matches, "only"),
+        skip: lessons_at(matches, "skip"),
         list: flag_at(matches, "list"),
         singly: flag_at(matches, "singly"),
         restarts: number_at(matches, "restarts"),
@@ -167,6 +168,17 @@ fn ko_rule_named(name: &str) -> KoRule
     match name {
         "positional" => KoRule::Positional,
         _ => KoRule::Simple,
+    }
+}
+
+/// The lessons that an option names, in the order of a course.
+fn lessons_at(matches: &ArgMatches<'_>, name: &str) -> Lessons
+    ensures { result.items
+        ≡ lessons_named (option_texts name.now (rows_of (found_of matches.now))) }
+{
+    match texts_at(matches, name) {
+        Some(names) => lessons_named(names),
+        None => Lessons::new(),
     }
 }
 
