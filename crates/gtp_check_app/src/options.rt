@@ -63,23 +63,6 @@ pub struct Options<'a> {
     pub restarts: u32,
 }
 
-/// The names of the lessons, in the order of a course.
-static LESSON_NAMES: [&str; 13] = [
-    "start",
-    "sizes",
-    "ko",
-    "captures",
-    "suicide",
-    "joining",
-    "handicaps",
-    "komi",
-    "drawn",
-    "record",
-    "genmoves",
-    "games",
-    "restarts",
-];
-
 /// The options, in the order of the help.
 static OPTIONS: [OptionRow<'static>; 9] = [
     OptionRow {
@@ -105,13 +88,47 @@ static OPTIONS: [OptionRow<'static>; 9] = [
     },
     OptionRow {
         name: "only",
-        takes: Takes::Names("LESSON", &LESSON_NAMES),
+        takes: Takes::Names(
+            "LESSON",
+            &[
+                "start",
+                "sizes",
+                "ko",
+                "captures",
+                "suicide",
+                "joining",
+                "handicaps",
+                "komi",
+                "drawn",
+                "record",
+                "genmoves",
+                "games",
+                "restarts",
+            ],
+        ),
         help: "Ask this lesson, and no others but those that are\n\
             named so too",
     },
     OptionRow {
         name: "skip",
-        takes: Takes::Names("LESSON", &LESSON_NAMES),
+        takes: Takes::Names(
+            "LESSON",
+            &[
+                "start",
+                "sizes",
+                "ko",
+                "captures",
+                "suicide",
+                "joining",
+                "handicaps",
+                "komi",
+                "drawn",
+                "record",
+                "genmoves",
+                "games",
+                "restarts",
+            ],
+        ),
         help: "Leave this lesson out",
     },
     OptionRow {
