@@ -84,12 +84,10 @@ pub were_sent : WrittenWereSent
 were_sent number old new text_old text_new count_old count_new sound did =
     let sends = did.sent in (
       sends.side,
-      (
-        sends.number_is,
-        rw sends.new_is
-            (at_side old sends.side _ sends.text text_old text_new count_new refl sound sends.due sends.is sends.puts sends.room
-            sends.count_is),
-      ),
+      sends.number_is,
+      rw sends.new_is
+          (at_side old sends.side _ sends.text text_old text_new count_new refl sound sends.due sends.is sends.puts
+          sends.room sends.count_is),
     )
 
 pub were_written : SentWereWritten
