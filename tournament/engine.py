@@ -1,6 +1,9 @@
 #!/usr/bin/env python3
 """A Go engine to start from: it moves at random, but not into its own eyes. Usage: engine.py [SEED]"""
-import random, sys
+import random, signal, sys
+
+COMMANDS = ("protocol_version name version known_command list_commands quit boardsize clear_board komi play genmove"
+            " fixed_handicap undo").split()
 
 def dead_chain(board, vertex):  # the chain of the stone there; empty where it has a liberty
     chain = [vertex]
@@ -21,18 +24,28 @@ def choose(colour):  # a legal vertex that isn't an eye of its own, or a pass
     good = (v for v in random.sample(list(beside), len(beside)) if any(boards[-1].get(b) != colour for b in beside[v]))
     return next((v for v in good if after(colour, v)), "PASS")
 
+def handicap(n, count):  # the stones' points, or an error where the size doesn't allow so many
+    most = 0 if n < 7 else 9 if n > 7 and n % 2 else 4
+    if boards != [{}]:
+        raise ValueError("board not empty")
+    if not 2 <= count <= most:
+        raise ValueError("invalid number of stones")
+    low, mid, high = 2 + n // 13, n // 2, n - 3 - n // 13
+    stones = [(low, low), (high, high), (low, high), (high, low), (low, mid), (high, mid), (mid, low), (mid, high)]
+    return [at[p] for p in (stones[:count] if count < 5 else stones[:count - count % 2] + [(mid, mid)] * (count % 2))]
+
 def answer(command, *words):  # the text of the reply; an error is a failure
     global at, beside, boards  # the vertices, what lies beside each, and the boards at first and after each move
     n = int(words[0]) if command == "boardsize" else round(len(at) ** 0.5)
     if command in ("boardsize", "clear_board"):
+        if not 1 <= n <= 25:
+            raise ValueError("unacceptable size")
         boards, at = [{}], {(x, y): "ABCDEFGHJKLMNOPQRSTUVWXYZ"[x] + str(y + 1) for x in range(n) for y in range(n)}
         beside = {at[x, y]: [at[p] for p in [(x - 1, y), (x + 1, y), (x, y - 1), (x, y + 1)] if p in at] for x, y in at}
     elif command == "fixed_handicap":
-        low, mid, high, count = 2 + n // 13, n // 2, n - 3 - n // 13, int(words[0])
-        stones = [(low, low), (high, high), (low, high), (high, low), (low, mid), (high, mid), (mid, low), (mid, high)]
-        stones = stones[:count] if count < 5 else stones[:count - count % 2] + [(mid, mid)] * (count % 2)
-        boards = [{at[p]: "b" for p in stones}]
-        return " ".join(boards[0])
+        stones = handicap(n, int(words[0]))
+        boards = [{point: "b" for point in stones}]
+        return " ".join(stones)
     elif command in ("play", "genmove"):
         colour = words[0][0].lower()
         vertex = choose(colour) if command == "genmove" else words[1].upper()
@@ -42,19 +55,29 @@ def answer(command, *words):  # the text of the reply; an error is a failure
         boards.append(board)
         return vertex if command == "genmove" else ""
     elif command == "undo":
-        boards.pop(max(1, len(boards) - 1))  # never the first
-    elif command not in ("komi", "quit"):
+        if len(boards) == 1:
+            raise ValueError("cannot undo")
+        boards.pop()
+    elif command == "known_command":
+        return "true" if words[0] in COMMANDS else "false"
+    elif command not in COMMANDS:
         raise ValueError("unknown command")
-    return ""
+    return {"protocol_version": "2", "name": "sample", "version": "1", "list_commands": "\n".join(COMMANDS)}.get(command, "")
 
+def reply(words):  # the status and the text of the reply
+    try:
+        return "=", answer(*words)
+    except Exception as problem:
+        return "?", problem
+
+signal.signal(signal.SIGPIPE, signal.SIG_DFL)  # it ends quietly where nobody reads what it writes
 answer("boardsize", "19")
 random.seed(sys.argv[-1])
 for line in sys.stdin:
-    number = line.split()[0] if line[0].isdigit() else ""
-    command = line[len(number):].split()
-    try:
-        print(f"={number} {answer(*command)}\n", flush=True)
-    except Exception as problem:
-        print(f"?{number} {problem}\n", flush=True)
-    if command == ["quit"]:
+    words = line.split("#")[0].split()
+    number = words.pop(0) if words and words[0].isdigit() else ""
+    if words:
+        status, text = reply(words)
+        print(f"{status}{number} {text}\n", flush=True)
+    if words == ["quit"]:
         break

@@ -1,6 +1,7 @@
 -- What a run of the program did.
 use Rattle.std.proofs.Common.{◌≡◌, ◌⊎◌, ℕ, Bool, true, false, List, inl, inr, refl, nat_lt}
-use Rattle.std.specs.Prelude.{if◌then◌else◌}
+use Rattle.std.specs.Prelude.{if◌then◌else◌, Result, String}
+use Rattle.std.specs.declared.alloc.AllocError.{AllocError}
 use Rattle.clap.specs.Words.{Text}
 use Rattle.clap.specs.declared.error.kind.ErrorKind.{ErrorKind}
 use Rattle.clap.specs.declared.error.kind.ErrorKind.TheVariants.{OutOfMemory as ClapOutOfMemory}
@@ -8,17 +9,18 @@ use Rattle.byte_streams.specs.declared.calls.WriteOnce.{Ghosts as WriterGhosts}
 use Rattle.gtp_process.specs.declared.starter.Process.{Ghosts}
 use Rattle.gtp_process.specs.Starts.{Attempts}
 use Rattle.cli.specs.Failures.{IsReported, plan_error_status, plan_error_text}
+use Rattle.cli.specs.Requests.{Answers, IsRefused, Outputs, Shows, outputs, writers}
 use Rattle.cli.specs.Status.{IsRequest, done}
 use Rattle.cli.specs.declared.failure.PlanError.{PlanError}
 use Rattle.cli.specs.declared.failure.PlanError.TheVariants.{BadArgument, BadWords, OutOfMemory}
 use Rattle.gtp_check_app.specs.declared.failure.Mistake.{Mistake}
 use Rattle.gtp_check_app.specs.declared.options.Options.{Options}
 use Rattle.gtp_check_app.specs.declared.plan.Plan.{Plan}
-use Rattle.gtp_check_app.specs.Checks.{HasRun, IsHeld, Shows}
+use Rattle.gtp_check_app.specs.Checks.{AsksForList, HasRun, IsHeld}
 use Rattle.gtp_check_app.specs.Options.{AsksFor, HasFault}
 use Rattle.gtp_check_app.specs.Plans.{HasNoPlan}
 use Rattle.gtp_check_app.specs.Status.{IsStatus, mistake_text, program_name, something_found}
-use Rattle.gtp_check_app.specs.private.Answering.{Answers}
+use Rattle.gtp_check_app.specs.private.Answering.{Lists}
 
 -- no request for the help or the version is want of memory
 never_both : (kind : ErrorKind) → kind ≡ ClapOutOfMemory → IsRequest kind → ⊥
@@ -28,21 +30,31 @@ never_both kind refused (inr version) = cc (refused, version)
 module _ {P O E : Type 0} (known : Ghosts P) (outs : WriterGhosts O) (errs : WriterGhosts E) (words : List Text)
     (progress : Bool) (asked : Attempts P) (out : O) (errors : E) where
   -- where `clap` returns an error
-  pub clap_ran : (kind : ErrorKind) → (kind ≡ ClapOutOfMemory) ⊎ HasFault words kind
-      → (status : ℕ) (written : O) (reported : E) → Answers outs errs kind out errors status written reported
-      → HasRun known outs errs words progress asked out errors status asked written reported
-  clap_ran kind fault status written reported (Answers.refused why) = HasRun.no_memory why
-  clap_ran kind fault status written reported (Answers.request text asks shows) =
-      HasRun.shown text
-      (kind, asks, elim fault [ inl refused ↦ absurd (never_both kind refused asks) | inr has ↦ has ]) shows
-  clap_ran kind fault status written reported (Answers.mistake text none not_refused wrote) =
+  pub clap_ran : {A : Type 0} (kind : ErrorKind) (text : Result (String A) AllocError)
+      → (kind ≡ ClapOutOfMemory) ⊎ HasFault words kind
+      → (status : ℕ) (after : Outputs O E)
+      → Answers (writers outs errs) program_name kind text (outputs out errors) status after
+      → HasRun known outs errs words progress asked out errors status asked after.output after.errors
+  clap_ran kind text fault status after (Answers.refused (IsRefused.mistake none not_refused is wrote)) =
       HasRun.mistaken (inl (record {
         kind = kind;
         mistake = none;
         has = elim fault [ inl refused ↦ absurd (not_refused refused) | inr has ↦ has ];
-        text = text;
+        text = _;
         written = wrote;
       }))
+  clap_ran kind text fault status after (Answers.refused (IsRefused.no_memory why reports)) =
+      HasRun.no_memory reports
+  clap_ran kind text fault status after (Answers.shown asks is shows) =
+      HasRun.shown _
+      (kind, asks, elim fault [ inl refused ↦ absurd (never_both kind refused asks) | inr has ↦ has ]) shows
+
+  -- where the words ask for the list
+  pub list_ran : AsksForList words → (status : ℕ) (after : Outputs O E)
+      → Lists (writers outs errs) (outputs out errors) status after
+      → HasRun known outs errs words progress asked out errors status asked after.output after.errors
+  list_ran asks status after (Lists.shown shows) = HasRun.listed asks shows
+  list_ran asks status after (Lists.refused reports) = HasRun.no_memory reports
 
   -- where the options come to no plan
   pub no_plan_ran : (options : Options) → AsksFor words options → (error : PlanError Mistake) → HasNoPlan options error
@@ -64,11 +76,23 @@ module _ {P O E : Type 0} (known : Ghosts P) (outs : WriterGhosts O) (errs : Wri
 module _ {P O E : Type 0} (known : Ghosts P) (outs : WriterGhosts O) (errs : WriterGhosts E)
     (progress : Bool) (asked : Attempts P) (out : O) (errors : E) where
   -- each status is one of the four
-  pub shown_status : (text : List ℕ) (status : ℕ) (written : O) (reported : E)
-      → Shows outs errs text out errors status written reported → IsStatus status
-  shown_status text status written reported (Shows.went_out goes) = inl refl
-  shown_status text status written reported (Shows.broke breaks reports) = inr (inr (inr refl))
-  shown_status text status written reported (Shows.refused reports) = inr (inr (inr refl))
+  shown_status : {name text : List ℕ} (status : ℕ) (after : Outputs O E)
+      → Shows (writers outs errs) name text (outputs out errors) status after → IsStatus status
+  shown_status status after (Shows.went_out goes) = inl refl
+  shown_status status after (Shows.broke breaks reports) = inr (inr (inr refl))
+
+  pub listed_status : (status : ℕ) (after : Outputs O E)
+      → Lists (writers outs errs) (outputs out errors) status after → IsStatus status
+  listed_status status after (Lists.shown shows) = shown_status status after shows
+  listed_status status after (Lists.refused reports) = inr (inr (inr refl))
+
+  pub answered_status : {A : Type 0} {name : List ℕ} (kind : ErrorKind) (text : Result (String A) AllocError)
+      (status : ℕ) (after : Outputs O E)
+      → Answers (writers outs errs) name kind text (outputs out errors) status after → IsStatus status
+  answered_status kind text status after (Answers.refused (IsRefused.mistake none not_refused is wrote)) =
+      inr (inr (inl refl))
+  answered_status kind text status after (Answers.refused (IsRefused.no_memory why reports)) = inr (inr (inr refl))
+  answered_status kind text status after (Answers.shown asks is shows) = shown_status status after shows
 
   found_status : (some : Bool) → IsStatus (if some then something_found else done)
   found_status true = inr (inl refl)

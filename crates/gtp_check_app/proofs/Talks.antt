@@ -9,7 +9,7 @@ use Rattle.gtp_wire.specs.declared.replies.Reply.{Reply}
 use Rattle.gtp_wire.specs.declared.replies.ReplyFault.{ReplyFault}
 use Rattle.gtp_process.specs.declared.starter.Process.{Ghosts}
 use Rattle.gtp_check_judge.specs.declared.judging.Judgement.{Judgement}
-use Rattle.gtp_check_judge.specs.declared.judging.Judgement.TheVariants.{Right, Plays, Resized, Wrong}
+use Rattle.gtp_check_judge.specs.declared.judging.Judgement.TheVariants.{Right, Plays, Resized, Undone, Wrong}
 use Rattle.gtp_check_judge.specs.declared.judging.Kind.{Kind}
 use Rattle.gtp_check_judge.specs.declared.unanswered.Asked.{Asked}
 use Rattle.gtp_check_judge.specs.declared.exam.Exam.{Exam}
@@ -35,6 +35,7 @@ judged_up : (exam : Exam) (entry : Asked) (got : Judgement) → None ≡ finding
 judged_up exam entry Right none = refl
 judged_up exam entry (Plays colour v) none = refl
 judged_up exam entry (Resized size) none = refl
+judged_up exam entry Undone none = refl
 judged_up exam entry (Wrong kind) none = absurd (cc none)
 
 id_up : (exam : Exam) (entry : Asked) (reply : Reply) (same : Bool) (new : Exam)

@@ -12,7 +12,8 @@ use Rattle.gtp_process.specs.Endings.{IsEnded}
 use Rattle.gtp_process.specs.Quitting.{QuitsIfAny}
 use Rattle.gtp_process.specs.Shown.{unstarted_text}
 use Rattle.gtp_process.specs.Starts.{Attempts}
-use Rattle.cli.specs.Status.{IsRequest, done, error_line, own_failure, usage_failure}
+use Rattle.cli.specs.Requests.{Shows, outputs, writers}
+use Rattle.cli.specs.Status.{IsRequest, error_line, own_failure, usage_failure}
 use Rattle.cli.specs.declared.failure.Failure.{Failure}
 use Rattle.cli.specs.declared.failure.Failure.TheVariants.{OutOfMemory, Write}
 use Rattle.gtp_check_app.specs.declared.failure.Mistake.{Mistake}
@@ -27,7 +28,7 @@ use Rattle.gtp_check_app.specs.Listing.{list_lines}
 use Rattle.gtp_check_app.specs.Options.{AsksFor, AsksForText, HasFault}
 use Rattle.gtp_check_app.specs.Plans.{HasNoPlan, IsPlanOf}
 use Rattle.gtp_check_app.specs.Progress.{IsShown, cleared}
-use Rattle.gtp_check_app.specs.Status.{ReportsFailure, ReportsMistake, status_of}
+use Rattle.gtp_check_app.specs.Status.{ReportsFailure, ReportsMistake, program_name, status_of}
 use Rattle.gtp_check_app.specs.Summary.{last_lines}
 use Rattle.gtp_check_app.specs.Turns.{HasStopped, State, TurnsAreOver, before_all, process_of}
 
@@ -120,17 +121,6 @@ pub record AsksForList (words : List Text) : Type 0 where
   pub asked : AsksFor words options
   pub list : options.list ≡ true
 
--- A text that was asked for went out, with status 0. Or the output broke at it, or memory was refused for it: that is
--- reported, with status 3.
-pub data Shows {O E : Type 0} (outs : WriterGhosts O) (errs : WriterGhosts E) (text : List ℕ) (out : O) (errors : E)
-    : ℕ → O → E → Type 0 where
-  went_out : {written : O} → GoesOut outs text out written → Shows outs errs text out errors done written errors
-  broke : {written : O} {reported : E} → BreaksAt outs text out written
-      → ReportsFailure errs Write errors reported
-      → Shows outs errs text out errors own_failure written reported
-  refused : {reported : E} → ReportsFailure errs OutOfMemory errors reported
-      → Shows outs errs text out errors own_failure out reported
-
 -- The options that the words ask for have no word of a command. That is reported.
 pub record AsksWrongly {E : Type 0} (errs : WriterGhosts E) (words : List Text) (before after : E) : Type 0 where
   pub options : Options
@@ -168,10 +158,10 @@ module _ {P O E : Type 0} (known : Ghosts P) (outs : WriterGhosts O) (errs : Wri
         → ReportsFailure errs failure sees reported
         → HasRun own_failure has written reported
     shown : {status : ℕ} {written : O} {reported : E} (text : List ℕ) → AsksForText words
-        → Shows outs errs text out errors status written reported
+        → Shows (writers outs errs) program_name text (outputs out errors) status (outputs written reported)
         → HasRun status asked written reported
     listed : {status : ℕ} {written : O} {reported : E} → AsksForList words
-        → Shows outs errs list_lines out errors status written reported
+        → Shows (writers outs errs) program_name list_lines (outputs out errors) status (outputs written reported)
         → HasRun status asked written reported
     mistaken : {reported : E} → HasMistake errs words errors reported
         → HasRun usage_failure asked out reported

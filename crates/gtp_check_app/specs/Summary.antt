@@ -110,6 +110,20 @@ lack_lines notes = concat (
     lack_line notes.lacks_undo (codes "undo") ∷
     lack_line notes.lacks_score (codes "final_score") ∷ [])
 
+-- the ending of what is counted
+abbrev pub plural : ℕ → List ℕ
+plural number = if number == 1 then [] else codes "s"
+
+-- a number and what it counts
+abbrev pub counted_text : ℕ → List ℕ → List ℕ
+counted_text number what = concat (decimal number ∷ what ∷ plural number ∷ [])
+
+-- how many moves in a row the engine takes back, where it refused to take back more
+abbrev pub undos_line : Option ℕ → List ℕ
+undos_line None = []
+undos_line (Some most) =
+    concat (codes "check: it takes back at most " ∷ counted_text most (codes " move") ∷ codes " in a row\n" ∷ [])
+
 -- a size after a space
 abbrev pub spaced_size : ℕ → List ℕ
 spaced_size size = space ∷ decimal size
@@ -122,14 +136,6 @@ sizes_line sizes = concat (codes "check: it refuses the sizes" ∷ concat (map s
 abbrev pub refused_line : List ℕ → List ℕ
 refused_line sizes = if length sizes == 0 then [] else sizes_line sizes
 
--- the ending of what is counted
-abbrev pub plural : ℕ → List ℕ
-plural number = if number == 1 then [] else codes "s"
-
--- a number and what it counts
-abbrev pub counted_text : ℕ → List ℕ → List ℕ
-counted_text number what = concat (decimal number ∷ what ∷ plural number ∷ [])
-
 -- the last line: how many commands, starts and complaints
 abbrev pub counts_line : ℕ → ℕ → ℕ → List ℕ
 counts_line commands starts complaints = concat (
@@ -137,13 +143,13 @@ counts_line commands starts complaints = concat (
     codes ", " ∷ counted_text starts (codes " start") ∷
     codes ", " ∷ counted_text complaints (codes " complaint") ∷ codes "\n" ∷ [])
 
--- The last lines: complaints that aren't shown, lessons that weren't asked, what the engine lacks and refuses, and the
--- counts.
+-- The last lines: complaints that aren't shown, lessons that weren't asked, what the engine lacks, how far it takes
+-- back, what it refuses, and the counts.
 abbrev pub last_lines : Plan → Notes → Ending → List ℕ
 last_lines plan notes ending = concat (
     hidden_lines ending.hidden.now ∷
     lessons_line (codes "not asked, as the options say:") plan.left_out.items ∷
     missed_lines ending.over.now ending.missed.now ∷
     boardless_line plan notes ending ∷
-    lack_lines notes ∷ refused_line notes.refused.items ∷
+    lack_lines notes ∷ undos_line notes.most_undos ∷ refused_line notes.refused.items ∷
     counts_line notes.commands ending.starts ending.complaints ∷ [])

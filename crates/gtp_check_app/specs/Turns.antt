@@ -97,7 +97,7 @@ without_engine before = record before { check = after_loss before.check; engine 
 abbrev pub before_all : {P : Type 0} → Plan → State P
 before_all plan = record {
   check = opening plan.rule (min (plan.restarts + ordinary_starts) (2 ^ 32 - 1));
-  course = begun plan.lessons.items plan.scene_size;
+  course = begun plan.lessons.items plan.scene_size plan.seed;
   engine = None;
   tally = nothing_found plan.restarts;
   notes = nothing_noted;

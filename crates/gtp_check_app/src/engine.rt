@@ -184,7 +184,7 @@ impl<P: Process> Engine<P> {
         ensures check { examiner.new ≡ with_exam examiner.old examiner.new.exam }
     {
         if examiner.unanswered() > 1 {
-            self.process.go_first();
+            self.process.let_run_first();
         }
         match read_some(&mut self.process, &mut room.buffer) {
             Ok(0) => Some(Fault::CutOff(PipeCause::Ended)),

@@ -2,12 +2,13 @@
 ghost use Rattle.std.specs.Prelude.{◌≡◌};
 ghost use Rattle.gtp_check_app.specs.Notes.{beginning_of, counted, is_on_board, is_refused, lacks, match_on_board};
 ghost use Rattle.gtp_check_app.specs.Notes.{noted, noted_of, nothing_noted, started, with_answer, with_lacks};
-ghost use Rattle.gtp_check_app.specs.Notes.{with_lesson, with_size};
+ghost use Rattle.gtp_check_app.specs.Notes.{is_taken, taken_by, undos_after, with_lesson, with_match, with_most_undos};
+ghost use Rattle.gtp_check_app.specs.Notes.{with_refusal, with_size, with_taken};
 
 use crate::plan::is_among;
 use arrayvec::ArrayVec;
 use go_base::{Size, push};
-use gtp_check_judge::{CheckCommand, Examiner, Heard, Skill, Skills};
+use gtp_check_judge::{CheckCommand, Examiner, Heard, Refusal, Skill, Skills};
 use gtp_check_questions::{Lesson, Lessons};
 use gtp_wire::{Command, MOST_SHOWN, Reply};
 
@@ -21,8 +22,14 @@ pub struct Notes {
     pub name: Option<Beginning>,
     /// The beginning of its version.
     pub version: Option<Beginning>,
-    /// The sizes that it refused, each once.
+    /// The sizes that it refused before it took any board of them, each once.
     pub refused: ArrayVec<u32, 25>,
+    /// The sizes that it took, each once.
+    pub taken: ArrayVec<u32, 25>,
+    /// How many moves in a row it took back, up to now.
+    pub in_a_row: u32,
+    /// How many in a row it had taken back where it first refused to take back the next.
+    pub most_undos: Option<u32>,
     /// Whether it said that it lacks `fixed_handicap`.
     pub lacks_handicap: bool,
     /// Whether it said that it lacks `undo`.
@@ -48,6 +55,9 @@ impl Notes {
             name: None,
             version: None,
             refused: ArrayVec::new(),
+            taken: ArrayVec::new(),
+            in_a_row: 0,
+            most_undos: None,
             lacks_handicap: false,
             lacks_undo: false,
             lacks_score: false,
@@ -64,6 +74,7 @@ impl Notes {
     {
         self.has_answered = false;
         self.fruitless = self.fruitless.saturating_add(1);
+        self.in_a_row = 0;
     }
 
     /// A command was asked in a lesson.
@@ -95,8 +106,17 @@ impl Notes {
             return;
         };
         self.answer(&asked.command, reply, examiner.skills());
-        if let Some(size) = heard.refused {
-            self.refuse(size);
+        self.take_refusal(&heard.refused);
+    }
+
+    /// What it refused rightly, if anything.
+    fn take_refusal(&mut self, refused: &Option<Refusal>)
+        ensures { self.new ≡ with_refusal self.old refused.now }
+    {
+        match refused {
+            Some(Refusal::Size(size)) => self.refuse(*size),
+            Some(Refusal::Undo) => self.refuse_undo(),
+            None => {}
         }
     }
 
@@ -110,7 +130,29 @@ impl Notes {
             CheckCommand::Name => self.name = Some(beginning_of(reply)),
             CheckCommand::Version => self.version = Some(beginning_of(reply)),
             CheckCommand::KnownCommand(_) => self.take_skills(skills),
-            CheckCommand::Match(_) | CheckCommand::FinalScore => {}
+            CheckCommand::Match(command) => self.take_match(command, reply.ok),
+            CheckCommand::FinalScore => {}
+        }
+    }
+
+    /// A right answer to a command of a match, a success or a failure.
+    fn take_match(&mut self, command: &Command, ok: bool)
+        ensures { self.new ≡ with_match self.old command.now ok }
+    {
+        self.in_a_row = undos_after(self.in_a_row, command, ok);
+        self.take_size(taken_by(command, ok));
+    }
+
+    /// It took a board of this size, if there is one.
+    fn take_size(&mut self, size: Option<Size>)
+        ensures { self.new ≡ with_taken self.old size }
+    {
+        if let Some(size) = size {
+            let lines = size.get();
+            if !self.is_taken(lines) {
+                // There are 25 sizes.
+                let _ = self.taken.try_push(lines);
+            }
         }
     }
 
@@ -123,15 +165,31 @@ impl Notes {
         self.lacks_score = self.lacks_score || lacks(skills.final_score);
     }
 
-    /// It refused a size.
+    /// It refused a size. That is noted where it didn't take it before.
     fn refuse(&mut self, size: Size)
         ensures { self.new ≡ with_size self.old size }
     {
         let lines = size.get();
-        if !self.is_refused(lines) {
+        if !(self.is_refused(lines) || self.is_taken(lines)) {
             // There are 25 sizes.
             let _ = self.refused.try_push(lines);
         }
+    }
+
+    /// It refused to take back one move more.
+    fn refuse_undo(&mut self)
+        ensures { self.new ≡ with_most_undos self.old }
+    {
+        if self.most_undos.is_none() {
+            self.most_undos = Some(self.in_a_row);
+        }
+    }
+
+    /// Whether it took a size before.
+    fn is_taken(&self, lines: u32) -> bool
+        ensures { result ≡ is_taken self.now lines }
+    {
+        self.taken.iter().any(|known| *known == lines)
     }
 
     /// Whether it refused a size before.
@@ -139,6 +197,33 @@ impl Notes {
         ensures { result ≡ is_refused self.now lines }
     {
         self.refused.iter().any(|known| *known == lines)
+    }
+}
+
+/// How many moves in a row were taken back, once a command of a match was answered so.
+fn undos_after(count: u32, command: &Command, ok: bool) -> u32
+    ensures { result ≡ undos_after count command.now ok }
+{
+    match command {
+        Command::Undo if ok => count.saturating_add(1),
+        Command::Undo => count,
+        Command::Boardsize(_)
+        | Command::Komi(_)
+        | Command::ClearBoard
+        | Command::FixedHandicap(_)
+        | Command::Play(_)
+        | Command::Genmove(_)
+        | Command::Quit => { if ok { 0 } else { count } }
+    }
+}
+
+/// The size of the board that was taken by this answer, if it was.
+fn taken_by(command: &Command, ok: bool) -> Option<Size>
+    ensures { result ≡ taken_by command.now ok }
+{
+    match command {
+        Command::Boardsize(size) if ok => Some(*size),
+        _ => None,
     }
 }
 

@@ -3,11 +3,11 @@ ghost use Rattle.std.specs.Prelude.{◌≡◌, IfNone, IfSome, codes, map};
 ghost use Rattle.gtp_process.specs.declared.causes.Unstarted.{Unstarted};
 ghost use Rattle.byte_streams.specs.Writing.{IsWritten};
 ghost use Rattle.gtp_process.specs.Shown.{unstarted_text};
+ghost use Rattle.cli.specs.Requests.{outputs, writers};
 ghost use Rattle.cli.specs.Status.{error_line};
-ghost use Rattle.gtp_check_app.specs.Checks.{Ends, HasRun, IsFirstFailure, Shows};
-ghost use Rattle.gtp_check_app.specs.Listing.{list_lines};
+ghost use Rattle.gtp_check_app.specs.Checks.{Ends, HasRun, IsFirstFailure};
 ghost use Rattle.gtp_check_app.specs.Status.{IsStatus, status_of};
-ghost use Rattle.gtp_check_app.specs.private.Answering.{Answers};
+ghost use Rattle.gtp_check_app.specs.private.Answering.{Lists};
 
 use crate::check::Check;
 use crate::failure::NAME;
@@ -17,13 +17,12 @@ use crate::plan::{Plan, plan_of};
 use crate::progress::clear;
 use crate::summary::Over;
 use arrayvec::ArrayVec;
-use byte_streams::{Broken, WriteOnce, write_or_break, write_text};
-use clap::error::ErrorKind;
+use byte_streams::{WriteOnce, write_or_break, write_text};
 use cli::failure::Failure;
-use cli::words::is_request;
+use cli::requests::{answer_error, show};
 use go_base::push;
 use gtp_process::{Starter, Unstarted, push_unstarted};
-use std::alloc::{AllocError, Global};
+use std::alloc::Global;
 use std::convert::AsStr;
 
 /// Does what the words of the command line ask for, the first of which is the program's name. Checks the engine that
@@ -53,7 +52,13 @@ pub fn run<A: AsStr, O: WriteOnce, E: WriteOnce, S: Starter>(
 {
     let options = match read_options(alloc, words) {
         Ok(options) => options,
-        Err(error) => return answer_error(error.kind(), error.to_string(alloc), output, errors),
+        Err(error) => return answer_error(
+            NAME,
+            error.kind(),
+            error.to_string(alloc),
+            output,
+            errors,
+        ),
     };
     if options.list {
         return list(alloc, output, errors);
@@ -70,13 +75,13 @@ pub fn run<A: AsStr, O: WriteOnce, E: WriteOnce, S: Starter>(
 
 /// Writes the list of lessons, and returns the status.
 fn list<O: WriteOnce, E: WriteOnce>(alloc: Global, output: &mut O, errors: &mut E) -> u8
-    ensures { Shows O.WriteOnce E.WriteOnce list_lines output.old errors.old
-        result output.new errors.new }
+    ensures { Lists (writers O.WriteOnce E.WriteOnce)
+        (outputs output.old errors.old) result (outputs output.new errors.new) }
 {
     let Ok(text) = list_text(alloc) else {
         return Failure::OutOfMemory.report(NAME, errors);
     };
-    show(text.as_slice(), output, errors)
+    show(NAME, text.as_slice(), output, errors)
 }
 
 /// Checks an engine by a plan, and returns the status.
@@ -142,39 +147,4 @@ fn report_unstarted<E: WriteOnce>(unstarted: &Unstarted, errors: &mut E)
     push_unstarted(&mut line, unstarted);
     push(&mut line, b"\n");
     write_or_break(errors, line.as_slice());
-}
-
-/// Writes what `clap` returns in place of options, an error of this kind with this text, and returns the status. Where
-/// memory was refused for the text, that is reported instead.
-fn answer_error<O: WriteOnce, E: WriteOnce>(
-    kind: ErrorKind,
-    text: Result<String, AllocError>,
-    output: &mut O,
-    errors: &mut E,
-) -> u8
-    ensures { Answers O.WriteOnce E.WriteOnce kind output.old errors.old
-        result output.new errors.new }
-{
-    let Ok(text) = text else {
-        return Failure::OutOfMemory.report(NAME, errors);
-    };
-    if kind == ErrorKind::OutOfMemory {
-        return Failure::OutOfMemory.report(NAME, errors);
-    }
-    if !is_request(kind) {
-        write_or_break(errors, text.as_bytes());
-        return 2;
-    }
-    show(text.as_bytes(), output, errors)
-}
-
-/// Writes a text that was asked for, and returns the status.
-fn show<O: WriteOnce, E: WriteOnce>(text: &[u8], output: &mut O, errors: &mut E) -> u8
-    ensures { Shows O.WriteOnce E.WriteOnce text.now output.old errors.old
-        result output.new errors.new }
-{
-    match write_text(output, text) {
-        Ok(()) => 0,
-        Err(Broken) => Failure::Write.report(NAME, errors),
-    }
 }

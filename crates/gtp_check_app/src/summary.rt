@@ -7,7 +7,7 @@ ghost use Rattle.gtp_check_app.specs.Summary.{hidden_of, ko_text};
 ghost use Rattle.gtp_check_app.specs.Summary.{boardless, boardless_line, is_boardless};
 ghost use Rattle.gtp_check_app.specs.Summary.{lack_line, lack_lines, last_lines, lessons_line, missed_lines, plural};
 ghost use Rattle.gtp_check_app.specs.Summary.{refused_line, shown_or, sizes_line, spaced_name, spaced_size};
-ghost use Rattle.gtp_check_app.specs.Summary.{unstarted_line};
+ghost use Rattle.gtp_check_app.specs.Summary.{undos_line, unstarted_line};
 
 use crate::notes::{Beginning, Notes};
 use crate::options::add_if;
@@ -114,6 +114,7 @@ pub fn last_lines(
     add_missed(&mut text, ending.over, ending.missed)?;
     add_boardless(&mut text, plan, notes, ending)?;
     add_lacks(&mut text, notes)?;
+    add_most_undos(&mut text, notes.most_undos)?;
     add_refused(&mut text, &notes.refused)?;
     add_counts(&mut text, notes.commands, ending.starts, ending.complaints)?;
     Ok(text)
@@ -296,6 +297,19 @@ fn add_lack(text: &mut Vec<u8>, lacks: bool, name: &[u8]) -> Result<(), AllocErr
             b"; nothing was asked that needs it\n",
         ],
     )
+}
+
+/// How many moves in a row the engine takes back, where it refused to take back more.
+fn add_most_undos(text: &mut Vec<u8>, most: Option<u32>) -> Result<(), AllocError>
+    ensures { OnOk result (text.new.items ≡ text.old.items ++ undos_line most) }
+{
+    let Some(most) = most else {
+        return Ok(());
+    };
+    text.extend_from_slice(b"check: it takes back at most ")?;
+    add_count(text, most, b" move")?;
+    text.extend_from_slice(b" in a row\n")?;
+    Ok(())
 }
 
 /// The sizes that the engine refused, where there are any.

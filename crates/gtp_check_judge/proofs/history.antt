@@ -11,3 +11,4 @@ pub mod Anew
 pub mod Refusals
 pub mod Lasts
 pub mod Enough
+pub mod Undos

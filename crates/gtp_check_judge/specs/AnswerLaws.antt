@@ -1,9 +1,9 @@
--- Laws of single answers: which text is a score, and which size is reported as refused.
+-- Laws of single answers: which text is a score, and what is reported as refused.
 use Rattle.std.specs.Prelude.{◌≡◌, ℕ, ℤ, pos, neg_ℤ, ◌↔◌, false, List, [], ◌∷◌, ◌++◌, Option, None, Some, Result, Ok}
 use Rattle.std.specs.Prelude.{codes}
 use Rattle.go_base.specs.Komi.{SpellsKomi, no_sign}
 use Rattle.go_board.specs.declared.rules.KoRule.{KoRule}
-use Rattle.gtp_wire.specs.declared.commands.Command.TheVariants.{Boardsize}
+use Rattle.gtp_wire.specs.declared.commands.Command.TheVariants.{Boardsize, Undo}
 use Rattle.gtp_wire.specs.declared.replies.Reply.{Reply}
 use Rattle.gtp_wire.specs.declared.replies.ReplyFault.{ReplyFault}
 use Rattle.gtp_wire.specs.Words.{reply_words}
@@ -13,7 +13,10 @@ use Rattle.gtp_check_judge.specs.declared.exam.Exam.{Exam}
 use Rattle.gtp_check_judge.specs.declared.exam.Finding.{Finding}
 use Rattle.gtp_check_judge.specs.Scores.{score_of_text}
 use Rattle.gtp_check_judge.specs.Judging.{oldest}
-use Rattle.gtp_check_judge.specs.Exam.{refused_size}
+use Rattle.gtp_check_judge.specs.Exam.{refused_what}
+use Rattle.gtp_check_judge.specs.declared.dues.Due.TheVariants.{MayUndo}
+use Rattle.gtp_check_judge.specs.declared.judging.Refusal.{Refusal}
+use Rattle.gtp_check_judge.specs.declared.judging.Refusal.TheVariants as refusal
 use Rattle.gtp_check_judge.specs.Laws.{Exchange, Talks}
 
 -- ---- scores
@@ -36,14 +39,19 @@ ScoresAreRead = (text : List ℕ) (half_points : ℤ)
     → (score_of_text text ≡ Some half_points)
     ↔ ((word : List ℕ) × (reply_words text ≡ word ∷ []) × NamesScore half_points word)
 
--- ---- refused sizes
+-- ---- refusals
 
--- A size is reported as refused exactly where a `boardsize` of that size was the oldest unanswered command, and a
--- failure was heard in which nothing is wrong.
-abbrev pub RefusedSizesAreReported : Type 0
-RefusedSizesAreReported = (rule : KoRule) (sent came : List ℕ) (said : List Exchange) (exam : Exam)
-    (read : Option (Result Reply ReplyFault)) (finding : Option Finding) (size : ℕ)
+-- this is what the command asked for: a size, or to take back a move, where an `undo` may fail
+abbrev pub AsksFor : Refusal → Asked → Type 0
+AsksFor (refusal.Size size) entry = entry.command ≡ Match (Boardsize size)
+AsksFor refusal.Undo entry = (entry.command ≡ Match Undo) × (entry.due ≡ MayUndo)
+
+-- A refusal is reported exactly where the oldest unanswered command asked for a size, or was an `undo` that may fail,
+-- and a failure was heard in which nothing is wrong.
+abbrev pub RefusalsAreReported : Type 0
+RefusalsAreReported = (rule : KoRule) (sent came : List ℕ) (said : List Exchange) (exam : Exam)
+    (read : Option (Result Reply ReplyFault)) (finding : Option Finding) (refused : Refusal)
     → Talks rule sent came said exam
-    → (refused_size (oldest exam.unanswered) read finding ≡ Some size)
+    → (refused_what (oldest exam.unanswered) read finding ≡ Some refused)
     ↔ ((entry : Asked) × (later : List Asked) × (reply : Reply) × (exam.unanswered ≡ entry ∷ later)
-    × (read ≡ Some (Ok reply)) × (finding ≡ None) × (entry.command ≡ Match (Boardsize size)) × (reply.ok ≡ false))
+    × (read ≡ Some (Ok reply)) × (finding ≡ None) × AsksFor refused entry × (reply.ok ≡ false))

@@ -6,12 +6,12 @@ use Rattle.gtp_wire.specs.Replies.{IsReply, GivesAnswer}
 use Rattle.gtp_wire.specs.declared.replies.Reply.{Reply}
 use Rattle.gtp_wire.specs.declared.replies.ReplyFault.{ReplyFault}
 use Rattle.gtp_session.specs.Policy.{May}
-use Rattle.go_board.specs.Game.{fresh_game_under}
 use Rattle.gtp_session.specs.Engine.{Engine, Engages, fresh_under}
 use Rattle.gtp_check_judge.specs.declared.asking.CheckCommand.{CheckCommand}
 use Rattle.gtp_check_judge.specs.declared.exam.Exam.{Exam}
 use Rattle.gtp_check_judge.specs.declared.exam.Finding.{Finding}
 use Rattle.gtp_check_judge.specs.Asking.{written_check}
+use Rattle.gtp_check_judge.specs.RightEngine.{fresh_engine}
 use Rattle.gtp_check_judge.specs.Judging.{oldest}
 use Rattle.gtp_check_judge.specs.Exam.{Asks, Hears, HasRoomFor}
 use Rattle.gtp_check_judge.specs.Check.{Check, opening, started, with_exam, after_loss}
@@ -72,7 +72,7 @@ pub record IsShown (rule : KoRule) (sent came : List ℕ) (said : List Exchange)
   pub heard : IsHeard said came read
   pub justified : IsJustified rule said exam read finding
   pub others : (out later : List ℕ)
-      → AnswersRightly (fresh_game_under rule) (commands_of said ++ exam.unanswered) out → out ≢ came ++ later
+      → AnswersRightly (fresh_engine rule) (commands_of said ++ exam.unanswered) out → out ≢ came ++ later
 
 abbrev pub ConversationsShowFindings : Type 0
 ConversationsShowFindings = (rule : KoRule) (most : ℕ) (sent came : List ℕ) (said : List Exchange) (check : Check)

@@ -1,5 +1,6 @@
--- What is due to a command: what every right engine answers to it, by the rules of the game alone.
-use Rattle.std.specs.Prelude.{◌≡◌, ℕ, ◌≤◌, ◌<◌, [], length}
+-- What is due to a command: what every right engine answers to it, by the rules of the game, and by the moves that were
+-- taken back.
+use Rattle.std.specs.Prelude.{◌≡◌, ℕ, ◌≤◌, ◌<◌, Bool, true, false, [], length}
 use Rattle.go_base.specs.Int.{most_int}
 use Rattle.go_base.specs.Size.{IsSize}
 use Rattle.go_base.specs.Komi.{IsKomi}
@@ -17,8 +18,9 @@ use Rattle.gtp_check_judge.specs.declared.asking.CheckCommand.TheVariants.{Match
 use Rattle.gtp_check_judge.specs.declared.asking.CheckCommand.TheVariants.{KnownCommand}
 use Rattle.gtp_check_judge.specs.declared.dues.Due.{Due}
 use Rattle.gtp_check_judge.specs.declared.dues.Due.TheVariants.{Succeeds, Fails, Places, Resizes, Scores, AnyReply}
-use Rattle.gtp_check_judge.specs.declared.dues.Due.TheVariants.{Chooses}
+use Rattle.gtp_check_judge.specs.declared.dues.Due.TheVariants.{Chooses, MayUndo}
 use Rattle.gtp_check_judge.specs.declared.dues.Cause.TheVariants.{BadMove, BadHandicap, NoMoves}
+use Rattle.gtp_check_judge.specs.RightEngine.{RightEngine}
 
 -- What may be asked in a game. (What an engine answers is the table of its commands; what a check asks is our own.) A
 -- `play` or a `genmove` is asked only where the record has room: the standard has no limit of a record, and engines may
@@ -61,6 +63,7 @@ HandicapDue game stones (Resizes size) = ⊥
 HandicapDue game stones (Scores score) = ⊥
 HandicapDue game stones AnyReply = ⊥
 HandicapDue game stones (Chooses colour) = ⊥
+HandicapDue game stones MayUndo = ⊥
 
 -- a `play`: a success where the move is legal, or a failure, for the rule that it breaks
 abbrev pub PlayDue : GameRecord → Move → Due → Type 0
@@ -73,38 +76,42 @@ PlayDue game move (Resizes size) = ⊥
 PlayDue game move (Scores score) = ⊥
 PlayDue game move AnyReply = ⊥
 PlayDue game move (Chooses colour) = ⊥
+PlayDue game move MayUndo = ⊥
 
--- an `undo`: a success where there is a move, or else a failure
-abbrev pub UndoDue : GameRecord → Due → Type 0
-UndoDue game Succeeds = 0 < length game.moves
-UndoDue game (Fails NoMoves) = game.moves ≡ []
-UndoDue game (Fails (BadMove fault)) = ⊥
-UndoDue game (Fails (BadHandicap fault)) = ⊥
-UndoDue game (Places size count) = ⊥
-UndoDue game (Resizes size) = ⊥
-UndoDue game (Scores score) = ⊥
-UndoDue game AnyReply = ⊥
-UndoDue game (Chooses colour) = ⊥
+-- An `undo`: a failure where there is no move. Else a success, where none has succeeded since the last move; and where
+-- one has, either, since the engine may keep no more of the history.
+abbrev pub UndoDue : RightEngine → Due → Type 0
+UndoDue engine (Fails NoMoves) = engine.game.moves ≡ []
+UndoDue engine Succeeds = (engine.undone ≡ false) × (0 < length engine.game.moves)
+UndoDue engine MayUndo = (engine.undone ≡ true) × (0 < length engine.game.moves)
+UndoDue engine (Fails (BadMove fault)) = ⊥
+UndoDue engine (Fails (BadHandicap fault)) = ⊥
+UndoDue engine (Places size count) = ⊥
+UndoDue engine (Resizes size) = ⊥
+UndoDue engine (Scores score) = ⊥
+UndoDue engine AnyReply = ⊥
+UndoDue engine (Chooses colour) = ⊥
 
--- What is due to a command of a match in a game. A `boardsize` may be refused: an engine plays the sizes that it likes.
-abbrev pub IsDueTo : GameRecord → Command → Due → Type 0
-IsDueTo game (Boardsize size) due = (due ≡ Resizes size) × IsSize size
-IsDueTo game (Komi komi) due = (due ≡ Succeeds) × IsKomi komi
-IsDueTo game ClearBoard due = due ≡ Succeeds
-IsDueTo game (FixedHandicap stones) due = HandicapDue game stones due
-IsDueTo game (Play move) due = PlayDue game move due
-IsDueTo game (Genmove colour) due = (due ≡ Chooses colour) × HasRoom game
-IsDueTo game Undo due = UndoDue game due
-IsDueTo game Quit due = ⊥
+-- What is due to a command of a match. A `boardsize` may be refused: an engine plays the sizes that it likes.
+abbrev pub IsDueTo : RightEngine → Command → Due → Type 0
+IsDueTo engine (Boardsize size) due = (due ≡ Resizes size) × IsSize size
+IsDueTo engine (Komi komi) due = (due ≡ Succeeds) × IsKomi komi
+IsDueTo engine ClearBoard due = due ≡ Succeeds
+IsDueTo engine (FixedHandicap stones) due = HandicapDue engine.game stones due
+IsDueTo engine (Play move) due = PlayDue engine.game move due
+IsDueTo engine (Genmove colour) due = (due ≡ Chooses colour) × HasRoom engine.game
+IsDueTo engine Undo due = UndoDue engine due
+IsDueTo engine Quit due = ⊥
 
--- What is due to a command in a game. To a `final_score` the score of the board, on which no stone is, or a failure; to
--- `name`, `version` and `known_command` a reply, whatever it says.
-abbrev pub IsDue : GameRecord → CheckCommand → Due → Type 0
-IsDue game (Match command) due = IsDueTo game command due
-IsDue game FinalScore due = (due ≡ Scores (score game)) × IsFresh game × IsKomi game.komi
-IsDue game Name due = due ≡ AnyReply
-IsDue game Version due = due ≡ AnyReply
-IsDue game (KnownCommand known) due = due ≡ AnyReply
+-- What is due to a command. To a `final_score` the score of the board, on which no stone is, or a failure; to `name`,
+-- `version` and `known_command` a reply, whatever it says.
+abbrev pub IsDue : RightEngine → CheckCommand → Due → Type 0
+IsDue engine (Match command) due = IsDueTo engine command due
+IsDue engine FinalScore due =
+    (due ≡ Scores (score engine.game)) × IsFresh engine.game × IsKomi engine.game.komi
+IsDue engine Name due = due ≡ AnyReply
+IsDue engine Version due = due ≡ AnyReply
+IsDue engine (KnownCommand known) due = due ≡ AnyReply
 
 -- the game after a command that goes well
 abbrev pub after_check : GameRecord → CheckCommand → GameRecord
@@ -114,8 +121,8 @@ after_check game Name = game
 after_check game Version = game
 after_check game (KnownCommand known) = game
 
--- The game of a right engine once it has answered so. What a `genmove` adds, and whether a `boardsize` is refused,
--- isn't known before.
+-- The game of a right engine once it has answered so. What a `genmove` adds, and whether a `boardsize` or an `undo` is
+-- refused, isn't known before.
 abbrev pub after_due : GameRecord → CheckCommand → Due → GameRecord
 after_due game command Succeeds = after_check game command
 after_due game command (Places size count) = after_check game command
@@ -124,3 +131,35 @@ after_due game command (Resizes size) = game
 after_due game command (Scores score) = game
 after_due game command AnyReply = game
 after_due game command (Chooses colour) = game
+after_due game command MayUndo = game
+
+-- whether an `undo` has succeeded since the last move, once a command whose success is due was answered
+abbrev pub undone_once : Bool → CheckCommand → Bool
+undone_once undone (Match Undo) = true
+undone_once undone (Match (Play move)) = false
+undone_once undone (Match (Genmove colour)) = undone
+undone_once undone (Match (Boardsize size)) = undone
+undone_once undone (Match (Komi komi)) = undone
+undone_once undone (Match ClearBoard) = undone
+undone_once undone (Match (FixedHandicap stones)) = undone
+undone_once undone (Match Quit) = undone
+undone_once undone FinalScore = undone
+undone_once undone Name = undone
+undone_once undone Version = undone
+undone_once undone (KnownCommand known) = undone
+
+-- the same once a right engine has answered what is due
+abbrev pub undone_due : Bool → CheckCommand → Due → Bool
+undone_due undone command Succeeds = undone_once undone command
+undone_due undone command (Places size count) = undone
+undone_due undone command (Fails cause) = undone
+undone_due undone command (Resizes size) = undone
+undone_due undone command (Scores score) = undone
+undone_due undone command AnyReply = undone
+undone_due undone command (Chooses colour) = undone
+undone_due undone command MayUndo = undone
+
+-- a right engine once it has answered so
+abbrev pub engine_after : RightEngine → CheckCommand → Due → RightEngine
+engine_after engine command due =
+    record { game = after_due engine.game command due; undone = undone_due engine.undone command due }

@@ -2,7 +2,7 @@
 use Rattle.std.specs.Prelude.{◌≡◌, ◌||◌, ℕ, ◌+◌, ◌<◌, ◌≤◌, Bool, true, false, List, [], ◌∷◌, ◌++◌, length, drop}
 use Rattle.std.specs.Prelude.{Option, None, Some, IfSome, Result, Ok, Err}
 use Rattle.go_base.specs.Int.{most_int}
-use Rattle.go_board.specs.Game.{GameRecord, HasRoom, IsLegal, with_move, fresh_game_under}
+use Rattle.go_board.specs.Game.{GameRecord, HasRoom, IsLegal, with_move, without_last, fresh_game_under}
 use Rattle.go_board.specs.declared.rules.KoRule.{KoRule}
 use Rattle.gtp_check_judge.specs.declared.asking.CheckCommand.{CheckCommand}
 use Rattle.gtp_wire.specs.declared.commands.Command.TheVariants.{Boardsize}
@@ -14,9 +14,10 @@ use Rattle.gtp_check_judge.specs.Asking.{IsCheckWritable, IsCheckInLimits}
 use Rattle.gtp_session.specs.CommandAnswers.{after_command}
 use Rattle.gtp_check_judge.specs.declared.dues.Due.{Due}
 use Rattle.gtp_check_judge.specs.declared.dues.Due.TheVariants.{Succeeds, Fails, Places, Resizes, Scores, AnyReply}
-use Rattle.gtp_check_judge.specs.declared.dues.Due.TheVariants.{Chooses}
+use Rattle.gtp_check_judge.specs.declared.dues.Due.TheVariants.{Chooses, MayUndo}
 use Rattle.gtp_check_judge.specs.declared.judging.Judgement.{Judgement}
-use Rattle.gtp_check_judge.specs.declared.judging.Judgement.TheVariants.{Right, Plays, Resized, Wrong}
+use Rattle.gtp_check_judge.specs.declared.judging.Refusal.{Refusal}
+use Rattle.gtp_check_judge.specs.declared.judging.Judgement.TheVariants.{Right, Plays, Resized, Undone, Wrong}
 use Rattle.gtp_check_judge.specs.declared.judging.Kind.{Kind}
 use Rattle.gtp_check_judge.specs.declared.judging.Kind.TheVariants.{WrongId, Unasked, NoStatus, Overlong}
 use Rattle.gtp_check_judge.specs.declared.unanswered.Asked.{Asked}
@@ -26,7 +27,8 @@ use Rattle.gtp_check_judge.specs.declared.setups.Board.TheVariants.{Unknown, Siz
 use Rattle.gtp_check_judge.specs.Setups.{is_clear_board, is_komi, is_final_score, needs_board, board_after}
 use Rattle.gtp_check_judge.specs.declared.skills.Skill.TheVariants.{Has}
 use Rattle.gtp_check_judge.specs.Skills.{needed_skill, none_asked, said_of, learned}
-use Rattle.gtp_check_judge.specs.Dues.{IsDue, MayBeAsked, after_due}
+use Rattle.gtp_check_judge.specs.RightEngine.{RightEngine}
+use Rattle.gtp_check_judge.specs.Dues.{IsDue, MayBeAsked, after_due, undone_due}
 use Rattle.gtp_check_judge.specs.Judging.{most_unanswered, oldest, awaits, is_awaited, has_id, Judged, MayBeJudged}
 use Rattle.gtp_check_judge.specs.Judging.{refused_by}
 
@@ -36,6 +38,7 @@ use Rattle.gtp_check_judge.specs.Judging.{refused_by}
 abbrev pub begun : KoRule → Bool → Exam
 begun rule up = record {
   game = fresh_game_under rule;
+  undone = false;
   up = up;
   sent = 0;
   unanswered = [];
@@ -45,21 +48,26 @@ begun rule up = record {
   skills = none_asked;
 }
 
+-- the right engine of the exam: one that has answered all that was asked
+abbrev pub engine_of : Exam → RightEngine
+engine_of exam = record { game = exam.game; undone = exam.undone }
+
 -- the engine was found wrong, or lost
 abbrev pub downed : Exam → Exam
 downed exam = record exam { up = false }
 
 -- ---- a command
 
--- A command is asked: it is the next by its number, and what is due to it is due in the game of a right engine, which
--- goes on to the one after it. The command can be written.
+-- A command is asked: it is the next by its number, and what is due to it is due of a right engine, which goes on to
+-- the one after it. The command can be written.
 pub record Asks (old : Exam) (command : CheckCommand) (new : Exam) : Type 0 where
   pub due : Due
   pub writable : IsCheckWritable command
   pub limits : IsCheckInLimits command
-  pub is_due : IsDue old.game command due
+  pub is_due : IsDue (engine_of old) command due
   pub new_is : new ≡ record old {
     game = after_due old.game command due;
+    undone = undone_due old.undone command due;
     sent = old.sent + 1;
     unanswered = old.unanswered ++ record { id = old.sent + 1; command = command; due = due } ∷ [];
     board = board_after old.board (is_clear_board command);
@@ -77,19 +85,23 @@ abbrev pub finding_of : Asked → Judgement → Option Finding
 finding_of asked Right = None
 finding_of asked (Plays colour v) = None
 finding_of asked (Resized size) = None
+finding_of asked Undone = None
 finding_of asked (Wrong kind) = Some (record { asked = Some asked; kind = kind })
 
--- a right answer is taken off, with the move or the empty board that it made; after a wrong one the engine is down
+-- A right answer is taken off, with the move or the empty board that it made, or the move that it took back. After a
+-- wrong one the engine is down.
 abbrev pub after_judged : Exam → Judgement → Exam
 after_judged exam Right = record exam { unanswered = drop 1 exam.unanswered }
 after_judged exam (Plays colour v) =
-    record exam { unanswered = drop 1 exam.unanswered; game = with_move exam.game colour v }
+    record exam { unanswered = drop 1 exam.unanswered; game = with_move exam.game colour v; undone = false }
 after_judged exam (Resized size) =
     record exam {
       unanswered = drop 1 exam.unanswered;
       game = after_command exam.game (Boardsize size);
       board = Sized;
     }
+after_judged exam Undone =
+    record exam { unanswered = drop 1 exam.unanswered; game = without_last exam.game; undone = true }
 after_judged exam (Wrong kind) = downed exam
 
 -- the same exam, with what is known of the engine once it has answered this command so
@@ -141,36 +153,38 @@ answered_by (Some asked) (Some (Err shown)) finding = None
 answered_by (Some asked) None finding = None
 answered_by None read finding = None
 
--- the size that is refused by what was read, where this is the oldest command, and nothing was found
-abbrev pub refused_size : Option Asked → Option (Result Reply ReplyFault) → Option Finding → Option ℕ
-refused_size (Some asked) (Some (Ok reply)) None = refused_by asked.due reply.ok
-refused_size (Some asked) (Some (Ok reply)) (Some finding) = None
-refused_size (Some asked) (Some (Err shown)) finding = None
-refused_size (Some asked) None finding = None
-refused_size None read finding = None
+-- what is refused by what was read, where this is the oldest command, and nothing was found
+abbrev pub refused_what : Option Asked → Option (Result Reply ReplyFault) → Option Finding → Option Refusal
+refused_what (Some asked) (Some (Ok reply)) None = refused_by asked.due reply.ok
+refused_what (Some asked) (Some (Ok reply)) (Some finding) = None
+refused_what (Some asked) (Some (Err shown)) finding = None
+refused_what (Some asked) None finding = None
+refused_what None read finding = None
 
 -- ---- what must hold before a step
 
--- a move is made only where it is legal and there is room
+-- a move is made only where it is legal and there is room, and taken back only where there is one
 abbrev pub MayApply : GameRecord → Judgement → Type 0
 MayApply game Right = Unit {0}
 MayApply game (Plays colour v) = IsLegal game colour v × HasRoom game
 MayApply game (Resized size) = Unit {0}
+MayApply game Undone = 0 < length game.moves
 MayApply game (Wrong kind) = Unit {0}
 
--- What is due to a command may be judged: a handicap is one that its size allows; a choice is due to a `genmove` alone,
--- and there is room for it; what isn't known before is awaited.
-abbrev pub MayBeTaken : GameRecord → CheckCommand → Due → Type 0
-MayBeTaken game command (Chooses colour) = (is_awaited command ≡ true) × HasRoom game
-MayBeTaken game command (Places size stones) = MayBeJudged (Places size stones)
-MayBeTaken game command (Resizes size) = is_awaited command ≡ true
-MayBeTaken game command (Scores score) = Unit {0}
-MayBeTaken game command AnyReply = Unit {0}
-MayBeTaken game command Succeeds = Unit {0}
-MayBeTaken game command (Fails cause) = Unit {0}
+-- What is due may be judged: a handicap is one that its size allows; there is room for a choice, and a move where an
+-- `undo` may take it back.
+abbrev pub MayBeTaken : GameRecord → Due → Type 0
+MayBeTaken game (Chooses colour) = HasRoom game
+MayBeTaken game MayUndo = 0 < length game.moves
+MayBeTaken game (Places size stones) = MayBeJudged (Places size stones)
+MayBeTaken game (Resizes size) = Unit {0}
+MayBeTaken game (Scores score) = Unit {0}
+MayBeTaken game AnyReply = Unit {0}
+MayBeTaken game Succeeds = Unit {0}
+MayBeTaken game (Fails cause) = Unit {0}
 
 abbrev pub MayReply : Exam → Type 0
-MayReply exam = IfSome (oldest exam.unanswered) (λ asked. MayBeTaken exam.game asked.command asked.due)
+MayReply exam = IfSome (oldest exam.unanswered) (λ asked. MayBeTaken exam.game asked.due)
 
 -- ---- what holds of every examiner
 
@@ -182,11 +196,11 @@ AreNumbered before (asked ∷ later) = (asked.id ≡ before + 1) × AreNumbered 
 -- what is due to each of them may be judged
 abbrev pub MayAllBeTaken : GameRecord → List Asked → Type 0
 MayAllBeTaken game [] = Unit {0}
-MayAllBeTaken game (asked ∷ later) = MayBeTaken game asked.command asked.due × MayAllBeTaken game later
+MayAllBeTaken game (asked ∷ later) = MayBeTaken game asked.due × MayAllBeTaken game later
 
--- At most eight commands are unanswered, and a `genmove` or a `boardsize` only alone, a `genmove` with room in the
--- record for its move. Their ids are the last numbers that were given, each an int. What is due to each may be
--- judged.
+-- At most eight commands are unanswered, and one whose answer is awaited only alone: a `genmove`, with room in the
+-- record for its move, a `boardsize`, or an `undo` that may fail. Their ids are the last numbers that were given, each
+-- an int. What is due to each may be judged.
 pub record AreOrderly (game : GameRecord) (sent : ℕ) (unanswered : List Asked) : Type 0 where
   pub few : length unanswered ≤ most_unanswered
   pub alone : awaits unanswered ≡ true → length unanswered ≡ 1
@@ -199,14 +213,15 @@ pub record AreOrderly (game : GameRecord) (sent : ℕ) (unanswered : List Asked)
 abbrev pub IsOrderly : Exam → Type 0
 IsOrderly exam = AreOrderly exam.game exam.sent exam.unanswered
 
--- A command may be asked: the engine is up, fewer than eight commands are unanswered and none of them is a `genmove`
--- or a `boardsize`, and one of these only where none is; there is an int for its id; the board and komi are known on
--- which what is due hangs; the engine has the command, where it may be without it; and it may be asked in the game.
+-- A command may be asked: the engine is up, fewer than eight commands are unanswered and none of them is a `genmove`, a
+-- `boardsize` or an `undo` that may fail, and one of these only where none is; there is an int for its id; the board
+-- and komi are known on which what is due hangs; the engine has the command, where it may be without it; and it may be
+-- asked in the game.
 pub record HasRoomFor (exam : Exam) (command : CheckCommand) : Type 0 where
   pub up : exam.up ≡ true
   pub few : length exam.unanswered < most_unanswered
   pub none_awaits : awaits exam.unanswered ≡ false
-  pub alone : is_awaited command ≡ true → exam.unanswered ≡ []
+  pub alone : is_awaited (engine_of exam) command ≡ true → exam.unanswered ≡ []
   pub id : exam.sent < most_int
   pub board : needs_board command ≡ true → exam.board ≡ Cleared
   pub komi : is_final_score command ≡ true → exam.komi_set ≡ true

@@ -20,8 +20,10 @@ use Rattle.gtp_check_judge.specs.declared.skills.Skill.TheVariants.{Has, Lacks}
 use Rattle.gtp_check_judge.specs.declared.skills.Skills.{Skills}
 use Rattle.gtp_check_judge.specs.declared.unanswered.Asked.{Asked}
 use Rattle.gtp_check_judge.specs.declared.exam.Exam.{Exam}
-use Rattle.gtp_check_judge.specs.Exam.{HasRoomFor}
-use Rattle.gtp_check_judge.specs.Laws.{Exchange, Talks, commands_of}
+use Rattle.gtp_check_judge.specs.declared.dues.Due.TheVariants.{Resizes, Chooses, MayUndo}
+use Rattle.gtp_check_judge.specs.RightEngine.{RightEngine}
+use Rattle.gtp_check_judge.specs.Exam.{engine_of, HasRoomFor}
+use Rattle.gtp_check_judge.specs.Laws.{MayFailToUndo, Exchange, Talks, commands_of}
 
 -- ---- what an engine said that it knows
 
@@ -152,26 +154,46 @@ CommandsAreNumbered = (rule : KoRule) (sent came : List ℕ) (said : List Exchan
 
 -- ---- what is asked alone
 
--- what a `genmove` or a `boardsize` does to the game is the engine's to say
-pub data ChangesFreely : CheckCommand → Type 0 where
-  genmoves : (colour : Colour) → ChangesFreely (Match (Genmove colour))
-  sizes : (size : ℕ) → ChangesFreely (Match (Boardsize size))
+-- What the command does to the game is the engine's to say: its choice, or whether it refuses a size, or an `undo` once
+-- one has succeeded since the last move.
+pub data ChangesFreely (engine : RightEngine) : CheckCommand → Type 0 where
+  genmoves : (colour : Colour) → ChangesFreely engine (Match (Genmove colour))
+  sizes : (size : ℕ) → ChangesFreely engine (Match (Boardsize size))
+  undos : MayFailToUndo engine → ChangesFreely engine (Match Undo)
 
--- Such a command is asked only where nothing is unanswered, and nothing is asked before its answer.
+-- the same of a command that was asked, by what is due to it
+pub data IsAwaited (entry : Asked) : Type 0 where
+  choices : (colour : Colour) → entry.due ≡ Chooses colour → IsAwaited entry
+  sizes : (size : ℕ) → entry.due ≡ Resizes size → IsAwaited entry
+  undos : entry.due ≡ MayUndo → IsAwaited entry
+
+-- one of the commands is of that kind
+abbrev pub SomeAwaited : List Asked → Type 0
+SomeAwaited [] = ⊥
+SomeAwaited (entry ∷ later) = IsAwaited entry ⊎ SomeAwaited later
+
+-- a `genmove` or a `boardsize`
+pub data IsOwnToSay : CheckCommand → Type 0 where
+  genmoves : (colour : Colour) → IsOwnToSay (Match (Genmove colour))
+  sizes : (size : ℕ) → IsOwnToSay (Match (Boardsize size))
+
+-- Such a command is asked only where nothing is unanswered, and nothing is asked before its answer. In a talk none of
+-- those that are unanswered then is a `genmove` or a `boardsize`.
 pub record SomeAreAskedAlone : Type 0 where
-  pub first : (exam : Exam) (command : CheckCommand) → ChangesFreely command → HasRoomFor exam command
-      → exam.unanswered ≡ []
-  pub later : (exam : Exam) (command : CheckCommand) → HasRoomFor exam command
-      → ¬ SomeAsked ChangesFreely exam.unanswered
+  pub first : (exam : Exam) (command : CheckCommand) → ChangesFreely (engine_of exam) command
+      → HasRoomFor exam command → exam.unanswered ≡ []
+  pub later : (exam : Exam) (command : CheckCommand) → HasRoomFor exam command → ¬ SomeAwaited exam.unanswered
+  pub commands : (rule : KoRule) (sent came : List ℕ) (said : List Exchange) (exam : Exam) (command : CheckCommand)
+      → Talks rule sent came said exam → HasRoomFor exam command → ¬ SomeAsked IsOwnToSay exam.unanswered
 
 -- ---- what may always be asked
 
--- The engine is up, owes fewer than eight answers, and none of them to a `genmove` or a `boardsize`; and there are ids
--- left.
+-- The engine is up, owes fewer than eight answers, and none of them to a `genmove`, a `boardsize` or an `undo` that may
+-- fail; and there are ids left.
 pub record IsReady (exam : Exam) : Type 0 where
   pub up : exam.up ≡ true
   pub few : length exam.unanswered < 8
-  pub settled : ¬ SomeAsked ChangesFreely exam.unanswered
+  pub settled : ¬ SomeAwaited exam.unanswered
   pub ids : exam.sent < 2147483647
 
 -- These may be asked of every engine that is ready, whatever was asked before. A `boardsize` where it owes nothing.
@@ -187,16 +209,17 @@ abbrev pub ReadyEnginesMayBeAsked : Type 0
 ReadyEnginesMayBeAsked = (exam : Exam) → IsReady exam → TheseMayBeAsked exam
 
 -- And these may be asked of such an engine whose board is known. A `fixed_handicap`, an `undo` and a `final_score`
--- where its last answer says that it knows them; a `play` and a `genmove` where the record has room, but a `genmove`
--- only where the engine owes nothing, and not after two passes. A `final_score` also needs a `komi` that was asked, and
--- that nothing was played or placed. The number of stones is an int.
+-- where its last answer says that it knows them; a `play` and a `genmove` where the record has room. A `genmove`, and
+-- an `undo` that may fail, only where the engine owes nothing; and no `genmove` after two passes. A `final_score` also
+-- needs a `komi` that was asked, and that nothing was played or placed. The number of stones is an int.
 pub record TheseMayBeAskedToo (said : List Exchange) (exam : Exam) : Type 0 where
   pub handicaps : (stones : ℕ) → stones ≤ 2147483647 → IsKnown said known.FixedHandicap
       → HasRoomFor exam (Match (FixedHandicap stones))
   pub plays : (move : Move) → HasRoom exam.game → HasRoomFor exam (Match (Play move))
   pub genmoves : (colour : Colour) → exam.unanswered ≡ [] → HasRoom exam.game → ¬ IsFinished exam.game
       → HasRoomFor exam (Match (Genmove colour))
-  pub undos : IsKnown said known.Undo → HasRoomFor exam (Match Undo)
+  pub undos : IsKnown said known.Undo → (MayFailToUndo (engine_of exam) → exam.unanswered ≡ [])
+      → HasRoomFor exam (Match Undo)
   pub scores : (komi : ℤ) → IsKnown said known.FinalScore
       → SomeAsked (λ command. command ≡ Match (Komi komi)) (commands_of said ++ exam.unanswered)
       → exam.game.moves ≡ [] → exam.game.handicap ≡ 0 → HasRoomFor exam FinalScore

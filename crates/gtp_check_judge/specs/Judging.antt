@@ -3,6 +3,7 @@ use Rattle.std.specs.Prelude.{◌≡◌, ◌≢◌, ℕ, ℤ, ◌==◌, ◌&&◌
 use Rattle.std.specs.List.{list_any}
 use Rattle.go_base.specs.Handicap.{AllowsHandicap, handicap_points}
 use Rattle.go_base.specs.declared.colours.Colour.{Colour}
+use Rattle.go_base.specs.declared.moves.Move.{Move}
 use Rattle.go_base.specs.declared.vertices.Vertex.{Vertex}
 use Rattle.go_base.specs.declared.choices.Choice.{Choice}
 use Rattle.go_base.specs.declared.choices.Choice.TheVariants as choice
@@ -17,16 +18,19 @@ use Rattle.gtp_check_judge.specs.declared.asking.CheckCommand.TheVariants.{Match
 use Rattle.gtp_check_judge.specs.declared.asking.CheckCommand.TheVariants.{KnownCommand}
 use Rattle.gtp_check_judge.specs.declared.dues.Due.{Due}
 use Rattle.gtp_check_judge.specs.declared.dues.Due.TheVariants.{Succeeds, Fails, Places, Resizes, Scores, AnyReply}
-use Rattle.gtp_check_judge.specs.declared.dues.Due.TheVariants.{Chooses}
+use Rattle.gtp_check_judge.specs.declared.dues.Due.TheVariants.{Chooses, MayUndo}
 use Rattle.gtp_check_judge.specs.declared.dues.Cause.{Cause}
 use Rattle.gtp_check_judge.specs.declared.unanswered.Asked.{Asked}
 use Rattle.gtp_check_judge.specs.declared.judging.Judgement.{Judgement}
-use Rattle.gtp_check_judge.specs.declared.judging.Judgement.TheVariants.{Right, Plays, Resized, Wrong}
+use Rattle.gtp_check_judge.specs.declared.judging.Judgement.TheVariants.{Right, Plays, Resized, Undone, Wrong}
+use Rattle.gtp_check_judge.specs.declared.judging.Refusal.{Refusal}
+use Rattle.gtp_check_judge.specs.declared.judging.Refusal.TheVariants as refusal
 use Rattle.gtp_check_judge.specs.declared.judging.Kind.TheVariants.{Refused, Took, OtherPoints, NoMove, NoVertex}
 use Rattle.gtp_check_judge.specs.declared.judging.Kind.TheVariants.{Unlawful, NoScore, OtherScore, WrongId, Unasked}
 use Rattle.gtp_check_judge.specs.declared.judging.Kind.TheVariants.{NoStatus, Overlong}
 use Rattle.gtp_wire.specs.ReplyWords.{choice_of_text, names_points}
 use Rattle.gtp_check_judge.specs.Scores.{score_of_text}
+use Rattle.gtp_check_judge.specs.RightEngine.{RightEngine}
 
 -- ---- what is unanswered
 
@@ -42,28 +46,44 @@ abbrev pub oldest : List Asked → Option Asked
 oldest [] = None
 oldest (asked ∷ later) = Some asked
 
--- The game isn't known before the answer to it, so nothing is asked before that: a `genmove`, whose move is the
--- engine's, and a `boardsize`, which an engine may refuse.
-abbrev pub changes_freely : Command → Bool
-changes_freely (command.Genmove colour) = true
-changes_freely (command.Boardsize size) = true
-changes_freely (command.Komi komi) = false
-changes_freely command.ClearBoard = false
-changes_freely (command.FixedHandicap stones) = false
-changes_freely (command.Play move) = false
-changes_freely command.Undo = false
-changes_freely command.Quit = false
-
-abbrev pub is_awaited : CheckCommand → Bool
-is_awaited (Match command) = changes_freely command
-is_awaited FinalScore = false
-is_awaited Name = false
-is_awaited Version = false
-is_awaited (KnownCommand known) = false
+-- What a right engine does isn't known before its answer: its choice, or a size or an `undo` that it may refuse. So
+-- nothing is asked before that answer.
+abbrev pub is_open : Due → Bool
+is_open (Chooses colour) = true
+is_open (Resizes size) = true
+is_open MayUndo = true
+is_open Succeeds = false
+is_open (Fails cause) = false
+is_open (Places size stones) = false
+is_open (Scores score) = false
+is_open AnyReply = false
 
 -- one whose answer has to be awaited is among them
 abbrev pub awaits : List Asked → Bool
-awaits list = list_any (λ asked. is_awaited asked.command) list
+awaits list = list_any (λ asked. is_open asked.due) list
+
+-- an `undo` may fail: one has succeeded since the last move, and there is a move
+abbrev pub undo_may_fail : Bool → List Move → Bool
+undo_may_fail undone [] = false
+undo_may_fail undone (move ∷ later) = undone
+
+-- what is due to a command will be of that kind
+abbrev pub leaves_open : RightEngine → Command → Bool
+leaves_open engine (command.Genmove colour) = true
+leaves_open engine (command.Boardsize size) = true
+leaves_open engine command.Undo = undo_may_fail engine.undone engine.game.moves
+leaves_open engine (command.Komi komi) = false
+leaves_open engine command.ClearBoard = false
+leaves_open engine (command.FixedHandicap stones) = false
+leaves_open engine (command.Play move) = false
+leaves_open engine command.Quit = false
+
+abbrev pub is_awaited : RightEngine → CheckCommand → Bool
+is_awaited engine (Match command) = leaves_open engine command
+is_awaited engine FinalScore = false
+is_awaited engine Name = false
+is_awaited engine Version = false
+is_awaited engine (KnownCommand known) = false
 
 -- ---- what a reply is
 
@@ -88,6 +108,12 @@ abbrev pub size_judged : ℕ → Bool → Judgement
 size_judged size true = Resized size
 size_judged size false = Right
 
+-- Where an `undo` may be refused: either is right. By a success the last move is taken back; by a failure nothing
+-- changes.
+abbrev pub undo_judged : Bool → Judgement
+undo_judged true = Undone
+undo_judged false = Right
+
 -- where the points of a handicap are due, and whether they are named
 abbrev pub points_judged : Bool → Bool → Judgement
 points_judged named false = Wrong Refused
@@ -98,6 +124,7 @@ points_judged false true = Wrong OtherPoints
 abbrev pub VertexJudged : GameRecord → Colour → Vertex → Judgement → Type 0
 VertexJudged game colour v Right = ⊥
 VertexJudged game colour v (Resized size) = ⊥
+VertexJudged game colour v Undone = ⊥
 VertexJudged game colour v (Plays by at) = (by ≡ colour) × (at ≡ v) × IsLegal game colour v
 VertexJudged game colour v (Wrong (Unlawful fault)) = RefusesVertex game colour v fault
 VertexJudged game colour v (Wrong Refused) = ⊥
@@ -129,6 +156,7 @@ NumberJudged score said Right = said ≡ score
 NumberJudged score said (Wrong OtherScore) = said ≢ score
 NumberJudged score said (Plays colour v) = ⊥
 NumberJudged score said (Resized size) = ⊥
+NumberJudged score said Undone = ⊥
 NumberJudged score said (Wrong Refused) = ⊥
 NumberJudged score said (Wrong (Took cause)) = ⊥
 NumberJudged score said (Wrong OtherPoints) = ⊥
@@ -163,6 +191,7 @@ Judged game (Places size stones) reply got = got ≡ points_judged (reply.ok && 
 Judged game (Resizes size) reply got = got ≡ size_judged size reply.ok
 Judged game (Scores score) reply got = ScoreJudged score reply.ok (score_of_text reply.text.items) got
 Judged game AnyReply reply got = got ≡ Right
+Judged game MayUndo reply got = got ≡ undo_judged reply.ok
 Judged game (Chooses colour) reply got = ChoiceJudged game colour reply.ok (choice_of_text reply.text.items) got
 
 -- a handicap that is due is one that its size allows
@@ -173,12 +202,15 @@ MayBeJudged (Fails cause) = Unit {0}
 MayBeJudged (Resizes size) = Unit {0}
 MayBeJudged (Scores score) = Unit {0}
 MayBeJudged AnyReply = Unit {0}
+MayBeJudged MayUndo = Unit {0}
 MayBeJudged (Chooses colour) = Unit {0}
 
--- the size that was asked for and is refused by a reply of this status, if any
-abbrev pub refused_by : Due → Bool → Option ℕ
-refused_by (Resizes size) false = Some size
+-- what was asked for and is refused by a reply of this status, if any: a size, or an `undo` that may fail
+abbrev pub refused_by : Due → Bool → Option Refusal
+refused_by (Resizes size) false = Some (refusal.Size size)
 refused_by (Resizes size) true = None
+refused_by MayUndo false = Some refusal.Undo
+refused_by MayUndo true = None
 refused_by Succeeds ok = None
 refused_by (Fails cause) ok = None
 refused_by (Places size stones) ok = None

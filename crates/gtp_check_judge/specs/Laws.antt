@@ -1,10 +1,10 @@
 -- Laws of the examiner: what holds of every talk between it and one engine, whatever that is.
 use Rattle.std.specs.Prelude.{◌≡◌, ◌≢◌, ℕ, ℤ, neg_ℤ, Bool, true, false, List, [], ◌∷◌, ◌++◌, take, Option, None, Some}
-use Rattle.std.specs.Prelude.{IfSome, Result, Ok, Err, ◌+◌, ◌⊎◌}
+use Rattle.std.specs.Prelude.{IfSome, Result, Ok, Err, ◌+◌, ◌<◌, ◌⊎◌, length}
 use Rattle.go_base.specs.Size.{IsSize}
 use Rattle.go_base.specs.Handicap.{handicap_points}
 use Rattle.go_base.specs.declared.choices.Choice.{Choice}
-use Rattle.go_board.specs.Game.{GameRecord, HasRoom, IsLegal, with_move, fresh_game_under}
+use Rattle.go_board.specs.Game.{GameRecord, HasRoom, IsLegal, with_move}
 use Rattle.go_board.specs.declared.faults.PlayFault.{PlayFault}
 use Rattle.go_base.specs.declared.moves.Move.{Move}
 use Rattle.gtp_wire.specs.Lines.{lines}
@@ -42,9 +42,10 @@ use Rattle.go_board.specs.Refusals.{RefusesVertex}
 use Rattle.gtp_check_judge.specs.declared.exam.Exam.{Exam}
 use Rattle.gtp_check_judge.specs.declared.exam.Finding.{Finding}
 use Rattle.gtp_wire.specs.ReplyWords.{choice_of_text, names_points}
-use Rattle.gtp_check_judge.specs.Dues.{IsDue, after_due}
+use Rattle.gtp_check_judge.specs.RightEngine.{RightEngine, fresh_engine, undone_after}
+use Rattle.gtp_check_judge.specs.Dues.{IsDue, engine_after}
 use Rattle.gtp_check_judge.specs.Judging.{oldest}
-use Rattle.gtp_check_judge.specs.Exam.{begun, Asks, Hears, HasRoomFor, IsOrderly}
+use Rattle.gtp_check_judge.specs.Exam.{begun, engine_of, Asks, Hears, HasRoomFor, IsOrderly}
 
 -- ---- right answers, by the table of the engine's commands
 
@@ -77,46 +78,55 @@ Says game Name choice ok text = Unit {0}
 Says game Version choice ok text = Unit {0}
 Says game (KnownCommand known) choice ok text = Unit {0}
 
--- The reply is an answer by the table to the command in the game before, and leaves the game after: it has the
--- command's id, and for some choice, which is lawful where a policy is asked for one, it has the status that the
--- table answers, and says what it has to.
-pub record IsByTable (before : GameRecord) (entry : Asked) (reply : Reply) (after : GameRecord) : Type 0 where
+-- The reply is an answer by the table to the command, and leaves this engine after: it has the command's id, and for
+-- some choice, which is lawful where a policy is asked for one, it has the status that the table answers in the game
+-- before, and says what it has to.
+pub record IsByTable (before : RightEngine) (entry : Asked) (reply : Reply) (after : RightEngine) : Type 0 where
   pub id : reply.id ≡ Some entry.id
   pub choice : Choice
-  pub lawful : IfSome (asked before (line_of_asked entry)) (λ colour. IsLawful before colour choice)
-  pub status : reply.ok ≡ (answer before (line_of_asked entry) choice).ok
-  pub says : Says before entry.command choice reply.ok reply.text.items
-  pub game : after ≡ (answer before (line_of_asked entry) choice).game
+  pub lawful : IfSome (asked before.game (line_of_asked entry)) (λ colour. IsLawful before.game colour choice)
+  pub status : reply.ok ≡ (answer before.game (line_of_asked entry) choice).ok
+  pub says : Says before.game entry.command choice reply.ok reply.text.items
+  pub leaves : after ≡ record {
+    game = (answer before.game (line_of_asked entry) choice).game;
+    undone = undone_after before.undone entry.command reply;
+  }
+
+-- an `undo` has succeeded since the last move, and there is a move
+pub record MayFailToUndo (engine : RightEngine) : Type 0 where
+  pub undone : engine.undone ≡ true
+  pub moves : 0 < length engine.game.moves
 
 -- A right engine may refuse the command, though the table's engine doesn't: a `boardsize`, since it may take fewer
--- sizes than 1 to 25; and `final_score`, `name`, `version` and `known_command`, which it may be without.
-abbrev pub MayRefuseTo : Command → Type 0
-MayRefuseTo (Boardsize size) = Unit {0}
-MayRefuseTo (Komi komi) = ⊥
-MayRefuseTo ClearBoard = ⊥
-MayRefuseTo (FixedHandicap stones) = ⊥
-MayRefuseTo (Play move) = ⊥
-MayRefuseTo (Genmove colour) = ⊥
-MayRefuseTo Undo = ⊥
-MayRefuseTo Quit = ⊥
+-- sizes than 1 to 25; an `undo` once one has succeeded since the last move, since it may keep no more of the history;
+-- and `final_score`, `name`, `version` and `known_command`, which it may be without.
+abbrev pub MayRefuseTo : RightEngine → Command → Type 0
+MayRefuseTo engine (Boardsize size) = Unit {0}
+MayRefuseTo engine Undo = MayFailToUndo engine
+MayRefuseTo engine (Komi komi) = ⊥
+MayRefuseTo engine ClearBoard = ⊥
+MayRefuseTo engine (FixedHandicap stones) = ⊥
+MayRefuseTo engine (Play move) = ⊥
+MayRefuseTo engine (Genmove colour) = ⊥
+MayRefuseTo engine Quit = ⊥
 
-abbrev pub MayRefuse : CheckCommand → Type 0
-MayRefuse (Match command) = MayRefuseTo command
-MayRefuse FinalScore = Unit {0}
-MayRefuse Name = Unit {0}
-MayRefuse Version = Unit {0}
-MayRefuse (KnownCommand known) = Unit {0}
+abbrev pub MayRefuse : RightEngine → CheckCommand → Type 0
+MayRefuse engine (Match command) = MayRefuseTo engine command
+MayRefuse engine FinalScore = Unit {0}
+MayRefuse engine Name = Unit {0}
+MayRefuse engine Version = Unit {0}
+MayRefuse engine (KnownCommand known) = Unit {0}
 
--- The reply refuses such a command: it has the command's id, it is a failure, and the game stays.
-pub record IsRefusal (before : GameRecord) (entry : Asked) (reply : Reply) (after : GameRecord) : Type 0 where
-  pub may : MayRefuse entry.command
+-- The reply refuses such a command: it has the command's id, it is a failure, and the engine stays as it is.
+pub record IsRefusal (before : RightEngine) (entry : Asked) (reply : Reply) (after : RightEngine) : Type 0 where
+  pub may : MayRefuse before entry.command
   pub id : reply.id ≡ Some entry.id
   pub status : reply.ok ≡ false
-  pub game : after ≡ before
+  pub leaves : after ≡ before
 
--- The reply is a right answer to the command in the game before, and leaves the game after: an answer by the table,
--- or the refusal of a command that may be refused.
-pub data IsRight (before : GameRecord) (entry : Asked) (reply : Reply) (after : GameRecord) : Type 0 where
+-- The reply is a right answer of the one engine to the command, and leaves the other: an answer by the table, or the
+-- refusal of a command that may be refused.
+pub data IsRight (before : RightEngine) (entry : Asked) (reply : Reply) (after : RightEngine) : Type 0 where
   by_table : IsByTable before entry reply after → IsRight before entry reply after
   by_refusal : IsRefusal before entry reply after → IsRight before entry reply after
 
@@ -127,11 +137,11 @@ pub record Exchange : Type 0 where
   pub entry : Asked
   pub reply : Reply
 
--- From a game on, each of the commands has a right answer in the game that those before it leave; the last game is
+-- From an engine on, each of the commands has a right answer of the engine that those before it leave; they all leave
 -- this.
-pub data AllRight (from : GameRecord) : List Exchange → GameRecord → Type 0 where
+pub data AllRight (from : RightEngine) : List Exchange → RightEngine → Type 0 where
   nothing : AllRight from [] from
-  one_more : {said : List Exchange} {before after : GameRecord} (entry : Asked) (reply : Reply)
+  one_more : {said : List Exchange} {before after : RightEngine} (entry : Asked) (reply : Reply)
       → AllRight from said before → IsRight before entry reply after
       → AllRight from (said ++ record { entry = entry; reply = reply } ∷ []) after
 
@@ -154,26 +164,27 @@ pub data Talks (rule : KoRule) : List ℕ → List ℕ → List Exchange → Exa
       → Talks rule sent came said old → Hears old bytes used read None new
       → Talks rule sent (came ++ take used bytes) (said ++ exchanged (oldest old.unanswered) read) new
 
--- a command that was asked in this game
-pub record IsAsked (game : GameRecord) (entry : Asked) : Type 0 where
+-- a command that was asked of this engine
+pub record IsAsked (engine : RightEngine) (entry : Asked) : Type 0 where
   pub writable : IsCheckWritable entry.command
   pub limits : IsCheckInLimits entry.command
-  pub is_due : IsDue game entry.command entry.due
+  pub is_due : IsDue engine entry.command entry.due
 
--- The commands were asked in this game and those after it, and the last is the game ahead.
-abbrev pub Expects : GameRecord → List Asked → GameRecord → Type 0
-Expects game [] ahead = ahead ≡ game
-Expects game (entry ∷ later) ahead = IsAsked game entry × Expects (after_due game entry.command entry.due) later ahead
+-- The commands were asked of this engine and of those that come of it, the last of which is the one ahead.
+abbrev pub Expects : RightEngine → List Asked → RightEngine → Type 0
+Expects engine [] ahead = ahead ≡ engine
+Expects engine (entry ∷ later) ahead =
+    IsAsked engine entry × Expects (engine_after engine entry.command entry.due) later ahead
 
 -- ---- silence says what was seen
 
--- As long as nothing was found, each answer that was heard is a right one, in the game that those before it leave; and
--- what is unanswered was asked in the game after them. The exam is orderly.
+-- As long as nothing was found, each answer that was heard is a right one of the engine that those before it leave; and
+-- what is unanswered was asked of the engine after them. The exam is orderly.
 pub record IsRightSoFar (rule : KoRule) (said : List Exchange) (exam : Exam) : Type 0 where
-  pub before : GameRecord
-  pub right : AllRight (fresh_game_under rule) said before
-  pub expects : Expects before exam.unanswered exam.game
-  pub size : IsSize before.size
+  pub before : RightEngine
+  pub right : AllRight (fresh_engine rule) said before
+  pub expects : Expects before exam.unanswered (engine_of exam)
+  pub size : IsSize before.game.size
   pub orderly : IsOrderly exam
 
 abbrev pub SilenceSaysAllIsRight : Type 0
@@ -183,24 +194,24 @@ SilenceSaysAllIsRight = (rule : KoRule) (sent came : List ℕ) (said : List Exch
 -- ---- a finding is justified
 
 -- what was read is no right answer to the command, whatever a policy would choose
-abbrev pub NoRightAnswer : GameRecord → Option Asked → Option (Result Reply ReplyFault) → Type 0
-NoRightAnswer before (Some entry) (Some (Ok reply)) = (after : GameRecord) → IsRight before entry reply after → ⊥
+abbrev pub NoRightAnswer : RightEngine → Option Asked → Option (Result Reply ReplyFault) → Type 0
+NoRightAnswer before (Some entry) (Some (Ok reply)) = (after : RightEngine) → IsRight before entry reply after → ⊥
 NoRightAnswer before (Some entry) (Some (Err shown)) = Unit {0}
 NoRightAnswer before (Some entry) None = ⊥
 NoRightAnswer before None (Some read) = Unit {0}
 NoRightAnswer before None None = ⊥
 
--- What a kind says of a reply to a command that was asked, in the game before. Every right answer is a success, since
+-- What a kind says of a reply to a command that was asked of the engine before. Every right answer is a success, since
 -- it may not be refused, and this one failed; every right answer is a failure, for this cause, and this one
 -- succeeded; the words aren't the points that are due; a `genmove` failed; or it succeeded, and said nothing that is
 -- a choice, or a vertex that is refused for this cause; a `final_score` said what is no score, or another than that
 -- of the game; or the id is missing or another.
-abbrev pub KindIsTrue : GameRecord → Asked → Reply → Kind → Type 0
+abbrev pub KindIsTrue : RightEngine → Asked → Reply → Kind → Type 0
 KindIsTrue before entry reply Refused =
-    (reply.ok ≡ false) × ((choice : Choice) → (answer before (line_of_asked entry) choice).ok ≡ true)
-    × ¬ MayRefuse entry.command
+    (reply.ok ≡ false) × ((choice : Choice) → (answer before.game (line_of_asked entry) choice).ok ≡ true)
+    × ¬ MayRefuse before entry.command
 KindIsTrue before entry reply (Took cause) =
-    (reply.ok ≡ true) × ((choice : Choice) → (answer before (line_of_asked entry) choice).ok ≡ false)
+    (reply.ok ≡ true) × ((choice : Choice) → (answer before.game (line_of_asked entry) choice).ok ≡ false)
     × (entry.due ≡ Fails cause)
 KindIsTrue before entry reply OtherPoints =
     (reply.ok ≡ true) × ((size stones : ℕ) × (entry.due ≡ Places size stones)
@@ -212,12 +223,12 @@ KindIsTrue before entry reply NoVertex =
     × (choice_of_text reply.text.items ≡ None)
 KindIsTrue before entry reply (Unlawful fault) =
     (reply.ok ≡ true) × ((colour : Colour) × (vertex : Vertex) × (entry.due ≡ Chooses colour)
-    × (choice_of_text reply.text.items ≡ Some (choice.Play vertex)) × RefusesVertex before colour vertex fault)
+    × (choice_of_text reply.text.items ≡ Some (choice.Play vertex)) × RefusesVertex before.game colour vertex fault)
 KindIsTrue before entry reply NoScore =
-    (reply.ok ≡ true) × (entry.due ≡ Scores (score before)) × (score_of_text reply.text.items ≡ None)
+    (reply.ok ≡ true) × (entry.due ≡ Scores (score before.game)) × (score_of_text reply.text.items ≡ None)
 KindIsTrue before entry reply OtherScore =
-    (reply.ok ≡ true) × (entry.due ≡ Scores (score before))
-    × ((said : ℤ) × (score_of_text reply.text.items ≡ Some said) × (said ≢ score before))
+    (reply.ok ≡ true) × (entry.due ≡ Scores (score before.game))
+    × ((said : ℤ) × (score_of_text reply.text.items ≡ Some said) × (said ≢ score before.game))
 KindIsTrue before entry reply WrongId = reply.id ≢ Some entry.id
 KindIsTrue before entry reply Unasked = ⊥
 KindIsTrue before entry reply NoStatus = ⊥
@@ -230,7 +241,7 @@ FaultIsNamed fault.Overlong kind = kind ≡ Overlong
 
 -- The same of what was read: a fault of the reader is named, and so is a reply where nothing was unanswered. Of a reply
 -- with a missing or another id nothing else is said: it is no reply to the command.
-abbrev pub GivesKind : GameRecord → Option Asked → Option (Result Reply ReplyFault) → Kind → Type 0
+abbrev pub GivesKind : RightEngine → Option Asked → Option (Result Reply ReplyFault) → Kind → Type 0
 GivesKind before (Some entry) (Some (Ok reply)) kind =
     KindIsTrue before entry reply kind × (kind ≢ WrongId → reply.id ≡ Some entry.id)
 GivesKind before None (Some (Ok reply)) kind = kind ≡ Unasked
@@ -240,12 +251,13 @@ GivesKind before (Some entry) None kind = ⊥
 GivesKind before None None kind = ⊥
 
 -- What was found: all answers before were right; it names the oldest command that was unanswered, if any; and what was
--- read is no right answer to that in the game that the answers before leave: a reply that isn't one, or a fault of the
--- reader, which is none at all. What was due to the command is so by the rules of the game, and the kind is true.
+-- read is no right answer to that of the engine that the answers before leave: a reply that isn't one, or a fault of
+-- the reader, which is none at all. What was due to the command is so by the rules of the game and the moves that were
+-- taken back, and the kind is true.
 pub record IsJustified (rule : KoRule) (said : List Exchange) (exam : Exam) (read : Option (Result Reply ReplyFault))
     (finding : Finding) : Type 0 where
-  pub before : GameRecord
-  pub right : AllRight (fresh_game_under rule) said before
+  pub before : RightEngine
+  pub right : AllRight (fresh_engine rule) said before
   pub names : finding.asked ≡ oldest exam.unanswered
   pub due : IfSome finding.asked (IsAsked before)
   pub wrong : NoRightAnswer before finding.asked read
@@ -261,15 +273,17 @@ FindingsAreJustified = (rule : KoRule) (sent came : List ℕ) (said : List Excha
 
 -- What is due to a `final_score` is the score by komi alone: White leads by it.
 abbrev pub ScoresAreKomiAlone : Type 0
-ScoresAreKomiAlone = (game : GameRecord) (due : Due) → IsDue game FinalScore due → due ≡ Scores (neg_ℤ game.komi)
+ScoresAreKomiAlone = (engine : RightEngine) (due : Due)
+    → IsDue engine FinalScore due → due ≡ Scores (neg_ℤ engine.game.komi)
 
--- ---- the game that right answers leave
+-- ---- the engine that right answers leave
 
--- The answers that were heard leave one game: no other is left by the same answers.
+-- The answers that were heard leave one game, and say of one engine whether an `undo` has succeeded since its last
+-- move: no other engine is left by the same answers.
 abbrev pub RightAnswersLeaveOneGame : Type 0
 RightAnswersLeaveOneGame = (rule : KoRule) (sent came : List ℕ) (said : List Exchange) (exam : Exam)
-    (one other : GameRecord) → Talks rule sent came said exam
-    → AllRight (fresh_game_under rule) said one → AllRight (fresh_game_under rule) said other → one ≡ other
+    (one other : RightEngine) → Talks rule sent came said exam
+    → AllRight (fresh_engine rule) said one → AllRight (fresh_engine rule) said other → one ≡ other
 
 -- ---- what is asked
 
@@ -279,21 +293,24 @@ AskedCommandsAreLines = (old new : Exam) (command : CheckCommand) (later : List 
     → HasRoomFor old command → Asks old command new
     → lines (written_check new.sent command ++ later) ≡ line_of_check new.sent command ∷ lines later
 
--- The move is legal in the game. Its success is due, and a right engine has made it by then.
+-- The move is legal in the game. Its success is due, and a right engine has made it by then, so that an `undo` after it
+-- has to succeed.
 pub record IsPlayed (old : Exam) (move : Move) (new : Exam) : Type 0 where
   pub legal : IsLegal old.game move.colour move.vertex
   pub asked : new.unanswered ≡ old.unanswered
       ++ record { id = old.sent + 1; command = Match (Play move); due = Succeeds } ∷ []
   pub goes_on : new.game ≡ with_move old.game move.colour move.vertex
+  pub moved : new.undone ≡ false
 
 -- A probe: the move breaks this rule in the game, so that a right engine has to refuse it. Its failure is due, for
--- that rule, and the game stays.
+-- that rule, and the game stays, and what an `undo` may do.
 pub record IsProbe (old : Exam) (move : Move) (new : Exam) : Type 0 where
   pub fault : PlayFault
   pub refused : RefusesVertex old.game move.colour move.vertex fault
   pub asked : new.unanswered ≡ old.unanswered
       ++ record { id = old.sent + 1; command = Match (Play move); due = Fails (BadMove fault) } ∷ []
   pub stays : new.game ≡ old.game
+  pub unmoved : new.undone ≡ old.undone
 
 -- A `play` is asked only where the record has room. It is legal in the game that a right engine has by then, or it is a
 -- probe.
@@ -304,37 +321,37 @@ PlaysAreLegalOrProbes = (old new : Exam) (move : Move)
 
 -- ---- no right engine is blamed
 
--- A reply that is a right answer to the oldest command, in the game that the answers before leave, has no finding.
+-- A reply that is a right answer to the oldest command, of the engine that the answers before leave, has no finding.
 abbrev pub RightAnswersHaveNoFinding : Type 0
 RightAnswersHaveNoFinding = (rule : KoRule) (sent came : List ℕ) (said : List Exchange) (old new : Exam)
-    (bytes : List ℕ) (used : ℕ) (reply : Reply) (finding : Option Finding) (entry : Asked) (before after : GameRecord)
+    (bytes : List ℕ) (used : ℕ) (reply : Reply) (finding : Option Finding) (entry : Asked) (before after : RightEngine)
     → Talks rule sent came said old → Hears old bytes used (Some (Ok reply)) finding new
     → oldest old.unanswered ≡ Some entry
-    → AllRight (fresh_game_under rule) said before → IsRight before entry reply after
+    → AllRight (fresh_engine rule) said before → IsRight before entry reply after
     → finding ≡ None
 
--- What may be written by whoever was asked these commands and answers rightly, from this game on: replies, one after
--- the other, each a right answer in the game that those before it leave. The last commands may have no answer yet. What
--- is after the answers is none: it may be blank, or the front of a reply.
-pub data AnswersRightly : GameRecord → List Asked → List ℕ → Type 0 where
-  no_more : (game : GameRecord) (unread : List Asked) (rest : List ℕ) → GivesNoAnswer rest
-      → AnswersRightly game unread rest
-  answers : {game after : GameRecord} {unread : List Asked} {out : List ℕ} (entry : Asked) (reply : Reply)
-      (text : List ℕ) → IsReply text reply → IsRight game entry reply after → AnswersRightly after unread out
-      → AnswersRightly game (entry ∷ unread) (text ++ out)
+-- What may be written by whoever was asked these commands and answers rightly, from this engine on: replies, one after
+-- the other, each a right answer of the engine that those before it leave. The last commands may have no answer yet.
+-- What is after the answers is none: it may be blank, or the front of a reply.
+pub data AnswersRightly : RightEngine → List Asked → List ℕ → Type 0 where
+  no_more : (engine : RightEngine) (unread : List Asked) (rest : List ℕ) → GivesNoAnswer rest
+      → AnswersRightly engine unread rest
+  answers : {engine after : RightEngine} {unread : List Asked} {out : List ℕ} (entry : Asked) (reply : Reply)
+      (text : List ℕ) → IsReply text reply → IsRight engine entry reply after → AnswersRightly after unread out
+      → AnswersRightly engine (entry ∷ unread) (text ++ out)
 
 abbrev pub commands_of : List Exchange → List Asked
 commands_of [] = []
 commands_of (exchange ∷ later) = exchange.entry ∷ commands_of later
 
 -- Whatever the engine is, if all that it wrote are right answers to the commands that it was asked, and what was heard
--- and is heard now are a front of that, nothing is found. So an engine that refuses sizes, one of other texts, and one
--- without `final_score` aren't blamed.
+-- and is heard now are a front of that, nothing is found. So an engine that refuses sizes, one that takes back just one
+-- move, one of other texts, and one without `final_score` aren't blamed.
 abbrev pub WhoAnswersRightlyIsNotBlamed : Type 0
 WhoAnswersRightlyIsNotBlamed = (rule : KoRule) (out sent came : List ℕ) (said : List Exchange) (old new : Exam)
     (bytes later : List ℕ) (used : ℕ) (read : Option (Result Reply ReplyFault)) (finding : Option Finding)
     → Talks rule sent came said old → Hears old bytes used read finding new
-    → AnswersRightly (fresh_game_under rule) (commands_of said ++ old.unanswered) out
+    → AnswersRightly (fresh_engine rule) (commands_of said ++ old.unanswered) out
     → out ≡ came ++ (bytes ++ later)
     → finding ≡ None
 

@@ -2,6 +2,7 @@ pub mod Scores
 pub mod Asking
 pub mod Setups
 pub mod Skills
+pub mod RightEngine
 pub mod Dues
 pub mod Judging
 pub mod Exam
@@ -10,4 +11,5 @@ pub mod Laws
 pub mod StepLaws
 pub mod AnswerLaws
 pub mod HistoryLaws
+pub mod UndoLaws
 pub mod ConversationLaws

@@ -4,7 +4,8 @@ ghost use Rattle.go_board.specs.Game.{HasRoom};
 ghost use Rattle.gtp_wire.specs.declared.commands.Command.TheVariants as command;
 ghost use Rattle.gtp_check_judge.specs.declared.asking.CheckCommand.TheVariants.{Match};
 ghost use Rattle.gtp_check_judge.specs.Dues.{MayBeAsked, MayBeSaid, IsDue, IsDueTo, PlayDue, HandicapDue, UndoDue};
-ghost use Rattle.gtp_check_judge.specs.Dues.{after_due};
+ghost use Rattle.gtp_check_judge.specs.Dues.{after_due, undone_once, undone_due};
+ghost use Rattle.gtp_check_judge.specs.Judging.{is_open, undo_may_fail, leaves_open, is_awaited};
 
 use crate::asking::CheckCommand;
 use go_base::{Colour, Move, Size};
@@ -39,6 +40,8 @@ pub enum Due {
     AnyReply,
     /// A success that is `resign`, or a vertex that is legal for this colour.
     Chooses(Colour),
+    /// A success, by which the last move is taken back; or a failure, by which nothing changes.
+    MayUndo,
 }
 
 /// The greatest int of the protocol.
@@ -70,14 +73,64 @@ fn may_be_said(game: &Game, command: &Command) -> bool
     }
 }
 
-/// What is due to a command in this game, which becomes the one that a right engine has then.
-pub(crate) fn due_to(game: &mut Game, command: &CheckCommand) -> Due
+/// Whether what a right engine does where this is due isn't known before its answer.
+pub(crate) fn is_open(due: &Due) -> bool
+    ensures { result ≡ is_open due.now }
+{
+    match due {
+        Due::Chooses(_) | Due::Resizes(_) | Due::MayUndo => true,
+        Due::Succeeds | Due::Fails(_) | Due::Places(..) | Due::Scores(_) | Due::AnyReply => false,
+    }
+}
+
+/// Whether the answer to a command has to be awaited: that to a `genmove`, a `boardsize`, or an `undo` that may fail.
+/// The game and whether an `undo` has succeeded since the last move are a right engine's.
+pub(crate) fn is_awaited(game: &Game, undone: bool, command: &CheckCommand) -> bool
+    ensures { result ≡ is_awaited (record { game = game.now; undone = undone }) command.now }
+{
+    match command {
+        CheckCommand::Match(command) => leaves_open(game, undone, command),
+        CheckCommand::FinalScore
+        | CheckCommand::Name
+        | CheckCommand::Version
+        | CheckCommand::KnownCommand(_) => false,
+    }
+}
+
+/// The same of a command of a match.
+fn leaves_open(game: &Game, undone: bool, command: &Command) -> bool
+    ensures { result ≡ leaves_open (record { game = game.now; undone = undone }) command.now }
+{
+    match command {
+        Command::Genmove(_) | Command::Boardsize(_) => true,
+        Command::Undo => undo_may_fail(game.moves(), undone),
+        Command::Komi(_)
+        | Command::ClearBoard
+        | Command::FixedHandicap(_)
+        | Command::Play(_)
+        | Command::Quit => false,
+    }
+}
+
+/// Whether an `undo` may fail after these moves: one has succeeded since the last of them.
+fn undo_may_fail(moves: &[Move], undone: bool) -> bool
+    ensures { result ≡ undo_may_fail undone moves.now }
+{
+    match moves {
+        [] => false,
+        [..] => undone,
+    }
+}
+
+/// What is due to a command in this game, which becomes the one that a right engine has then, where an `undo` has
+/// succeeded since the last move or hasn't.
+pub(crate) fn due_to(game: &mut Game, undone: bool, command: &CheckCommand) -> Due
     requires { MayBeAsked game.old command.now }
-    ensures due { IsDue game.old command.now result }
+    ensures due { IsDue (record { game = game.old; undone = undone }) command.now result }
     ensures game { game.new ≡ after_due game.old command.now result }
 {
     match command {
-        CheckCommand::Match(command) => command_due(game, command),
+        CheckCommand::Match(command) => command_due(game, undone, command),
         CheckCommand::FinalScore => {
             // Its contract says that komi is in its limits.
             let _ = game.komi().half_points();
@@ -87,10 +140,37 @@ pub(crate) fn due_to(game: &mut Game, command: &CheckCommand) -> Due
     }
 }
 
+/// Whether an `undo` has succeeded since the last move, once a right engine has answered what is due to a command.
+pub(crate) fn undone_due(undone: bool, command: &CheckCommand, due: &Due) -> bool
+    ensures { result ≡ undone_due undone command.now due.now }
+{
+    match due {
+        Due::Succeeds => undone_once(undone, command),
+        Due::Fails(_)
+        | Due::Places(..)
+        | Due::Resizes(_)
+        | Due::Scores(_)
+        | Due::AnyReply
+        | Due::Chooses(_)
+        | Due::MayUndo => undone,
+    }
+}
+
+/// The same of a command that succeeded.
+fn undone_once(undone: bool, command: &CheckCommand) -> bool
+    ensures { result ≡ undone_once undone command.now }
+{
+    match command {
+        CheckCommand::Match(Command::Undo) => true,
+        CheckCommand::Match(Command::Play(_)) => false,
+        _ => undone,
+    }
+}
+
 /// What is due to a command of a match.
-fn command_due(game: &mut Game, command: &Command) -> Due
+fn command_due(game: &mut Game, undone: bool, command: &Command) -> Due
     requires { MayBeSaid game.old command.now }
-    ensures due { IsDueTo game.old command.now result }
+    ensures due { IsDueTo (record { game = game.old; undone = undone }) command.now result }
     ensures game { game.new ≡ after_due game.old (Match command.now) result }
 {
     match command {
@@ -112,7 +192,7 @@ fn command_due(game: &mut Game, command: &Command) -> Due
         Command::FixedHandicap(stones) => handicap_due(game, *stones),
         Command::Play(made) => play_due(game, *made),
         Command::Genmove(colour) => Due::Chooses(*colour),
-        Command::Undo => undo_due(game),
+        Command::Undo => undo_due(game, undone),
         Command::Quit => Due::Succeeds,
     }
 }
@@ -142,10 +222,13 @@ fn play_due(game: &mut Game, made: Move) -> Due
 }
 
 /// What is due to an `undo`.
-fn undo_due(game: &mut Game) -> Due
-    ensures due { UndoDue game.old result }
+fn undo_due(game: &mut Game, undone: bool) -> Due
+    ensures due { UndoDue (record { game = game.old; undone = undone }) result }
     ensures game { game.new ≡ after_due game.old (Match command.Undo) result }
 {
+    if undo_may_fail(game.moves(), undone) {
+        return Due::MayUndo;
+    }
     match game.undo() {
         Ok(_) => Due::Succeeds,
         Err(_) => Due::Fails(Cause::NoMoves),

@@ -1,5 +1,5 @@
 //! What the examiner keeps of an engine, and its steps.
-ghost use Rattle.std.specs.Prelude.{◌≡◌, ◌<◌, ◌≤◌, true, false, [], length, option_map, Some};
+ghost use Rattle.std.specs.Prelude.{◌≡◌, ◌<◌, ◌≤◌, true, false, [], length, drop, option_map, Some, None};
 ghost use Rattle.go_base.specs.Int.{most_int};
 ghost use Rattle.gtp_wire.specs.Replies.{with_reply};
 ghost use Rattle.gtp_wire.specs.Commands.{IsWritable, IsInLimits};
@@ -9,19 +9,20 @@ ghost use Rattle.gtp_check_judge.specs.declared.setups.Board.TheVariants.{Cleare
 ghost use Rattle.gtp_check_judge.specs.Setups.{needs_board, is_final_score};
 ghost use Rattle.gtp_check_judge.specs.Dues.{MayBeAsked, MayBeSaid};
 ghost use Rattle.gtp_check_judge.specs.Judging.{most_unanswered, oldest, awaits, is_awaited};
-ghost use Rattle.gtp_check_judge.specs.Exam.{begun, downed, kind_of, Asks, Hears, ReplyLeaves, after_judged};
+ghost use Rattle.gtp_check_judge.specs.Exam.{begun, engine_of, downed, kind_of, Asks, Hears, ReplyLeaves};
+ghost use Rattle.gtp_check_judge.specs.Exam.{after_judged};
 ghost use Rattle.gtp_check_judge.specs.Exam.{with_learned, finding_of, MayReply, MayApply, HasRoomFor, answered_by};
-ghost use Rattle.gtp_check_judge.specs.Exam.{refused_size};
+ghost use Rattle.gtp_check_judge.specs.Exam.{refused_what};
 
 use crate::asking::{CheckCommand, write_check};
-use crate::dues::{due_to, may_be_asked};
-use crate::judging::{Judgement, Kind, has_id, judge, refused_by};
+use crate::dues::{due_to, is_awaited, may_be_asked, undone_due};
+use crate::judging::{Judgement, Kind, Refusal, has_id, judge, refused_by};
 use crate::setups::{
     Board, board_after, is_clear_board, is_cleared, is_final_score, is_komi, needs_board,
 };
 use crate::skills::{Skills, has_needed, learned, none_asked};
-use crate::unanswered::{Asked, MOST_UNANSWERED, Unanswered, is_awaited};
-use go_base::{Size, Vertex};
+use crate::unanswered::{Asked, MOST_UNANSWERED, Unanswered};
+use go_base::Vertex;
 use go_board::{Game, KoRule};
 use gtp_wire::{Command, CommandText, Reply, ReplyFault, ReplyRead, ReplyReader};
 
@@ -48,8 +49,8 @@ pub struct Heard {
     pub finding: Option<Finding>,
     /// The command to which this was a right answer, if any.
     pub answered: Option<Asked>,
-    /// The size that the engine refused, if any: a right answer, by which nothing changed.
-    pub refused: Option<Size>,
+    /// What the engine refused, if anything: a right answer, by which nothing changed.
+    pub refused: Option<Refusal>,
 }
 
 /// The game of a right engine, whether the engine is up, how many commands it was asked since it was started, those
@@ -58,6 +59,8 @@ pub struct Heard {
 pub struct Exam {
     /// The game of a right engine that has answered all that was asked.
     pub game: Game,
+    /// Whether an `undo` of that engine has succeeded since its last move: the next one may fail.
+    pub undone: bool,
     /// Whether the engine was started, and neither lost since nor found wrong.
     pub up: bool,
     /// How many commands it was asked since. The last of them has this number as its id.
@@ -81,6 +84,7 @@ impl Exam {
     {
         Exam {
             game: Game::fresh(rule),
+            undone: false,
             up,
             sent: 0,
             unanswered: Unanswered::new(),
@@ -121,17 +125,19 @@ impl Exam {
     fn has_place(&self, command: &CheckCommand) -> bool
         ensures few { result ≡ true → length self.now.unanswered < most_unanswered }
         ensures none_awaits { result ≡ true → awaits self.now.unanswered ≡ false }
-        ensures alone { result ≡ true → is_awaited command.now ≡ true
+        ensures alone { result ≡ true → is_awaited (engine_of self.now) command.now ≡ true
             → self.now.unanswered ≡ [] }
         ensures only { length self.now.unanswered < most_unanswered
             → awaits self.now.unanswered ≡ false
-            → (is_awaited command.now ≡ true → self.now.unanswered ≡ [])
+            → (is_awaited (engine_of self.now) command.now ≡ true → self.now.unanswered ≡ [])
             → result ≡ true }
     {
         if self.unanswered.len() == 0 {
             return true;
         }
-        self.unanswered.len() < MOST_UNANSWERED && !is_awaited(command) && !self.unanswered.awaits()
+        self.unanswered.len() < MOST_UNANSWERED
+            && !is_awaited(&self.game, self.undone, command)
+            && !self.unanswered.awaits()
     }
 
     /// The engine is asked a command. Returns the bytes of its line.
@@ -144,7 +150,8 @@ impl Exam {
     {
         in_limits(&self.game, &command);
         self.sent += 1;
-        let due = due_to(&mut self.game, &command);
+        let due = due_to(&mut self.game, self.undone, &command);
+        self.undone = undone_due(self.undone, &command, &due);
         self.unanswered.push(self.sent, command, due);
         self.board = board_after(self.board, is_clear_board(&command));
         self.komi_set = self.komi_set || is_komi(&command);
@@ -159,7 +166,7 @@ impl Exam {
             (option_map (with_reply reply.new) result.read) result.finding self.new }
         ensures answered { result.answered ≡ answered_by (oldest self.old.unanswered)
             (option_map (with_reply reply.new) result.read) result.finding }
-        ensures refused { result.refused ≡ refused_size (oldest self.old.unanswered)
+        ensures refused { result.refused ≡ refused_what (oldest self.old.unanswered)
             (option_map (with_reply reply.new) result.read) result.finding }
     {
         let oldest = self.unanswered.oldest();
@@ -172,7 +179,7 @@ impl Exam {
         Heard {
             used,
             answered: answered_by(&oldest, got, reply, &finding),
-            refused: refused_size(&oldest, got, reply, &finding),
+            refused: refused_what(&oldest, got, reply, &finding),
             read: got,
             finding,
         }
@@ -223,21 +230,23 @@ impl Exam {
     {
         self.skills = learned(&self.skills, &asked.command, reply);
         match judged {
-            Judgement::Right => {
-                self.unanswered.drop_oldest();
-                None
-            }
+            Judgement::Right => self.taken_off(),
             Judgement::Plays(colour, vertex) => {
                 // It is legal, and the record has room.
                 let _ = self.game.play(colour, vertex);
-                self.unanswered.drop_oldest();
-                None
+                self.undone = false;
+                self.taken_off()
             }
             Judgement::Resized(size) => {
                 self.game.set_size(size);
                 self.board = Board::Sized;
-                self.unanswered.drop_oldest();
-                None
+                self.taken_off()
+            }
+            Judgement::Undone => {
+                // There is a move.
+                let _ = self.game.undo();
+                self.undone = true;
+                self.taken_off()
             }
             Judgement::Wrong(kind) => {
                 self.up = false;
@@ -247,6 +256,16 @@ impl Exam {
                 })
             }
         }
+    }
+
+    /// The oldest command was answered rightly.
+    fn taken_off(&mut self) -> Option<Finding>
+        ensures nothing { result ≡ None }
+        ensures off { self.new
+            ≡ record self.old { unanswered = drop 1 self.old.unanswered } }
+    {
+        self.unanswered.drop_oldest();
+        None
     }
 }
 
@@ -265,14 +284,14 @@ fn answered_by(
     }
 }
 
-/// The size that is refused by what was read, where this is the oldest command.
-fn refused_size(
+/// What is refused by what was read, where this is the oldest command.
+fn refused_what(
     asked: &Option<Asked>,
     read: Option<Result<(), ReplyFault>>,
     reply: &Reply,
     finding: &Option<Finding>,
-) -> Option<Size>
-    ensures { result ≡ refused_size asked.now (option_map (with_reply reply.now) read) finding.now }
+) -> Option<Refusal>
+    ensures { result ≡ refused_what asked.now (option_map (with_reply reply.now) read) finding.now }
 {
     match (asked, read, finding) {
         (Some(asked), Some(Ok(())), None) => refused_by(asked.due, reply.ok),

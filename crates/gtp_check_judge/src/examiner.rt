@@ -35,7 +35,7 @@ impl Model for Examiner {
 impl Examiner {
     ghost use Rattle.gtp_check_judge.specs.Check.{opening, started, with_exam, after_loss};
     ghost use Rattle.gtp_check_judge.specs.Exam.{Asks, Hears, HearsDown, HasRoomFor, IsOrderly};
-    ghost use Rattle.gtp_check_judge.specs.Exam.{answered_by, refused_size};
+    ghost use Rattle.gtp_check_judge.specs.Exam.{answered_by, refused_what};
     ghost use Rattle.gtp_check_judge.specs.Judging.{oldest};
 
     /// An examiner of engines with this ko rule, before the first was started, which may be started so often.
@@ -68,9 +68,10 @@ impl Examiner {
 
     /// Whether the engine may be asked this command now.
     ///
-    /// It may where it is up, fewer than eight commands are unanswered and none of them is a `genmove` or a
-    /// `boardsize`; one of these only where none is; a `play` or a `genmove` only where the record has room, and no
-    /// `genmove` after two passes; a `final_score` only where no move was made and no handicap placed; no `quit`.
+    /// It may where it is up, fewer than eight commands are unanswered and none of them is a `genmove`, a `boardsize`
+    /// or an `undo` that may fail; one of these only where none is; a `play` or a `genmove` only where the record has
+    /// room, and no `genmove` after two passes; a `final_score` only where no move was made and no handicap placed; no
+    /// `quit`.
     /// What hangs on the board is asked only once a size was taken and a `clear_board` asked after it, and a score
     /// only once a `komi` was asked too. `fixed_handicap`, `undo` and `final_score` are asked only once the engine
     /// has answered whether it knows them, and not where it said `false`.
@@ -112,9 +113,9 @@ impl Examiner {
         ensures answered { self.old.exam.up ≡ true → result.answered
             ≡ answered_by (oldest self.old.exam.unanswered)
             (option_map (with_reply reply.new) result.read) result.finding }
-        // a size that an engine refuses is no finding
+        // a size that an engine refuses is no finding, nor is an `undo` after one that succeeded
         ensures refused { self.old.exam.up ≡ true → result.refused
-            ≡ refused_size (oldest self.old.exam.unanswered)
+            ≡ refused_what (oldest self.old.exam.unanswered)
             (option_map (with_reply reply.new) result.read) result.finding }
     {
         if !self.exam.up {
@@ -142,6 +143,14 @@ impl Examiner {
         ensures orderly { IsOrderly self.now.exam }
     {
         &self.exam.game
+    }
+
+    /// Whether an `undo` of a right engine has succeeded since its last move, once it has answered all that was asked:
+    /// the next one may fail.
+    pub fn undone(&self) -> bool
+        ensures { result ≡ self.now.exam.undone }
+    {
+        self.exam.undone
     }
 
     /// Whether an engine was started, and was neither lost since nor found wrong.

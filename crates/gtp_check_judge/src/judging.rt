@@ -6,7 +6,7 @@ ghost use Rattle.gtp_wire.specs.ReplyWords.{choice_of_text, names_points};
 ghost use Rattle.gtp_check_judge.specs.Scores.{score_of_text};
 ghost use Rattle.gtp_check_judge.specs.Judging.{Judged, ChoiceJudged, SaidJudged, VertexJudged, ScoreJudged};
 ghost use Rattle.gtp_check_judge.specs.Judging.{SaidScoreJudged, NumberJudged, MayBeJudged, has_id, success_judged};
-ghost use Rattle.gtp_check_judge.specs.Judging.{failure_judged, size_judged, points_judged, refused_by};
+ghost use Rattle.gtp_check_judge.specs.Judging.{failure_judged, size_judged, undo_judged, points_judged, refused_by};
 
 use crate::dues::{Cause, Due};
 use crate::scores::read_score;
@@ -43,6 +43,15 @@ pub enum Kind {
     Overlong,
 }
 
+/// What a right engine may refuse, and refused. Nothing changed by it.
+#[derive(Clone, Copy, Debug, PartialEq, Eq)]
+pub enum Refusal {
+    /// A board of this size.
+    Size(Size),
+    /// To take back a move, after one that it took back.
+    Undo,
+}
+
 /// What a reply is.
 #[derive(Clone, Copy, Debug, PartialEq, Eq)]
 pub enum Judgement {
@@ -52,6 +61,8 @@ pub enum Judgement {
     Plays(Colour, Vertex),
     /// A right answer to a `boardsize`, by which the board has this size.
     Resized(Size),
+    /// A right answer to an `undo`, by which the last move is taken back.
+    Undone,
     /// A wrong one.
     Wrong(Kind),
 }
@@ -82,6 +93,7 @@ pub(crate) fn judge(game: &Game, due: Due, reply: &Reply) -> Judgement
         Due::Scores(score) => score_judged(score, reply),
         Due::AnyReply => Judgement::Right,
         Due::Chooses(colour) => choice_judged(game, colour, reply),
+        Due::MayUndo => undo_judged(reply.ok),
     }
 }
 
@@ -96,12 +108,24 @@ fn size_judged(size: Size, ok: bool) -> Judgement
     }
 }
 
-/// The size that was asked for and is refused by a reply of this status, if any.
-pub(crate) fn refused_by(due: Due, ok: bool) -> Option<Size>
+/// A reply to an `undo` that may fail.
+fn undo_judged(ok: bool) -> Judgement
+    ensures { result ≡ undo_judged ok }
+{
+    if ok {
+        Judgement::Undone
+    } else {
+        Judgement::Right
+    }
+}
+
+/// What was asked for and is refused by a reply of this status, if anything.
+pub(crate) fn refused_by(due: Due, ok: bool) -> Option<Refusal>
     ensures { result ≡ refused_by due ok }
 {
     match due {
-        Due::Resizes(size) => { if ok { None } else { Some(size) } }
+        Due::Resizes(size) => { if ok { None } else { Some(Refusal::Size(size)) } }
+        Due::MayUndo => { if ok { None } else { Some(Refusal::Undo) } }
         Due::Succeeds
         | Due::Fails(_)
         | Due::Places(..)

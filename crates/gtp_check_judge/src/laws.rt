@@ -11,14 +11,15 @@ ghost use Rattle.gtp_check_judge.specs.HistoryLaws.{SomeAreAskedAlone};
 ghost use Rattle.gtp_check_judge.specs.HistoryLaws.{ReadyEnginesMayBeAsked, KnownEnginesMayBeAsked};
 ghost use Rattle.gtp_check_judge.specs.ConversationLaws.{EachStartBeginsAnew, ConversationsShowFindings};
 ghost use Rattle.gtp_check_judge.specs.ConversationLaws.{NoRightEngineWroteIt};
-ghost use Rattle.gtp_check_judge.specs.AnswerLaws.{ScoresAreRead, RefusedSizesAreReported};
+ghost use Rattle.gtp_check_judge.specs.AnswerLaws.{ScoresAreRead, RefusalsAreReported};
+ghost use Rattle.gtp_check_judge.specs.UndoLaws.{UndoneIsWhatWasSaid, FirstUndosHaveToSucceed};
 ghost use Rattle.gtp_check_judge.specs.StepLaws.{NoneAfterTheEnd, HandicapsArePlacedOrProbes, RightAnswersAreReported};
 
 use gtp_session::policy::Policy;
 
 /// As long as nothing was found, each answer that was heard is a right one, by the table of the engine's commands or as
-/// the refusal of what may be refused, in the game that the commands and answers before it make. What is unanswered was
-/// asked in the game after them.
+/// the refusal of what may be refused, of the engine that the commands and answers before it make. What is unanswered
+/// was asked of the engine after them.
 pub fn silence_says_all_is_right()
     ensures { SilenceSaysAllIsRight }
 {}
@@ -46,7 +47,7 @@ pub fn right_answers_have_no_finding()
     ensures { RightAnswersHaveNoFinding }
 {}
 
-/// Right answers leave one game, and no other.
+/// Right answers leave one game, and no other, and they say whether an `undo` may fail then.
 pub fn right_answers_leave_one_game()
     ensures { RightAnswersLeaveOneGame }
 {}
@@ -84,14 +85,15 @@ pub fn commands_are_numbered()
     ensures { CommandsAreNumbered }
 {}
 
-/// A `genmove` and a `boardsize` are asked alone: only where nothing is unanswered, and nothing before their answer.
+/// A `genmove`, a `boardsize` and an `undo` that may fail are asked alone: only where nothing is unanswered, and
+/// nothing before their answer.
 pub fn some_are_asked_alone()
     ensures { SomeAreAskedAlone }
 {}
 
-/// Of an engine that is up, owes fewer than eight answers and none to a `genmove` or a `boardsize`, a `komi`, a
-/// `clear_board`, a `name`, a `version` and a `known_command` may be asked, as long as there are ids; and a `boardsize`
-/// where it owes nothing.
+/// Of an engine that is up, owes fewer than eight answers and none to a `genmove`, a `boardsize` or an `undo` that may
+/// fail, a `komi`, a `clear_board`, a `name`, a `version` and a `known_command` may be asked, as long as there are ids;
+/// and a `boardsize` where it owes nothing.
 pub fn ready_engines_may_be_asked()
     ensures { ReadyEnginesMayBeAsked }
 {}
@@ -129,9 +131,20 @@ pub fn scores_are_read()
     ensures { ScoresAreRead }
 {}
 
-/// A size is reported as refused exactly where a right failure to its `boardsize` was heard. It is no finding.
-pub fn refused_sizes_are_reported()
-    ensures { RefusedSizesAreReported }
+/// A size is reported as refused exactly where a right failure to its `boardsize` was heard, and an `undo` exactly
+/// where it failed and might. Neither is a finding.
+pub fn refusals_are_reported()
+    ensures { RefusalsAreReported }
+{}
+
+/// Whether an `undo` may fail hangs on what was said: one has succeeded since the last move, or none has.
+pub fn undone_is_what_was_said()
+    ensures { UndoneIsWhatWasSaid }
+{}
+
+/// The first `undo` after a move has to succeed, and its refusal is found wrong. A later one may fail.
+pub fn first_undos_have_to_succeed()
+    ensures { FirstUndosHaveToSucceed }
 {}
 
 /// Whoever wrote right answers alone isn't blamed, in whatever cuts they are heard, and however many of them.

@@ -22,7 +22,7 @@ pub use asking::{CheckCommand, Known};
 pub use dues::{Cause, Due};
 pub use exam::{Finding, Heard};
 pub use examiner::Examiner;
-pub use judging::Kind;
+pub use judging::{Kind, Refusal};
 pub use setups::Board;
 pub use skills::{Skill, Skills};
 pub use unanswered::{Asked, MOST_UNANSWERED};

@@ -1,12 +1,10 @@
 //! The commands that were asked and aren't answered.
 ghost use Rattle.std.specs.Prelude.{◌≡◌, ◌<◌, ◌≤◌, [], ◌∷◌, ◌++◌, length, drop};
-ghost use Rattle.gtp_check_judge.specs.Judging.{most_unanswered, none_unanswered, oldest, is_awaited, changes_freely};
-ghost use Rattle.gtp_check_judge.specs.Judging.{awaits};
+ghost use Rattle.gtp_check_judge.specs.Judging.{most_unanswered, oldest, awaits};
 
 use crate::asking::CheckCommand;
-use crate::dues::Due;
+use crate::dues::{Due, is_open};
 use arrayvec::ArrayVec;
-use gtp_wire::Command;
 use std::marker::Model;
 
 /// How many commands are unanswered at most.
@@ -44,7 +42,7 @@ impl Default for Asked {
 #[derive(Drop)]
 pub struct Unanswered {
     list: ArrayVec<Asked, MOST_UNANSWERED>,
-    /// Whether a `genmove` or a `boardsize` is among them, which is asked for each command.
+    /// Whether one whose answer has to be awaited is among them, which is asked for each command.
     has_awaited: bool,
 }
 
@@ -91,7 +89,7 @@ impl Unanswered {
         requires { length self.old < most_unanswered }
         ensures { self.new ≡ self.old ++ record { id = id; command = command; due = due } ∷ [] }
     {
-        self.has_awaited = self.has_awaited || is_awaited(&command);
+        self.has_awaited = self.has_awaited || is_open(&due);
         self.list.push(Asked { id, command, due });
     }
 
@@ -105,7 +103,8 @@ impl Unanswered {
         }
     }
 
-    /// Whether a `genmove` or a `boardsize` is among them.
+    /// Whether one whose answer has to be awaited is among them: a `genmove`, a `boardsize`, or an `undo` that may
+    /// fail.
     pub fn awaits(&self) -> bool
         ensures { result ≡ awaits self.now }
     {
@@ -113,37 +112,9 @@ impl Unanswered {
     }
 }
 
-/// Whether a `genmove` or a `boardsize` is among these commands.
+/// Whether one whose answer has to be awaited is among these commands.
 fn any_awaited(list: &[Asked]) -> bool
     ensures { result ≡ awaits list.now }
 {
-    list.iter().any(|asked| is_awaited(&asked.command))
-}
-
-/// Whether the game isn't known before the answer to a command: a `genmove` or a `boardsize`.
-pub(crate) fn is_awaited(command: &CheckCommand) -> bool
-    ensures { result ≡ is_awaited command.now }
-{
-    match command {
-        CheckCommand::Match(command) => changes_freely(command),
-        CheckCommand::FinalScore
-        | CheckCommand::Name
-        | CheckCommand::Version
-        | CheckCommand::KnownCommand(_) => false,
-    }
-}
-
-/// The same of a command of a match.
-fn changes_freely(command: &Command) -> bool
-    ensures { result ≡ changes_freely command.now }
-{
-    match command {
-        Command::Genmove(_) | Command::Boardsize(_) => true,
-        Command::Komi(_)
-        | Command::ClearBoard
-        | Command::FixedHandicap(_)
-        | Command::Play(_)
-        | Command::Undo
-        | Command::Quit => false,
-    }
+    list.iter().any(|asked| is_open(&asked.due))
 }

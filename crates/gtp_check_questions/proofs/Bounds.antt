@@ -76,26 +76,27 @@ left lessons asked started old new held (inl over) = stays lessons asked started
 left lessons asked started old new held (inr on) =
     weaker lessons asked started new (goes_on lessons asked started old new held on)
 
-holds : (lessons : List Lesson) (scene_size : Option ℕ) (asked started : ℕ) (course : Course)
-    → Walks lessons scene_size asked started course → Holds lessons asked started course
-holds lessons scene_size asked started course Walks.begins = record { same = refl; few = omega arith }
-holds lessons scene_size asked started course (Walks.goes {asked = a} {started = s} {old = old} exam action walk goes) =
-    step lessons a s old course exam action (holds lessons scene_size a s old walk) goes
-holds lessons scene_size asked started course (Walks.leaves {old = old} walks leaves) =
-    left lessons asked started old course (holds lessons scene_size asked started old walks) leaves
-holds lessons scene_size asked started course (Walks.finds {old = old} walks) =
-    let held = holds lessons scene_size asked started old walks in
+holds : (lessons : List Lesson) (scene_size : Option ℕ) (seed asked started : ℕ) (course : Course)
+    → Walks lessons scene_size seed asked started course → Holds lessons asked started course
+holds lessons scene_size seed asked started course Walks.begins = record { same = refl; few = omega arith }
+holds lessons scene_size seed asked started course
+    (Walks.goes {asked = a} {started = s} {old = old} exam action walk goes) =
+    step lessons a s old course exam action (holds lessons scene_size seed a s old walk) goes
+holds lessons scene_size seed asked started course (Walks.leaves {old = old} walks leaves) =
+    left lessons asked started old course (holds lessons scene_size seed asked started old walks) leaves
+holds lessons scene_size seed asked started course (Walks.finds {old = old} walks) =
+    let held = holds lessons scene_size seed asked started old walks in
     record { same = held.same; few = held.few }
 
 few_half : (is : Bool) → half is ≤ 1
 few_half true = omega arith
 few_half false = omega arith
 
-pub bounded : (lessons : List Lesson) (scene_size : Option ℕ) (asked started : ℕ) (course : Course)
-    → Walks lessons scene_size asked started course → IsIn course.lessons course.place
+pub bounded : (lessons : List Lesson) (scene_size : Option ℕ) (seed asked started : ℕ) (course : Course)
+    → Walks lessons scene_size seed asked started course → IsIn course.lessons course.place
     → asked ≤ 57600000 * (length lessons + 1) + 5 * (started + 1)
-bounded lessons scene_size asked started course walks inside =
-    let held : Holds lessons asked started course = holds lessons scene_size asked started course walks in
+bounded lessons scene_size seed asked started course walks inside =
+    let held : Holds lessons asked started course = holds lessons scene_size seed asked started course walks in
     let within : course.place.lesson ≤ length lessons =
     subst (λ (l : List Lesson). course.place.lesson ≤ length l) held.same inside.lesson in
     let opened_few : opened course.opening ≤ 5 = few_opened course.opening in

@@ -15,22 +15,28 @@ use Rattle.gtp_check_questions.specs.declared.actions.Action.TheVariants.{Start,
 use Rattle.gtp_check_questions.specs.declared.actions.Question.{Question}
 use Rattle.gtp_check_questions.specs.declared.actions.Question.TheVariants as asked
 use Rattle.gtp_check_questions.specs.declared.boards.Board.{Board}
+use Rattle.gtp_check_questions.specs.declared.draws.Draws.{Draws}
 use Rattle.gtp_check_questions.specs.declared.lessons.Lesson.{Lesson}
 use Rattle.gtp_check_questions.specs.declared.openings.Opening.{Opening}
 use Rattle.gtp_check_questions.specs.declared.stretches.Stretch.{Stretch}
 use Rattle.gtp_check_questions.specs.Boards.{IsBoard}
-use Rattle.gtp_check_questions.specs.Lessons.{stretches_of}
+use Rattle.gtp_check_questions.specs.Lessons.{number_of, stretches_of}
 use Rattle.gtp_check_questions.specs.Openings.{opening_next}
-use Rattle.gtp_check_questions.specs.Places.{undo_place}
+use Rattle.gtp_check_questions.specs.Places.{number, undo_place}
 use Rattle.gtp_check_questions.specs.Questions.{IsQuestion}
 use Rattle.gtp_check_questions.specs.Course.{Course, scene_size_of, step_over, part_over, finds_size}
+
+-- what the step draws in which the course is: by its seed, and by the step's number among all lessons
+abbrev pub draws_of : Lesson → Course → Draws
+draws_of lesson course =
+    record { seed = course.seed; number = number (record course.place { lesson = number_of lesson }) }
 
 -- what a step of this stretch is, if there is one
 abbrev pub IsStepOf : Lesson → Course → GameRecord → Option Stretch → Question → Type 0
 IsStepOf lesson course game None question = question ≡ asked.Nothing
 IsStepOf lesson course game (Some stretch) question =
     (board : Board) × IsBoard lesson course.place.part (scene_size_of lesson course) board
-    × IsQuestion stretch course.place.step board game question
+    × IsQuestion stretch course.place.step board (draws_of lesson course) game question
 
 -- what the step is in which the course is
 abbrev pub IsStep : Lesson → Course → GameRecord → Question → Type 0

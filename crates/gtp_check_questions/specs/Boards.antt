@@ -44,12 +44,12 @@ lines_of Restarts part scene_size = slice_index_or game_sizes part scene_size
 abbrev pub size_or : ℕ → ℕ → ℕ
 size_or lines other_size = if nat_le 1 lines && nat_le lines most_size then lines else other_size
 
--- Komis in half points: 6.5, 0, -3.5, 7.5, 0.5, -0.5, 1000.5 and -7; 10000000.5, 1000000, 100.5 and -1234.5; the
--- greatest and the least, 999999999.5 and -999999999.5; 100000.5 and -32768.5.
+-- Komis in half points: 6.5, 0, -3.5, 7.5, 0.5, -0.5, 1000.5 and -7; -8388608, 1000000, 100.5 and -1234.5; 8388607.5,
+-- -8388607.5, 100000.5 and -32768.5. Each is at most 2^24 half points either way, so a float of 32 bits represents it.
 abbrev pub komis : List ℤ
 komis =
-    pos 13 ∷ pos 0 ∷ negsuc 6 ∷ pos 15 ∷ pos 1 ∷ negsuc 0 ∷ pos 2001 ∷ negsuc 13 ∷ pos 20000001 ∷ pos 2000000 ∷
-    pos 201 ∷ negsuc 2468 ∷ pos 1999999999 ∷ negsuc 1999999998 ∷ pos 200001 ∷ negsuc 65536 ∷ []
+    pos 13 ∷ pos 0 ∷ negsuc 6 ∷ pos 15 ∷ pos 1 ∷ negsuc 0 ∷ pos 2001 ∷ negsuc 13 ∷ negsuc 16777215 ∷ pos 2000000 ∷
+    pos 201 ∷ negsuc 2468 ∷ pos 16777215 ∷ negsuc 16777214 ∷ pos 200001 ∷ negsuc 65536 ∷ []
 
 abbrev pub komi_of : ℕ → ℤ
 komi_of number = slice_index_or komis (number % 16) (pos 13)

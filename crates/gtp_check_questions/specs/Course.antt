@@ -18,22 +18,25 @@ use Rattle.gtp_check_questions.specs.Stretches.{steps_if}
 use Rattle.gtp_check_questions.specs.Lessons.{parts_of, stretches_of}
 
 -- The lessons of a course, where it is in them, and what of its opening the engine was asked since it was started. How
--- much was found in its lesson so far, and the size of the boards of scenes, once it is known.
+-- much was found in its lesson so far; the size of the boards of scenes, once it is known; and the seed of what is
+-- drawn.
 pub record Course : Type 0 where
   pub lessons : List Lesson
   pub place : Place
   pub opening : Opening
   pub findings : ℕ
   pub scene_size : Option ℕ
+  pub seed : ℕ
 
 -- before the first start
-abbrev pub begun : List Lesson → Option ℕ → Course
-begun lessons scene_size = record {
+abbrev pub begun : List Lesson → Option ℕ → ℕ → Course
+begun lessons scene_size seed = record {
   lessons = lessons;
   place = first_place;
   opening = opening.Name;
   findings = 0;
   scene_size = scene_size;
+  seed = seed;
 }
 
 -- the place is one of the course, or the course is over

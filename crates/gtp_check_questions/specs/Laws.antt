@@ -1,13 +1,31 @@
 -- What holds of every course.
-use Rattle.std.specs.Prelude.{◌≡◌, ℕ, ◌+◌, ◌*◌, ◌≤◌, List, length, Option}
+use Rattle.std.specs.Prelude.{◌≡◌, ℕ, ◌+◌, ◌*◌, ◌^◌, ◌<◌, ◌≤◌, ℤ, pos, neg_ℤ, ◌≤ℤ◌, List, length, slice_get}
+use Rattle.std.specs.Prelude.{Option, Some}
+use Rattle.go_base.specs.declared.colours.Colour.{Colour}
+use Rattle.go_board.specs.Game.{GameRecord}
+use Rattle.gtp_wire.specs.declared.commands.Command.TheVariants as command
+use Rattle.gtp_check_judge.specs.declared.asking.CheckCommand.{CheckCommand}
+use Rattle.gtp_check_judge.specs.declared.asking.CheckCommand.TheVariants.{KnownCommand}
+use Rattle.gtp_check_judge.specs.declared.asking.Known.{Known}
 use Rattle.gtp_check_judge.specs.declared.exam.Exam.{Exam}
 use Rattle.gtp_check_questions.specs.declared.actions.Action.{Action}
 use Rattle.gtp_check_questions.specs.declared.actions.Action.TheVariants.{Start, Restart, Kill, Ask, Wait, Skip, Done}
+use Rattle.gtp_check_questions.specs.declared.actions.Question.{Question}
+use Rattle.gtp_check_questions.specs.declared.boards.Board.{Board}
+use Rattle.gtp_check_questions.specs.declared.draws.Draws.{Draws}
 use Rattle.gtp_check_questions.specs.declared.lessons.Lesson.{Lesson}
 use Rattle.gtp_check_questions.specs.declared.lessons.Lesson.TheVariants.{Ko, Captures, Suicide, Joining}
+use Rattle.gtp_check_questions.specs.declared.openings.Opening.{Opening}
+use Rattle.gtp_check_questions.specs.declared.openings.Opening.TheVariants as opening
+use Rattle.gtp_check_questions.specs.declared.stretches.Stretch.{Stretch}
+use Rattle.gtp_check_questions.specs.Asking.{IsStep}
+use Rattle.gtp_check_questions.specs.Boards.{komi_of}
 use Rattle.gtp_check_questions.specs.Course.{Course, GoesTo, IsIn, Leaves, begun, with_finding}
-use Rattle.gtp_check_questions.specs.Lessons.{parts_of}
-use Rattle.gtp_check_questions.specs.Scenes.{scenes_of, ways}
+use Rattle.gtp_check_questions.specs.Lessons.{parts_of, stretches_of}
+use Rattle.gtp_check_questions.specs.Openings.{opening_next}
+use Rattle.gtp_check_questions.specs.Questions.{IsQuestion, asks, probes}
+use Rattle.gtp_check_questions.specs.Scenes.{scene_of, scenes_of, turned, turned_act, ways}
+use Rattle.gtp_check_questions.specs.Stretches.{steps_of}
 
 -- ---- a course is bounded
 
@@ -33,21 +51,21 @@ starts Done = 0
 -- The calls on a course of these lessons: how many of them asked a command, asked nothing or ended an engine, how many
 -- starts there were, and the course after them. Whatever the engine has answered, each call of `next` goes on. A part
 -- may be left at any time, and something may be found in an earlier one.
-pub data Walks (lessons : List Lesson) (scene_size : Option ℕ) : ℕ → ℕ → Course → Type 0 where
-  begins : Walks lessons scene_size 0 0 (begun lessons scene_size)
+pub data Walks (lessons : List Lesson) (scene_size : Option ℕ) (seed : ℕ) : ℕ → ℕ → Course → Type 0 where
+  begins : Walks lessons scene_size seed 0 0 (begun lessons scene_size seed)
   goes : {asked started : ℕ} {old new : Course} (exam : Exam) (action : Action)
-      → Walks lessons scene_size asked started old → GoesTo old exam action new
-      → Walks lessons scene_size (counted action + asked) (starts action + started) new
-  leaves : {asked started : ℕ} {old new : Course} → Walks lessons scene_size asked started old → Leaves old new
-      → Walks lessons scene_size asked started new
-  finds : {asked started : ℕ} {old : Course} → Walks lessons scene_size asked started old
-      → Walks lessons scene_size asked started (with_finding old)
+      → Walks lessons scene_size seed asked started old → GoesTo old exam action new
+      → Walks lessons scene_size seed (counted action + asked) (starts action + started) new
+  leaves : {asked started : ℕ} {old new : Course} → Walks lessons scene_size seed asked started old → Leaves old new
+      → Walks lessons scene_size seed asked started new
+  finds : {asked started : ℕ} {old : Course} → Walks lessons scene_size seed asked started old
+      → Walks lessons scene_size seed asked started (with_finding old)
 
 -- No more commands are asked, steps passed over and engines ended, all together, than the lessons have steps at most,
 -- and five after each start.
 abbrev pub EveryCourseIsBounded : Type 0
-EveryCourseIsBounded = (lessons : List Lesson) (scene_size : Option ℕ) (asked started : ℕ) (course : Course)
-    → Walks lessons scene_size asked started course → IsIn course.lessons course.place
+EveryCourseIsBounded = (lessons : List Lesson) (scene_size : Option ℕ) (seed asked started : ℕ) (course : Course)
+    → Walks lessons scene_size seed asked started course → IsIn course.lessons course.place
     → asked ≤ 57600000 * (length lessons + 1) + 5 * (started + 1)
 
 -- ---- each scene is asked
@@ -58,3 +76,84 @@ pub record EachSceneIsAsked : Type 0 where
   pub captures : parts_of Captures ≡ ways * length (scenes_of Captures)
   pub suicide : parts_of Suicide ≡ ways * length (scenes_of Suicide)
   pub joining : parts_of Joining ≡ ways * length (scenes_of Joining)
+
+-- ---- each step asks one question
+
+-- What a step asks is determined by the lesson, the course, whose seed and place say what is drawn, and the game.
+abbrev pub EachStepAsksOneQuestion : Type 0
+EachStepAsksOneQuestion = (lesson : Lesson) (course : Course) (game : GameRecord) (one another : Question)
+    → IsStep lesson course game one → IsStep lesson course game another → one ≡ another
+
+-- ---- a scene's points are asked on a cleared board
+
+-- The step of this number of a stretch asks this, whatever is drawn, and whatever the game is.
+pub record AsksAt (stretch : Stretch) (board : Board) (step : ℕ) (question : Question) : Type 0 where
+  pub within : step < steps_of stretch
+  pub is : (draws : Draws) (game : GameRecord) → IsQuestion stretch step board draws game question
+
+-- The stretch asks the moves of the board's scene, in their order.
+abbrev pub PlaysEachMove : Stretch → Board → Type 0
+PlaysEachMove stretch board = (number : ℕ) (act : Colour × ℕ × ℕ) → slice_get board.scene.now number ≡ Some act
+    → AsksAt stretch board number (asks (command.Play (turned_act board.way act board.size)))
+
+-- The stretch probes the point of each move of the board's scene, in each colour.
+abbrev pub ProbesEachPoint : Stretch → Board → Type 0
+ProbesEachPoint stretch board = (number : ℕ) (act : Colour × ℕ × ℕ) (colour : Colour)
+    → slice_get board.scene.now number ≡ Some act
+    → (step : ℕ) × AsksAt stretch board step (probes colour (turned board.way act.1 act.2 board.size))
+
+-- Three stretches of the lesson come one after the other: the moves of the scene, a `clear_board`, and probes of the
+-- points of these moves.
+pub record ProbesClearedBoard (lesson : Lesson) (board : Board) : Type 0 where
+  pub number : ℕ
+  pub moves : Stretch
+  pub has_moves : slice_get (stretches_of lesson) number ≡ Some moves
+  pub plays : PlaysEachMove moves board
+  pub clear : Stretch
+  pub has_clear : slice_get (stretches_of lesson) (number + 1) ≡ Some clear
+  pub clears : AsksAt clear board 0 (asks command.ClearBoard)
+  pub points : Stretch
+  pub has_points : slice_get (stretches_of lesson) (number + 2) ≡ Some points
+  pub probes : ProbesEachPoint points board
+
+abbrev pub ProbesEachClearedBoard : Lesson → Type 0
+ProbesEachClearedBoard lesson =
+    (part : ℕ) (board : Board) → board.scene.now ≡ scene_of lesson part → ProbesClearedBoard lesson board
+
+-- In each part of a lesson of scenes the points of the scene's moves are asked once the board was cleared.
+pub record EachClearedBoardIsProbed : Type 0 where
+  pub ko : ProbesEachClearedBoard Ko
+  pub captures : ProbesEachClearedBoard Captures
+  pub suicide : ProbesEachClearedBoard Suicide
+  pub joining : ProbesEachClearedBoard Joining
+
+-- ---- each command that an engine may lack is asked for
+
+-- what the opening comes to after a start
+pub data ComesTo : Opening → Type 0 where
+  begins : ComesTo opening.Name
+  goes_on : {now after : Opening} (command : CheckCommand) → ComesTo now → opening_next now ≡ Some (command, after)
+      → ComesTo after
+
+-- the command is one of the opening
+pub record IsOpening (command : CheckCommand) : Type 0 where
+  pub now : Opening
+  pub after : Opening
+  pub comes : ComesTo now
+  pub next : opening_next now ≡ Some (command, after)
+
+-- After each start it is asked of each command that an engine may be without whether the engine has it.
+abbrev pub EachLackIsAskedFor : Type 0
+EachLackIsAskedFor = (known : Known) → IsOpening (KnownCommand known)
+
+-- ---- each komi is exact
+
+-- It has at most 2^24 half points either way. A float of 32 bits (IEEE 754) represents each such number, as its
+-- significand has 24 bits.
+pub record HasExactFloat (half_points : ℤ) : Type 0 where
+  pub low : neg_ℤ (pos (2 ^ 24)) ≤ℤ half_points
+  pub high : half_points ≤ℤ pos (2 ^ 24)
+
+-- A float of 32 bits represents each komi that is asked.
+abbrev pub EachKomiIsExact : Type 0
+EachKomiIsExact = (number : ℕ) → HasExactFloat (komi_of number)

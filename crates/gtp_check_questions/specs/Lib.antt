@@ -4,6 +4,7 @@ pub mod Scenes
 pub mod Boards
 pub mod Stretches
 pub mod Lessons
+pub mod Draws
 pub mod Questions
 pub mod Course
 pub mod Asking

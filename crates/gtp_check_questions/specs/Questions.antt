@@ -1,8 +1,7 @@
 -- What a step of a lesson asks.
-use Rattle.std.specs.Prelude.{◌≡◌, ◌≢◌, ℕ, ◌+◌, ◌-◌, ◌/◌, ◌%◌, ◌==◌, nat_le, nat_lt, ◌||◌, ◌&&◌, if◌then◌else◌, Bool}
-use Rattle.std.specs.Prelude.{◌<◌, ◌≤◌, List, [], length, slice_get, Option, None, Some}
+use Rattle.std.specs.Prelude.{◌≡◌, ◌≢◌, ℕ, ◌+◌, ◌-◌, ◌*◌, ◌/◌, ◌%◌, ◌==◌, nat_le, nat_lt, ◌||◌, ◌&&◌, if◌then◌else◌}
+use Rattle.std.specs.Prelude.{Bool, ◌<◌, List, [], length, slice_get, Option, None, Some}
 use Rattle.rand_pcg.specs.Lcg.{Lcg}
-use Rattle.rand_pcg.specs.Pcg.{pcg64}
 use Rattle.go_base.specs.Colour.{other}
 use Rattle.go_base.specs.Handicap.{handicap_points}
 use Rattle.go_base.specs.Point.{IsOn, column_of, row_of}
@@ -17,8 +16,10 @@ use Rattle.gtp_check_judge.specs.declared.asking.CheckCommand.TheVariants.{Match
 use Rattle.gtp_check_questions.specs.declared.actions.Question.{Question}
 use Rattle.gtp_check_questions.specs.declared.actions.Question.TheVariants.{Ask, Probe, Size, Restart, Kill, Nothing}
 use Rattle.gtp_check_questions.specs.declared.boards.Board.{Board}
+use Rattle.gtp_check_questions.specs.declared.draws.Draws.{Draws}
 use Rattle.gtp_check_questions.specs.declared.stretches.Stretch.{Stretch}
 use Rattle.gtp_check_questions.specs.declared.stretches.Stretch.TheVariants as stretch
+use Rattle.gtp_check_questions.specs.Draws.{drawn_below, generator_of_step, past_words}
 use Rattle.gtp_check_questions.specs.Scenes.{Acts, crossing, turned, turned_act, turned_colour}
 
 -- a command of a match
@@ -187,68 +188,107 @@ swept_act step size =
 
 -- ---- drawn moves
 
+-- the colour that a step draws: by its first word
+abbrev pub drawn_colour : Lcg → Colour
+drawn_colour generator = colour_of (drawn_below generator 0 2)
+
+-- the generator of the words after the first one, by which points are drawn
+abbrev pub after_colour : Lcg → Lcg
+after_colour generator = past_words 1 generator
+
+-- The point of a board of this size that two words of a generator draw: the word of this number draws its column, and
+-- the next one its row.
+abbrev pub drawn_point : Lcg → ℕ → ℕ → Vertex
+drawn_point generator number size =
+    crossing (drawn_below generator number size + 1) (drawn_below generator (number + 1) size + 1)
+
 -- the vertex is a point of a board of this size
 abbrev pub IsPointOf : ℕ → Vertex → Type 0
 IsPointOf size vertex = (p : ℕ) × IsOn size p × (vertex ≡ At p)
 
--- the number is what is left of the generator's next word, for a limit of at most 25
-pub record IsOfNextWord (generator : Lcg) (limit number : ℕ) : Type 0 where
-  pub is : 0 < limit → limit ≤ 25 → number ≡ (pcg64 generator).0 % limit
-
--- A move that is legal: on a point, or a pass, where no point is legal for the colour.
-pub record IsDrawn (game : GameRecord) (colour : Colour) (vertex : Vertex) : Type 0 where
+-- The vertex is the first of these candidates that is legal for the colour.
+pub record IsFirstLegal (game : GameRecord) (colour : Colour) (candidates : ℕ → Vertex) (vertex : Vertex) : Type 0 where
   pub legal : IsLegal game colour vertex
+  pub number : ℕ
+  pub is : vertex ≡ candidates number
+  pub before : (k : ℕ) → k < number → IsLegal game colour (candidates k) → ⊥
+
+-- each point of a board of this size, row by row from the lowest, and then a pass
+abbrev pub point_or_pass : ℕ → ℕ → Vertex
+point_or_pass size number = if nat_lt number (size * size) then crossing_of number size else Pass
+
+-- how many points are drawn for a move
+abbrev pub tries : ℕ
+tries = 30
+
+-- What is tried for a move: thirty points, of which each is drawn by the next two words; then each point of the board;
+-- then a pass.
+abbrev pub candidate : Lcg → ℕ → ℕ → Vertex
+candidate generator size number =
+    if nat_lt number tries then drawn_point generator (2 * number) size
+    else point_or_pass size (number - tries)
+
+-- The vertex of a drawn move, by the words of this generator: the first candidate that is legal for the colour. A pass
+-- is legal, and it comes after all points of the board.
+pub record IsDrawn (game : GameRecord) (colour : Colour) (generator : Lcg) (vertex : Vertex) : Type 0 where
+  pub first : IsFirstLegal game colour (candidate generator game.size) vertex
   pub passes_last : vertex ≡ Pass → (p : ℕ) → IsOn game.size p → IsLegal game colour (At p) → ⊥
 
-abbrev pub IsDrawnMove : GameRecord → Question → Type 0
-IsDrawnMove game question =
-    (colour : Colour) × (vertex : Vertex) × IsDrawn game colour vertex × (question ≡ plays colour vertex)
+-- a drawn move: the colour is drawn by the first word, and its vertex by those after it
+abbrev pub IsDrawnMove : GameRecord → Lcg → Question → Type 0
+IsDrawnMove game generator question =
+    (vertex : Vertex) × IsDrawn game (drawn_colour generator) (after_colour generator) vertex
+    × (question ≡ plays (drawn_colour generator) vertex)
 
--- a probe of a point of the board
-abbrev pub IsProbe : GameRecord → Question → Type 0
-IsProbe game question =
-    (colour : Colour) × (p : ℕ) × IsOn game.size p × (question ≡ probes colour (At p))
+-- a probe of a drawn point of the board: the colour is drawn by the first word, and the point by the next two
+pub record IsProbe (game : GameRecord) (generator : Lcg) (question : Question) : Type 0 where
+  pub point : ℕ
+  pub on_board : IsOn game.size point
+  pub drawn : drawn_point (after_colour generator) 0 game.size ≡ At point
+  pub asked : question ≡ probes (drawn_colour generator) (At point)
 
 -- ---- all stretches
 
--- What a step of a stretch asks on this board, where the game is this one. What is drawn is a move on any legal point,
--- or a probe of any point.
-abbrev pub IsQuestion : Stretch → ℕ → Board → GameRecord → Question → Type 0
-IsQuestion stretch.Size step board game question = question ≡ asks (command.Boardsize board.size)
-IsQuestion stretch.Taken step board game question = question ≡ Size board.size
-IsQuestion stretch.OtherSize step board game question = question ≡ asks (command.Boardsize board.other_size)
-IsQuestion stretch.OtherTaken step board game question = question ≡ Size board.other_size
-IsQuestion stretch.Komi step board game question = question ≡ asks (command.Komi board.komi)
-IsQuestion stretch.OtherKomi step board game question = question ≡ asks (command.Komi board.other_komi)
-IsQuestion stretch.Clear step board game question = question ≡ asks command.ClearBoard
-IsQuestion stretch.Moves step board game question = question ≡ act_asked board (slice_get board.scene.now step)
-IsQuestion stretch.Own step board game question = question ≡ own_asked board step (slice_get board.scene.now (step / 2))
-IsQuestion stretch.Corner step board game question = question ≡ corner_asked board step
-IsQuestion stretch.Pass step board game question = question ≡ pass_asked board (last_of board.scene.now)
-IsQuestion stretch.Act step board game question = question ≡ act_asked board (last_of board.scene.now)
-IsQuestion stretch.Elsewhere step board game question = question ≡ elsewhere_asked board (last_of board.scene.now)
-IsQuestion stretch.Undo step board game question = question ≡ asks command.Undo
-IsQuestion stretch.Edges step board game question = question ≡ probes (colour_of step) (edge_point step board.size)
-IsQuestion stretch.Handicap step board game question = question ≡ asks (command.FixedHandicap board.stones)
-IsQuestion (stretch.Stones stones) step board game question = question ≡ asks (command.FixedHandicap stones)
-IsQuestion stretch.Stars step board game question =
+-- What a step of a stretch asks on this board, where the game is this one, and what the step draws is by these words.
+abbrev pub IsQuestion : Stretch → ℕ → Board → Draws → GameRecord → Question → Type 0
+IsQuestion stretch.Size step board draws game question = question ≡ asks (command.Boardsize board.size)
+IsQuestion stretch.Taken step board draws game question = question ≡ Size board.size
+IsQuestion stretch.OtherSize step board draws game question = question ≡ asks (command.Boardsize board.other_size)
+IsQuestion stretch.OtherTaken step board draws game question = question ≡ Size board.other_size
+IsQuestion stretch.Komi step board draws game question = question ≡ asks (command.Komi board.komi)
+IsQuestion stretch.OtherKomi step board draws game question = question ≡ asks (command.Komi board.other_komi)
+IsQuestion stretch.Clear step board draws game question = question ≡ asks command.ClearBoard
+IsQuestion stretch.Moves step board draws game question = question ≡ act_asked board (slice_get board.scene.now step)
+IsQuestion stretch.Own step board draws game question =
+    question ≡ own_asked board step (slice_get board.scene.now (step / 2))
+IsQuestion stretch.Corner step board draws game question = question ≡ corner_asked board step
+IsQuestion stretch.Pass step board draws game question = question ≡ pass_asked board (last_of board.scene.now)
+IsQuestion stretch.Act step board draws game question = question ≡ act_asked board (last_of board.scene.now)
+IsQuestion stretch.Elsewhere step board draws game question = question ≡ elsewhere_asked board (last_of board.scene.now)
+IsQuestion stretch.Undo step board draws game question = question ≡ asks command.Undo
+IsQuestion stretch.Edges step board draws game question =
+    question ≡ probes (colour_of step) (edge_point step board.size)
+IsQuestion stretch.Handicap step board draws game question = question ≡ asks (command.FixedHandicap board.stones)
+IsQuestion (stretch.Stones stones) step board draws game question = question ≡ asks (command.FixedHandicap stones)
+IsQuestion stretch.Stars step board draws game question =
     question ≡ star_asked step (slice_get (star_points game.size) (step / 2))
-IsQuestion stretch.Score step board game question = question ≡ Ask FinalScore
-IsQuestion stretch.Surround step board game question =
+IsQuestion stretch.Score step board draws game question = question ≡ Ask FinalScore
+IsQuestion stretch.Surround step board draws game question =
     question ≡ surround_asked step (slice_get (star_points game.size) 0)
-IsQuestion stretch.Points step board game question = question ≡ points_asked step board.size
-IsQuestion (stretch.Passes steps) step board game question = question ≡ plays (colour_of step) Pass
-IsQuestion (stretch.Waits steps) step board game question =
+IsQuestion stretch.Points step board draws game question = question ≡ points_asked step board.size
+IsQuestion (stretch.Passes steps) step board draws game question = question ≡ plays (colour_of step) Pass
+IsQuestion (stretch.Waits steps) step board draws game question =
     question ≡ waits_asked board step (slice_get board.scene.now retaken)
-IsQuestion (stretch.Drawn steps) step board game question = IsDrawnMove game question
-IsQuestion (stretch.Probed steps) step board game question =
-    (step % 3 ≡ 0 → IsDrawnMove game question) × (step % 3 ≢ 0 → IsProbe game question)
-IsQuestion (stretch.Back steps) step board game question = question ≡ asks command.Undo
-IsQuestion (stretch.Emptied steps) step board game question = question ≡ emptied_asked (length game.moves)
-IsQuestion (stretch.Genmoves steps) step board game question = question ≡ genmove_asked step (length game.moves)
-IsQuestion stretch.Filled step board game question = question ≡ act_asked board (filled_act step board.size)
-IsQuestion stretch.Gaps step board game question = question ≡ act_asked board (Some (gap_act step board.size))
-IsQuestion stretch.Swept step board game question = question ≡ act_asked board (Some (swept_act step board.size))
-IsQuestion (stretch.Chosen colour) step board game question = question ≡ choice_asked board colour
-IsQuestion stretch.Restart step board game question = question ≡ Restart
-IsQuestion stretch.Kill step board game question = question ≡ Kill
+IsQuestion (stretch.Drawn steps) step board draws game question = IsDrawnMove game (generator_of_step draws) question
+IsQuestion (stretch.Probed steps) step board draws game question =
+    (step % 3 ≡ 0 → IsDrawnMove game (generator_of_step draws) question)
+    × (step % 3 ≢ 0 → IsProbe game (generator_of_step draws) question)
+IsQuestion (stretch.Back steps) step board draws game question = question ≡ asks command.Undo
+IsQuestion (stretch.Emptied steps) step board draws game question = question ≡ emptied_asked (length game.moves)
+IsQuestion (stretch.Genmoves steps) step board draws game question = question ≡ genmove_asked step (length game.moves)
+IsQuestion stretch.Filled step board draws game question = question ≡ act_asked board (filled_act step board.size)
+IsQuestion stretch.Gaps step board draws game question = question ≡ act_asked board (Some (gap_act step board.size))
+IsQuestion stretch.Swept step board draws game question = question ≡ act_asked board (Some (swept_act step board.size))
+IsQuestion (stretch.Chosen colour) step board draws game question = question ≡ choice_asked board colour
+IsQuestion stretch.Restart step board draws game question = question ≡ Restart
+IsQuestion stretch.Kill step board draws game question = question ≡ Kill

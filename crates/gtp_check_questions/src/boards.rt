@@ -105,7 +105,7 @@ fn komi_of(number: u32) -> Komi
     }
 }
 
-/// The half points of the komi of this number.
+/// The half points of the komi of this number. A float of 32 bits represents each of these komis.
 fn half_points_of(number: u32) -> i32
     ensures exact { result ≡ komi_of number }
     ensures komi { IsKomi result }
@@ -119,12 +119,12 @@ fn half_points_of(number: u32) -> i32
         5 => -1,
         6 => 2001,
         7 => -14,
-        8 => 20_000_001,
+        8 => -16_777_216,
         9 => 2_000_000,
         10 => 201,
         11 => -2469,
-        12 => 1_999_999_999,
-        13 => -1_999_999_999,
+        12 => 16_777_215,
+        13 => -16_777_215,
         14 => 200_001,
         _ => -65_537,
     }

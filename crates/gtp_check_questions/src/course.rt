@@ -51,19 +51,20 @@ impl Model for Course {
       opening = c.opening;
       findings = c.findings;
       scene_size = c.scene_size;
+      seed = c.seed;
     } };
 
     ghost invariant = { λ c. IsIn c.lessons.items c.place };
 }
 
 impl Course {
-    ghost use Rattle.gtp_check_questions.specs.Lessons.{number_of, stretches_of};
+    ghost use Rattle.gtp_check_questions.specs.Lessons.{stretches_of};
     ghost use Rattle.gtp_check_questions.specs.Stretches.{steps_if};
-    ghost use Rattle.gtp_check_questions.specs.Places.{most_steps, number};
+    ghost use Rattle.gtp_check_questions.specs.Places.{most_steps};
     ghost use Rattle.gtp_check_questions.specs.Boards.{IsBoard};
     ghost use Rattle.gtp_check_judge.specs.Exam.{HasRoomFor};
     ghost use Rattle.gtp_check_questions.specs.Asking.{IsStep, IsTurn, Renews, Kills, Opens, Poses, Probes, Sees};
-    ghost use Rattle.gtp_check_questions.specs.Asking.{lesson_of};
+    ghost use Rattle.gtp_check_questions.specs.Asking.{draws_of, lesson_of};
     ghost use Rattle.gtp_check_questions.specs.Openings.{opened};
     ghost use Rattle.gtp_check_questions.specs.Course.{scene_size_of, sought_size};
     ghost use Rattle.gtp_check_questions.specs.Course.{begun, GoesTo, GoesOn, IsOver, IsRunning, Leaves};
@@ -73,7 +74,7 @@ impl Course {
     /// are asked on boards of that size. Else the start finds the smallest from 5 that the engine takes, and without a
     /// start it is 5.
     pub fn new(lessons: Lessons, scene_size: Option<Size>, seed: u32) -> Course
-        ensures { result ≡ begun lessons.items scene_size }
+        ensures { result ≡ begun lessons.items scene_size seed }
     {
         Course {
             lessons,
@@ -89,8 +90,9 @@ impl Course {
     ///
     /// After each start it asks the name, the version, and whether the engine has `fixed_handicap`, `undo` and
     /// `final_score`, in this order. Then it asks what its step is, by the tables of the lesson. What is drawn is a
-    /// move on a legal point, a pass where there is none, or a probe of a point of the board; a probe that is legal is
-    /// asked only where the engine has `undo`, which is asked next. So each command may be asked of the examiner then.
+    /// move on a legal point, a pass where there is none, or a probe of a point of the board, by words that the seed
+    /// and the step alone determine. A probe that is legal is asked only where the engine has `undo`, which is asked
+    /// next. So each command may be asked of the examiner then.
     ///
     /// A step is passed over only where it asks nothing, or where its command may not be asked although nothing is
     /// unanswered; so is a legal probe of an engine without `undo`. A part is left where its size was refused. The
@@ -232,7 +234,7 @@ impl Course {
 
     /// What this step draws: words of its own, by its number among all lessons.
     fn draws(&self, lesson: Lesson) -> Draws
-        ensures { result.number ≡ number (record self.now.place { lesson = number_of lesson }) }
+        ensures { result ≡ draws_of lesson self.now }
     {
         let place = Place {
             lesson: lesson.number(),

@@ -1,16 +1,16 @@
 //! What a step draws: words, and moves and points by them.
-ghost use Rattle.std.specs.Prelude.{◌≡◌, ◌≢◌, ◌*◌, ◌<◌, ◌≤◌, ◌%◌};
+ghost use Rattle.std.specs.Prelude.{◌≡◌, ◌≢◌, ◌*◌, ◌<◌, ◌≤◌, ◌%◌, ℕ};
 ghost use Rattle.go_base.specs.Point.{IsOn};
 ghost use Rattle.go_base.specs.declared.vertices.Vertex.TheVariants.{Pass, At};
 ghost use Rattle.go_board.specs.Game.{IsLegal};
-ghost use Rattle.rand_pcg.specs.Lcg.{advance};
-ghost use Rattle.rand_pcg.specs.Pcg.{multiplier_128};
-ghost use Rattle.gtp_session.specs.Random.{generator_of};
-ghost use Rattle.gtp_check_questions.specs.Questions.{IsDrawn, IsDrawnMove, IsProbe, IsOfNextWord, IsPointOf};
+ghost use Rattle.gtp_check_questions.specs.Draws.{drawn_below, generator_of_step, past_words};
+ghost use Rattle.gtp_check_questions.specs.Questions.{IsDrawn, IsDrawnMove, IsFirstLegal, IsProbe, IsPointOf};
+ghost use Rattle.gtp_check_questions.specs.Questions.{drawn_point, point_or_pass};
 
 use crate::actions::Question;
 use crate::scenes::crossing;
 use crate::stretches::{colour_of, play, probe};
+use crate::sweeps::crossing_of;
 use go_base::{Colour, Vertex};
 use go_board::Game;
 use rand_core::SeedableRng;
@@ -22,9 +22,6 @@ const WORDS: u128 = 128;
 
 /// How often a point is drawn before the first legal one is taken.
 const TRIES: u32 = 30;
-
-/// The places of a mailbox board's row.
-const ROW: u32 = 26;
 
 /// The words that a step draws. Each step has words of its own, whatever other lessons the course has.
 #[derive(Clone, Copy, Debug, PartialEq, Eq)]
@@ -38,8 +35,7 @@ pub struct Draws {
 impl Draws {
     /// The generator of the words. To make it takes longer than most questions do, and most draw nothing.
     pub fn generator(self) -> Pcg64
-        ensures { result
-            ≡ advance 128 multiplier_128 (128 * self.number) (generator_of self.seed) }
+        ensures { result ≡ generator_of_step self }
     {
         let mut generator = Pcg64::seed_from_u64(u64::from(self.seed));
         generator.advance(u128::from(self.number) * WORDS);
@@ -47,10 +43,10 @@ impl Draws {
     }
 }
 
-/// A drawn move, or a probe of a drawn point.
+/// A drawn move, or a probe of a drawn point. The first word draws its colour, and the words after that its point.
 pub(crate) fn probed(step: u32, game: &Game, draws: &mut Pcg64) -> Question
-    ensures moves { step % 3 ≡ 0 → IsDrawnMove game.now result }
-    ensures probes { step % 3 ≢ 0 → IsProbe game.now result }
+    ensures moves { step % 3 ≡ 0 → IsDrawnMove game.now draws.old result }
+    ensures probes { step % 3 ≢ 0 → IsProbe game.now draws.old result }
 {
     if step % 3 == 0 {
         return drawn_move(game, draws);
@@ -59,17 +55,18 @@ pub(crate) fn probed(step: u32, game: &Game, draws: &mut Pcg64) -> Question
     probe(colour, drawn_point(game.size().get(), draws))
 }
 
-/// A legal move that is drawn, or a pass where the colour has no legal point.
+/// A legal move that is drawn, or a pass where the colour has no legal point. The first word draws its colour.
 pub(crate) fn drawn_move(game: &Game, draws: &mut Pcg64) -> Question
-    ensures { IsDrawnMove game.now result }
+    ensures { IsDrawnMove game.now draws.old result }
 {
     let colour = colour_of(draw(draws, 2));
     play(colour, legal_vertex(game, colour, draws))
 }
 
-/// A point that is drawn and legal for the colour. Where some tries find none, it is the first that is legal.
+/// The first of thirty drawn points that is legal for the colour. Where none is, it is the first point of the board
+/// that is, and a pass where the board has none.
 fn legal_vertex(game: &Game, colour: Colour, draws: &mut Pcg64) -> Vertex
-    ensures { IsDrawn game.now colour result }
+    ensures { IsDrawn game.now colour draws.old result }
 {
     let size = game.size().get();
     for _try in 0..TRIES {
@@ -82,39 +79,41 @@ fn legal_vertex(game: &Game, colour: Colour, draws: &mut Pcg64) -> Vertex
     first_legal(game, colour)
 }
 
-/// The first point that is legal for the colour, or a pass where there is none.
+/// The first point of the board that is legal for the colour, row by row from the lowest. A pass where there is none.
 fn first_legal(game: &Game, colour: Colour) -> Vertex
-    ensures { IsDrawn game.now colour result }
+    ensures first { IsFirstLegal game.now colour (point_or_pass game.now.size) result }
+    ensures passes_last { result ≡ Pass
+        → (p : ℕ) → IsOn game.now.size p → IsLegal game.now colour (At p) → ⊥ }
 {
-    let rows = game.size().get() + 1;
-    for place in 0..rows * ROW {
-        let vertex = crossing(place % ROW, place / ROW);
-        if vertex != Vertex::Pass && game.legal(colour, vertex) {
-            return vertex;
+    let size = game.size().get();
+    for number in 0..size * size {
+        if game.legal(colour, crossing_of(number, size)) {
+            return crossing_of(number, size);
         }
     }
     Vertex::Pass
 }
 
-/// A drawn point of a board of this size.
+/// A drawn point of a board of this size: the next word draws its column, and the one after it its row.
 fn drawn_point(size: u32, draws: &mut Pcg64) -> Vertex
     requires least { 0 < size }
     requires most { size ≤ 25 }
-    ensures { IsPointOf size result }
+    ensures point { IsPointOf size result }
+    ensures drawn { result ≡ drawn_point draws.old 0 size }
+    ensures rest { draws.new ≡ past_words 2 draws.old }
 {
     let column = draw(draws, size) + 1;
     let row = draw(draws, size) + 1;
     crossing(column, row)
 }
 
-/// A drawn number below this one, of at most 25: what is left of the next word.
+/// A drawn number below this limit: what is left of the next word.
 fn draw(draws: &mut Pcg64, limit: u32) -> u32
-    ensures below { 0 < limit → limit ≤ 25 → result < limit }
-    ensures few { result ≤ 25 }
-    ensures word { IsOfNextWord draws.old limit result }
+    requires least { 0 < limit }
+    requires most { limit ≤ 25 }
+    ensures below { result < limit }
+    ensures drawn { result ≡ drawn_below draws.old 0 limit }
+    ensures rest { draws.new ≡ past_words 1 draws.old }
 {
-    if limit == 0 || limit > 25 {
-        return 0;
-    }
     (draws.next_word() % u64::from(limit)) as u32
 }

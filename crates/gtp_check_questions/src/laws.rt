@@ -1,5 +1,6 @@
 //! Laws of the course. Each is the contract of a function that does nothing.
-ghost use Rattle.gtp_check_questions.specs.Laws.{EveryCourseIsBounded, EachSceneIsAsked};
+ghost use Rattle.gtp_check_questions.specs.Laws.{EveryCourseIsBounded, EachSceneIsAsked, EachStepAsksOneQuestion};
+ghost use Rattle.gtp_check_questions.specs.Laws.{EachClearedBoardIsProbed, EachLackIsAskedFor, EachKomiIsExact};
 
 /// Whatever is answered, and whenever a part is left: commands that are asked, steps that are passed over and engines
 /// that are ended are together at most 57,600,000 for each lesson and once more, and five after each start.
@@ -11,4 +12,25 @@ pub fn every_course_is_bounded()
 /// both colours.
 pub fn each_scene_is_asked()
     ensures { EachSceneIsAsked }
+{}
+
+/// What a step asks is determined: by the course, whose seed and place say what is drawn, and the game.
+pub fn each_step_asks_one_question()
+    ensures { EachStepAsksOneQuestion }
+{}
+
+/// In each part of a lesson of scenes the moves of the scene are asked, then `clear_board`, and then a probe of each of
+/// their points in both colours.
+pub fn each_cleared_board_is_probed()
+    ensures { EachClearedBoardIsProbed }
+{}
+
+/// After each start the engine is asked of each command that it may be without whether it has it.
+pub fn each_lack_is_asked_for()
+    ensures { EachLackIsAskedFor }
+{}
+
+/// A float of 32 bits represents each komi that is asked: it has at most 2^24 half points either way.
+pub fn each_komi_is_exact()
+    ensures { EachKomiIsExact }
 {}

@@ -145,7 +145,7 @@ impl Stretch {
 
     /// What is asked in its step of this number, where the game is this one.
     pub fn question(self, step: u32, board: &Board, game: &Game, draws: Draws) -> Question
-        ensures { IsQuestion self step board.now game.now result }
+        ensures { IsQuestion self step board.now draws game.now result }
     {
         match self {
             Stretch::Size => ask(Command::Boardsize(board.size)),

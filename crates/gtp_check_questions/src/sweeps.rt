@@ -12,7 +12,7 @@ use go_board::Game;
 use gtp_wire::Command;
 
 /// The crossing of this number, row by row, on a board of this size.
-fn crossing_of(number: u32, size: u32) -> Vertex
+pub(crate) fn crossing_of(number: u32, size: u32) -> Vertex
     requires row { number / size < size }
     requires board { 0 < size }
     ensures { result ≡ crossing_of number size }

@@ -23,7 +23,7 @@ pub enum Precedence {
 
 impl Precedence {
     /// Lets the process run first, where it goes first, and returns its precedence at the next read.
-    pub fn go_first<C: Clock>(self, clock: &C) -> Precedence
+    pub fn let_run_first<C: Clock>(self, clock: &C) -> Precedence
         ensures starting { self ≡ Precedence.Starting → result ≡ Precedence.First }
         ensures over { self ≡ Precedence.Over → result ≡ Precedence.Over }
     {

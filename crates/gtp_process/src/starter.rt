@@ -117,7 +117,7 @@ pub trait Process {
         ensures failed { IfErr result (λ fault. fails self.old fault self.new) };
 
     /// Lets the process run before it is read, where that saves time. What it was sent and what it gave stay.
-    fn go_first(&self);
+    fn let_run_first(&self);
 
     /// Closes the pipes, kills the process if it still runs, waits for it, and returns how it ended.
     fn end(self) -> Ending

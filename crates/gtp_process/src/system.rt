@@ -184,8 +184,8 @@ impl<P: OpenProcess + Drop, C: Clock + Drop> Process for SystemProcess<P, C> {
         outcome_of(stdin.flush())
     }
 
-    fn go_first(&self) {
-        let next = self.precedence.get().go_first(&self.clock);
+    fn let_run_first(&self) {
+        let next = self.precedence.get().let_run_first(&self.clock);
         self.precedence.set(next);
     }
 

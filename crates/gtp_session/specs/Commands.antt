@@ -1,5 +1,5 @@
 -- The engine's commands, and what each of them does to the game and answers.
-use Rattle.std.specs.Prelude.{ℕ, ℤ, Bool, true, false, ◌&&◌, nat_le, List, [], ◌∷◌, length, map, find, slice_get}
+use Rattle.std.specs.Prelude.{◌≡◌, ℕ, ℤ, Bool, true, false, ◌&&◌, nat_le, List, [], ◌∷◌, length, map, find, slice_get}
 use Rattle.std.specs.Prelude.{Option, Some, None, is_some, option_and_then, if◌then◌else◌, codes}
 use Rattle.std.specs.List.{join_with_byte}
 use Rattle.std.specs.Str.{bytes_eq}
@@ -239,6 +239,10 @@ row_of command.Showboard = query board_text
 -- Each command with the words of its line, and with what the policy chooses where it is asked.
 abbrev pub answer_to : GameRecord → CommandName → List (List ℕ) → Choice → Answer
 answer_to game named words choice = answer_by (row_of named) game ((row_of named).read words) choice
+
+-- the command answers so to these words, whatever a policy would choose
+abbrev pub IsAnswerTo : GameRecord → CommandName → List (List ℕ) → Answer → Type 0
+IsAnswerTo game named words given = (choice : Choice) → given ≡ answer_to game named words choice
 
 -- a command that is named, or an unknown one (the standard, standard error messages)
 abbrev pub answer_to_named : GameRecord → Option CommandName → List (List ℕ) → Choice → Answer

@@ -2,4 +2,5 @@
 
 mod controller;
 mod processes;
+mod shows;
 mod worlds;

@@ -2,7 +2,9 @@
 //! options and counts.
 
 mod check;
+mod commands;
 mod engine;
 mod judge;
 mod questions;
+mod streams;
 mod twogtp;

@@ -11,10 +11,10 @@ ghost use Rattle.twogtp_app.specs.private.Steps.{IsStep};
 
 use crate::plan::Plan;
 use crate::processes::Processes;
-use crate::reports::write_turn;
 use crate::speaking::{hear, send};
 use crate::task::Commands;
 use crate::why::{SideTurn, TurnLoss, TurnReport};
+use crate::why_writing::write_turn;
 use byte_streams::WriteOnce;
 use cli::failure::Failure;
 use go_base::Side;

@@ -10,7 +10,7 @@ ghost use Rattle.twogtp_app.specs.Speaking.{AreSent, HearsFromSide, IsHeard, Rep
 ghost use Rattle.twogtp_app.specs.Why.{ReportCanBeShown, only_loss};
 ghost use Rattle.twogtp_app.specs.private.Several.{has_several_unanswered};
 
-use crate::sending::take_commands;
+use crate::next_commands::take_commands;
 use crate::why::{TurnLoss, TurnReport};
 use go_base::Side;
 use gtp_match::{Match, Report, Status};
@@ -79,7 +79,7 @@ fn hear_from<P: Process>(
     ensures shown { ReportCanBeShown result }
 {
     if has_several_unanswered(game, side) {
-        process.go_first();
+        process.let_run_first();
     }
     match read_some(process, buffer) {
         Ok(0) => cut_off(game, side, PipeCause::Ended),

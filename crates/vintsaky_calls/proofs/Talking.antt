@@ -10,7 +10,7 @@ use Rattle.gtp_session.specs.declared.events.Event.{Event}
 use Rattle.gtp_session.specs.declared.events.Event.TheVariants as event
 use Rattle.gtp_session.specs.declared.events.Wait.{Wait}
 use Rattle.gtp_session.specs.declared.events.Wait.TheVariants as wait
-use Rattle.vintsaky_calls.specs.Codes.{Made, rule_code}
+use Rattle.vintsaky_calls.specs.Codes.{CallResult, rule_code}
 use Rattle.vintsaky_calls.specs.Engines.{BeginsEngine, Feeds, FeedCall, ChooseCall, AnswerCall, DeclineCall}
 use Rattle.vintsaky_calls.specs.Engines.{SetNameCall, SetVersionCall, AddCommandCall, is_success}
 use Rattle.vintsaky_calls.specs.Talks.{Talk, IsRunOf, TalksAreRuns, BegunAreAlike}
@@ -78,32 +78,32 @@ module _ {rule : KoRule} {text : List ℕ} {a b : StepsState} (run : IsRunOf rul
       → IsRunOf rule (text ++ take used input) b
   is_fed input used number did = by_wait a.wait a.ended did.came input used refl refl did.feeds
 
-  is_chosen : (number : ℕ) (made : Made) → ChooseCall number a b made → IsRunOf rule text b
+  is_chosen : (number : ℕ) (made : CallResult) → ChooseCall number a b made → IsRunOf rule text b
   is_chosen number (Ok done) did =
       record { choices = _; given = _; goes = Goes.chosen did.chosen.choice run.goes did.chosen.made }
   is_chosen number (Err why) did = stays did.kept
 
-  is_answered : (ok : ℕ) (answer : List ℕ) (made : Made) → AnswerCall ok answer a b made → IsRunOf rule text b
+  is_answered : (ok : ℕ) (answer : List ℕ) (made : CallResult) → AnswerCall ok answer a b made → IsRunOf rule text b
   is_answered ok answer (Ok done) did =
       record { choices = run.choices; given = _; goes = Goes.answered (is_success ok) answer run.goes did.answered }
   is_answered ok answer (Err why) did = stays did.kept
 
-  is_declined : (made : Made) → DeclineCall a b made → IsRunOf rule text b
+  is_declined : (made : CallResult) → DeclineCall a b made → IsRunOf rule text b
   is_declined (Ok done) did =
       record { choices = run.choices; given = _; goes = Goes.answered false declined_text run.goes did.declined }
   is_declined (Err why) did = stays did.kept
 
-  is_named : (title : List ℕ) (made : Made) → SetNameCall title a b made → IsRunOf rule text b
+  is_named : (title : List ℕ) (made : CallResult) → SetNameCall title a b made → IsRunOf rule text b
   is_named title (Ok done) did =
       record { choices = run.choices; given = run.given; goes = Goes.named title run.goes did.set }
   is_named title (Err why) did = stays did.kept
 
-  is_versioned : (title : List ℕ) (made : Made) → SetVersionCall title a b made → IsRunOf rule text b
+  is_versioned : (title : List ℕ) (made : CallResult) → SetVersionCall title a b made → IsRunOf rule text b
   is_versioned title (Ok done) did =
       record { choices = run.choices; given = run.given; goes = Goes.versioned title run.goes did.set }
   is_versioned title (Err why) did = stays did.kept
 
-  is_added : (name : List ℕ) (made : Made) → AddCommandCall name a b made → IsRunOf rule text b
+  is_added : (name : List ℕ) (made : CallResult) → AddCommandCall name a b made → IsRunOf rule text b
   is_added name (Ok done) did =
       record { choices = run.choices; given = run.given; goes = Goes.added name run.goes did.added }
   is_added name (Err why) did = stays did.kept

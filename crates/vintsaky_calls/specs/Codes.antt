@@ -102,17 +102,17 @@ abbrev pub NoCause : ℕ → Type 0
 NoCause n = (why : Cause) → n ≢ cause_code why
 
 -- what a call comes to: it is done, or it is refused for a cause
-abbrev pub Made : Type 0
-Made = Result (Unit {0}) Cause
+abbrev pub CallResult : Type 0
+CallResult = Result (Unit {0}) Cause
 
 -- its number: 0 where it was done
-abbrev pub result_code : Made → ℕ
+abbrev pub result_code : CallResult → ℕ
 result_code (Ok _) = 0
 result_code (Err why) = cause_code why
 
 -- what an export returns: the number of what its call comes to
-pub record Returns (number : ℕ) (Call : Made → Type 0) : Type 0 where
-  pub made : Made
+pub record Returns (number : ℕ) (Call : CallResult → Type 0) : Type 0 where
+  pub made : CallResult
   pub number_is : number ≡ result_code made
   pub call : Call made
 

@@ -19,7 +19,7 @@ use Rattle.gtp_session.specs.OwnCommands.{RefusesName}
 use Rattle.gtp_session.specs.Steps.{StepsState, IsOpen, ReadsOn, event_of, fresh_steps, Chooses, RefusesChoice}
 use Rattle.gtp_session.specs.Steps.{RefusesAnswer, AnswersOther, declined_text, IsTitle, SetsName, SetsVersion}
 use Rattle.gtp_session.specs.Steps.{AddsCommand}
-use Rattle.vintsaky_calls.specs.Codes.{colour_code, rule_code, vertex_code, IsVertex, NoRule, Made}
+use Rattle.vintsaky_calls.specs.Codes.{colour_code, rule_code, vertex_code, IsVertex, NoRule, CallResult}
 use Rattle.vintsaky_calls.specs.Texts.{Puts}
 use Rattle.vintsaky_calls.specs.declared.causes.Cause.{Cause}
 use Rattle.vintsaky_calls.specs.declared.causes.Cause.TheVariants as cause
@@ -64,7 +64,7 @@ pub record BeginsEngine (rule : ℕ) (new : StepsState) : Type 0 where
   pub new_is : new ≡ fresh_steps by
 
 -- An engine is begun anew; or the number is no ko rule, and it stays as it was.
-pub record BeginCall (rule : ℕ) (old new : StepsState) (made : Made) : Type 0 where
+pub record BeginCall (rule : ℕ) (old new : StepsState) (made : CallResult) : Type 0 where
   pub begun : OnOk made (BeginsEngine rule new)
   pub kept : OnErr made (new ≡ old)
   pub why : IfErr made (λ why. (why ≡ cause.BadRule) × NoRule rule)
@@ -106,7 +106,7 @@ RefusesNumber s n cause.Ko = RefusesBy s n (choice_fault.Illegal play_fault.Ko)
 RefusesNumber s n _ = ⊥
 
 -- The choice is made; or the engine stays as it was, for a cause.
-pub record ChooseCall (number : ℕ) (old new : StepsState) (made : Made) : Type 0 where
+pub record ChooseCall (number : ℕ) (old new : StepsState) (made : CallResult) : Type 0 where
   pub chosen : OnOk made (ChoosesBy old number new)
   pub kept : OnErr made (new ≡ old)
   pub why : IfErr made (RefusesNumber old number)
@@ -122,25 +122,25 @@ RefusesText s text cause.BadText = RefusesAnswer s text answer_fault.BadText
 RefusesText s text _ = ⊥
 
 -- The answer is given; or the engine stays as it was, for a cause.
-pub record AnswerCall (ok : ℕ) (text : List ℕ) (old new : StepsState) (made : Made) : Type 0 where
+pub record AnswerCall (ok : ℕ) (text : List ℕ) (old new : StepsState) (made : CallResult) : Type 0 where
   pub answered : OnOk made (AnswersOther old (is_success ok) text new)
   pub kept : OnErr made (new ≡ old)
   pub why : IfErr made (RefusesText old text)
 
 -- The line is answered as one of an unknown command; or none is waited for, and the engine stays as it was.
-pub record DeclineCall (old new : StepsState) (made : Made) : Type 0 where
+pub record DeclineCall (old new : StepsState) (made : CallResult) : Type 0 where
   pub declined : OnOk made (AnswersOther old false declined_text new)
   pub kept : OnErr made (new ≡ old)
   pub why : IfErr made (λ why. (why ≡ cause.NotAsked) × RefusesText old declined_text why)
 
 -- The text is the engine's name from now on; or it can't be, and the engine stays as it was.
-pub record SetNameCall (text : List ℕ) (old new : StepsState) (made : Made) : Type 0 where
+pub record SetNameCall (text : List ℕ) (old new : StepsState) (made : CallResult) : Type 0 where
   pub set : OnOk made (SetsName old text new)
   pub kept : OnErr made (new ≡ old)
   pub why : IfErr made (λ why. (why ≡ cause.BadText) × ¬ IsTitle text)
 
 -- The text is the engine's version from now on; or it can't be, and the engine stays as it was.
-pub record SetVersionCall (text : List ℕ) (old new : StepsState) (made : Made) : Type 0 where
+pub record SetVersionCall (text : List ℕ) (old new : StepsState) (made : CallResult) : Type 0 where
   pub set : OnOk made (SetsVersion old text new)
   pub kept : OnErr made (new ≡ old)
   pub why : IfErr made (λ why. (why ≡ cause.BadText) × ¬ IsTitle text)
@@ -156,7 +156,7 @@ RefusesCommand commands name cause.TooMany = RefusesName commands name command_f
 RefusesCommand commands name _ = ⊥
 
 -- The name is that of one more own command; or the engine stays as it was, for a cause.
-pub record AddCommandCall (name : List ℕ) (old new : StepsState) (made : Made) : Type 0 where
+pub record AddCommandCall (name : List ℕ) (old new : StepsState) (made : CallResult) : Type 0 where
   pub added : OnOk made (AddsCommand old name new)
   pub kept : OnErr made (new ≡ old)
   pub why : IfErr made (RefusesCommand old.commands name)
@@ -182,7 +182,7 @@ LacksWord s number cause.NoWord = (line : CommandWords) × WaitsOn s line × (sl
 LacksWord s number _ = ⊥
 
 -- A word of the line that is waited for is put into the buffer; or there is none, and nothing is written.
-pub record WordCall (s : StepsState) (number : ℕ) (old new : List ℕ) (count_old count_new : ℕ) (made : Made)
+pub record WordCall (s : StepsState) (number : ℕ) (old new : List ℕ) (count_old count_new : ℕ) (made : CallResult)
     : Type 0 where
   pub found : OnOk made (PutsWord s number old new count_new)
   pub kept : OnErr made ((new ≡ old) × (count_new ≡ count_old))
@@ -201,7 +201,7 @@ LacksId s cause.NoId = (line : CommandWords) × WaitsOn s line × (line.id ≡ N
 LacksId s _ = ⊥
 
 -- The id of the line that is waited for is found; or there is none, and nothing is written.
-pub record IdCall (s : StepsState) (old new : ℕ) (made : Made) : Type 0 where
+pub record IdCall (s : StepsState) (old new : ℕ) (made : CallResult) : Type 0 where
   pub found : OnOk made (HasId s new)
   pub kept : OnErr made (new ≡ old)
   pub why : IfErr made (LacksId s)

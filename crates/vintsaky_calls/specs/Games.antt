@@ -22,7 +22,7 @@ use Rattle.go_board.specs.declared.faults.HandicapFault.TheVariants as handicap_
 use Rattle.go_board.specs.declared.game.searching.Chain.{Chain}
 use Rattle.go_board.specs.declared.rules.KoRule.{KoRule}
 use Rattle.vintsaky_calls.specs.Codes.{colour_code, rule_code, vertex_code, point_code, IsCodeOf}
-use Rattle.vintsaky_calls.specs.Codes.{NoColour, NoRule, NoVertex, Made}
+use Rattle.vintsaky_calls.specs.Codes.{NoColour, NoRule, NoVertex, CallResult}
 use Rattle.vintsaky_calls.specs.declared.causes.Cause.{Cause}
 use Rattle.vintsaky_calls.specs.declared.causes.Cause.TheVariants as cause
 
@@ -42,13 +42,13 @@ RefusesToBegin rule size komi cause.BadKomi = ((by : KoRule) × (rule ≡ rule_c
 RefusesToBegin rule size komi _ = ⊥
 
 -- A game is begun anew; or it stays as it was, for a cause.
-pub record BeginCall (rule size : ℕ) (komi : ℤ) (old new : GameRecord) (made : Made) : Type 0 where
+pub record BeginCall (rule size : ℕ) (komi : ℤ) (old new : GameRecord) (made : CallResult) : Type 0 where
   pub begun : OnOk made (Begins rule size komi new)
   pub kept : OnErr made (new ≡ old)
   pub why : IfErr made (RefusesToBegin rule size komi)
 
 -- the numbers are those of a colour and of a vertex, of which this holds
-pub record IsPlay (colour vertex : ℕ) (Holds : Colour → Vertex → Type 0) : Type 0 where
+pub record AreCodesOfMove (colour vertex : ℕ) (Holds : Colour → Vertex → Type 0) : Type 0 where
   pub c : Colour
   pub v : Vertex
   pub colour_is : colour ≡ colour_code c
@@ -58,17 +58,17 @@ pub record IsPlay (colour vertex : ℕ) (Holds : Colour → Vertex → Type 0) :
 -- a move that was legal is made
 abbrev pub Makes : GameRecord → ℕ → ℕ → GameRecord → Type 0
 Makes old colour vertex new =
-    IsPlay colour vertex (λ c v. IsLegal old c v × HasRoom old × (new ≡ with_move old c v))
+    AreCodesOfMove colour vertex (λ c v. IsLegal old c v × HasRoom old × (new ≡ with_move old c v))
 
 -- the numbers are those of a move that is refused by this cause, where `By` says of which moves it is one
 abbrev pub RefusesMoveBy : (Colour → Vertex → PlayFault → Type 0) → ℕ → ℕ → Cause → Type 0
 RefusesMoveBy By colour vertex cause.BadColour = NoColour colour
 RefusesMoveBy By colour vertex cause.BadVertex = ((c : Colour) × (colour ≡ colour_code c)) × NoVertex vertex
-RefusesMoveBy By colour vertex cause.Full = IsPlay colour vertex (λ c v. By c v play_fault.Full)
-RefusesMoveBy By colour vertex cause.OffBoard = IsPlay colour vertex (λ c v. By c v play_fault.OffBoard)
-RefusesMoveBy By colour vertex cause.Occupied = IsPlay colour vertex (λ c v. By c v play_fault.Occupied)
-RefusesMoveBy By colour vertex cause.Suicide = IsPlay colour vertex (λ c v. By c v play_fault.Suicide)
-RefusesMoveBy By colour vertex cause.Ko = IsPlay colour vertex (λ c v. By c v play_fault.Ko)
+RefusesMoveBy By colour vertex cause.Full = AreCodesOfMove colour vertex (λ c v. By c v play_fault.Full)
+RefusesMoveBy By colour vertex cause.OffBoard = AreCodesOfMove colour vertex (λ c v. By c v play_fault.OffBoard)
+RefusesMoveBy By colour vertex cause.Occupied = AreCodesOfMove colour vertex (λ c v. By c v play_fault.Occupied)
+RefusesMoveBy By colour vertex cause.Suicide = AreCodesOfMove colour vertex (λ c v. By c v play_fault.Suicide)
+RefusesMoveBy By colour vertex cause.Ko = AreCodesOfMove colour vertex (λ c v. By c v play_fault.Ko)
 RefusesMoveBy By colour vertex _ = ⊥
 
 -- why a move isn't made
@@ -76,7 +76,7 @@ abbrev pub RefusesMove : GameRecord → ℕ → ℕ → Cause → Type 0
 RefusesMove game = RefusesMoveBy (Refuses game)
 
 -- A move is made; or the game stays as it was, for a cause.
-pub record PlayCall (colour vertex : ℕ) (old new : GameRecord) (made : Made) : Type 0 where
+pub record PlayCall (colour vertex : ℕ) (old new : GameRecord) (made : CallResult) : Type 0 where
   pub played : OnOk made (Makes old colour vertex new)
   pub kept : OnErr made (new ≡ old)
   pub why : IfErr made (RefusesMove old colour vertex)
@@ -86,18 +86,18 @@ abbrev pub IsIllegal : GameRecord → ℕ → ℕ → Cause → Type 0
 IsIllegal game = RefusesMoveBy (RefusesVertex game)
 
 -- A move is legal; or it isn't, for a cause.
-pub record LegalCall (game : GameRecord) (colour vertex : ℕ) (made : Made) : Type 0 where
-  pub legal : OnOk made (IsPlay colour vertex (IsLegal game))
+pub record LegalCall (game : GameRecord) (colour vertex : ℕ) (made : CallResult) : Type 0 where
+  pub legal : OnOk made (AreCodesOfMove colour vertex (IsLegal game))
   pub why : IfErr made (IsIllegal game colour vertex)
 
 -- The last move is taken back; or there is none, and the game stays as it was.
-pub record UndoCall (old new : GameRecord) (made : Made) : Type 0 where
+pub record UndoCall (old new : GameRecord) (made : CallResult) : Type 0 where
   pub undone : OnOk made ((old.moves ≢ []) × (new ≡ without_last old))
   pub kept : OnErr made (new ≡ old)
   pub why : IfErr made (λ why. (why ≡ cause.NothingToUndo) × (old.moves ≡ []))
 
 -- The komi is set, and nothing else changes; or it is none, and the game stays as it was.
-pub record SetKomiCall (komi : ℤ) (old new : GameRecord) (made : Made) : Type 0 where
+pub record SetKomiCall (komi : ℤ) (old new : GameRecord) (made : CallResult) : Type 0 where
   pub set : OnOk made (IsKomi komi × (new ≡ record old { komi = komi }))
   pub kept : OnErr made (new ≡ old)
   pub why : IfErr made (λ why. (why ≡ cause.BadKomi) × ¬ IsKomi komi)
@@ -115,7 +115,7 @@ RefusesStones game stones cause.BadHandicap = RefusesHandicap game stones handic
 RefusesStones game stones _ = ⊥
 
 -- Handicap stones are placed; or the game stays as it was, for a cause.
-pub record PlaceHandicapCall (stones : ℕ) (old new : GameRecord) (made : Made) : Type 0 where
+pub record PlaceHandicapCall (stones : ℕ) (old new : GameRecord) (made : CallResult) : Type 0 where
   pub placed : OnOk made (PlacesHandicap old stones new)
   pub kept : OnErr made (new ≡ old)
   pub why : IfErr made (RefusesStones old stones)
@@ -135,7 +135,8 @@ pub record ListsLegal (game : GameRecord) (colour : ℕ) (old new : List ℕ) (c
   pub puts : PutsPoints points old new count
 
 -- The legal points are listed; or the number is no colour, and nothing is written.
-pub record LegalPointsCall (game : GameRecord) (colour : ℕ) (old new : List ℕ) (count_old count_new : ℕ) (made : Made)
+pub record LegalPointsCall (game : GameRecord) (colour : ℕ) (old new : List ℕ) (count_old count_new : ℕ)
+    (made : CallResult)
     : Type 0 where
   pub listed : OnOk made (ListsLegal game colour old new count_new)
   pub kept : OnErr made ((new ≡ old) × (count_new ≡ count_old))
@@ -170,7 +171,7 @@ pub record HasAt (game : GameRecord) (vertex colour : ℕ) : Type 0 where
   pub colour_is : colour ≡ stone_code (stone_at (board_of game) point)
 
 -- The colour on a point is found; or the number is that of no point of the board, and nothing is written.
-pub record StoneAtCall (game : GameRecord) (vertex old new : ℕ) (made : Made) : Type 0 where
+pub record StoneAtCall (game : GameRecord) (vertex old new : ℕ) (made : CallResult) : Type 0 where
   pub found : OnOk made (HasAt game vertex new)
   pub kept : OnErr made (new ≡ old)
   pub why : IfErr made (RefusesPointCode game vertex)
@@ -193,7 +194,8 @@ RefusesChain game vertex cause.NoStone =
 RefusesChain game vertex _ = ⊥
 
 -- The stones and the liberties of a chain are found; or there is no chain, and nothing is written.
-pub record ChainCall (game : GameRecord) (vertex stones_old stones_new liberties_old liberties_new : ℕ) (made : Made)
+pub record ChainCall (game : GameRecord) (vertex stones_old stones_new liberties_old liberties_new : ℕ)
+    (made : CallResult)
     : Type 0 where
   pub found : OnOk made (HasChain game vertex stones_new liberties_new)
   pub kept : OnErr made ((stones_new ≡ stones_old) × (liberties_new ≡ liberties_old))
@@ -207,7 +209,7 @@ pub record HasMove (game : GameRecord) (number colour vertex : ℕ) : Type 0 whe
   pub vertex_is : vertex ≡ vertex_code move.vertex
 
 -- A move of the record is found; or the record is too short, and nothing is written.
-pub record MadeCall (game : GameRecord) (number colour_old colour_new vertex_old vertex_new : ℕ) (made : Made)
+pub record MadeCall (game : GameRecord) (number colour_old colour_new vertex_old vertex_new : ℕ) (made : CallResult)
     : Type 0 where
   pub found : OnOk made (HasMove game number colour_new vertex_new)
   pub kept : OnErr made ((colour_new ≡ colour_old) × (vertex_new ≡ vertex_old))
@@ -220,7 +222,7 @@ pub record HasCaptured (game : GameRecord) (colour stones : ℕ) : Type 0 where
   pub stones_are : stones ≡ taken game c
 
 -- The stones that a colour has taken are counted; or the number is no colour, and nothing is written.
-pub record CapturedCall (game : GameRecord) (colour old new : ℕ) (made : Made) : Type 0 where
+pub record CapturedCall (game : GameRecord) (colour old new : ℕ) (made : CallResult) : Type 0 where
   pub found : OnOk made (HasCaptured game colour new)
   pub kept : OnErr made (new ≡ old)
   pub why : IfErr made (λ why. (why ≡ cause.BadColour) × NoColour colour)

@@ -16,7 +16,7 @@ use Rattle.gtp_match.specs.declared.sides.EngineRun.{EngineRun}
 use Rattle.gtp_match.specs.declared.unanswered.SentCommand.{SentCommand}
 use Rattle.gtp_session.specs.Steps.{StepsState, IsOpen}
 use Rattle.gtp_session.specs.declared.events.Wait.TheVariants as wait
-use Rattle.vintsaky_calls.specs.Codes.{Made, colour_code}
+use Rattle.vintsaky_calls.specs.Codes.{CallResult, colour_code}
 use Rattle.vintsaky_calls.specs.Engines.{AddCommandCall, FeedCall}
 use Rattle.vintsaky_calls.specs.Matches.{SendCall}
 
@@ -42,7 +42,7 @@ pub record WroteOneMore (before after : List SentCommand) (text : List ℕ) (cou
 -- more, which stands in the buffer.
 abbrev pub SentWereWritten : Type 0
 SentWereWritten =
-    (number : ℕ) (old new : Controller) (text_old text_new : List ℕ) (count_old count_new : ℕ) (made : Made)
+    (number : ℕ) (old new : Controller) (text_old text_new : List ℕ) (count_old count_new : ℕ) (made : CallResult)
     (side : Colour) → IsSound old → SendCall number old new text_old text_new count_old count_new made
     → (unanswered_of new side ≡ unanswered_of old side)
     ⊎ WroteOneMore (unanswered_of old side) (unanswered_of new side) text_new count_new

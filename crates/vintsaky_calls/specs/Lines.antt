@@ -5,7 +5,7 @@ use Rattle.gtp_wire.specs.Lines.{ReadsLine}
 use Rattle.gtp_wire.specs.Words.{CommandWords}
 use Rattle.gtp_wire.specs.declared.lines.Line.{Line}
 use Rattle.gtp_wire.specs.declared.lines.Line.TheVariants as line
-use Rattle.vintsaky_calls.specs.Codes.{Made}
+use Rattle.vintsaky_calls.specs.Codes.{CallResult}
 use Rattle.vintsaky_calls.specs.Texts.{Puts}
 use Rattle.vintsaky_calls.specs.declared.causes.Cause.{Cause}
 use Rattle.vintsaky_calls.specs.declared.causes.Cause.TheVariants as cause
@@ -55,7 +55,7 @@ LacksLineWord read number cause.NoWord =
 LacksLineWord read number _ = ⊥
 
 -- A word of the line that was read last is put into the buffer; or there is none, and nothing is written.
-pub record WordCall (read : Line) (number : ℕ) (old new : List ℕ) (count_old count_new : ℕ) (made : Made)
+pub record WordCall (read : Line) (number : ℕ) (old new : List ℕ) (count_old count_new : ℕ) (made : CallResult)
     : Type 0 where
   pub found : OnOk made (PutsLineWord read number old new count_new)
   pub kept : OnErr made ((new ≡ old) × (count_new ≡ count_old))
@@ -74,7 +74,7 @@ LacksLineId read cause.NoId = (line : CommandWords) × IsRead read line × (line
 LacksLineId read _ = ⊥
 
 -- The id of the line that was read last is found; or there is none, and nothing is written.
-pub record IdCall (read : Line) (old new : ℕ) (made : Made) : Type 0 where
+pub record IdCall (read : Line) (old new : ℕ) (made : CallResult) : Type 0 where
   pub found : OnOk made (HasLineId read new)
   pub kept : OnErr made (new ≡ old)
   pub why : IfErr made (LacksLineId read)

@@ -36,7 +36,7 @@ use Rattle.gtp_match.specs.Retaking.{HearsAllRetakes}
 use Rattle.gtp_match.specs.Setup.{SetupRecord, IsSetup, RefusesSetup}
 use Rattle.gtp_match.specs.Sides.{side_of, restarts}
 use Rattle.gtp_match.specs.Unanswered.{has_genmove}
-use Rattle.vintsaky_calls.specs.Codes.{colour_code, NoColour, Made}
+use Rattle.vintsaky_calls.specs.Codes.{colour_code, NoColour, CallResult}
 use Rattle.vintsaky_calls.specs.Texts.{Puts}
 use Rattle.vintsaky_calls.specs.declared.causes.Cause.{Cause}
 use Rattle.vintsaky_calls.specs.declared.causes.Cause.TheVariants as cause
@@ -61,7 +61,7 @@ RefusesMatch setup cause.BadMaxRestarts =
 RefusesMatch setup _ = ⊥
 
 -- A match is begun anew; or it stays as it was, for a cause.
-pub record BeginCall (setup : SetupRecord) (old new : Controller) (made : Made) : Type 0 where
+pub record BeginCall (setup : SetupRecord) (old new : Controller) (made : CallResult) : Type 0 where
   pub begun : OnOk made (BeginsMatch setup new)
   pub kept : OnErr made (new ≡ old)
   pub why : IfErr made (RefusesMatch setup)
@@ -103,7 +103,7 @@ RefusesStart old number cause.NotNext = IsSide number (λ side. next old ≢ act
 RefusesStart old number _ = ⊥
 
 -- A side was started; or the match stays as it was, for a cause.
-pub record StartedCall (side : ℕ) (old new : Controller) (made : Made) : Type 0 where
+pub record StartedCall (side : ℕ) (old new : Controller) (made : CallResult) : Type 0 where
   pub started : OnOk made (Starts old side new)
   pub kept : OnErr made (new ≡ old)
   pub why : IfErr made (RefusesStart old side)
@@ -140,7 +140,7 @@ RefusesSend old number before _ = ⊥
 
 -- The next command is written and counts as sent; or the match stays as it was, and nothing is written, for a cause.
 pub record SendCall (side : ℕ) (old new : Controller) (text_old text_new : List ℕ) (count_old count_new : ℕ)
-    (made : Made) : Type 0 where
+    (made : CallResult) : Type 0 where
   pub sent : OnOk made (Sends old side text_old text_new count_new new)
   pub kept : OnErr made ((new ≡ old) × (text_new ≡ text_old) × (count_new ≡ count_old))
   pub why : IfErr made (RefusesSend old side text_old)
@@ -195,7 +195,7 @@ pub record Hears (old : Controller) (number : ℕ) (bytes : List ℕ) (shown : �
   pub heard : HearsLoss side old bytes lost new
 
 -- Bytes of a side are heard, and its loss is shown; or the number is no side, the match stays, and nothing is written.
-pub record HearCall (side : ℕ) (bytes : List ℕ) (old new : Controller) (loss_old loss_new : ℕ) (made : Made)
+pub record HearCall (side : ℕ) (bytes : List ℕ) (old new : Controller) (loss_old loss_new : ℕ) (made : CallResult)
     : Type 0 where
   pub heard : OnOk made (Hears old side bytes loss_new new)
   pub kept : OnErr made ((new ≡ old) × (loss_new ≡ loss_old))
@@ -271,7 +271,7 @@ pub record ReportsHeard (side : ℕ) (bytes : List ℕ) (old new : Controller) (
 
 -- Bytes of a side are heard and reported; or the number is no side, the match stays, and nothing is written.
 pub record HearReportingCall (side : ℕ) (bytes : List ℕ) (old new : Controller) (loss_old loss_new : ℕ)
-    (retake_old retake_new : ℕ) (out_old out_new : OwedOut) (made : Made) : Type 0 where
+    (retake_old retake_new : ℕ) (out_old out_new : OwedOut) (made : CallResult) : Type 0 where
   pub heard : OnOk made (ReportsHeard side bytes old new loss_new retake_new out_old out_new)
   pub kept : OnErr made
       ((new ≡ old) × (loss_new ≡ loss_old) × (retake_new ≡ retake_old) × (out_new ≡ out_old))
@@ -289,7 +289,7 @@ WritesOwed c number old new =
     IsSide number (λ side. MatchOption (owed c side) ⊥ (λ owes. PutsOwed owes old new))
 
 -- What a side owes is written; or nothing is, for a cause.
-pub record OwedCall (c : Controller) (side : ℕ) (old new : OwedOut) (made : Made) : Type 0 where
+pub record OwedCall (c : Controller) (side : ℕ) (old new : OwedOut) (made : CallResult) : Type 0 where
   pub written : OnOk made (WritesOwed c side old new)
   pub kept : OnErr made (new ≡ old)
   pub why : IfErr made (LacksOwed c side)
@@ -312,26 +312,26 @@ LacksStatus c number _ = ⊥
 
 -- How far a side is up is written; or nothing is, for a cause.
 pub record StatusCall (c : Controller) (side confirmed_old confirmed_new unanswered_old unanswered_new : ℕ)
-    (asked_old asked_new : ℕ) (made : Made) : Type 0 where
+    (asked_old asked_new : ℕ) (made : CallResult) : Type 0 where
   pub found : OnOk made (HasStatus c side confirmed_new unanswered_new asked_new)
   pub kept : OnErr made
       ((confirmed_new ≡ confirmed_old) × (unanswered_new ≡ unanswered_old) × (asked_new ≡ asked_old))
   pub why : IfErr made (LacksStatus c side)
 
 -- A side is lost; or the number is no side, and the match stays as it was.
-pub record LostCall (side : ℕ) (old new : Controller) (made : Made) : Type 0 where
+pub record LostCall (side : ℕ) (old new : Controller) (made : CallResult) : Type 0 where
   pub lost : OnOk made (IsSide side (λ s. new ≡ controller.lost old s))
   pub kept : OnErr made (new ≡ old)
   pub why : IfErr made (λ why. (why ≡ cause.BadColour) × NoColour side)
 
 -- Whether a side is in step is written; or the number is no side, and nothing is written.
-pub record InStepCall (c : Controller) (side old new : ℕ) (made : Made) : Type 0 where
+pub record InStepCall (c : Controller) (side old new : ℕ) (made : CallResult) : Type 0 where
   pub found : OnOk made (IsSide side (λ s. new ≡ bool_code (controller.in_step c s)))
   pub kept : OnErr made (new ≡ old)
   pub why : IfErr made (λ why. (why ≡ cause.BadColour) × NoColour side)
 
 -- How often a side was started again is written; or the number is no side, and nothing is written.
-pub record RestartsCall (c : Controller) (side old new : ℕ) (made : Made) : Type 0 where
+pub record RestartsCall (c : Controller) (side old new : ℕ) (made : CallResult) : Type 0 where
   pub found : OnOk made (IsSide side (λ s. new ≡ restarts (side_of c.sides s)))
   pub kept : OnErr made (new ≡ old)
   pub why : IfErr made (λ why. (why ≡ cause.BadColour) × NoColour side)
@@ -381,7 +381,7 @@ pub record EndsAs (c : Controller) (ending side : ℕ) (half_points : ℤ) : Typ
 
 -- How a match ended is written; or it isn't over, and nothing is written.
 pub record VerdictCall (c : Controller) (ending_old ending_new side_old side_new : ℕ) (points_old points_new : ℤ)
-    (made : Made) : Type 0 where
+    (made : CallResult) : Type 0 where
   pub found : OnOk made (EndsAs c ending_new side_new points_new)
   pub kept : OnErr made ((ending_new ≡ ending_old) × (side_new ≡ side_old) × (points_new ≡ points_old))
   pub why : IfErr made (λ why. (why ≡ cause.NotOver) × (c.verdict ≡ None))
@@ -394,7 +394,7 @@ pub record PutsResult (c : Controller) (number : ℕ) (old new : List ℕ) (coun
   pub count_is : count ≡ length (result_text number c verdict)
 
 -- The line of a match is written; or the match isn't over, and nothing is written.
-pub record ResultCall (c : Controller) (number : ℕ) (old new : List ℕ) (count_old count_new : ℕ) (made : Made)
+pub record ResultCall (c : Controller) (number : ℕ) (old new : List ℕ) (count_old count_new : ℕ) (made : CallResult)
     : Type 0 where
   pub written : OnOk made (PutsResult c number old new count_new)
   pub kept : OnErr made ((new ≡ old) × (count_new ≡ count_old))

@@ -5,7 +5,7 @@ use Rattle.gtp_wire.specs.Replies.{ReadsFirst}
 use Rattle.gtp_wire.specs.declared.replies.Reply.{Reply}
 use Rattle.gtp_wire.specs.declared.replies.ReplyFault.{ReplyFault}
 use Rattle.gtp_wire.specs.declared.replies.ReplyFault.TheVariants as fault
-use Rattle.vintsaky_calls.specs.Codes.{Made}
+use Rattle.vintsaky_calls.specs.Codes.{CallResult}
 use Rattle.vintsaky_calls.specs.declared.causes.Cause.TheVariants as cause
 use Rattle.vintsaky_calls.specs.declared.replies.Replies.{Replies}
 
@@ -33,7 +33,7 @@ pub record FeedCall (input : List ℕ) (old new : Replies) (used number : ℕ) :
   pub kept : number ≢ 1 → new.reply ≡ old.reply
 
 -- The id of the reply that was read last is found; or it has none, and nothing is written.
-pub record IdCall (read : Reply) (old new : ℕ) (made : Made) : Type 0 where
+pub record IdCall (read : Reply) (old new : ℕ) (made : CallResult) : Type 0 where
   pub found : OnOk made (read.id ≡ Some new)
   pub kept : OnErr made (new ≡ old)
   pub why : IfErr made (λ why. (why ≡ cause.NoId) × (read.id ≡ None))

@@ -6,7 +6,7 @@ use Rattle.go_board.specs.declared.rules.KoRule.{KoRule}
 use Rattle.go_board.specs.declared.rules.KoRule.TheVariants.{Simple}
 use Rattle.gtp_session.specs.Steps.{StepsState, fresh_steps}
 use Rattle.gtp_session.specs.StepsRuns.{Exchange, Goes}
-use Rattle.vintsaky_calls.specs.Codes.{Made, rule_code}
+use Rattle.vintsaky_calls.specs.Codes.{CallResult, rule_code}
 use Rattle.vintsaky_calls.specs.Engines.{BeginCall, FeedCall, ChooseCall, AnswerCall, DeclineCall, SetNameCall}
 use Rattle.vintsaky_calls.specs.Engines.{SetVersionCall, AddCommandCall}
 use Rattle.vintsaky_calls.specs.declared.causes.Cause.{Cause}
@@ -24,17 +24,18 @@ pub data Talk : KoRule → List ℕ → StepsState → Type 0 where
       (input : List ℕ) (used number : ℕ) → Talk rule text a → FeedCall input a b used number
       → Talk rule (text ++ take used input) b
   chosen : {rule : KoRule} {text : List ℕ} {a b : StepsState}
-      (number : ℕ) (made : Made) → Talk rule text a → ChooseCall number a b made → Talk rule text b
+      (number : ℕ) (made : CallResult) → Talk rule text a → ChooseCall number a b made → Talk rule text b
   answered : {rule : KoRule} {text : List ℕ} {a b : StepsState}
-      (ok : ℕ) (answer : List ℕ) (made : Made) → Talk rule text a → AnswerCall ok answer a b made → Talk rule text b
+      (ok : ℕ) (answer : List ℕ) (made : CallResult) → Talk rule text a → AnswerCall ok answer a b made
+      → Talk rule text b
   declined : {rule : KoRule} {text : List ℕ} {a b : StepsState}
-      (made : Made) → Talk rule text a → DeclineCall a b made → Talk rule text b
+      (made : CallResult) → Talk rule text a → DeclineCall a b made → Talk rule text b
   named : {rule : KoRule} {text : List ℕ} {a b : StepsState}
-      (title : List ℕ) (made : Made) → Talk rule text a → SetNameCall title a b made → Talk rule text b
+      (title : List ℕ) (made : CallResult) → Talk rule text a → SetNameCall title a b made → Talk rule text b
   versioned : {rule : KoRule} {text : List ℕ} {a b : StepsState}
-      (title : List ℕ) (made : Made) → Talk rule text a → SetVersionCall title a b made → Talk rule text b
+      (title : List ℕ) (made : CallResult) → Talk rule text a → SetVersionCall title a b made → Talk rule text b
   added : {rule : KoRule} {text : List ℕ} {a b : StepsState}
-      (name : List ℕ) (made : Made) → Talk rule text a → AddCommandCall name a b made → Talk rule text b
+      (name : List ℕ) (made : CallResult) → Talk rule text a → AddCommandCall name a b made → Talk rule text b
 
 -- Some calls of a run lead there, from an engine with this ko rule that was given nothing; they use just this text.
 pub record IsRunOf (rule : KoRule) (text : List ℕ) (s : StepsState) : Type 0 where

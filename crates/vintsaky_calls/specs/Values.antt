@@ -7,7 +7,7 @@ use Rattle.go_base.specs.Point.{IsCrossing, point}
 use Rattle.go_base.specs.Vertex.{written_vertex, SpellsVertex}
 use Rattle.go_base.specs.declared.colours.Colour.{Colour}
 use Rattle.go_base.specs.declared.vertices.Vertex.{Vertex}
-use Rattle.vintsaky_calls.specs.Codes.{colour_code, IsCodeOf, vertex_code, point_code, NoColour, NoVertex, Made}
+use Rattle.vintsaky_calls.specs.Codes.{colour_code, IsCodeOf, vertex_code, point_code, NoColour, NoVertex, CallResult}
 use Rattle.vintsaky_calls.specs.Texts.{Puts}
 use Rattle.vintsaky_calls.specs.declared.causes.Cause.TheVariants as cause
 
@@ -18,7 +18,7 @@ pub record ReadsColour (text : List ℕ) (number : ℕ) : Type 0 where
   pub number_is : number ≡ colour_code colour
 
 -- A colour is read; or the text spells none, and nothing is written.
-pub record ReadColourCall (text : List ℕ) (old new : ℕ) (made : Made) : Type 0 where
+pub record ReadColourCall (text : List ℕ) (old new : ℕ) (made : CallResult) : Type 0 where
   pub read : OnOk made (ReadsColour text new)
   pub kept : OnErr made (new ≡ old)
   pub why : IfErr made (λ why. (why ≡ cause.BadText) × ((c : Colour) → SpellsColour c text → ⊥))
@@ -31,13 +31,13 @@ pub record WritesColour (number : ℕ) (old new : List ℕ) (count : ℕ) : Type
   pub count_is : count ≡ length (written_colour colour)
 
 -- A colour is written; or the number is none, and nothing is written.
-pub record ColourTextCall (number : ℕ) (old new : List ℕ) (count_old count_new : ℕ) (made : Made) : Type 0 where
+pub record ColourTextCall (number : ℕ) (old new : List ℕ) (count_old count_new : ℕ) (made : CallResult) : Type 0 where
   pub written : OnOk made (WritesColour number old new count_new)
   pub kept : OnErr made ((new ≡ old) × (count_new ≡ count_old))
   pub why : IfErr made (λ why. (why ≡ cause.BadColour) × NoColour number)
 
 -- The number of a point is found; or the column and the row have none, and nothing is written.
-pub record PointCall (column row old new : ℕ) (made : Made) : Type 0 where
+pub record PointCall (column row old new : ℕ) (made : CallResult) : Type 0 where
   pub found : OnOk made (IsCrossing column row × (new ≡ point_code (point column row)))
   pub kept : OnErr made (new ≡ old)
   pub why : IfErr made (λ why. (why ≡ cause.BadVertex) × ¬ IsCrossing column row)
@@ -49,7 +49,7 @@ pub record ReadsVertex (text : List ℕ) (number : ℕ) : Type 0 where
   pub number_is : number ≡ vertex_code vertex
 
 -- A vertex is read; or the text spells none, and nothing is written.
-pub record ReadVertexCall (text : List ℕ) (old new : ℕ) (made : Made) : Type 0 where
+pub record ReadVertexCall (text : List ℕ) (old new : ℕ) (made : CallResult) : Type 0 where
   pub read : OnOk made (ReadsVertex text new)
   pub kept : OnErr made (new ≡ old)
   pub why : IfErr made (λ why. (why ≡ cause.BadText) × ((v : Vertex) → SpellsVertex v text → ⊥))
@@ -62,13 +62,13 @@ pub record WritesVertex (number : ℕ) (old new : List ℕ) (count : ℕ) : Type
   pub count_is : count ≡ length (written_vertex vertex)
 
 -- A vertex is written; or the number is none, and nothing is written.
-pub record VertexTextCall (number : ℕ) (old new : List ℕ) (count_old count_new : ℕ) (made : Made) : Type 0 where
+pub record VertexTextCall (number : ℕ) (old new : List ℕ) (count_old count_new : ℕ) (made : CallResult) : Type 0 where
   pub written : OnOk made (WritesVertex number old new count_new)
   pub kept : OnErr made ((new ≡ old) × (count_new ≡ count_old))
   pub why : IfErr made (λ why. (why ≡ cause.BadVertex) × NoVertex number)
 
 -- A komi is read; or the text spells none, and nothing is written.
-pub record ReadKomiCall (text : List ℕ) (old new : ℤ) (made : Made) : Type 0 where
+pub record ReadKomiCall (text : List ℕ) (old new : ℤ) (made : CallResult) : Type 0 where
   pub read : OnOk made (SpellsKomi new text)
   pub kept : OnErr made (new ≡ old)
   pub why : IfErr made (λ why. (why ≡ cause.BadText) × ((z : ℤ) → SpellsKomi z text → ⊥))
@@ -80,7 +80,8 @@ pub record WritesKomi (half_points : ℤ) (old new : List ℕ) (count : ℕ) : T
   pub count_is : count ≡ length (written_half_points half_points)
 
 -- A komi is written; or the number is none, and nothing is written.
-pub record KomiTextCall (half_points : ℤ) (old new : List ℕ) (count_old count_new : ℕ) (made : Made) : Type 0 where
+pub record KomiTextCall (half_points : ℤ) (old new : List ℕ) (count_old count_new : ℕ) (made : CallResult)
+    : Type 0 where
   pub written : OnOk made (WritesKomi half_points old new count_new)
   pub kept : OnErr made ((new ≡ old) × (count_new ≡ count_old))
   pub why : IfErr made (λ why. (why ≡ cause.BadKomi) × ¬ IsKomi half_points)

@@ -8,7 +8,7 @@ use Rattle.gtp_wire.specs.Replies.{IsReplyText, written_reply}
 use Rattle.gtp_wire.specs.declared.commands.Command.{Command}
 use Rattle.gtp_wire.specs.declared.commands.Command.TheVariants.{Boardsize, Komi, ClearBoard, FixedHandicap}
 use Rattle.gtp_wire.specs.declared.commands.Command.TheVariants.{Play, Genmove, Undo, Quit}
-use Rattle.vintsaky_calls.specs.Codes.{colour_code, IsCodeOf, NoVertex, Made}
+use Rattle.vintsaky_calls.specs.Codes.{colour_code, IsCodeOf, NoVertex, CallResult}
 use Rattle.vintsaky_calls.specs.Engines.{is_success}
 use Rattle.vintsaky_calls.specs.Texts.{Puts}
 use Rattle.vintsaky_calls.specs.declared.causes.Cause.{Cause}
@@ -100,7 +100,7 @@ RefusesCommand id number value vertex why = IsId id × RefusesValues number valu
 
 -- The line of a command is written; or nothing is, for a cause.
 pub record WriteCommandCall (id : ℤ) (number : ℕ) (value : ℤ) (vertex : ℕ) (old new : List ℕ)
-    (count_old count_new : ℕ) (made : Made) : Type 0 where
+    (count_old count_new : ℕ) (made : CallResult) : Type 0 where
   pub written : OnOk made (WritesCommand id number value vertex old new count_new)
   pub kept : OnErr made ((new ≡ old) × (count_new ≡ count_old))
   pub why : IfErr made (RefusesCommand id number value vertex)
@@ -122,7 +122,7 @@ RefusesReply id said cause.BadText = IsId id × ¬ IsReplyText said
 RefusesReply id said _ = ⊥
 
 -- A reply is written; or nothing is, for a cause.
-pub record WriteReplyCall (id : ℤ) (ok : ℕ) (said old new : List ℕ) (count_old count_new : ℕ) (made : Made)
+pub record WriteReplyCall (id : ℤ) (ok : ℕ) (said old new : List ℕ) (count_old count_new : ℕ) (made : CallResult)
     : Type 0 where
   pub written : OnOk made (WritesReply id ok said old new count_new)
   pub kept : OnErr made ((new ≡ old) × (count_new ≡ count_old))

@@ -1,6 +1,8 @@
 //! Why a call is refused.
 ghost use Rattle.std.specs.Prelude.{◌≡◌, IfSome, IfNone};
-ghost use Rattle.vintsaky_calls.specs.Codes.{cause_code, result_code, NoCause};
+ghost use Rattle.vintsaky_calls.specs.Codes.{cause_code, play_cause, result_code, NoCause};
+
+use go_board::PlayFault;
 
 /// Why a call is refused. Its number is the same in all later releases, and 0 is what a call returns that was done.
 ///
@@ -170,5 +172,18 @@ pub(crate) fn cause_of(number: u32) -> Option<Cause>
         33 => Some(Cause::BadId),
         34 => Some(Cause::Down),
         _ => None,
+    }
+}
+
+/// The cause of a play that is refused.
+pub(crate) fn cause_of_play(fault: PlayFault) -> Cause
+    ensures { result ≡ play_cause fault }
+{
+    match fault {
+        PlayFault::Full => Cause::Full,
+        PlayFault::OffBoard => Cause::OffBoard,
+        PlayFault::Occupied => Cause::Occupied,
+        PlayFault::Suicide => Cause::Suicide,
+        PlayFault::Ko => Cause::Ko,
     }
 }

@@ -4,12 +4,12 @@ ghost use Rattle.go_base.specs.Point.{IsOn};
 ghost use Rattle.go_base.specs.Size.{most_size};
 ghost use Rattle.go_base.specs.declared.vertices.Vertex.TheVariants.{At};
 ghost use Rattle.vintsaky_calls.specs.Codes.{colour_code, rule_code, vertex_code, point_code, IsCodeOf};
-ghost use Rattle.vintsaky_calls.specs.Codes.{NoColour, NoRule, NoVertex, play_cause};
+ghost use Rattle.vintsaky_calls.specs.Codes.{NoColour, NoRule, NoVertex};
 ghost use Rattle.vintsaky_calls.specs.declared.causes.Cause.TheVariants as cause;
 
 use crate::causes::Cause;
 use go_base::{Colour, Point, Vertex};
-use go_board::{KoRule, PlayFault};
+use go_board::KoRule;
 
 /// The colour or the side of a number.
 pub(crate) fn colour_of(number: u32) -> Result<Colour, Cause>
@@ -90,18 +90,5 @@ pub(crate) fn number_of_vertex(vertex: Vertex) -> u32
     match vertex {
         Vertex::Pass => 0,
         Vertex::At(point) => number_of_point(point),
-    }
-}
-
-/// The cause of a play that is refused.
-pub(crate) fn cause_of_play(fault: PlayFault) -> Cause
-    ensures { result ≡ play_cause fault }
-{
-    match fault {
-        PlayFault::Full => Cause::Full,
-        PlayFault::OffBoard => Cause::OffBoard,
-        PlayFault::Occupied => Cause::Occupied,
-        PlayFault::Suicide => Cause::Suicide,
-        PlayFault::Ko => Cause::Ko,
     }
 }

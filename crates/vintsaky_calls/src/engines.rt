@@ -7,8 +7,8 @@ ghost use Rattle.vintsaky_calls.specs.Engines.{ChooseCall, AnswerCall, DeclineCa
 ghost use Rattle.vintsaky_calls.specs.Engines.{AddCommandCall, WordCall, IdCall};
 ghost use Rattle.vintsaky_calls.specs.Texts.{Writes};
 
-use crate::causes::Cause;
-use crate::codes::{cause_of_play, number_of_colour, rule_of, vertex_of};
+use crate::causes::{Cause, cause_of_play};
+use crate::codes::{number_of_colour, rule_of, vertex_of};
 use crate::texts::put;
 use go_base::Choice;
 use go_board::Game;

@@ -7,10 +7,10 @@ ghost use Rattle.vintsaky_calls.specs.Games.{LegalCall, UndoCall, SetKomiCall, P
 ghost use Rattle.vintsaky_calls.specs.Games.{StoneAtCall, ChainCall, MadeCall, CapturedCall};
 ghost use Rattle.vintsaky_calls.specs.Texts.{Writes};
 
-use crate::causes::Cause;
+use crate::causes::{Cause, cause_of_play};
 use crate::codes::{
-    cause_of_play, colour_of, number_of_colour, number_of_point, number_of_rule, number_of_vertex,
-    point_of, rule_of, vertex_of,
+    colour_of, number_of_colour, number_of_point, number_of_rule, number_of_vertex, point_of,
+    rule_of, vertex_of,
 };
 use crate::texts::put;
 use arrayvec::ArrayVec;

@@ -2,7 +2,7 @@
 
 It is of all that could make a check of one come out otherwise: the crate's own sources (without tests and comments), definitions and
 proofs; what a check reads of the crates below it (contracts.py); its edits; the rows of crates.txt; HANDLES; the modules here that
-decide; and the kit.
+decide; and the kit's logic.
 """
 from __future__ import annotations
 
@@ -19,9 +19,10 @@ DECIDING = [Path(module.__file__).resolve() for module in (checks, contracts, cr
 
 
 @lru_cache(maxsize=None)
-def kit():
-    """What the kit says that it is."""
-    return subprocess.run([*RT, "version"], capture_output=True, text=True, check=True).stdout.strip()
+def logic():
+    """The kit's logic, as it names it. It says what can be proved; kits with the same one differ in how they look for proofs."""
+    said = subprocess.run([*RT, "version"], capture_output=True, text=True, check=True).stdout.strip()
+    return said.partition(" logic ")[2] or said
 
 
 def crates_sum(crate, top=TOP):
@@ -38,7 +39,7 @@ def crates_sum(crate, top=TOP):
 
 def sum_of(crate, tried):
     """The sum of all that these edits of a crate are tried on."""
-    whole = hashlib.sha256(f"{kit()}\n{crates_sum(crate)}".encode())
+    whole = hashlib.sha256(f"{logic()}\n{crates_sum(crate)}".encode())
     for path in DECIDING:
         whole.update(path.read_bytes())
     for edit in tried:

@@ -20,7 +20,7 @@ TESTS_OF_CLAP = [
     "mistakes_of_the_command_line_come_first",
 ]
 CLIPPY = ["0.1.95", "0.1.96"]  # the versions at which it has to be silent
-LEAST_TESTS = 290
+LEAST_TESTS = 150
 SHOWN = "go_base/struct.Size.html"  # a page of the documentation whose functions have contracts
 
 

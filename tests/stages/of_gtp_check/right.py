@@ -5,6 +5,7 @@ OURS = "gtp_engine --policy {} --seed {} --ko {}"
 PLAIN = PYTHON + " tests/engines/right/plain {} {} {}"
 WRONGLESS = PYTHON + " tests/engines/wrong/engine --seed {1} --ko {2}"
 DRESSED = PYTHON + " tests/engines/right/dressed {} gtp_engine --policy random --seed 7"
+SAMPLE = PYTHON + " tournament/engine.py 1"
 BOOK = "gtp_engine --policy book --book C3,C4,,D3,resign,D4"
 FEW = ("--only", "start", "--only", "sizes", "--only", "komi", "--only", "drawn", "--only", "games", "--only", "restarts")
 
@@ -22,6 +23,7 @@ DRESSES = {
     "without_handicaps": ("--only", "handicaps", "--only", "games"),
     "without_scores": ("--only", "komi", "--only", "games"),
     "three_sizes": (*FEW, "--only", "handicaps", "--only", "ko"),
+    "short_history": (*FEW, "--only", "record"),
     "resigning": ("--only", "start", "--only", "genmoves", "--only", "games"),
     "late_end": ("--only", "restarts"),
     "junk_at_the_end": ("--only", "restarts"),
@@ -31,6 +33,7 @@ LACKS = {
     "without_undo": ["check: it lacks undo; nothing was asked that needs it"],
     "without_handicaps": ["check: it lacks fixed_handicap; nothing was asked that needs it"],
     "without_scores": ["check: it lacks final_score; nothing was asked that needs it"],
+    "short_history": ["check: it takes back at most 20 moves in a row"],
     # the sizes from 5 on until one is taken, and each size from 1 to 25; in the order in which they are refused first
     "three_sizes": ["check: it refuses the sizes 5 6 7 8 1 2 3 4 10 11 12 14 15 16 17 18 20 21 22 23 24 25"],
 }
@@ -45,6 +48,8 @@ def rows():
             options = (*FEW, "--only", "ko") if policy == "first" else ("--quick",)
             yield f"the plain reference, {policy}, {rule} ko", ("--ko", rule, "--seed", seed, *options), PLAIN.format(policy, 3, rule), []
         yield f"the right engine of tests/engines/wrong, {rule} ko", ("--ko", rule, "--seed", "9"), WRONGLESS.format("", 9, rule), []
+    options = ("--seed", "8", *FEW, "--only", "ko", "--only", "handicaps", "--only", "genmoves")
+    yield "the sample engine", options, SAMPLE, ["check: it lacks final_score; nothing was asked that needs it"]
     yield "gtp_engine with a book", ("--only", "genmoves", "--only", "games", "--only", "start"), BOOK, []
     for size in ("6", "25"):
         yield f"gtp_engine, scenes on size {size}", ("--quick", "--size", size), OURS.format("random", 1, "simple"), []

@@ -79,7 +79,7 @@ OTHERS = {
         # right after a handicap `undo` has nothing to take back
         "handicap_is_undone undo_forgets_the_handicap undo_sets_komi_back passes_stay_at_undo",
         # scores after a handicap, by many komis
-        "score_has_a_comma score_has_six_digits whites_lead_is_floored empty_board_is_blacks even_score_is_a_word komi_is_a_single",
+        "score_has_a_comma score_has_six_digits whites_lead_is_floored empty_board_is_blacks even_score_is_a_word",
     ),
     ("genmoves",): (
         # the third of five genmoves is of the colour that moved last
@@ -147,6 +147,7 @@ UNNOTICED = {
     "refused_size_counts": "it takes each size that is asked",
     "even_score_has_a_colour": "`B+0` is the number 0",
     "ids_are_floats": "ids stay below 16777217",
+    "komi_is_a_single": "each komi that is sent is a float of 32 bits, which the standard's floats are",
     "white_is_a_letter": NOT_SENT,
     "unread_komi_is_zero": "each komi that is sent can be read",
     "lead_is_a_byte": "no score is asked but that of an empty board",
@@ -154,6 +155,7 @@ UNNOTICED = {
     "known_by_its_beginning": "any answer to `known_command` is right",
     "refused_size_clears_the_board": "it takes each size that is asked",
     "two_passes_end_the_choice": "no `genmove` is asked after two passes",
+    "moves_taken_back_fill_a_list": "an engine may keep a part of the history alone, which undos in a row use up",
     "ko_forgotten_at_a_suicide": "no ko is open where a suicide is asked",
 }
 

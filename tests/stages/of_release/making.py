@@ -86,7 +86,9 @@ def version_of(program):
 def missing_tools():
     """What a release needs and isn't there."""
     missing = [f"there is no {name} (apt-get install {of})" for name, of in TOOLS if not shutil.which(name)]
-    missing += [f"bin/{it} is not there: ./build library makes it" for it in LIBRARY if not (TOP / "bin" / it).is_file()]
+    # ./build of the programs leaves the library as it is, which cargo may have made
+    status, _, errors = run([TOP / "build", "--proved", "--is-built", "library"])
+    missing += [errors.strip()] if status else []
     for words in (["packaging/link", "--library"], ["packaging/source", "--look"]):
         status, _, errors = run([TOP / words[0], words[1]])
         missing += [errors.strip()] if status else []

@@ -82,8 +82,8 @@ def talk_to(program, talk, *arguments):
     return running.run([program, *arguments], talk, LIMIT)
 
 
-REPLIES = [r"=1 ?", r"=2 ?", r"=3 ?", r"=4 C3 G7", r"=5 ?", r"=6 ?", r"\?7 .+", r"\? .+", r"=8 [A-HJ][1-9]", r"= ?"]
-HANDICAPS = [(7, 4), (8, 4), (9, 9), (12, 4), (13, 9), (19, 9), (25, 9)]  # a size, and the most stones
+REPLIES = [r"=1 ?", r"=2 ?", r"=3 ?", r"=4 C3 G7", r"=5 ?", r"=6 ?", r"\?7 .+", r"= sample", r"=8 [A-HJ][1-9]", r"= ?"]
+HANDICAPS = (1, 6, 7, 8, 9, 12, 13, 19, 25)  # sizes
 
 
 class Sample(Case):
@@ -96,7 +96,7 @@ class Sample(Case):
 
     def test_replies(self):
         """Its length and its replies."""
-        self.check("the engine has at most 60 lines", True, len(SAMPLE.read_text().splitlines()) <= 60)
+        self.check("the engine has at most 85 lines", True, len(SAMPLE.read_text().splitlines()) <= 85)
         talk = "1 boardsize 9\n2 komi 6.5\n3 clear_board\n4 fixed_handicap 2\n5 play w E5\n6 undo\n7 foo\nname\n8 genmove w\nquit\n"
         said = talk_to(SAMPLE, talk, "1")
         are_right = re.fullmatch("".join(f"{reply}\n\n" for reply in REPLIES), said.output) is not None
@@ -105,9 +105,9 @@ class Sample(Case):
 
     def test_handicaps(self):
         """Its handicaps."""
-        for size, most in HANDICAPS:
-            talk = "".join(f"boardsize {size}\nfixed_handicap {stones}\n" for stones in range(2, most + 1))
-            self.check(f"handicap on {size}x{size} as gtp_engine has it", *self.both(talk, r"^.*\S"))
+        for size in HANDICAPS:
+            talk = "".join(f"boardsize {size}\nfixed_handicap {stones}\n" for stones in range(12))
+            self.check(f"handicaps of 0 to 11 stones on {size}x{size} as gtp_engine has them", *self.both(talk, r"^.*\S"))
 
     def test_moves(self):
         """in 40 conversations it takes and refuses the same moves as gtp_engine."""

@@ -34,9 +34,10 @@ use Rattle.gtp_session.specs.CommandAnswers.{line_of_command, after_command, Goe
 use Rattle.gtp_session.proofs.engines.Sent.{well_answer, undo_answer}
 use Rattle.gtp_check_judge.specs.declared.dues.Due.{Due}
 use Rattle.gtp_check_judge.specs.declared.dues.Due.TheVariants.{Succeeds, Fails, Places, Resizes, Scores, AnyReply}
-use Rattle.gtp_check_judge.specs.declared.dues.Due.TheVariants.{Chooses}
+use Rattle.gtp_check_judge.specs.declared.dues.Due.TheVariants.{Chooses, MayUndo}
 use Rattle.gtp_check_judge.specs.declared.dues.Cause.TheVariants.{BadMove, BadHandicap, NoMoves}
 use Rattle.gtp_check_judge.specs.Asking.{line_of_check, IsCheckWritable, IsCheckInLimits}
+use Rattle.gtp_check_judge.specs.RightEngine.{RightEngine}
 use Rattle.gtp_check_judge.specs.Dues.{IsDue, IsDueTo, after_check}
 use Rattle.gtp_session.specs.declared.commands.CommandName.TheVariants as name
 
@@ -74,6 +75,7 @@ AnswersTo game command (Fails cause) given = (given.ok ≡ false) × (given.game
 AnswersTo game command (Resizes size) given = (given.ok ≡ true) × (given.game ≡ after_command game command)
 AnswersTo game command (Scores s) given = (given.ok ≡ true) × (given.game ≡ game)
 AnswersTo game command AnyReply given = (given.ok ≡ true) × (given.game ≡ game)
+AnswersTo game command MayUndo given = (given.ok ≡ true) × (given.game ≡ after_command game command)
 AnswersTo game command (Chooses colour) given = Unit {0}
 
 well : (game : GameRecord) (id : Option ℕ) (command : Command) (ch : Choice) → GoesWell game command
@@ -130,71 +132,79 @@ undo_nothing game id ch none =
     (refused (undo_settles game) (λ some. omega (arith, some, none))))
 
 -- in a game of one of the sizes the table answers what is due
-pub match_answered : (game : GameRecord) (id : Option ℕ) (command : Command) (due : Due) (ch : Choice)
-    → IsSize game.size
-    → IsWritable command → IsInLimits command → IsDueTo game command due
-    → AnswersTo game command due (answer game (line_of_command id command) ch)
-match_answered game id (Boardsize size) (Resizes s) ch is w l h = well game id (Boardsize size) ch h.1
-match_answered game id (Boardsize size) (Scores s) ch is w l h = absurd (cc (h.0))
-match_answered game id (Boardsize size) AnyReply ch is w l h = absurd (cc (h.0))
-match_answered game id (Boardsize size) Succeeds ch is w l h = absurd (cc (h.0))
-match_answered game id (Boardsize size) (Fails cause) ch is w l h = absurd (cc (h.0))
-match_answered game id (Boardsize size) (Places s n) ch is w l h = absurd (cc (h.0))
-match_answered game id (Boardsize size) (Chooses c) ch is w l h = tt
-match_answered game id (Komi komi) Succeeds ch is w l h = well game id (Komi komi) ch h.1
-match_answered game id (Komi komi) (Fails cause) ch is w l h = absurd (cc (h.0))
-match_answered game id (Komi komi) (Places s n) ch is w l h = absurd (cc (h.0))
-match_answered game id (Komi komi) (Resizes s) ch is w l h = absurd (cc (h.0))
-match_answered game id (Komi komi) (Scores s) ch is w l h = absurd (cc (h.0))
-match_answered game id (Komi komi) AnyReply ch is w l h = absurd (cc (h.0))
-match_answered game id (Komi komi) (Chooses c) ch is w l h = tt
-match_answered game id ClearBoard Succeeds ch is w l h = well game id ClearBoard ch tt
-match_answered game id ClearBoard (Fails cause) ch is w l h = absurd (cc h)
-match_answered game id ClearBoard (Places s n) ch is w l h = absurd (cc h)
-match_answered game id ClearBoard (Resizes s) ch is w l h = absurd (cc h)
-match_answered game id ClearBoard (Scores s) ch is w l h = absurd (cc h)
-match_answered game id ClearBoard AnyReply ch is w l h = absurd (cc h)
-match_answered game id ClearBoard (Chooses c) ch is w l h = tt
-match_answered game id (FixedHandicap stones) (Places size count) ch is w l h =
-    well game id (FixedHandicap stones) ch (h.2, (h.3, is))
-match_answered game id (FixedHandicap stones) (Fails (BadHandicap fault)) ch is w l h =
-    refused_stones game id stones ch w (stones_unlawful game stones fault h)
-match_answered game id (FixedHandicap stones) (Fails (BadMove fault)) ch is w l h = absurd h
-match_answered game id (FixedHandicap stones) (Fails NoMoves) ch is w l h = absurd h
-match_answered game id (FixedHandicap stones) Succeeds ch is w l h = absurd h
-match_answered game id (FixedHandicap stones) (Resizes s) ch is w l h = absurd h
-match_answered game id (FixedHandicap stones) (Scores s) ch is w l h = absurd h
-match_answered game id (FixedHandicap stones) AnyReply ch is w l h = absurd h
-match_answered game id (FixedHandicap stones) (Chooses c) ch is w l h = tt
-match_answered game id (Play move) Succeeds ch is w l h = well game id (Play move) ch (h.1, (h.0, is))
-match_answered game id (Play move) (Fails (BadMove fault)) ch is w l h =
-    refused_play game id move ch l (move_unlawful game move.colour move.vertex fault h)
-match_answered game id (Play move) (Fails (BadHandicap fault)) ch is w l h = absurd h
-match_answered game id (Play move) (Fails NoMoves) ch is w l h = absurd h
-match_answered game id (Play move) (Places s n) ch is w l h = absurd h
-match_answered game id (Play move) (Resizes s) ch is w l h = absurd h
-match_answered game id (Play move) (Scores s) ch is w l h = absurd h
-match_answered game id (Play move) AnyReply ch is w l h = absurd h
-match_answered game id (Play move) (Chooses c) ch is w l h = tt
-match_answered game id (Genmove colour) Succeeds ch is w l h = absurd (cc (h.0))
-match_answered game id (Genmove colour) (Fails cause) ch is w l h = absurd (cc (h.0))
-match_answered game id (Genmove colour) (Places s n) ch is w l h = absurd (cc (h.0))
-match_answered game id (Genmove colour) (Resizes s) ch is w l h = absurd (cc (h.0))
-match_answered game id (Genmove colour) (Scores s) ch is w l h = absurd (cc (h.0))
-match_answered game id (Genmove colour) AnyReply ch is w l h = absurd (cc (h.0))
-match_answered game id (Genmove colour) (Chooses c) ch is w l h = tt
-match_answered game id Undo Succeeds ch is w l h =
-    let e = undo_answer game id ch h in (ap (λ (a : Answer). a.ok) e, ap (λ (a : Answer). a.game) e)
-match_answered game id Undo (Fails NoMoves) ch is w l h =
-    undo_nothing game id ch (ap length h)
-match_answered game id Undo (Fails (BadMove fault)) ch is w l h = absurd h
-match_answered game id Undo (Fails (BadHandicap fault)) ch is w l h = absurd h
-match_answered game id Undo (Places s n) ch is w l h = absurd h
-match_answered game id Undo (Resizes s) ch is w l h = absurd h
-match_answered game id Undo (Scores s) ch is w l h = absurd h
-match_answered game id Undo AnyReply ch is w l h = absurd h
-match_answered game id Undo (Chooses c) ch is w l h = tt
-match_answered game id Quit due ch is w l h = absurd h
+pub match_answered : (engine : RightEngine) (id : Option ℕ) (command : Command) (due : Due) (ch : Choice)
+    → IsSize engine.game.size
+    → IsWritable command → IsInLimits command → IsDueTo engine command due
+    → AnswersTo engine.game command due (answer engine.game (line_of_command id command) ch)
+match_answered engine id (Boardsize size) (Resizes s) ch is w l h = well engine.game id (Boardsize size) ch h.1
+match_answered engine id (Boardsize size) (Scores s) ch is w l h = absurd (cc (h.0))
+match_answered engine id (Boardsize size) AnyReply ch is w l h = absurd (cc (h.0))
+match_answered engine id (Boardsize size) Succeeds ch is w l h = absurd (cc (h.0))
+match_answered engine id (Boardsize size) (Fails cause) ch is w l h = absurd (cc (h.0))
+match_answered engine id (Boardsize size) (Places s n) ch is w l h = absurd (cc (h.0))
+match_answered engine id (Boardsize size) (Chooses c) ch is w l h = tt
+match_answered engine id (Boardsize size) MayUndo ch is w l h = absurd (cc (h.0))
+match_answered engine id (Komi komi) Succeeds ch is w l h = well engine.game id (Komi komi) ch h.1
+match_answered engine id (Komi komi) (Fails cause) ch is w l h = absurd (cc (h.0))
+match_answered engine id (Komi komi) (Places s n) ch is w l h = absurd (cc (h.0))
+match_answered engine id (Komi komi) (Resizes s) ch is w l h = absurd (cc (h.0))
+match_answered engine id (Komi komi) (Scores s) ch is w l h = absurd (cc (h.0))
+match_answered engine id (Komi komi) AnyReply ch is w l h = absurd (cc (h.0))
+match_answered engine id (Komi komi) (Chooses c) ch is w l h = tt
+match_answered engine id (Komi komi) MayUndo ch is w l h = absurd (cc (h.0))
+match_answered engine id ClearBoard Succeeds ch is w l h = well engine.game id ClearBoard ch tt
+match_answered engine id ClearBoard (Fails cause) ch is w l h = absurd (cc h)
+match_answered engine id ClearBoard (Places s n) ch is w l h = absurd (cc h)
+match_answered engine id ClearBoard (Resizes s) ch is w l h = absurd (cc h)
+match_answered engine id ClearBoard (Scores s) ch is w l h = absurd (cc h)
+match_answered engine id ClearBoard AnyReply ch is w l h = absurd (cc h)
+match_answered engine id ClearBoard (Chooses c) ch is w l h = tt
+match_answered engine id ClearBoard MayUndo ch is w l h = absurd (cc h)
+match_answered engine id (FixedHandicap stones) (Places size count) ch is w l h =
+    well engine.game id (FixedHandicap stones) ch (h.2, (h.3, is))
+match_answered engine id (FixedHandicap stones) (Fails (BadHandicap fault)) ch is w l h =
+    refused_stones engine.game id stones ch w (stones_unlawful engine.game stones fault h)
+match_answered engine id (FixedHandicap stones) (Fails (BadMove fault)) ch is w l h = absurd h
+match_answered engine id (FixedHandicap stones) (Fails NoMoves) ch is w l h = absurd h
+match_answered engine id (FixedHandicap stones) Succeeds ch is w l h = absurd h
+match_answered engine id (FixedHandicap stones) (Resizes s) ch is w l h = absurd h
+match_answered engine id (FixedHandicap stones) (Scores s) ch is w l h = absurd h
+match_answered engine id (FixedHandicap stones) AnyReply ch is w l h = absurd h
+match_answered engine id (FixedHandicap stones) (Chooses c) ch is w l h = tt
+match_answered engine id (FixedHandicap stones) MayUndo ch is w l h = absurd h
+match_answered engine id (Play move) Succeeds ch is w l h = well engine.game id (Play move) ch (h.1, (h.0, is))
+match_answered engine id (Play move) (Fails (BadMove fault)) ch is w l h =
+    refused_play engine.game id move ch l (move_unlawful engine.game move.colour move.vertex fault h)
+match_answered engine id (Play move) (Fails (BadHandicap fault)) ch is w l h = absurd h
+match_answered engine id (Play move) (Fails NoMoves) ch is w l h = absurd h
+match_answered engine id (Play move) (Places s n) ch is w l h = absurd h
+match_answered engine id (Play move) (Resizes s) ch is w l h = absurd h
+match_answered engine id (Play move) (Scores s) ch is w l h = absurd h
+match_answered engine id (Play move) AnyReply ch is w l h = absurd h
+match_answered engine id (Play move) (Chooses c) ch is w l h = tt
+match_answered engine id (Play move) MayUndo ch is w l h = absurd h
+match_answered engine id (Genmove colour) Succeeds ch is w l h = absurd (cc (h.0))
+match_answered engine id (Genmove colour) (Fails cause) ch is w l h = absurd (cc (h.0))
+match_answered engine id (Genmove colour) (Places s n) ch is w l h = absurd (cc (h.0))
+match_answered engine id (Genmove colour) (Resizes s) ch is w l h = absurd (cc (h.0))
+match_answered engine id (Genmove colour) (Scores s) ch is w l h = absurd (cc (h.0))
+match_answered engine id (Genmove colour) AnyReply ch is w l h = absurd (cc (h.0))
+match_answered engine id (Genmove colour) (Chooses c) ch is w l h = tt
+match_answered engine id (Genmove colour) MayUndo ch is w l h = absurd (cc (h.0))
+match_answered engine id Undo Succeeds ch is w l h =
+    let e = undo_answer engine.game id ch h.1 in (ap (λ (a : Answer). a.ok) e, ap (λ (a : Answer). a.game) e)
+match_answered engine id Undo MayUndo ch is w l h =
+    let e = undo_answer engine.game id ch h.1 in (ap (λ (a : Answer). a.ok) e, ap (λ (a : Answer). a.game) e)
+match_answered engine id Undo (Fails NoMoves) ch is w l h =
+    undo_nothing engine.game id ch (ap length h)
+match_answered engine id Undo (Fails (BadMove fault)) ch is w l h = absurd h
+match_answered engine id Undo (Fails (BadHandicap fault)) ch is w l h = absurd h
+match_answered engine id Undo (Places s n) ch is w l h = absurd h
+match_answered engine id Undo (Resizes s) ch is w l h = absurd h
+match_answered engine id Undo (Scores s) ch is w l h = absurd h
+match_answered engine id Undo AnyReply ch is w l h = absurd h
+match_answered engine id Undo (Chooses c) ch is w l h = tt
+match_answered engine id Quit due ch is w l h = absurd h
 
 -- the same of each command that a check asks
 abbrev pub AnswersSo : GameRecord → CheckCommand → Due → Answer → Type 0
@@ -204,6 +214,7 @@ AnswersSo game command (Fails cause) given = (given.ok ≡ false) × (given.game
 AnswersSo game command (Resizes size) given = (given.ok ≡ true) × (given.game ≡ after_check game command)
 AnswersSo game command (Scores s) given = (given.ok ≡ true) × (given.game ≡ game)
 AnswersSo game command AnyReply given = (given.ok ≡ true) × (given.game ≡ game)
+AnswersSo game command MayUndo given = (given.ok ≡ true) × (given.game ≡ after_check game command)
 AnswersSo game command (Chooses colour) given = Unit {0}
 
 match_so : (game : GameRecord) (command : Command) (due : Due) (given : Answer) → AnswersTo game command due given
@@ -214,21 +225,27 @@ match_so game command (Fails cause) given h = h
 match_so game command (Resizes size) given h = h
 match_so game command (Scores s) given h = h
 match_so game command AnyReply given h = h
+match_so game command MayUndo given h = h
 match_so game command (Chooses colour) given h = h
 
-pub due_answered : (game : GameRecord) (id : ℕ) (command : CheckCommand) (due : Due) (ch : Choice) → IsSize game.size
-    → IsCheckWritable command → IsCheckInLimits command → IsDue game command due
-    → AnswersSo game command due (answer game (line_of_check id command) ch)
-due_answered game id (Match command) due ch is w l h =
-    match_so game command due (answer game (line_of_command (Some id) command) ch)
-    (match_answered game (Some id) command due ch is w l h)
-due_answered game id FinalScore due ch is w l h =
-    subst (λ (d : Due). AnswersSo game FinalScore d (answer game (line_of_check id FinalScore) ch)) (sym h.0)
+pub due_answered : (engine : RightEngine) (id : ℕ) (command : CheckCommand) (due : Due) (ch : Choice)
+    → IsSize engine.game.size
+    → IsCheckWritable command → IsCheckInLimits command → IsDue engine command due
+    → AnswersSo engine.game command due (answer engine.game (line_of_check id command) ch)
+due_answered engine id (Match command) due ch is w l h =
+    match_so engine.game command due (answer engine.game (line_of_command (Some id) command) ch)
+    (match_answered engine (Some id) command due ch is w l h)
+due_answered engine id FinalScore due ch is w l h =
+    subst (λ (d : Due). AnswersSo engine.game FinalScore d (answer engine.game (line_of_check id FinalScore) ch))
+    (sym h.0)
     (refl, refl)
-due_answered game id Name due ch is w l h =
-    subst (λ (d : Due). AnswersSo game Name d (answer game (line_of_check id Name) ch)) (sym h) (refl, refl)
-due_answered game id Version due ch is w l h =
-    subst (λ (d : Due). AnswersSo game Version d (answer game (line_of_check id Version) ch)) (sym h) (refl, refl)
-due_answered game id (KnownCommand k) due ch is w l h =
-    subst (λ (d : Due). AnswersSo game (KnownCommand k) d (answer game (line_of_check id (KnownCommand k)) ch)) (sym h)
+due_answered engine id Name due ch is w l h =
+    subst (λ (d : Due). AnswersSo engine.game Name d (answer engine.game (line_of_check id Name) ch)) (sym h)
+    (refl, refl)
+due_answered engine id Version due ch is w l h =
+    subst (λ (d : Due). AnswersSo engine.game Version d (answer engine.game (line_of_check id Version) ch)) (sym h)
+    (refl, refl)
+due_answered engine id (KnownCommand k) due ch is w l h =
+    subst (λ (d : Due). AnswersSo engine.game (KnownCommand k) d (answer engine.game (line_of_check id
+    (KnownCommand k)) ch)) (sym h)
     (refl, refl)

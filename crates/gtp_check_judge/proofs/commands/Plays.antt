@@ -10,10 +10,10 @@ use Rattle.gtp_wire.specs.declared.commands.Command.TheVariants.{Play}
 use Rattle.gtp_check_judge.specs.declared.asking.CheckCommand.TheVariants.{Match}
 use Rattle.gtp_check_judge.specs.declared.dues.Due.{Due}
 use Rattle.gtp_check_judge.specs.declared.dues.Due.TheVariants.{Succeeds, Fails, Places, Resizes, Scores, AnyReply}
-use Rattle.gtp_check_judge.specs.declared.dues.Due.TheVariants.{Chooses}
+use Rattle.gtp_check_judge.specs.declared.dues.Due.TheVariants.{Chooses, MayUndo}
 use Rattle.gtp_check_judge.specs.declared.dues.Cause.TheVariants.{BadMove, BadHandicap, NoMoves}
 use Rattle.gtp_check_judge.specs.declared.exam.Exam.{Exam}
-use Rattle.gtp_check_judge.specs.Dues.{PlayDue, after_due}
+use Rattle.gtp_check_judge.specs.Dues.{PlayDue, after_due, undone_due}
 use Rattle.gtp_check_judge.specs.Exam.{Asks, HasRoomFor}
 use Rattle.gtp_check_judge.specs.Laws.{IsPlayed, IsProbe}
 
@@ -34,6 +34,8 @@ by_due old new move Succeeds a is room h = inl (record {
       ∙ ap (λ (d : Due). old.unanswered ++ record { id = old.sent + 1; command = Match (Play move); due = d } ∷ []) is;
   goes_on =
       ap (λ (e : Exam). e.game) a.new_is ∙ ap (after_due old.game (Match (Play move))) is;
+  moved =
+      ap (λ (e : Exam). e.undone) a.new_is ∙ ap (undone_due old.undone (Match (Play move))) is;
 })
 by_due old new move (Fails (BadMove fault)) a is room h = inr (record {
   fault = fault;
@@ -43,6 +45,8 @@ by_due old new move (Fails (BadMove fault)) a is room h = inr (record {
       ∙ ap (λ (d : Due). old.unanswered ++ record { id = old.sent + 1; command = Match (Play move); due = d } ∷ []) is;
   stays =
       ap (λ (e : Exam). e.game) a.new_is ∙ ap (after_due old.game (Match (Play move))) is;
+  unmoved =
+      ap (λ (e : Exam). e.undone) a.new_is ∙ ap (undone_due old.undone (Match (Play move))) is;
 })
 by_due old new move (Fails (BadHandicap fault)) a is room h = absurd h
 by_due old new move (Fails NoMoves) a is room h = absurd h
@@ -51,6 +55,7 @@ by_due old new move (Resizes s) a is room h = absurd h
 by_due old new move (Scores s) a is room h = absurd h
 by_due old new move AnyReply a is room h = absurd h
 by_due old new move (Chooses c) a is room h = absurd h
+by_due old new move MayUndo a is room h = absurd h
 
 pub legal_or_probe : (old new : Exam) (move : Move) → HasRoomFor old (Match (Play move))
     → Asks old (Match (Play move)) new

@@ -26,13 +26,15 @@ use Rattle.gtp_check_judge.specs.declared.unanswered.Asked.{Asked}
 use Rattle.gtp_check_judge.specs.declared.exam.Exam.{Exam}
 use Rattle.gtp_check_judge.specs.declared.exam.Finding.{Finding}
 use Rattle.gtp_check_judge.specs.Judging.{oldest}
-use Rattle.gtp_check_judge.specs.Exam.{Hears}
+use Rattle.gtp_check_judge.specs.RightEngine.{RightEngine, fresh_engine, undone_after}
+use Rattle.gtp_check_judge.specs.Exam.{engine_of, Hears}
 use Rattle.gtp_check_judge.specs.Laws.{line_of_asked, IsRight}
 use Rattle.gtp_check_judge.specs.Laws.{Exchange, Talks, IsAsked}
 use Rattle.gtp_check_judge.specs.Laws.{IsRightSoFar}
+use Rattle.gtp_check_judge.proofs.answers.Statuses.{engine_with}
 use Rattle.gtp_check_judge.proofs.engines.OneGame.{RightsFrom, rights_from}
-use Rattle.gtp_check_judge.proofs.engines.Rightly.{nothing_first, same_rest}
-use Rattle.gtp_check_judge.proofs.engines.Says.{engine_says, one_after}
+use Rattle.gtp_check_judge.proofs.engines.Rightly.{nothing_first, one_left, same_rest}
+use Rattle.gtp_check_judge.proofs.engines.Says.{engine_says, one_after_at}
 use Rattle.gtp_check_judge.proofs.engines.Wire.{IsSent, RawsOf, Wire, bytes_lines, entry_of, wire}
 use Rattle.gtp_check_judge.proofs.talks.Findings.{unblamed}
 use Rattle.gtp_check_judge.proofs.talks.Silence.{oldest_asked, right_so_far}
@@ -77,7 +79,7 @@ module _ {P : Type 0} (may : May P) (lawful : AllowsLawful may) where
     going : state.ended ≡ false
     size : IsSize state.game.size
     out : output_of left ≡ rest
-    game_is : (after : GameRecord) → RightsFrom game said after → after ≡ state.game
+    game_is : (from after : RightEngine) → from.game ≡ game → RightsFrom from said after → after.game ≡ state.game
 
   follow : (said : List Exchange) (unanswered : List Asked) (raw rest : List ℕ) (old new : State P) (ls : List Line)
       (replies : List WrittenReply)
@@ -94,7 +96,7 @@ module _ {P : Type 0} (may : May P) (lawful : AllowsLawful may) where
     going = going;
     size = size;
     out = out ∙ ap (λ (t : List ℕ). t ++ rest) raws;
-    game_is = λ after h. h;
+    game_is = λ from after same h. ap (λ (e : RightEngine). e.game) h ∙ same;
   }
   follow (x ∷ xs) unanswered raw rest old new ls replies Answers.none e going size all raws out = absurd (cc e)
   follow (x ∷ xs) unanswered raw rest old new ls replies (Answers.over ended) e going size all raws out =
@@ -127,9 +129,10 @@ module _ {P : Type 0} (may : May P) (lawful : AllowsLawful may) where
         going = f.going;
         size = f.size;
         out = f.out;
-        game_is = λ after h.
-            f.game_is after (subst (λ (g : GameRecord). RightsFrom g xs after)
-            (one_after old.game x.entry x.reply h.0 a.choice size all.0.limits a.fair h.1 reply_is ∙ sym a.game) h.2);
+        game_is = λ from after same h.
+            f.game_is h.0 after
+            (one_after_at from old.game x.entry x.reply h.0 a.choice same size all.0.limits a.fair h.1 reply_is
+            ∙ sym a.game) h.2;
       }
 
   -- what is read next of the engine's output is its answer to the oldest command
@@ -169,22 +172,30 @@ module _ {P : Type 0} (may : May P) (lawful : AllowsLawful may) where
   all_later [] ys all = all
   all_later (x ∷ xs) ys all = all_later xs ys all.1
 
-  asked_of_oldest : (game : GameRecord) (o : Option Asked) (entry : Asked) → o ≡ Some entry → IfSome o (IsAsked game)
-      → IsAsked game entry
-  asked_of_oldest game o entry e h = subst (λ (p : Option Asked). IfSome p (IsAsked game)) e h
+  asked_of_oldest : (engine : RightEngine) (o : Option Asked) (entry : Asked) → o ≡ Some entry
+      → IfSome o (IsAsked engine) → IsAsked engine entry
+  asked_of_oldest engine o entry e h = subst (λ (p : Option Asked). IfSome p (IsAsked engine)) e h
 
-  engine_right : (game : GameRecord) (entry : Asked) (ch : Choice) → IsSize game.size → IsAsked game entry
-      → IsLawfulAt game (line_of_asked entry) ch
-      → IsRight game entry (reply_of_answer (Some entry.id) (answer game (line_of_asked entry) ch))
-      (answer game (line_of_asked entry) ch).game
-  engine_right game entry ch size is fair = IsRight.by_table (record {
-    id = refl;
-    choice = ch;
-    lawful = fair;
-    status = refl;
-    says = engine_says game entry.id entry.command entry.due ch size is.writable is.limits is.is_due fair;
-    game = refl;
-  })
+  engine_right : (before : RightEngine) (game : GameRecord) (entry : Asked) (ch : Choice) → before.game ≡ game
+      → IsSize before.game.size → IsAsked before entry → IsLawfulAt game (line_of_asked entry) ch
+      → (after : RightEngine)
+      × IsRight before entry (reply_of_answer (Some entry.id) (answer game (line_of_asked entry) ch)) after
+  engine_right before game entry ch same size is fair =
+      subst (λ (g : GameRecord). IsLawfulAt g (line_of_asked entry) ch → (after : RightEngine)
+      × IsRight before entry (reply_of_answer (Some entry.id) (answer g (line_of_asked entry) ch)) after) same
+      (λ fair. (
+        engine_with (answer before.game (line_of_asked entry) ch).game
+            (undone_after before.undone entry.command
+            (reply_of_answer (Some entry.id) (answer before.game (line_of_asked entry) ch))),
+        IsRight.by_table (record {
+          id = refl;
+          choice = ch;
+          lawful = fair;
+          status = refl;
+          says = engine_says before entry.id entry.command entry.due ch size is.writable is.limits is.is_due fair;
+          leaves = refl;
+        }),
+      )) fair
 
   pub never_blamed : (rule : KoRule) (policy : P) (engine : Engine P) (out sent came : List ℕ) (said : List Exchange)
       (old new : Exam) (bytes later : List ℕ) (used : ℕ) (read : Option (Result Reply ReplyFault))
@@ -212,17 +223,15 @@ module _ {P : Type 0} (may : May P) (lawful : AllowsLawful may) where
       (all_later (map entry_of said) old.unanswered w.all) f.out first in
       let here : IsAsked s.before next.entry =
       asked_of_oldest s.before (oldest old.unanswered) next.entry next.oldest_is
-      (oldest_asked s.before old.unanswered old.game s.expects) in
-      let there : IsAsked f.state.game next.entry =
-      subst (λ (g : GameRecord). IsAsked g next.entry)
-      (f.game_is s.before (rights_from (fresh_game_under rule) said s.before s.right)) here in
-      let right = engine_right f.state.game next.entry next.choice f.size there next.fair in
+      (oldest_asked s.before old.unanswered (engine_of old) s.expects) in
+      let same : s.before.game ≡ f.state.game =
+      f.game_is (fresh_engine rule) s.before refl (rights_from (fresh_engine rule) said s.before s.right) in
       unblamed rule sent came said old new bytes used
       (reply_of_answer (Some next.entry.id) (answer f.state.game (line_of_asked next.entry) next.choice)) finding
-      next.entry (answer f.state.game (line_of_asked next.entry) next.choice).game talk
+      next.entry talk
       (subst (λ (r : Result Reply ReplyFault). Hears old bytes used (Some r) finding new) next.read h) next.oldest_is
       (λ before all.
-      subst (λ (g : GameRecord). IsRight g next.entry
-      (reply_of_answer (Some next.entry.id) (answer f.state.game (line_of_asked next.entry) next.choice))
-      (answer f.state.game (line_of_asked next.entry) next.choice).game)
-      (sym (f.game_is before (rights_from (fresh_game_under rule) said before all))) right)
+      subst (λ (e : RightEngine). (after : RightEngine) × IsRight e next.entry
+      (reply_of_answer (Some next.entry.id) (answer f.state.game (line_of_asked next.entry) next.choice)) after)
+      (one_left rule sent came said old s.before before talk s.right all)
+      (engine_right s.before f.state.game next.entry next.choice same s.size here next.fair))

@@ -4,7 +4,6 @@ use Rattle.std.proofs.Common.{None, refl, sym, ◌∙◌, ap, subst, arith, appe
 use Rattle.std.specs.Prelude.{Result, Ok, Err, drop}
 use Rattle.std.specs.List.{AllByRecursion}
 use Rattle.std.proofs.Math.Seq.{drop-append_seam}
-use Rattle.go_board.specs.Game.{GameRecord, fresh_game_under}
 use Rattle.go_board.specs.declared.rules.KoRule.{KoRule}
 use Rattle.gtp_wire.specs.declared.replies.Reply.{Reply}
 use Rattle.gtp_wire.specs.declared.replies.ReplyFault.{ReplyFault}
@@ -15,6 +14,7 @@ use Rattle.gtp_wire.proofs.first_answers.OneByteMore.{first_more}
 use Rattle.gtp_check_judge.specs.declared.unanswered.Asked.{Asked}
 use Rattle.gtp_check_judge.specs.declared.exam.Exam.{Exam}
 use Rattle.gtp_check_judge.specs.declared.exam.Finding.{Finding}
+use Rattle.gtp_check_judge.specs.RightEngine.{RightEngine, fresh_engine}
 use Rattle.gtp_check_judge.specs.Judging.{oldest}
 use Rattle.gtp_check_judge.specs.Exam.{Hears}
 use Rattle.gtp_check_judge.specs.Laws.{IsRight}
@@ -56,28 +56,28 @@ entries_are [] = refl
 entries_are (x ∷ xs) = ap (λ (l : List Asked). x.entry ∷ l) (entries_are xs)
 
 -- what is written after the answers that were heard
-record Remains (game : GameRecord) (said : List Exchange) (unanswered : List Asked) (rest : List ℕ) : Type 0 where
-  here : GameRecord
+record Remains (engine : RightEngine) (said : List Exchange) (unanswered : List Asked) (rest : List ℕ) : Type 0 where
+  here : RightEngine
   rightly : AnswersRightly here unanswered rest
-  game_is : (after : GameRecord) → RightsFrom game said after → after ≡ here
+  here_is : (after : RightEngine) → RightsFrom engine said after → after ≡ here
 
-remains : (said : List Exchange) (unanswered : List Asked) (raw rest out : List ℕ) (game : GameRecord)
-    (all : List Asked) → AnswersRightly game all out → all ≡ map entry_of said ++ unanswered
+remains : (said : List Exchange) (unanswered : List Asked) (raw rest out : List ℕ) (engine : RightEngine)
+    (all : List Asked) → AnswersRightly engine all out → all ≡ map entry_of said ++ unanswered
     → AllByRecursion IsSent (map entry_of said ++ unanswered)
-    → RawsOf said raw → out ≡ raw ++ rest → Remains game said unanswered rest
-remains [] unanswered raw rest out game all rightly e sent raws is = record {
-  here = game;
+    → RawsOf said raw → out ≡ raw ++ rest → Remains engine said unanswered rest
+remains [] unanswered raw rest out engine all rightly e sent raws is = record {
+  here = engine;
   rightly =
-      subst (λ (t : List ℕ). AnswersRightly game unanswered t) (is ∙ ap (λ (t : List ℕ). t ++ rest) raws)
-      (subst (λ (l : List Asked). AnswersRightly game l out) e rightly);
-  game_is = λ after h. h;
+      subst (λ (t : List ℕ). AnswersRightly engine unanswered t) (is ∙ ap (λ (t : List ℕ). t ++ rest) raws)
+      (subst (λ (l : List Asked). AnswersRightly engine l out) e rightly);
+  here_is = λ after h. h;
 }
-remains (x ∷ xs) unanswered raw rest out game all (AnswersRightly.no_more g l last none) e sent raws is =
+remains (x ∷ xs) unanswered raw rest out engine all (AnswersRightly.no_more g l last none) e sent raws is =
     let texts : out ≡ raws.0 ++ (raws.1 ++ rest) =
     is ∙ ap (λ (t : List ℕ). t ++ rest) raws.2 ∙ append_assoc raws.0 raws.1 rest in
     absurd (none_first out (raws.0 ++ (raws.1 ++ rest)) (length raws.0) (Ok x.reply) none texts
     (reply_is_first raws.0 (raws.1 ++ rest) x.reply raws.3))
-remains (x ∷ xs) unanswered raw rest out game all
+remains (x ∷ xs) unanswered raw rest out engine all
     (AnswersRightly.answers {after = after} {unread = unread} {out = more} entry reply text read right later)
     e sent raws is =
     let same : entry ≡ x.entry = cc e in
@@ -89,35 +89,35 @@ remains (x ∷ xs) unanswered raw rest out game all
     (reply_is_first raws.0 (raws.1 ++ rest) x.reply raws.3) in
     let oks : Ok reply ≡ Ok x.reply = both.1 in
     let reply_is : reply ≡ x.reply = cc oks in
-    let here : IsRight game x.entry x.reply after =
-    subst (λ (r : Reply). IsRight game x.entry r after) reply_is
-    (subst (λ (a : Asked). IsRight game a reply after) same right) in
+    let here : IsRight engine x.entry x.reply after =
+    subst (λ (r : Reply). IsRight engine x.entry r after) reply_is
+    (subst (λ (a : Asked). IsRight engine a reply after) same right) in
     let b : Remains after xs unanswered rest =
     remains xs unanswered raws.1 rest more after unread later left sent.1 raws.4
     (same_rest text more raws.0 (raws.1 ++ rest) texts both.0) in
     record {
       here = b.here;
       rightly = b.rightly;
-      game_is = λ last h.
-          b.game_is last (subst (λ (g : GameRecord). RightsFrom g xs last)
-          (one_right game x.entry x.reply h.0 after sent.0.limits h.1 here) h.2);
+      here_is = λ last h.
+          b.here_is last (subst (λ (g : RightEngine). RightsFrom g xs last)
+          (one_right engine x.entry x.reply h.0 after sent.0.limits h.1 here) h.2);
     }
 
 -- what is read next is a right answer to the oldest command
-record NextRight (game : GameRecord) (unanswered : List Asked) (said : Result Reply ReplyFault) : Type 0 where
+record NextRight (engine : RightEngine) (unanswered : List Asked) (said : Result Reply ReplyFault) : Type 0 where
   entry : Asked
   reply : Reply
-  after : GameRecord
+  after : RightEngine
   oldest_is : oldest unanswered ≡ Some entry
   read : said ≡ Ok reply
-  right : IsRight game entry reply after
+  right : IsRight engine entry reply after
 
-next_right : (game : GameRecord) (unanswered : List Asked) (out text : List ℕ) (n : ℕ)
-    (read : Result Reply ReplyFault) → AnswersRightly game unanswered out → out ≡ text → IsFirst text n read
-    → NextRight game unanswered read
-next_right game unanswered out text n read (AnswersRightly.no_more g l last none) is first =
+next_right : (engine : RightEngine) (unanswered : List Asked) (out text : List ℕ) (n : ℕ)
+    (read : Result Reply ReplyFault) → AnswersRightly engine unanswered out → out ≡ text → IsFirst text n read
+    → NextRight engine unanswered read
+next_right engine unanswered out text n read (AnswersRightly.no_more g l last none) is first =
     absurd (none_first out text n read none is first)
-next_right game unanswered out text n read
+next_right engine unanswered out text n read
     (AnswersRightly.answers {after = after} {unread = unread} {out = more} entry reply bytes reads right later)
     is first =
     let both = one_first text (length bytes) n (Ok reply) read
@@ -127,15 +127,15 @@ next_right game unanswered out text n read
 pub rightly_unblamed : (rule : KoRule) (out sent came : List ℕ) (said : List Exchange) (old new : Exam)
     (bytes later : List ℕ) (used : ℕ) (read : Option (Result Reply ReplyFault)) (finding : Option Finding)
     → Talks rule sent came said old → Hears old bytes used read finding new
-    → AnswersRightly (fresh_game_under rule) (commands_of said ++ old.unanswered) out
+    → AnswersRightly (fresh_engine rule) (commands_of said ++ old.unanswered) out
     → out ≡ came ++ (bytes ++ later)
     → finding ≡ None
 rightly_unblamed rule out sent came said old new bytes later used None finding talk h rightly front = h.2.0
 rightly_unblamed rule out sent came said old new bytes later used (Some read) finding talk h rightly front =
     let w : Wire sent came said old = wire rule sent came said old talk in
     let rest : List ℕ = old.reader ++ (bytes ++ later) in
-    let b : Remains (fresh_game_under rule) said old.unanswered rest =
-    remains said old.unanswered w.raw rest out (fresh_game_under rule) (commands_of said ++ old.unanswered) rightly
+    let b : Remains (fresh_engine rule) said old.unanswered rest =
+    remains said old.unanswered w.raw rest out (fresh_engine rule) (commands_of said ++ old.unanswered) rightly
     (ap (λ (l : List Asked). l ++ old.unanswered) (entries_are said)) w.all w.raws
     (front ∙ ap (λ (t : List ℕ). t ++ (bytes ++ later)) w.came_is ∙ append_assoc w.raw old.reader (bytes ++ later)) in
     let first : IsFirst rest (length old.reader + used) read =
@@ -143,42 +143,45 @@ rightly_unblamed rule out sent came said old new bytes later used (Some read) fi
     (first_more (old.reader ++ bytes) later (length old.reader + used) read h.1.first) in
     let next : NextRight b.here old.unanswered read =
     next_right b.here old.unanswered rest rest (length old.reader + used) read b.rightly refl first in
-    unblamed rule sent came said old new bytes used next.reply finding next.entry next.after talk
+    unblamed rule sent came said old new bytes used next.reply finding next.entry talk
     (subst (λ (r : Result Reply ReplyFault). Hears old bytes used (Some r) finding new) next.read h) next.oldest_is
-    (λ before all.
-    subst (λ (g : GameRecord). IsRight g next.entry next.reply next.after)
-    (sym (b.game_is before (rights_from (fresh_game_under rule) said before all))) next.right)
+    (λ before all. (
+      next.after,
+      subst (λ (g : RightEngine). IsRight g next.entry next.reply next.after)
+          (sym (b.here_is before (rights_from (fresh_engine rule) said before all))) next.right,
+    ))
 
--- ---- one game
+-- ---- one engine
 
 all_front : (xs ys : List Asked) → AllByRecursion IsSent (xs ++ ys) → AllByRecursion IsSent xs
 all_front [] ys all = tt
 all_front (x ∷ xs) ys all = (all.0, all_front xs ys all.1)
 
-one_game : (game : GameRecord) (xs : List Exchange) (a b : GameRecord) → AllByRecursion IsSent (map entry_of xs)
-    → RightsFrom game xs a → RightsFrom game xs b → a ≡ b
-one_game game [] a b all h k = h ∙ sym k
-one_game game (x ∷ xs) a b all h k =
-    one_game h.0 xs a b all.1 h.2 (subst (λ (g : GameRecord). RightsFrom g xs b)
-    (one_right game x.entry x.reply k.0 h.0 all.0.limits k.1 h.1) k.2)
+one_engine : (engine : RightEngine) (xs : List Exchange) (a b : RightEngine) → AllByRecursion IsSent (map entry_of xs)
+    → RightsFrom engine xs a → RightsFrom engine xs b → a ≡ b
+one_engine engine [] a b all h k = h ∙ sym k
+one_engine engine (x ∷ xs) a b all h k =
+    one_engine h.0 xs a b all.1 h.2 (subst (λ (g : RightEngine). RightsFrom g xs b)
+    (one_right engine x.entry x.reply k.0 h.0 all.0.limits k.1 h.1) k.2)
 
-pub one_left : (rule : KoRule) (sent came : List ℕ) (said : List Exchange) (exam : Exam) (one other : GameRecord)
-    → Talks rule sent came said exam → AllRight (fresh_game_under rule) said one
-    → AllRight (fresh_game_under rule) said other → one ≡ other
+pub one_left : (rule : KoRule) (sent came : List ℕ) (said : List Exchange) (exam : Exam) (one other : RightEngine)
+    → Talks rule sent came said exam → AllRight (fresh_engine rule) said one
+    → AllRight (fresh_engine rule) said other → one ≡ other
 one_left rule sent came said exam one other talk a b =
     let w : Wire sent came said exam = wire rule sent came said exam talk in
-    one_game (fresh_game_under rule) said one other (all_front (map entry_of said) exam.unanswered w.all)
-    (rights_from (fresh_game_under rule) said one a) (rights_from (fresh_game_under rule) said other b)
+    one_engine (fresh_engine rule) said one other (all_front (map entry_of said) exam.unanswered w.all)
+    (rights_from (fresh_engine rule) said one a) (rights_from (fresh_engine rule) said other b)
 
 pub right_unblamed : (rule : KoRule) (sent came : List ℕ) (said : List Exchange) (old new : Exam)
-    (bytes : List ℕ) (used : ℕ) (reply : Reply) (finding : Option Finding) (entry : Asked) (before after : GameRecord)
+    (bytes : List ℕ) (used : ℕ) (reply : Reply) (finding : Option Finding) (entry : Asked) (before after : RightEngine)
     → Talks rule sent came said old → Hears old bytes used (Some (Ok reply)) finding new
     → oldest old.unanswered ≡ Some entry
-    → AllRight (fresh_game_under rule) said before → IsRight before entry reply after
+    → AllRight (fresh_engine rule) said before → IsRight before entry reply after
     → finding ≡ None
 right_unblamed rule sent came said old new bytes used reply finding entry before after talk h is all right =
-    unblamed rule sent came said old new bytes used reply finding entry after talk h is
-    (λ other here.
-    subst (λ (g : GameRecord). IsRight g entry reply after)
-    (one_left rule sent came said old before other talk all here)
-    right)
+    unblamed rule sent came said old new bytes used reply finding entry talk h is
+    (λ other here. (
+      after,
+      subst (λ (g : RightEngine). IsRight g entry reply after)
+          (one_left rule sent came said old before other talk all here) right,
+    ))

@@ -25,11 +25,12 @@ use Rattle.gtp_session.specs.Commands.{Answer, answer, asked, answer_choice}
 use Rattle.gtp_session.specs.CommandAnswers.{line_of_command}
 use Rattle.gtp_session.specs.Spoken.{IsLawfulAt, reply_of_answer}
 use Rattle.gtp_session.proofs.table.Asking.{answer-same, answer-asked}
-use Rattle.gtp_session.proofs.engines.Sent.{well_answer, genmove_answer, genmove_asks, vertex_of_legal}
+use Rattle.gtp_session.proofs.engines.Sent.{well_answer, genmove_answer, genmove_asks, undo_answer, vertex_of_legal}
 use Rattle.gtp_check_judge.specs.declared.dues.Due.{Due}
 use Rattle.gtp_check_judge.specs.declared.dues.Due.TheVariants.{Succeeds, Fails, Places, Resizes, Scores, Chooses}
 use Rattle.gtp_check_judge.specs.declared.unanswered.Asked.{Asked}
 use Rattle.gtp_wire.specs.ReplyWords.{choice_of_text, names_points}
+use Rattle.gtp_check_judge.specs.RightEngine.{RightEngine}
 use Rattle.gtp_check_judge.specs.Dues.{IsDue, IsDueTo}
 use Rattle.gtp_check_judge.specs.Laws.{line_of_asked, Says, SaysTo, MayRefuse, IsByTable, IsRight}
 use Rattle.gtp_wire.proofs.texts.ReadBack.{vertex_is_read, resign_is_read, points_are_named}
@@ -81,108 +82,130 @@ asked_genmove game id (Match Undo) colour e = absurd (cc e)
 asked_genmove game id (Match Quit) colour e = absurd (cc e)
 
 -- an answer by the table that an engine gave leaves the engine's game
-tabled_after : (game : GameRecord) (entry : Asked) (reply : Reply) (after : GameRecord) (ch : Choice) → IsSize game.size
-    → IsLawfulAt game (line_of_asked entry) ch → IsByTable game entry reply after
-    → reply ≡ reply_of_answer (Some entry.id) (answer game (line_of_asked entry) ch)
-    → after ≡ (answer game (line_of_asked entry) ch).game
-tabled_after game entry reply after ch size lawful right is = by (asked game (line_of_asked entry)) refl
+tabled_after : (before : RightEngine) (entry : Asked) (reply : Reply) (after : RightEngine) (ch : Choice)
+    → IsSize before.game.size
+    → IsLawfulAt before.game (line_of_asked entry) ch → IsByTable before entry reply after
+    → reply ≡ reply_of_answer (Some entry.id) (answer before.game (line_of_asked entry) ch)
+    → after.game ≡ (answer before.game (line_of_asked entry) ch).game
+tabled_after before entry reply after ch size lawful right is = by (asked before.game (line_of_asked entry)) refl
   where
-    by : (o : Option Colour) → asked game (line_of_asked entry) ≡ o
-        → after ≡ (answer game (line_of_asked entry) ch).game
-    by None e = right.game ∙ ap (λ (a : Answer). a.game) (answer-same game (line_of_asked entry) right.choice ch e)
+    by : (o : Option Colour) → asked before.game (line_of_asked entry) ≡ o
+        → after.game ≡ (answer before.game (line_of_asked entry) ch).game
+    by None e =
+        ap (λ (e : RightEngine). e.game) right.leaves ∙ ap (λ (a : Answer). a.game) (answer-same before.game
+        (line_of_asked entry) right.choice ch e)
     by (Some colour) e =
-        let command = asked_genmove game entry.id entry.command colour e in
-        let given : answer game (line_of_asked entry) ch ≡ answer_choice game colour ch =
-        answer-asked game (line_of_asked entry) ch colour e in
-        let fair : IsLawful game colour ch =
-        subst (λ (o : Option Colour). IfSome o (λ c. IsLawful game c ch)) e lawful in
-        let text : reply.text.items ≡ (answer_choice game colour ch).text =
+        let command = asked_genmove before.game entry.id entry.command colour e in
+        let given : answer before.game (line_of_asked entry) ch ≡ answer_choice before.game colour ch =
+        answer-asked before.game (line_of_asked entry) ch colour e in
+        let fair : IsLawful before.game colour ch =
+        subst (λ (o : Option Colour). IfSome o (λ c. IsLawful before.game c ch)) e lawful in
+        let text : reply.text.items ≡ (answer_choice before.game colour ch).text =
         ap (λ (r : Reply). r.text.items) is ∙ ap (λ (a : Answer). a.text) given in
         let ok : reply.ok ≡ true =
-        ap (λ (r : Reply). r.ok) is ∙ ap (λ (a : Answer). a.ok) given ∙ choice_succeeds game colour ch in
+        ap (λ (r : Reply). r.ok) is ∙ ap (λ (a : Answer). a.ok) given ∙ choice_succeeds before.game colour ch in
         let said : choice_of_text reply.text.items ≡ Some right.choice =
-        subst (λ (k : CheckCommand). Says game k right.choice true reply.text.items) command.1
-        (subst (λ (b : Bool). Says game entry.command right.choice b reply.text.items) ok right.says) in
+        subst (λ (k : CheckCommand). Says before.game k right.choice true reply.text.items) command.1
+        (subst (λ (b : Bool). Says before.game entry.command right.choice b reply.text.items) ok right.says) in
         let both : Some right.choice ≡ Some ch =
-        sym said ∙ ap choice_of_text text ∙ choice_is_read game colour ch size.most fair in
+        sym said ∙ ap choice_of_text text ∙ choice_is_read before.game colour ch size.most fair in
         let same : right.choice ≡ ch = cc both in
-        right.game ∙ ap (λ (c : Choice). (answer game (line_of_asked entry) c).game) same
+        ap (λ (e : RightEngine). e.game) right.leaves ∙ ap (λ (c : Choice). (answer before.game
+        (line_of_asked entry) c).game) same
 
 -- the table refuses none of what may be refused
-pub never_refused : (game : GameRecord) (id : ℕ) (command : CheckCommand) (ch : Choice) → MayRefuse command
-    → IsCheckInLimits command → (answer game (line_of_check id command) ch).ok ≡ true
-never_refused game id (Match (Boardsize s)) ch may limits =
-    ap (λ (a : Answer). a.ok) (well_answer game (Some id) (Boardsize s) ch limits)
-never_refused game id (Match (Komi komi)) ch may limits = absurd may
-never_refused game id (Match ClearBoard) ch may limits = absurd may
-never_refused game id (Match (FixedHandicap stones)) ch may limits = absurd may
-never_refused game id (Match (Play move)) ch may limits = absurd may
-never_refused game id (Match (Genmove colour)) ch may limits = absurd may
-never_refused game id (Match Undo) ch may limits = absurd may
-never_refused game id (Match Quit) ch may limits = absurd may
-never_refused game id FinalScore ch may limits = refl
-never_refused game id Name ch may limits = refl
-never_refused game id Version ch may limits = refl
-never_refused game id (KnownCommand k) ch may limits = refl
+pub never_refused : (engine : RightEngine) (id : ℕ) (command : CheckCommand) (ch : Choice) → MayRefuse engine command
+    → IsCheckInLimits command → (answer engine.game (line_of_check id command) ch).ok ≡ true
+never_refused engine id (Match (Boardsize s)) ch may limits =
+    ap (λ (a : Answer). a.ok) (well_answer engine.game (Some id) (Boardsize s) ch limits)
+never_refused engine id (Match (Komi komi)) ch may limits = absurd may
+never_refused engine id (Match ClearBoard) ch may limits = absurd may
+never_refused engine id (Match (FixedHandicap stones)) ch may limits = absurd may
+never_refused engine id (Match (Play move)) ch may limits = absurd may
+never_refused engine id (Match (Genmove colour)) ch may limits = absurd may
+never_refused engine id (Match Undo) ch may limits =
+    ap (λ (a : Answer). a.ok) (undo_answer engine.game (Some id) ch may.moves)
+never_refused engine id (Match Quit) ch may limits = absurd may
+never_refused engine id FinalScore ch may limits = refl
+never_refused engine id Name ch may limits = refl
+never_refused engine id Version ch may limits = refl
+never_refused engine id (KnownCommand k) ch may limits = refl
 
 -- a right answer that an engine gave leaves the engine's game
-pub one_after : (game : GameRecord) (entry : Asked) (reply : Reply) (after : GameRecord) (ch : Choice)
-    → IsSize game.size
-    → IsCheckInLimits entry.command → IsLawfulAt game (line_of_asked entry) ch → IsRight game entry reply after
-    → reply ≡ reply_of_answer (Some entry.id) (answer game (line_of_asked entry) ch)
-    → after ≡ (answer game (line_of_asked entry) ch).game
-one_after game entry reply after ch size limits lawful (IsRight.by_table right) is =
-    tabled_after game entry reply after ch size lawful right is
-one_after game entry reply after ch size limits lawful (IsRight.by_refusal refuses) is =
+pub one_after : (before : RightEngine) (entry : Asked) (reply : Reply) (after : RightEngine) (ch : Choice)
+    → IsSize before.game.size
+    → IsCheckInLimits entry.command → IsLawfulAt before.game (line_of_asked entry) ch → IsRight before entry reply after
+    → reply ≡ reply_of_answer (Some entry.id) (answer before.game (line_of_asked entry) ch)
+    → after.game ≡ (answer before.game (line_of_asked entry) ch).game
+one_after before entry reply after ch size limits lawful (IsRight.by_table right) is =
+    tabled_after before entry reply after ch size lawful right is
+one_after before entry reply after ch size limits lawful (IsRight.by_refusal refuses) is =
     absurd (let e : false ≡ true =
     sym refuses.status ∙ ap (λ (r : Reply). r.ok) is
-    ∙ never_refused game entry.id entry.command ch refuses.may limits in cc e)
+    ∙ never_refused before entry.id entry.command ch refuses.may limits in cc e)
+
+-- the same, where the game is known by another name
+pub one_after_at : (before : RightEngine) (game : GameRecord) (entry : Asked) (reply : Reply) (after : RightEngine)
+    (ch : Choice) → before.game ≡ game → IsSize game.size
+    → IsCheckInLimits entry.command → IsLawfulAt game (line_of_asked entry) ch → IsRight before entry reply after
+    → reply ≡ reply_of_answer (Some entry.id) (answer game (line_of_asked entry) ch)
+    → after.game ≡ (answer game (line_of_asked entry) ch).game
+one_after_at before game entry reply after ch same size limits lawful right is =
+    subst (λ (g : GameRecord). IsSize g.size → IsLawfulAt g (line_of_asked entry) ch
+    → reply ≡ reply_of_answer (Some entry.id) (answer g (line_of_asked entry) ch)
+    → after.game ≡ (answer g (line_of_asked entry) ch).game) same
+    (λ size lawful is. one_after before entry reply after ch size limits lawful right is) size lawful is
 
 -- an engine's answer to what was asked says what it has to
-match_says : (game : GameRecord) (id : Option ℕ) (command : Command) (due : Due) (ch : Choice) → IsSize game.size
-    → IsWritable command → IsInLimits command → IsDueTo game command due → IsLawfulAt game
+match_says : (engine : RightEngine) (id : Option ℕ) (command : Command) (due : Due) (ch : Choice)
+    → IsSize engine.game.size
+    → IsWritable command → IsInLimits command → IsDueTo engine command due → IsLawfulAt engine.game
     (line_of_command id command) ch
-    → SaysTo game command ch (answer game (line_of_command id command) ch).ok
-    (answer game (line_of_command id command) ch).text
-match_says game id (Boardsize size) due ch is w l h lawful = tt
-match_says game id (Komi komi) due ch is w l h lawful = tt
-match_says game id ClearBoard due ch is w l h lawful = tt
-match_says game id (FixedHandicap stones) (Places size count) ch is w l h lawful =
-    subst (λ (a : Answer). SaysTo game (FixedHandicap stones) ch a.ok a.text)
-    (sym (well_answer game id (FixedHandicap stones) ch (h.2, (h.3, is))))
-    (handicap_is_named game.size stones is h.3)
-match_says game id (FixedHandicap stones) (Fails cause) ch is w l h lawful =
-    subst (λ (b : Bool). SaysTo game (FixedHandicap stones) ch b
-    (answer game (line_of_command id (FixedHandicap stones)) ch).text)
-    (sym (match_answered game id (FixedHandicap stones) (Fails cause) ch is w l h).0) tt
-match_says game id (FixedHandicap stones) Succeeds ch is w l h lawful = absurd h
-match_says game id (FixedHandicap stones) (Resizes s) ch is w l h lawful = absurd h
-match_says game id (FixedHandicap stones) (Scores s) ch is w l h lawful = absurd h
-match_says game id (FixedHandicap stones) due.AnyReply ch is w l h lawful = absurd h
-match_says game id (FixedHandicap stones) (Chooses c) ch is w l h lawful = absurd h
-match_says game id (Play move) due ch is w l h lawful = tt
-match_says game id (Genmove colour) due ch is w l h lawful =
-    by (asked game (line_of_command id (Genmove colour))) refl
+    → SaysTo engine.game command ch (answer engine.game (line_of_command id command) ch).ok
+    (answer engine.game (line_of_command id command) ch).text
+match_says engine id (Boardsize size) due ch is w l h lawful = tt
+match_says engine id (Komi komi) due ch is w l h lawful = tt
+match_says engine id ClearBoard due ch is w l h lawful = tt
+match_says engine id (FixedHandicap stones) (Places size count) ch is w l h lawful =
+    subst (λ (a : Answer). SaysTo engine.game (FixedHandicap stones) ch a.ok a.text)
+    (sym (well_answer engine.game id (FixedHandicap stones) ch (h.2, (h.3, is))))
+    (handicap_is_named engine.game.size stones is h.3)
+match_says engine id (FixedHandicap stones) (Fails cause) ch is w l h lawful =
+    subst (λ (b : Bool). SaysTo engine.game (FixedHandicap stones) ch b
+    (answer engine.game (line_of_command id (FixedHandicap stones)) ch).text)
+    (sym (match_answered engine id (FixedHandicap stones) (Fails cause) ch is w l h).0) tt
+match_says engine id (FixedHandicap stones) Succeeds ch is w l h lawful = absurd h
+match_says engine id (FixedHandicap stones) (Resizes s) ch is w l h lawful = absurd h
+match_says engine id (FixedHandicap stones) (Scores s) ch is w l h lawful = absurd h
+match_says engine id (FixedHandicap stones) due.AnyReply ch is w l h lawful = absurd h
+match_says engine id (FixedHandicap stones) (Chooses c) ch is w l h lawful = absurd h
+match_says engine id (FixedHandicap stones) due.MayUndo ch is w l h lawful = absurd h
+match_says engine id (Play move) due ch is w l h lawful = tt
+match_says engine id (Genmove colour) due ch is w l h lawful =
+    by (asked engine.game (line_of_command id (Genmove colour))) refl
   where
-    by : (o : Option Colour) → asked game (line_of_command id (Genmove colour)) ≡ o
-        → SaysTo game (Genmove colour) ch (answer game (line_of_command id (Genmove colour)) ch).ok
-        (answer game (line_of_command id (Genmove colour)) ch).text
-    by None e = absurd (let e2 : Some colour ≡ None = sym (genmove_asks game id colour h.1) ∙ e in cc e2)
+    by : (o : Option Colour) → asked engine.game (line_of_command id (Genmove colour)) ≡ o
+        → SaysTo engine.game (Genmove colour) ch (answer engine.game (line_of_command id (Genmove colour)) ch).ok
+        (answer engine.game (line_of_command id (Genmove colour)) ch).text
+    by None e = absurd (let e2 : Some colour ≡ None = sym (genmove_asks engine.game id colour h.1) ∙ e in cc e2)
     by (Some c) e =
-        subst (λ (a : Answer). SaysTo game (Genmove colour) ch a.ok a.text)
-        (sym (genmove_answer game id colour ch h.1))
-        (says_choice game colour ch is.most
-        (subst (λ (o : Option Colour). IfSome o (λ d. IsLawful game d ch)) (genmove_asks game id colour h.1) lawful))
-match_says game id Undo due ch is w l h lawful = tt
-match_says game id Quit due ch is w l h lawful = absurd h
+        subst (λ (a : Answer). SaysTo engine.game (Genmove colour) ch a.ok a.text)
+        (sym (genmove_answer engine.game id colour ch h.1))
+        (says_choice engine.game colour ch is.most
+        (subst (λ (o : Option Colour). IfSome o (λ d. IsLawful engine.game d ch))
+        (genmove_asks engine.game id colour h.1) lawful))
+match_says engine id Undo due ch is w l h lawful = tt
+match_says engine id Quit due ch is w l h lawful = absurd h
 
-pub engine_says : (game : GameRecord) (id : ℕ) (command : CheckCommand) (due : Due) (ch : Choice) → IsSize game.size
-    → IsCheckWritable command → IsCheckInLimits command → IsDue game command due
-    → IsLawfulAt game (line_of_check id command) ch
-    → Says game command ch (answer game (line_of_check id command) ch).ok
-    (answer game (line_of_check id command) ch).text
-engine_says game id (Match command) due ch is w l h lawful = match_says game (Some id) command due ch is w l h lawful
-engine_says game id FinalScore due ch is w l h lawful = fresh_score_reads game h.1 h.2
-engine_says game id Name due ch is w l h lawful = tt
-engine_says game id Version due ch is w l h lawful = tt
-engine_says game id (KnownCommand k) due ch is w l h lawful = tt
+pub engine_says : (engine : RightEngine) (id : ℕ) (command : CheckCommand) (due : Due) (ch : Choice)
+    → IsSize engine.game.size
+    → IsCheckWritable command → IsCheckInLimits command → IsDue engine command due
+    → IsLawfulAt engine.game (line_of_check id command) ch
+    → Says engine.game command ch (answer engine.game (line_of_check id command) ch).ok
+    (answer engine.game (line_of_check id command) ch).text
+engine_says engine id (Match command) due ch is w l h lawful =
+    match_says engine (Some id) command due ch is w l h lawful
+engine_says engine id FinalScore due ch is w l h lawful = fresh_score_reads engine.game h.1 h.2
+engine_says engine id Name due ch is w l h lawful = tt
+engine_says engine id Version due ch is w l h lawful = tt
+engine_says engine id (KnownCommand k) due ch is w l h lawful = tt

@@ -15,9 +15,9 @@ use Rattle.gtp_check_judge.specs.declared.asking.CheckCommand.TheVariants.{Match
 use Rattle.gtp_check_judge.specs.declared.asking.CheckCommand.TheVariants.{KnownCommand}
 use Rattle.gtp_check_judge.specs.declared.dues.Due.{Due}
 use Rattle.gtp_check_judge.specs.declared.dues.Due.TheVariants.{Succeeds, Fails, Places, Resizes, Scores, AnyReply}
-use Rattle.gtp_check_judge.specs.declared.dues.Due.TheVariants.{Chooses}
+use Rattle.gtp_check_judge.specs.declared.dues.Due.TheVariants.{Chooses, MayUndo}
 use Rattle.gtp_check_judge.specs.declared.judging.Judgement.{Judgement}
-use Rattle.gtp_check_judge.specs.declared.judging.Judgement.TheVariants.{Right, Plays, Resized, Wrong}
+use Rattle.gtp_check_judge.specs.declared.judging.Judgement.TheVariants.{Right, Plays, Resized, Undone, Wrong}
 use Rattle.gtp_check_judge.specs.declared.unanswered.Asked.{Asked}
 use Rattle.gtp_check_judge.specs.declared.exam.Exam.{Exam}
 use Rattle.gtp_check_judge.specs.declared.exam.Finding.{Finding}
@@ -56,11 +56,13 @@ due_rule game command (Resizes size) = refl
 due_rule game command (Scores score) = refl
 due_rule game command AnyReply = refl
 due_rule game command (Chooses colour) = refl
+due_rule game command MayUndo = refl
 
 judged_rule : (exam : Exam) (got : Judgement) → (after_judged exam got).game.rule ≡ exam.game.rule
 judged_rule exam Right = refl
 judged_rule exam (Plays colour v) = refl
 judged_rule exam (Resized size) = refl
+judged_rule exam Undone = refl
 judged_rule exam (Wrong kind) = refl
 
 id_rule : (exam : Exam) (entry : Asked) (reply : Reply) (b : Bool) (finding : Option Finding) (new : Exam)

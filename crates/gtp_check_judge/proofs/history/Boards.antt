@@ -13,19 +13,20 @@ use Rattle.gtp_check_judge.specs.declared.asking.CheckCommand.TheVariants.{Known
 use Rattle.gtp_check_judge.specs.declared.dues.Due.{Due}
 use Rattle.gtp_check_judge.specs.declared.dues.Due.TheVariants.{Succeeds, Resizes, Scores, AnyReply, Chooses}
 use Rattle.gtp_check_judge.specs.declared.judging.Judgement.{Judgement}
-use Rattle.gtp_check_judge.specs.declared.judging.Judgement.TheVariants.{Right, Plays, Resized, Wrong}
+use Rattle.gtp_check_judge.specs.declared.judging.Judgement.TheVariants.{Right, Plays, Resized, Undone, Wrong}
 use Rattle.gtp_check_judge.specs.declared.setups.Board.{Board}
 use Rattle.gtp_check_judge.specs.declared.setups.Board.TheVariants.{Unknown, Sized, Cleared}
 use Rattle.gtp_check_judge.specs.declared.unanswered.Asked.{Asked}
 use Rattle.gtp_check_judge.specs.declared.exam.Exam.{Exam}
 use Rattle.gtp_check_judge.specs.Setups.{is_clear_board, board_after}
 use Rattle.gtp_check_judge.specs.Dues.{IsDue, HandicapDue, PlayDue, UndoDue}
-use Rattle.gtp_check_judge.specs.Judging.{oldest, awaits, is_awaited, Judged, size_judged}
+use Rattle.gtp_check_judge.specs.RightEngine.{RightEngine}
+use Rattle.gtp_check_judge.specs.Judging.{oldest, awaits, is_open, Judged, size_judged}
 use Rattle.gtp_check_judge.specs.Exam.{HasRoomFor, after_judged, finding_of, with_learned, with_rest}
 use Rattle.gtp_check_judge.specs.Laws.{Exchange, Talks}
 use Rattle.gtp_check_judge.specs.HistoryLaws.{SomeAsked, TakesSize, SinceSize, IsBoardKnown, HangsOnBoard}
 use Rattle.gtp_check_judge.specs.HistoryLaws.{BoardsAreKnown}
-use Rattle.gtp_check_judge.proofs.history.Dues.{IsDueOnce, oldest_due}
+use Rattle.gtp_check_judge.proofs.history.Dues.{AllDue, IsDueOnce, all_due, oldest_due}
 use Rattle.gtp_check_judge.proofs.history.Heard.{Leaving, heard_leaving}
 use Rattle.gtp_check_judge.proofs.order.Asked.{or_left, or_right}
 use Rattle.gtp_check_judge.proofs.order.Heard.{resized_due}
@@ -118,32 +119,32 @@ answered_board said entry later reply Cleared other h = (
 -- ---- sizes
 
 -- what is due to a `boardsize` alone
-pub due_size : (game : GameRecord) (command : CheckCommand) (due : Due) (size : ℕ) → IsDue game command due
+pub due_size : (engine : RightEngine) (command : CheckCommand) (due : Due) (size : ℕ) → IsDue engine command due
     → due ≡ Resizes size → command ≡ Match (Boardsize size)
-due_size game (Match (Boardsize s)) due size h e =
+due_size engine (Match (Boardsize s)) due size h e =
     let same : s ≡ size = cc (sym h.0 ∙ e) in ap (λ (n : ℕ). Match (Boardsize n)) same
-due_size game (Match (Komi komi)) due size h e =
+due_size engine (Match (Komi komi)) due size h e =
     absurd (let other : Succeeds ≡ Resizes size = sym h.0 ∙ e in cc other)
-due_size game (Match ClearBoard) due size h e =
+due_size engine (Match ClearBoard) due size h e =
     absurd (let other : Succeeds ≡ Resizes size = sym h ∙ e in cc other)
-due_size game (Match (FixedHandicap stones)) due size h e = absurd (subst (HandicapDue game stones) e h)
-due_size game (Match (Play move)) due size h e = absurd (subst (PlayDue game move) e h)
-due_size game (Match (Genmove colour)) due size h e =
+due_size engine (Match (FixedHandicap stones)) due size h e = absurd (subst (HandicapDue engine.game stones) e h)
+due_size engine (Match (Play move)) due size h e = absurd (subst (PlayDue engine.game move) e h)
+due_size engine (Match (Genmove colour)) due size h e =
     absurd (let other : Chooses colour ≡ Resizes size = sym h.0 ∙ e in cc other)
-due_size game (Match Undo) due size h e = absurd (subst (UndoDue game) e h)
-due_size game (Match Quit) due size h e = absurd h
-due_size game FinalScore due size h e =
+due_size engine (Match Undo) due size h e = absurd (subst (UndoDue engine) e h)
+due_size engine (Match Quit) due size h e = absurd h
+due_size engine FinalScore due size h e =
     absurd (let other : Scores _ ≡ Resizes size = sym h.0 ∙ e in cc other)
-due_size game Name due size h e = absurd (let other : AnyReply ≡ Resizes size = sym h ∙ e in cc other)
-due_size game Version due size h e = absurd (let other : AnyReply ≡ Resizes size = sym h ∙ e in cc other)
-due_size game (KnownCommand known) due size h e =
+due_size engine Name due size h e = absurd (let other : AnyReply ≡ Resizes size = sym h ∙ e in cc other)
+due_size engine Version due size h e = absurd (let other : AnyReply ≡ Resizes size = sym h ∙ e in cc other)
+due_size engine (KnownCommand known) due size h e =
     absurd (let other : AnyReply ≡ Resizes size = sym h ∙ e in cc other)
 
-pub size_due : (game : GameRecord) (command : CheckCommand) (due : Due) (size : ℕ) → IsDue game command due
+pub size_due : (engine : RightEngine) (command : CheckCommand) (due : Due) (size : ℕ) → IsDue engine command due
     → command ≡ Match (Boardsize size) → due ≡ Resizes size
-size_due game command due size h e = due_of (subst (λ (c : CheckCommand). IsDue game c due) e h)
+size_due engine command due size h e = due_of (subst (λ (c : CheckCommand). IsDue engine c due) e h)
   where
-    due_of : IsDue game (Match (Boardsize size)) due → due ≡ Resizes size
+    due_of : IsDue engine (Match (Boardsize size)) due → due ≡ Resizes size
     due_of h = h.0
 
 -- a success where a size is due is a board of that size
@@ -161,7 +162,7 @@ pub takes_none : (ahead : GameRecord) (entry : Asked) (reply : Reply) (got : Jud
 takes_none ahead entry reply got asked j other takes =
     other takes.size
     (resized_by ahead entry.due takes.size reply got
-    (size_due asked.game entry.command entry.due takes.size asked.is_due takes.asks) takes.succeeds j)
+    (size_due asked.engine entry.command entry.due takes.size asked.is_due takes.asks) takes.succeeds j)
 
 pub takes_one : (ahead : GameRecord) (entry : Asked) (reply : Reply) (size : ℕ) → IsDueOnce entry
     → Judged ahead entry.due reply (Resized size) → TakesSize (record { entry = entry; reply = reply })
@@ -169,7 +170,7 @@ takes_one ahead entry reply size asked j =
     let due = resized_due ahead entry.due reply size j in
     record {
       size = size;
-      asks = due_size asked.game entry.command entry.due size asked.is_due due.0;
+      asks = due_size asked.engine entry.command entry.due size asked.is_due due.0;
       succeeds = due.1;
     }
 
@@ -201,6 +202,12 @@ judged_board old said entry later reply (Resized size) new asked list so j none 
       SinceSize.taken said (record { entry = entry; reply = reply })
           (takes_one old.game entry reply size asked j),
     )
+judged_board old said entry later reply Undone new asked list so j none rest is =
+    subst (BoardOf (said ++ record { entry = entry; reply = reply } ∷ [])) (sym is)
+    (subst (λ (l : List Asked). BoardSo (said ++ record { entry = entry; reply = reply } ∷ []) (drop 1 l) old.board)
+    (sym list)
+    (answered_board said entry later reply old.board
+    (takes_none old.game entry reply Undone asked j (λ size e. cc e)) so))
 judged_board old said entry later reply (Wrong kind) new asked list so j none rest is = absurd (cc none)
 
 heard_board : (old : Exam) (said : List Exchange) (new : Exam) (all : List Exchange)
@@ -229,20 +236,21 @@ board_so rule sent came said exam (Talks.hear {sent = s} {came = c} {said = x} {
 -- ---- where a command may be asked
 
 -- no `boardsize` is unanswered where nothing is awaited
-unawaited : (list : List Asked) (size : ℕ) → awaits list ≡ false
+unawaited : (list : List Asked) (size : ℕ) → AllDue list → awaits list ≡ false
     → SomeAsked (λ command. command ≡ Match (Boardsize size)) list → ⊥
-unawaited [] size none h = h
-unawaited (x ∷ xs) size none (inl is) =
-    let e : true ≡ false = sym (ap is_awaited is) ∙ or_left (is_awaited x.command) (awaits xs) none in cc e
-unawaited (x ∷ xs) size none (inr h) = unawaited xs size (or_right (is_awaited x.command) (awaits xs) none) h
+unawaited [] size all none h = h
+unawaited (x ∷ xs) size all none (inl is) =
+    let due : x.due ≡ Resizes size = size_due all.0.engine x.command x.due size all.0.is_due is in
+    let e : true ≡ false = sym (ap is_open due) ∙ or_left (is_open x.due) (awaits xs) none in cc e
+unawaited (x ∷ xs) size all none (inr h) = unawaited xs size all.1 (or_right (is_open x.due) (awaits xs) none) h
 
-cleared_known : (said : List Exchange) (exam : Exam) → awaits exam.unanswered ≡ false
+cleared_known : (said : List Exchange) (exam : Exam) → AllDue exam.unanswered → awaits exam.unanswered ≡ false
     → BoardSo said exam.unanswered Cleared → IsBoardKnown said exam.unanswered
-cleared_known said exam none so = record {
+cleared_known said exam all none so = record {
   since = so.0;
   taken = so.1;
   cleared = so.2;
-  settled = λ size h. unawaited exam.unanswered size none h;
+  settled = λ size h. unawaited exam.unanswered size all none h;
 }
 
 needs : (exam : Exam) (command : CheckCommand) → HangsOnBoard command → HasRoomFor exam command
@@ -255,5 +263,5 @@ needs exam command HangsOnBoard.scores room = room.board refl
 
 pub boards_known : BoardsAreKnown
 boards_known rule sent came said exam command talk hangs room =
-    cleared_known said exam room.none_awaits
+    cleared_known said exam (all_due rule sent came said exam talk) room.none_awaits
     (subst (BoardSo said exam.unanswered) (needs exam command hangs room) (board_so rule sent came said exam talk))

@@ -1,16 +1,16 @@
--- What is due to each unanswered command is due to it in some game, and the exam of a talk is orderly.
+-- What is due to each unanswered command is due of some engine, and the exam of a talk is orderly.
 use Rattle.std.proofs.Common.{◌≡◌, ℕ, ◌+◌, true, List, [], ◌∷◌, ◌++◌, None, sym, subst}
 use Rattle.std.specs.Prelude.{IfSome, drop}
-use Rattle.go_board.specs.Game.{GameRecord}
 use Rattle.go_board.specs.declared.rules.KoRule.{KoRule}
 use Rattle.gtp_wire.specs.declared.replies.Reply.{Reply}
 use Rattle.gtp_check_judge.specs.declared.judging.Judgement.{Judgement}
-use Rattle.gtp_check_judge.specs.declared.judging.Judgement.TheVariants.{Right, Plays, Resized, Wrong}
+use Rattle.gtp_check_judge.specs.declared.judging.Judgement.TheVariants.{Right, Plays, Resized, Undone, Wrong}
 use Rattle.gtp_check_judge.specs.declared.unanswered.Asked.{Asked}
 use Rattle.gtp_check_judge.specs.declared.exam.Exam.{Exam}
+use Rattle.gtp_check_judge.specs.RightEngine.{RightEngine}
 use Rattle.gtp_check_judge.specs.Dues.{IsDue}
 use Rattle.gtp_check_judge.specs.Judging.{oldest}
-use Rattle.gtp_check_judge.specs.Exam.{after_judged, finding_of, with_learned, with_rest, IsOrderly}
+use Rattle.gtp_check_judge.specs.Exam.{engine_of, after_judged, finding_of, with_learned, with_rest, IsOrderly}
 use Rattle.gtp_check_judge.specs.Laws.{Exchange, Talks}
 use Rattle.gtp_check_judge.proofs.history.Heard.{Leaving, heard_leaving}
 use Rattle.gtp_check_judge.proofs.order.Asked.{asked_orderly}
@@ -19,10 +19,10 @@ use Rattle.gtp_check_judge.proofs.talks.Silence.{begun_orderly}
 
 -- what is due to the command was due to it when it was asked
 pub record IsDueOnce (entry : Asked) : Type 0 where
-  pub game : GameRecord
-  pub is_due : IsDue game entry.command entry.due
+  pub engine : RightEngine
+  pub is_due : IsDue engine entry.command entry.due
 
-abbrev AllDue : List Asked → Type 0
+abbrev pub AllDue : List Asked → Type 0
 AllDue [] = Unit {0}
 AllDue (entry ∷ later) = IsDueOnce entry × AllDue later
 
@@ -47,6 +47,7 @@ judged_due old entry later reply got new list all none rest is =
     by Right none = left
     by (Plays colour v) none = left
     by (Resized size) none = left
+    by Undone none = left
     by (Wrong kind) none = absurd (cc none)
 
 heard_due : (old : Exam) (said : List Exchange) (new : Exam) (all : List Exchange) → AllDue old.unanswered
@@ -55,14 +56,14 @@ heard_due old said new all due (Leaving.nothing kept) = subst AllDue (sym kept.u
 heard_due old said new all due (Leaving.answered rest entry later reply got list j none is) =
     judged_due old entry later reply got new list due none rest is
 
-all_due : (rule : KoRule) (sent came : List ℕ) (said : List Exchange) (exam : Exam)
+pub all_due : (rule : KoRule) (sent came : List ℕ) (said : List Exchange) (exam : Exam)
     → Talks rule sent came said exam → AllDue exam.unanswered
 all_due rule sent came said exam Talks.start = tt
 all_due rule sent came said exam (Talks.ask {sent = s} {came = c} {said = x} {old = old} {new = new} command talk room
     asks) =
     subst (λ (e : Exam). AllDue e.unanswered) (sym asks.new_is)
     (due_last old.unanswered (record { id = old.sent + 1; command = command; due = asks.due })
-    (all_due rule s came said old talk) (record { game = old.game; is_due = asks.is_due }))
+    (all_due rule s came said old talk) (record { engine = engine_of old; is_due = asks.is_due }))
 all_due rule sent came said exam (Talks.hear {sent = s} {came = c} {said = x} {old = old} {new = new} bytes used read
     talk hears) =
     heard_due old x exam said (all_due rule sent c x old talk) (heard_leaving old bytes used read exam x hears)

@@ -8,14 +8,14 @@ use Rattle.gtp_wire.specs.declared.commands.Command.TheVariants.{Genmove, Undo}
 use Rattle.gtp_wire.specs.declared.replies.Reply.{Reply}
 use Rattle.gtp_check_judge.specs.declared.asking.CheckCommand.TheVariants.{Match, FinalScore}
 use Rattle.gtp_check_judge.specs.declared.judging.Judgement.{Judgement}
-use Rattle.gtp_check_judge.specs.declared.judging.Judgement.TheVariants.{Right, Plays, Resized, Wrong}
+use Rattle.gtp_check_judge.specs.declared.judging.Judgement.TheVariants.{Right, Plays, Resized, Undone, Wrong}
 use Rattle.gtp_check_judge.specs.declared.setups.Board.{Board}
 use Rattle.gtp_check_judge.specs.declared.setups.Board.TheVariants.{Unknown, Sized, Cleared}
 use Rattle.gtp_check_judge.specs.declared.unanswered.Asked.{Asked}
 use Rattle.gtp_check_judge.specs.declared.exam.Exam.{Exam}
 use Rattle.gtp_check_judge.specs.Setups.{is_clear_board, board_after}
-use Rattle.gtp_check_judge.specs.Judging.{oldest, Judged}
-use Rattle.gtp_check_judge.specs.Exam.{after_judged, finding_of, with_learned, with_rest}
+use Rattle.gtp_check_judge.specs.Judging.{oldest, is_open, Judged}
+use Rattle.gtp_check_judge.specs.Exam.{engine_of, after_judged, finding_of, with_learned, with_rest}
 use Rattle.gtp_check_judge.specs.Exam.{AreOrderly, IsOrderly}
 use Rattle.gtp_check_judge.specs.Laws.{Exchange, Talks}
 use Rattle.gtp_check_judge.specs.HistoryLaws.{SomeAsked, TakesSize, SinceSize, BoardsAreWhatWasSaid}
@@ -29,7 +29,8 @@ use Rattle.gtp_check_judge.proofs.history.Known.{skill_had}
 use Rattle.gtp_check_judge.specs.declared.asking.Known.TheVariants as known
 use Rattle.gtp_check_judge.proofs.history.Lasts.{no_since, since_cases}
 use Rattle.gtp_check_judge.proofs.history.Ready.{room_of}
-use Rattle.gtp_check_judge.proofs.order.Heard.{resized_awaited, resized_due}
+use Rattle.gtp_check_judge.proofs.history.Alone.{undo_may_fail_is}
+use Rattle.gtp_check_judge.proofs.order.Heard.{resized_due}
 use Rattle.gtp_check_judge.proofs.talks.Silence.{none_later}
 
 -- ---- the board
@@ -134,8 +135,14 @@ judged_enough old said entry later reply (Resized size) new asked list o so j no
     (subst (λ (l : List Asked). EnoughSo (said ++ record { entry = entry; reply = reply } ∷ []) (drop 1 l) Sized)
     (sym list)
     (sized_enough said entry later reply Sized (takes_one old.game entry reply size asked j)
-    (none_later entry later (resized_awaited old.game entry.command entry.due size due.0 o.judged.0) o.alone)
+    (none_later entry later (ap is_open due.0) o.alone)
     (λ e. cc e)))
+judged_enough old said entry later reply Undone new asked list o so j none rest is =
+    subst (EnoughOf (said ++ record { entry = entry; reply = reply } ∷ [])) (sym is)
+    (subst (λ (l : List Asked). EnoughSo (said ++ record { entry = entry; reply = reply } ∷ []) (drop 1 l) old.board)
+    (sym list)
+    (answered_enough said entry later reply old.board
+    (takes_none old.game entry reply Undone asked j (λ size e. cc e)) so))
 judged_enough old said entry later reply (Wrong kind) new asked list o so j none rest is = absurd (cc none)
 
 heard_enough : (old : Exam) (said : List Exchange) (new : Exam) (all : List Exchange)
@@ -202,7 +209,8 @@ known_asked rule sent came said exam talk ready board =
           λ colour owes room going. room_of exam (Match (Genmove colour)) ready (λ e. owes) (λ e. cleared)
           (λ e. absurd (cc e)) tt (room, going);
       undos =
-          λ knows. room_of exam (Match Undo) ready (λ e. absurd (cc e)) (λ e. cleared) (λ e. absurd (cc e))
+          λ knows owes. room_of exam (Match Undo) ready (λ e. owes (undo_may_fail_is (engine_of exam) e))
+          (λ e. cleared) (λ e. absurd (cc e))
           ((skill_had rule sent came said exam known.Undo talk).1 knows) tt;
       scores =
           λ komi knows asked moves stones. room_of exam FinalScore ready (λ e. absurd (cc e)) (λ e. cleared)

@@ -5,7 +5,7 @@ use Rattle.gtp_check_judge.specs.declared.unanswered.Asked.{Asked}
 use Rattle.gtp_check_judge.specs.Laws.{Exchange}
 use Rattle.gtp_check_judge.specs.HistoryLaws.{IsLast, TakesSize, SinceSize}
 
-never_empty : {A : Type 0} (xs : List A) (x : A) → xs ++ x ∷ [] ≡ [] → ⊥
+pub never_empty : {A : Type 0} (xs : List A) (x : A) → xs ++ x ∷ [] ≡ [] → ⊥
 never_empty [] x e = cc e
 never_empty (y ∷ ys) x e = cc e
 
@@ -13,7 +13,7 @@ empty_never : {A : Type 0} (xs : List A) (x : A) → [] ≡ xs ++ x ∷ [] → �
 empty_never [] x e = cc e
 empty_never (y ∷ ys) x e = cc e
 
-last_same : {A : Type 0} (xs ys : List A) (x y : A) → xs ++ x ∷ [] ≡ ys ++ y ∷ [] → (xs ≡ ys) × (x ≡ y)
+pub last_same : {A : Type 0} (xs ys : List A) (x y : A) → xs ++ x ∷ [] ≡ ys ++ y ∷ [] → (xs ≡ ys) × (x ≡ y)
 last_same [] [] x y e = (refl, cc e)
 last_same [] (b ∷ ys) x y e = absurd (let rest : [] ≡ ys ++ y ∷ [] = cc e in empty_never ys y rest)
 last_same (a ∷ xs) [] x y e = absurd (let rest : xs ++ x ∷ [] ≡ [] = cc e in never_empty xs x rest)

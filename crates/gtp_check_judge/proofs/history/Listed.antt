@@ -5,7 +5,7 @@ use Rattle.std.specs.Prelude.{◌||◌, drop}
 use Rattle.go_board.specs.declared.rules.KoRule.{KoRule}
 use Rattle.gtp_wire.specs.declared.replies.Reply.{Reply}
 use Rattle.gtp_check_judge.specs.declared.judging.Judgement.{Judgement}
-use Rattle.gtp_check_judge.specs.declared.judging.Judgement.TheVariants.{Right, Plays, Resized, Wrong}
+use Rattle.gtp_check_judge.specs.declared.judging.Judgement.TheVariants.{Right, Plays, Resized, Undone, Wrong}
 use Rattle.gtp_check_judge.specs.declared.unanswered.Asked.{Asked}
 use Rattle.gtp_check_judge.specs.declared.exam.Exam.{Exam}
 use Rattle.gtp_check_judge.specs.Setups.{is_komi}
@@ -46,18 +46,21 @@ judged_listed said exam entry later reply got new list none is = record {
     dropped Right none = refl
     dropped (Plays colour v) none = refl
     dropped (Resized size) none = refl
+    dropped Undone none = refl
     dropped (Wrong kind) none = absurd (cc none)
 
     same_komi : (got : Judgement) → (after_judged exam got).komi_set ≡ exam.komi_set
     same_komi Right = refl
     same_komi (Plays colour v) = refl
     same_komi (Resized size) = refl
+    same_komi Undone = refl
     same_komi (Wrong kind) = refl
 
     same_sent : (got : Judgement) → (after_judged exam got).sent ≡ exam.sent
     same_sent Right = refl
     same_sent (Plays colour v) = refl
     same_sent (Resized size) = refl
+    same_sent Undone = refl
     same_sent (Wrong kind) = refl
 
 listed : (said : List Exchange) (old : Exam) (all : List Exchange) (new : Exam) → Leaving old said new all

@@ -11,12 +11,12 @@ use Rattle.gtp_check_judge.specs.Setups.{is_final_score, needs_board}
 use Rattle.gtp_check_judge.specs.Skills.{needed_skill, said_of}
 use Rattle.gtp_check_judge.specs.Dues.{MayBeAsked}
 use Rattle.gtp_check_judge.specs.Judging.{is_awaited}
-use Rattle.gtp_check_judge.specs.Exam.{HasRoomFor}
+use Rattle.gtp_check_judge.specs.Exam.{engine_of, HasRoomFor}
 use Rattle.gtp_check_judge.specs.HistoryLaws.{IsReady, ReadyEnginesMayBeAsked}
 use Rattle.gtp_check_judge.proofs.history.Alone.{none_awaited}
 
 pub room_of : (exam : Exam) (command : CheckCommand) → IsReady exam
-    → (is_awaited command ≡ true → exam.unanswered ≡ [])
+    → (is_awaited (engine_of exam) command ≡ true → exam.unanswered ≡ [])
     → (needs_board command ≡ true → exam.board ≡ Cleared)
     → (is_final_score command ≡ true → exam.komi_set ≡ true)
     → IfSome (needed_skill command) (λ known. said_of exam.skills known ≡ Has) → MayBeAsked exam.game command
@@ -34,7 +34,7 @@ room_of exam command ready alone board komi skill may = record {
 }
 
 free_room : (exam : Exam) (command : CheckCommand) → IsReady exam
-    → (is_awaited command ≡ true → exam.unanswered ≡ []) → needs_board command ≡ false
+    → (is_awaited (engine_of exam) command ≡ true → exam.unanswered ≡ []) → needs_board command ≡ false
     → is_final_score command ≡ false → IfSome (needed_skill command) (λ known. said_of exam.skills known ≡ Has)
     → MayBeAsked exam.game command → HasRoomFor exam command
 free_room exam command ready alone board komi skill may =

@@ -4,8 +4,7 @@ use Rattle.std.proofs.Common.{sym, ap, subst, arith}
 use Rattle.std.specs.Prelude.{ℤ, IfSome, Result, Ok, Err, drop}
 use Rattle.go_base.specs.declared.colours.Colour.{Colour}
 use Rattle.go_base.specs.declared.vertices.Vertex.{Vertex}
-use Rattle.go_board.specs.Game.{GameRecord, with_move}
-use Rattle.gtp_check_judge.specs.declared.asking.CheckCommand.{CheckCommand}
+use Rattle.go_board.specs.Game.{GameRecord, IsLegal, with_move, without_last}
 use Rattle.gtp_wire.specs.declared.commands.Command.TheVariants.{Boardsize}
 use Rattle.gtp_wire.specs.declared.replies.Reply.{Reply}
 use Rattle.gtp_wire.specs.declared.replies.ReplyFault.{ReplyFault}
@@ -15,16 +14,16 @@ use Rattle.gtp_wire.specs.ReplyWords.{choice_of_text}
 use Rattle.gtp_check_judge.specs.Scores.{score_of_text}
 use Rattle.gtp_check_judge.specs.declared.dues.Due.{Due}
 use Rattle.gtp_check_judge.specs.declared.dues.Due.TheVariants.{Succeeds, Fails, Places, Resizes, Scores, AnyReply}
-use Rattle.gtp_check_judge.specs.declared.dues.Due.TheVariants.{Chooses}
+use Rattle.gtp_check_judge.specs.declared.dues.Due.TheVariants.{Chooses, MayUndo}
 use Rattle.gtp_check_judge.specs.declared.judging.Judgement.{Judgement}
-use Rattle.gtp_check_judge.specs.declared.judging.Judgement.TheVariants.{Right, Plays, Resized, Wrong}
+use Rattle.gtp_check_judge.specs.declared.judging.Judgement.TheVariants.{Right, Plays, Resized, Undone, Wrong}
 use Rattle.gtp_check_judge.specs.declared.unanswered.Asked.{Asked}
 use Rattle.gtp_check_judge.specs.declared.exam.Exam.{Exam}
 use Rattle.gtp_check_judge.specs.declared.exam.Finding.{Finding}
-use Rattle.gtp_check_judge.specs.Judging.{oldest, awaits, is_awaited, has_id, Judged, success_judged, failure_judged}
-use Rattle.gtp_check_judge.specs.Judging.{size_judged, points_judged, ChoiceJudged, ScoreJudged}
+use Rattle.gtp_check_judge.specs.Judging.{oldest, awaits, is_open, has_id, Judged, success_judged, failure_judged}
+use Rattle.gtp_check_judge.specs.Judging.{size_judged, undo_judged, points_judged, ChoiceJudged, ScoreJudged}
 use Rattle.gtp_check_judge.specs.Exam.{Hears, Leaves, ReplyLeaves, IdLeaves, after_judged, with_learned, with_rest}
-use Rattle.gtp_check_judge.specs.Exam.{MayBeTaken, MayReply, MayAllBeTaken, AreOrderly, IsOrderly}
+use Rattle.gtp_check_judge.specs.Exam.{MayApply, MayBeTaken, MayReply, MayAllBeTaken, AreOrderly, IsOrderly}
 use Rattle.go_base.specs.declared.choices.Choice.TheVariants as choice
 use Rattle.gtp_check_judge.proofs.order.Asked.{or_true}
 
@@ -32,7 +31,7 @@ pub may_reply : (exam : Exam) → IsOrderly exam → MayReply exam
 may_reply exam o = first exam.unanswered o.judged
   where
     first : (list : List Asked) → MayAllBeTaken exam.game list
-        → IfSome (oldest list) (λ asked. MayBeTaken exam.game asked.command asked.due)
+        → IfSome (oldest list) (λ asked. MayBeTaken exam.game asked.due)
     first [] all = tt
     first (asked ∷ later) all = all.0
 
@@ -40,7 +39,7 @@ right_parts : (game : GameRecord) (sent : ℕ) (asked : Asked) (later : List Ask
     → AreOrderly game sent (asked ∷ later) → AreOrderly game sent later
 right_parts game sent asked later o = record {
   few = omega (arith, o.few);
-  alone = λ e. rest later e (o.alone (or_true (is_awaited asked.command) (awaits later) e));
+  alone = λ e. rest later e (o.alone (or_true (is_open asked.due) (awaits later) e));
   ints = o.ints;
   answered = o.answered + 1;
   count = omega (arith, o.count);
@@ -54,7 +53,7 @@ right_parts game sent asked later o = record {
 
 -- what is awaited is alone, so after its answer nothing is unanswered, whatever the game
 played_parts : (game new : GameRecord) (sent : ℕ) (asked : Asked) (later : List Asked)
-    → is_awaited asked.command ≡ true
+    → is_open asked.due ≡ true
     → AreOrderly game sent (asked ∷ later) → AreOrderly new sent later
 played_parts game new sent asked [] is o = record {
   few = omega arith;
@@ -84,6 +83,11 @@ plays_chosen game (Scores s) reply colour v j = absurd (never reply.ok (score_of
     never true None e = cc e
     never true (Some n) e = e
 plays_chosen game AnyReply reply colour v j = absurd (cc j)
+plays_chosen game MayUndo reply colour v j = absurd (never reply.ok j)
+  where
+    never : (b : Bool) → Plays colour v ≡ undo_judged b → ⊥
+    never true e = cc e
+    never false e = cc e
 plays_chosen game (Fails cause) reply colour v j = absurd (never reply.ok j)
   where
     never : (b : Bool) → Plays colour v ≡ failure_judged cause b → ⊥
@@ -101,15 +105,14 @@ plays_chosen game (Places size stones) reply colour v j = absurd (never _ reply.
     never true true e = cc e
     never false true e = cc e
 
-pub chosen_genmove : (game : GameRecord) (command : CheckCommand) (due : Due) (c : Colour) → due ≡ Chooses c
-    → MayBeTaken game command due → is_awaited command ≡ true
-chosen_genmove game command (Chooses d) c e h = h.0
-chosen_genmove game command Succeeds c e h = absurd (cc e)
-chosen_genmove game command (Fails cause) c e h = absurd (cc e)
-chosen_genmove game command (Places s n) c e h = absurd (cc e)
-chosen_genmove game command (Resizes s) c e h = absurd (cc e)
-chosen_genmove game command (Scores s) c e h = absurd (cc e)
-chosen_genmove game command AnyReply c e h = absurd (cc e)
+-- the move that is chosen is legal
+chosen_legal : (game : GameRecord) (c : Colour) (ok : Bool) (said : Option Choice) (colour : Colour) (v : Vertex)
+    → ChoiceJudged game c ok said (Plays colour v) → IsLegal game colour v
+chosen_legal game c false said colour v j = absurd (cc j)
+chosen_legal game c true None colour v j = absurd (cc j)
+chosen_legal game c true (Some choice.Resign) colour v j = absurd (cc j)
+chosen_legal game c true (Some (choice.Play w)) colour v j =
+    subst (λ (d : Colour). IsLegal game d v) (sym j.0) (subst (IsLegal game c) (sym j.1) j.2)
 
 -- and a board has another size only by what asks for that size
 pub resized_due : (game : GameRecord) (due : Due) (reply : Reply) (size : ℕ)
@@ -131,6 +134,11 @@ resized_due game (Scores s) reply size j = absurd (never reply.ok (score_of_text
     never true None e = cc e
     never true (Some n) e = e
 resized_due game AnyReply reply size j = absurd (cc j)
+resized_due game MayUndo reply size j = absurd (never reply.ok j)
+  where
+    never : (b : Bool) → Resized size ≡ undo_judged b → ⊥
+    never true e = cc e
+    never false e = cc e
 resized_due game (Fails cause) reply size j = absurd (never reply.ok j)
   where
     never : (b : Bool) → Resized size ≡ failure_judged cause b → ⊥
@@ -150,15 +158,63 @@ resized_due game (Chooses colour) reply size j = absurd (never reply.ok (choice_
     never true (Some choice.Resign) e = cc e
     never true (Some (choice.Play v)) e = e
 
-pub resized_awaited : (game : GameRecord) (command : CheckCommand) (due : Due) (size : ℕ) → due ≡ Resizes size
-    → MayBeTaken game command due → is_awaited command ≡ true
-resized_awaited game command (Resizes s) size e h = h
-resized_awaited game command (Chooses d) size e h = absurd (cc e)
-resized_awaited game command Succeeds size e h = absurd (cc e)
-resized_awaited game command (Scores s) size e h = absurd (cc e)
-resized_awaited game command AnyReply size e h = absurd (cc e)
-resized_awaited game command (Fails cause) size e h = absurd (cc e)
-resized_awaited game command (Places s n) size e h = absurd (cc e)
+-- and a move is taken back only by an `undo` that may fail
+pub undone_by_undo : (game : GameRecord) (due : Due) (reply : Reply) → Judged game due reply Undone
+    → (due ≡ MayUndo) × (reply.ok ≡ true)
+undone_by_undo game MayUndo reply j = by reply.ok j
+  where
+    by : (b : Bool) → Undone ≡ undo_judged b → (MayUndo ≡ MayUndo) × (b ≡ true)
+    by true e = (refl, refl)
+    by false e = absurd (cc e)
+undone_by_undo game Succeeds reply j = absurd (never reply.ok j)
+  where
+    never : (b : Bool) → Undone ≡ success_judged b → ⊥
+    never true e = cc e
+    never false e = cc e
+undone_by_undo game (Scores s) reply j = absurd (never reply.ok (score_of_text reply.text.items) j)
+  where
+    never : (b : Bool) (said : Option ℤ) → ScoreJudged s b said Undone → ⊥
+    never false said e = cc e
+    never true None e = cc e
+    never true (Some n) e = e
+undone_by_undo game AnyReply reply j = absurd (cc j)
+undone_by_undo game (Fails cause) reply j = absurd (never reply.ok j)
+  where
+    never : (b : Bool) → Undone ≡ failure_judged cause b → ⊥
+    never true e = cc e
+    never false e = cc e
+undone_by_undo game (Resizes size) reply j = absurd (never reply.ok j)
+  where
+    never : (b : Bool) → Undone ≡ size_judged size b → ⊥
+    never true e = cc e
+    never false e = cc e
+undone_by_undo game (Places size stones) reply j = absurd (never _ reply.ok j)
+  where
+    never : (n b : Bool) → Undone ≡ points_judged n b → ⊥
+    never n false e = cc e
+    never true true e = cc e
+    never false true e = cc e
+undone_by_undo game (Chooses colour) reply j = absurd (never reply.ok (choice_of_text reply.text.items) j)
+  where
+    never : (b : Bool) (said : Option Choice) → ChoiceJudged game colour b said Undone → ⊥
+    never false said e = cc e
+    never true None e = cc e
+    never true (Some choice.Resign) e = cc e
+    never true (Some (choice.Play v)) e = e
+
+-- what is judged may be applied: a move that is made is legal and has room, and one that is taken back is there
+pub may_apply : (game : GameRecord) (due : Due) (reply : Reply) (got : Judgement) → MayBeTaken game due
+    → Judged game due reply got → MayApply game got
+may_apply game due reply Right may j = tt
+may_apply game due reply (Resized size) may j = tt
+may_apply game due reply (Wrong kind) may j = tt
+may_apply game due reply Undone may j = subst (MayBeTaken game) (undone_by_undo game due reply j).0 may
+may_apply game due reply (Plays colour v) may j =
+    let chosen = plays_chosen game due reply colour v j in (
+      chosen_legal game chosen.0 reply.ok (choice_of_text reply.text.items) colour v
+          (subst (λ (d : Due). Judged game d reply (Plays colour v)) chosen.1 j),
+      subst (MayBeTaken game) chosen.1 may,
+    )
 
 judged_orderly : (exam : Exam) (asked : Asked) (later : List Asked) (reply : Reply) (got : Judgement)
     → exam.unanswered ≡ asked ∷ later → AreOrderly exam.game exam.sent (asked ∷ later)
@@ -170,13 +226,18 @@ judged_orderly exam asked later reply (Plays colour v) is o j =
     let chosen = plays_chosen exam.game asked.due reply colour v j in
     subst (λ (l : List Asked). AreOrderly (with_move exam.game colour v) exam.sent (drop 1 l)) (sym is)
     (played_parts exam.game (with_move exam.game colour v) exam.sent asked later
-    (chosen_genmove exam.game asked.command asked.due chosen.0 chosen.1 o.judged.0) o)
+    (ap is_open chosen.1) o)
 judged_orderly exam asked later reply (Resized size) is o j =
     let due = resized_due exam.game asked.due reply size j in
     let new : GameRecord = after_command exam.game (Boardsize size) in
     subst (λ (l : List Asked). AreOrderly new exam.sent (drop 1 l)) (sym is)
     (played_parts exam.game new exam.sent asked later
-    (resized_awaited exam.game asked.command asked.due size due.0 o.judged.0) o)
+    (ap is_open due.0) o)
+judged_orderly exam asked later reply Undone is o j =
+    let due = undone_by_undo exam.game asked.due reply j in
+    let new : GameRecord = without_last exam.game in
+    subst (λ (l : List Asked). AreOrderly new exam.sent (drop 1 l)) (sym is)
+    (played_parts exam.game new exam.sent asked later (ap is_open due.0) o)
 judged_orderly exam asked later reply (Wrong kind) is o j =
     subst (λ (l : List Asked). AreOrderly exam.game exam.sent l) (sym is) o
 

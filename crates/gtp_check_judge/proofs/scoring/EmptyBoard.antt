@@ -17,6 +17,7 @@ use Rattle.go_board.specs.Counting.{CountsFor}
 use Rattle.go_board.specs.decisions.Counting.{counts_for?}
 use Rattle.go_base.specs.Decide.{holds}
 use Rattle.std.specs.List.{range_with_len}
+use Rattle.gtp_check_judge.specs.RightEngine.{RightEngine}
 use Rattle.gtp_check_judge.specs.Dues.{IsFresh, IsDue}
 use Rattle.gtp_check_judge.specs.declared.dues.Due.{Due}
 use Rattle.gtp_check_judge.specs.declared.dues.Due.TheVariants.{Scores}
@@ -74,5 +75,6 @@ score_fresh game fresh =
     ∙ ap (λ (n : ℕ). (pos 2 *ℤ (pos 0 -ℤ pos n)) -ℤ game.komi) (no_area game.size colour.White)
     ∙ by_komi game.komi
 
-pub due_score : (game : GameRecord) (due : Due) → IsDue game FinalScore due → due ≡ Scores (neg_ℤ game.komi)
-due_score game due h = h.0 ∙ ap Scores (score_fresh game h.1)
+pub due_score : (engine : RightEngine) (due : Due) → IsDue engine FinalScore due
+    → due ≡ Scores (neg_ℤ engine.game.komi)
+due_score engine due h = h.0 ∙ ap Scores (score_fresh engine.game h.1)

@@ -2,27 +2,27 @@
 use Rattle.std.proofs.Common.{◌≡◌, ℕ, Bool, true, false, List, [], ◌∷◌, Option, Some, None, refl}
 use Rattle.std.proofs.Common.{sym, ◌∙◌, ap, subst}
 use Rattle.std.specs.Prelude.{IfSome, Result, Ok, Err}
-use Rattle.go_board.specs.Game.{GameRecord, fresh_game_under}
 use Rattle.go_board.specs.declared.rules.KoRule.{KoRule}
 use Rattle.gtp_wire.specs.declared.replies.Reply.{Reply}
 use Rattle.gtp_wire.specs.declared.replies.ReplyFault.{ReplyFault}
 use Rattle.gtp_wire.specs.declared.replies.ReplyFault.TheVariants as fault
 use Rattle.gtp_check_judge.specs.declared.judging.Judgement.{Judgement}
-use Rattle.gtp_check_judge.specs.declared.judging.Judgement.TheVariants.{Right, Plays, Resized, Wrong}
+use Rattle.gtp_check_judge.specs.declared.judging.Judgement.TheVariants.{Right, Plays, Resized, Undone, Wrong}
 use Rattle.gtp_check_judge.specs.declared.judging.Kind.{Kind}
 use Rattle.gtp_check_judge.specs.declared.judging.Kind.TheVariants.{WrongId, Unasked}
 use Rattle.gtp_check_judge.specs.declared.unanswered.Asked.{Asked}
 use Rattle.gtp_check_judge.specs.declared.exam.Exam.{Exam}
 use Rattle.gtp_check_judge.specs.declared.exam.Finding.{Finding}
+use Rattle.gtp_check_judge.specs.RightEngine.{RightEngine, fresh_engine}
 use Rattle.gtp_check_judge.specs.Judging.{oldest, has_id}
 use Rattle.gtp_check_judge.specs.Exam.{Hears, Leaves, ReplyLeaves, IdLeaves, finding_of}
-use Rattle.gtp_check_judge.specs.Exam.{kind_of, with_rest, AreOrderly}
+use Rattle.gtp_check_judge.specs.Exam.{engine_of, kind_of, with_rest, AreOrderly}
 use Rattle.gtp_check_judge.specs.Laws.{IsRight, Exchange, AllRight, Talks, IsAsked, Expects}
 use Rattle.gtp_check_judge.specs.Laws.{IsRightSoFar, NoRightAnswer, FaultIsNamed, GivesKind, IsJustified}
 use Rattle.gtp_check_judge.proofs.answers.Statuses.{HoldsOf}
 use Rattle.gtp_check_judge.proofs.talks.Silence.{holds, id_has, id_is, oldest_asked, right_so_far}
 
-no_fault_right : (before : GameRecord) (o : Option Asked) (shown : ReplyFault)
+no_fault_right : (before : RightEngine) (o : Option Asked) (shown : ReplyFault)
     → NoRightAnswer before o (Some (Err shown))
 no_fault_right before None shown = tt
 no_fault_right before (Some entry) shown = tt
@@ -31,7 +31,7 @@ fault_named : (shown : ReplyFault) → FaultIsNamed shown (kind_of shown)
 fault_named fault.NoStatus = refl
 fault_named fault.Overlong = refl
 
-fault_kind : (before : GameRecord) (o : Option Asked) (shown : ReplyFault)
+fault_kind : (before : RightEngine) (o : Option Asked) (shown : ReplyFault)
     → GivesKind before o (Some (Err shown)) (kind_of shown)
 fault_kind before None shown = fault_named shown
 fault_kind before (Some entry) shown = fault_named shown
@@ -50,7 +50,7 @@ justified_of rule said exam read finding asked kind s is oldest_is wrong true_ki
       names = names ∙ oldest_is;
       due =
           subst (λ (o : Option Asked). IfSome o (IsAsked s.before)) (sym (names ∙ oldest_is))
-          (oldest_asked s.before exam.unanswered exam.game s.expects);
+          (oldest_asked s.before exam.unanswered (engine_of exam) s.expects);
       wrong = subst (λ (o : Option Asked). NoRightAnswer s.before o read) (sym names) wrong;
       kind =
           subst (λ (f : Finding). GivesKind s.before f.asked read f.kind) (sym same) true_kind;
@@ -61,10 +61,12 @@ found_by : (entry : Asked) (got : Judgement) (finding : Finding) → Some findin
 found_by entry Right finding e = absurd (cc e)
 found_by entry (Plays colour v) finding e = absurd (cc e)
 found_by entry (Resized size) finding e = absurd (cc e)
+found_by entry Undone finding e = absurd (cc e)
 found_by entry (Wrong kind) finding e = (kind, refl, e)
 
 -- a right answer has the id
-right_id : (before : GameRecord) (entry : Asked) (reply : Reply) (after : GameRecord) → IsRight before entry reply after
+right_id : (before : RightEngine) (entry : Asked) (reply : Reply) (after : RightEngine)
+    → IsRight before entry reply after
     → reply.id ≡ Some entry.id
 right_id before entry reply after (IsRight.by_table right) = right.id
 right_id before entry reply after (IsRight.by_refusal right) = right.id
@@ -84,9 +86,9 @@ id_justified rule said exam entry later reply true finding new s list id h =
     let found = found_by entry h.0 finding h.2 in
     let held : HoldsOf s.before entry reply (Wrong found.0) =
     subst (HoldsOf s.before entry reply) found.1
-    (holds s.before exam.game exam.sent entry later reply h.0 s.size
+    (holds s.before (engine_of exam) exam.sent entry later reply h.0 s.size
     (subst (λ (l : List Asked). AreOrderly exam.game exam.sent l) list s.orderly)
-    (subst (λ (l : List Asked). Expects s.before l exam.game) list s.expects) id h.1) in
+    (subst (λ (l : List Asked). Expects s.before l (engine_of exam)) list s.expects) id h.1) in
     justified_of rule said exam (Some (Ok reply)) finding (Some entry) found.0 s found.2 (sym (ap oldest list))
     held.0 (held.1, λ isnt. id_is reply.id entry.id id)
 
@@ -123,14 +125,15 @@ justified rule sent came said old new bytes used read finding talk h =
 -- ---- right answers
 
 pub unblamed : (rule : KoRule) (sent came : List ℕ) (said : List Exchange) (old new : Exam)
-    (bytes : List ℕ) (used : ℕ) (reply : Reply) (finding : Option Finding) (entry : Asked) (after : GameRecord)
+    (bytes : List ℕ) (used : ℕ) (reply : Reply) (finding : Option Finding) (entry : Asked)
     → Talks rule sent came said old → Hears old bytes used (Some (Ok reply)) finding new
     → oldest old.unanswered ≡ Some entry
-    → ((before : GameRecord) → AllRight (fresh_game_under rule) said before → IsRight before entry reply after)
+    → ((before : RightEngine) → AllRight (fresh_engine rule) said before
+    → (after : RightEngine) × IsRight before entry reply after)
     → finding ≡ None
-unblamed rule sent came said old new bytes used reply None entry after talk h is right = refl
-unblamed rule sent came said old new bytes used reply (Some finding) entry after talk h is right =
+unblamed rule sent came said old new bytes used reply None entry talk h is right = refl
+unblamed rule sent came said old new bytes used reply (Some finding) entry talk h is right =
     let j : IsJustified rule said old (Some (Ok reply)) finding =
     justified rule sent came said old new bytes used (Some (Ok reply)) finding talk h in
-    absurd (subst (λ (o : Option Asked). NoRightAnswer j.before o (Some (Ok reply))) (j.names ∙ is) j.wrong after
-    (right j.before j.right))
+    let one = right j.before j.right in
+    absurd (subst (λ (o : Option Asked). NoRightAnswer j.before o (Some (Ok reply))) (j.names ∙ is) j.wrong one.0 one.1)

@@ -5,48 +5,46 @@ use Rattle.std.specs.Prelude.{IfSome, Result, Ok, Err, drop}
 use Rattle.std.proofs.lemmas.Bool.Decides.{nat_tests}
 use Rattle.std.proofs.lemmas.List.{append-nil}
 use Rattle.go_base.specs.Size.{IsSize}
-use Rattle.go_base.specs.declared.colours.Colour.{Colour}
-use Rattle.go_board.specs.Game.{GameRecord, with_move, fresh_game_under}
 use Rattle.go_board.specs.declared.rules.KoRule.{KoRule}
 use Rattle.gtp_check_judge.specs.declared.asking.CheckCommand.{CheckCommand}
-use Rattle.gtp_wire.specs.declared.commands.Command.TheVariants.{Boardsize}
-use Rattle.gtp_session.specs.CommandAnswers.{after_command}
 use Rattle.gtp_wire.specs.declared.replies.Reply.{Reply}
 use Rattle.gtp_wire.specs.declared.replies.ReplyFault.{ReplyFault}
 use Rattle.gtp_session.proofs.reply_texts.Spoken.{answer_good}
 use Rattle.gtp_check_judge.specs.declared.dues.Due.{Due}
 use Rattle.gtp_check_judge.specs.declared.dues.Due.TheVariants.{Succeeds, Fails, Places, Resizes, Scores, AnyReply}
-use Rattle.gtp_check_judge.specs.declared.dues.Due.TheVariants.{Chooses}
+use Rattle.gtp_check_judge.specs.declared.dues.Due.TheVariants.{Chooses, MayUndo}
 use Rattle.gtp_check_judge.specs.declared.judging.Judgement.{Judgement}
-use Rattle.gtp_check_judge.specs.declared.judging.Judgement.TheVariants.{Right, Plays, Resized, Wrong}
+use Rattle.gtp_check_judge.specs.declared.judging.Judgement.TheVariants.{Right, Plays, Resized, Undone, Wrong}
 use Rattle.gtp_check_judge.specs.declared.unanswered.Asked.{Asked}
 use Rattle.gtp_check_judge.specs.declared.exam.Exam.{Exam}
-use Rattle.gtp_check_judge.specs.Dues.{after_due}
-use Rattle.gtp_check_judge.specs.Judging.{oldest, awaits, is_awaited, has_id, Judged}
-use Rattle.gtp_check_judge.specs.Exam.{begun, Asks, Hears, Leaves, ReplyLeaves, IdLeaves, after_judged, finding_of}
+use Rattle.gtp_check_judge.specs.RightEngine.{RightEngine, fresh_engine}
+use Rattle.gtp_check_judge.specs.Dues.{engine_after}
+use Rattle.gtp_check_judge.specs.Judging.{oldest, awaits, is_open, has_id, Judged}
+use Rattle.gtp_check_judge.specs.Exam.{engine_of, begun, Asks, Hears, Leaves, ReplyLeaves, IdLeaves, after_judged}
+use Rattle.gtp_check_judge.specs.Exam.{finding_of}
 use Rattle.gtp_check_judge.specs.Exam.{with_learned, with_rest, AreOrderly, IsOrderly, HasRoomFor}
 use Rattle.gtp_check_judge.specs.Laws.{line_of_asked, IsRight, Exchange, AllRight, exchanged, Talks, IsAsked, Expects}
 use Rattle.gtp_check_judge.specs.Laws.{IsRightSoFar}
 use Rattle.gtp_check_judge.proofs.answers.Judged.{judged_holds}
-use Rattle.gtp_check_judge.proofs.answers.Statuses.{HoldsOf}
+use Rattle.gtp_check_judge.proofs.answers.Statuses.{HoldsOf, moved, resized, taken_back}
 use Rattle.gtp_check_judge.proofs.order.Asked.{asked_orderly}
-use Rattle.gtp_check_judge.proofs.order.Heard.{chosen_genmove, heard_orderly, plays_chosen, resized_awaited}
-use Rattle.gtp_check_judge.proofs.order.Heard.{resized_due}
+use Rattle.gtp_check_judge.proofs.order.Heard.{heard_orderly, plays_chosen, resized_due, undone_by_undo}
 
 -- ---- what is expected
 
-expects_more : (game : GameRecord) (list : List Asked) (ahead : GameRecord) (entry : Asked) → Expects game list ahead
-    → IsAsked ahead entry → Expects game (list ++ entry ∷ []) (after_due ahead entry.command entry.due)
-expects_more game [] ahead entry h a =
-    subst (λ (g : GameRecord). IsAsked g entry × (after_due ahead entry.command entry.due ≡ after_due g entry.command
-    entry.due)) h (a, refl)
-expects_more game (first ∷ later) ahead entry h a =
-    (h.0, expects_more (after_due game first.command first.due) later ahead entry h.1 a)
+expects_more : (engine : RightEngine) (list : List Asked) (ahead : RightEngine) (entry : Asked)
+    → Expects engine list ahead → IsAsked ahead entry
+    → Expects engine (list ++ entry ∷ []) (engine_after ahead entry.command entry.due)
+expects_more engine [] ahead entry h a =
+    subst (λ (g : RightEngine). IsAsked g entry × (engine_after ahead entry.command entry.due
+    ≡ engine_after g entry.command entry.due)) h (a, refl)
+expects_more engine (first ∷ later) ahead entry h a =
+    (h.0, expects_more (engine_after engine first.command first.due) later ahead entry h.1 a)
 
-pub oldest_asked : (game : GameRecord) (list : List Asked) (ahead : GameRecord) → Expects game list ahead
-    → IfSome (oldest list) (IsAsked game)
-oldest_asked game [] ahead h = tt
-oldest_asked game (entry ∷ later) ahead h = h.0
+pub oldest_asked : (engine : RightEngine) (list : List Asked) (ahead : RightEngine) → Expects engine list ahead
+    → IfSome (oldest list) (IsAsked engine)
+oldest_asked engine [] ahead h = tt
+oldest_asked engine (entry ∷ later) ahead h = h.0
 
 -- ---- ids
 
@@ -62,149 +60,148 @@ id_has id wanted e = rw e (same wanted)
 
 -- ---- what is awaited is judged in the game before it
 
-pub none_later : (entry : Asked) (later : List Asked) → is_awaited entry.command ≡ true
+pub none_later : (entry : Asked) (later : List Asked) → is_open entry.due ≡ true
     → (awaits (entry ∷ later) ≡ true → length (entry ∷ later) ≡ 1) → later ≡ []
 none_later entry [] is alone = refl
 none_later entry (x ∷ xs) is alone = absurd (let e = alone (rw is refl) in omega arith)
 
-record IsAlone (before ahead : GameRecord) (later : List Asked) : Type 0 where
+record IsAlone (before ahead : RightEngine) (later : List Asked) : Type 0 where
   last : later ≡ []
   here : ahead ≡ before
 
-alone_of : (before ahead : GameRecord) (sent : ℕ) (entry : Asked) (later : List Asked)
-    → is_awaited entry.command ≡ true → after_due before entry.command entry.due ≡ before
-    → AreOrderly ahead sent (entry ∷ later) → Expects before (entry ∷ later) ahead
+alone_of : (before ahead : RightEngine) (sent : ℕ) (entry : Asked) (later : List Asked)
+    → is_open entry.due ≡ true → engine_after before entry.command entry.due ≡ before
+    → AreOrderly ahead.game sent (entry ∷ later) → Expects before (entry ∷ later) ahead
     → IsAlone before ahead later
 alone_of before ahead sent entry later is stays o h =
     let last : later ≡ [] = none_later entry later is o.alone in
     record {
       last = last;
-      here = (subst (λ (l : List Asked). Expects (after_due before entry.command entry.due) l ahead) last h.1) ∙ stays;
+      here =
+          (subst (λ (l : List Asked). Expects (engine_after before entry.command entry.due) l ahead) last h.1) ∙ stays;
     }
 
-alone : (before ahead : GameRecord) (sent : ℕ) (entry : Asked) (later : List Asked) (colour : Colour)
-    → entry.due ≡ Chooses colour → AreOrderly ahead sent (entry ∷ later) → Expects before (entry ∷ later) ahead
+-- what leaves open what is done leaves the engine as it is until then
+alone : (before ahead : RightEngine) (sent : ℕ) (entry : Asked) (later : List Asked) (due : Due)
+    → entry.due ≡ due → is_open due ≡ true → engine_after before entry.command due ≡ before
+    → AreOrderly ahead.game sent (entry ∷ later) → Expects before (entry ∷ later) ahead
     → IsAlone before ahead later
-alone before ahead sent entry later colour is o h =
-    alone_of before ahead sent entry later (chosen_genmove ahead entry.command entry.due colour is o.judged.0)
-    (ap (after_due before entry.command) is) o h
+alone before ahead sent entry later due is opens stays o h =
+    alone_of before ahead sent entry later (ap is_open is ∙ opens)
+    (ap (engine_after before entry.command) is ∙ stays) o h
 
-alone_size : (before ahead : GameRecord) (sent : ℕ) (entry : Asked) (later : List Asked) (size : ℕ)
-    → entry.due ≡ Resizes size → AreOrderly ahead sent (entry ∷ later) → Expects before (entry ∷ later) ahead
-    → IsAlone before ahead later
-alone_size before ahead sent entry later size is o h =
-    alone_of before ahead sent entry later (resized_awaited ahead entry.command entry.due size is o.judged.0)
-    (ap (after_due before entry.command) is) o h
-
-judged_before : (before ahead : GameRecord) (sent : ℕ) (entry : Asked) (later : List Asked) (due : Due) (reply : Reply)
-    (got : Judgement) → entry.due ≡ due → AreOrderly ahead sent (entry ∷ later) → Expects before (entry ∷ later) ahead
-    → Judged ahead due reply got → Judged before due reply got
+judged_before : (before ahead : RightEngine) (sent : ℕ) (entry : Asked) (later : List Asked) (due : Due) (reply : Reply)
+    (got : Judgement) → entry.due ≡ due → AreOrderly ahead.game sent (entry ∷ later)
+    → Expects before (entry ∷ later) ahead → Judged ahead.game due reply got → Judged before.game due reply got
 judged_before before ahead sent entry later Succeeds reply got is o h j = j
 judged_before before ahead sent entry later (Fails cause) reply got is o h j = j
 judged_before before ahead sent entry later (Places s n) reply got is o h j = j
 judged_before before ahead sent entry later (Resizes s) reply got is o h j = j
 judged_before before ahead sent entry later (Scores s) reply got is o h j = j
 judged_before before ahead sent entry later AnyReply reply got is o h j = j
+judged_before before ahead sent entry later MayUndo reply got is o h j = j
 judged_before before ahead sent entry later (Chooses colour) reply got is o h j =
-    subst (λ (g : GameRecord). Judged g (Chooses colour) reply got)
-    (alone before ahead sent entry later colour is o h).here j
+    subst (λ (g : RightEngine). Judged g.game (Chooses colour) reply got)
+    (alone before ahead sent entry later (Chooses colour) is refl refl o h).here j
 
 -- what is judged of the reply to the oldest command holds of it
-pub holds : (before ahead : GameRecord) (sent : ℕ) (entry : Asked) (later : List Asked) (reply : Reply)
+pub holds : (before ahead : RightEngine) (sent : ℕ) (entry : Asked) (later : List Asked) (reply : Reply)
     (got : Judgement)
-    → IsSize before.size → AreOrderly ahead sent (entry ∷ later) → Expects before (entry ∷ later) ahead
-    → has_id reply.id entry.id ≡ true → Judged ahead entry.due reply got → HoldsOf before entry reply got
+    → IsSize before.game.size → AreOrderly ahead.game sent (entry ∷ later) → Expects before (entry ∷ later) ahead
+    → has_id reply.id entry.id ≡ true → Judged ahead.game entry.due reply got → HoldsOf before entry reply got
 holds before ahead sent entry later reply got size o h id j =
     judged_holds before entry entry.due reply got refl size h.0 (id_is reply.id entry.id id)
     (judged_before before ahead sent entry later entry.due reply got refl o h j)
 
 -- ---- silence
 
-right_size : (before : GameRecord) (entry : Asked) (reply : Reply) (after : GameRecord) → IsSize before.size
-    → IsRight before entry reply after → IsSize after.size
+right_size : (before : RightEngine) (entry : Asked) (reply : Reply) (after : RightEngine) → IsSize before.game.size
+    → IsRight before entry reply after → IsSize after.game.size
 right_size before entry reply after size (IsRight.by_refusal refuses) =
-    subst (λ (g : GameRecord). IsSize g.size) (sym refuses.game) size
+    subst (λ (g : RightEngine). IsSize g.game.size) (sym refuses.leaves) size
 right_size before entry reply after size (IsRight.by_table right) =
-    subst (λ (g : GameRecord). IsSize g.size) (sym right.game)
-    (answer_good before (line_of_asked entry) right.choice size right.lawful).size
+    subst (λ (g : RightEngine). IsSize g.game.size) (sym right.leaves)
+    (answer_good before.game (line_of_asked entry) right.choice size right.lawful).size
 
 -- the same, without the order
-record IsRightBefore (rule : KoRule) (said : List Exchange) (unanswered : List Asked) (ahead : GameRecord)
+record IsRightBefore (rule : KoRule) (said : List Exchange) (unanswered : List Asked) (ahead : RightEngine)
     : Type 0 where
-  before : GameRecord
-  right : AllRight (fresh_game_under rule) said before
+  before : RightEngine
+  right : AllRight (fresh_engine rule) said before
   expects : Expects before unanswered ahead
-  size : IsSize before.size
+  size : IsSize before.game.size
+
+-- The answer to a command that leaves open what is done was right: nothing else is unanswered, and it leaves the engine
+-- that the exam has then.
+opened_so_far : (rule : KoRule) (said : List Exchange) (exam : Exam) (entry : Asked) (later : List Asked)
+    (reply : Reply) (new : Exam) (after : RightEngine → RightEngine)
+    → (s : IsRightBefore rule said (entry ∷ later) (engine_of exam)) → exam.unanswered ≡ entry ∷ later
+    → IsAlone s.before (engine_of exam) later → IsRight s.before entry reply (after s.before)
+    → new.unanswered ≡ drop 1 exam.unanswered → engine_of new ≡ after (engine_of exam)
+    → IsRightBefore rule (said ++ record { entry = entry; reply = reply } ∷ []) new.unanswered (engine_of new)
+opened_so_far rule said exam entry later reply new after s list only right off is = record {
+  before = after s.before;
+  right = AllRight.one_more entry reply s.right right;
+  expects =
+      subst (λ (l : List Asked). Expects (after s.before) l (engine_of new))
+      (sym (off ∙ ap (drop 1) list ∙ only.last)) (is ∙ ap after only.here);
+  size = right_size s.before entry reply (after s.before) s.size right;
+}
 
 judged_so_far : (rule : KoRule) (said : List Exchange) (exam : Exam) (entry : Asked) (later : List Asked)
     (reply : Reply)
     (got : Judgement) (new : Exam)
-    → (s : IsRightBefore rule said (entry ∷ later) exam.game) → AreOrderly exam.game exam.sent (entry ∷ later)
+    → (s : IsRightBefore rule said (entry ∷ later) (engine_of exam))
+    → AreOrderly exam.game exam.sent (entry ∷ later)
     → exam.unanswered ≡ entry ∷ later
     → has_id reply.id entry.id ≡ true → Judged exam.game entry.due reply got
     → None ≡ finding_of entry got → new ≡ after_judged exam got
-    → IsRightBefore rule (said ++ record { entry = entry; reply = reply } ∷ []) new.unanswered new.game
+    → IsRightBefore rule (said ++ record { entry = entry; reply = reply } ∷ []) new.unanswered (engine_of new)
 judged_so_far rule said exam entry later reply Right new s o list id j none is =
-    let right = holds s.before exam.game exam.sent entry later reply Right s.size o s.expects id j in
-    record {
-      before = after_due s.before entry.command entry.due;
-      right = AllRight.one_more entry reply s.right right;
-      expects =
-          subst (λ (e : Exam). Expects (after_due s.before entry.command entry.due) e.unanswered e.game) (sym is)
-          (subst (λ (l : List Asked). Expects (after_due s.before entry.command entry.due) (drop 1 l) exam.game)
-          (sym list) s.expects.1);
-      size = right_size s.before entry reply (after_due s.before entry.command entry.due) s.size right;
-    }
-judged_so_far rule said exam entry later reply (Plays colour v) new s o list id j none is =
-    let right = holds s.before exam.game exam.sent entry later reply (Plays colour v) s.size o s.expects id j in
-    let chosen = plays_chosen exam.game entry.due reply colour v j in
-    let only : IsAlone s.before exam.game later =
-    alone s.before exam.game exam.sent entry later chosen.0 chosen.1 o s.expects in
-    record {
-      before = with_move s.before colour v;
-      right = AllRight.one_more entry reply s.right right;
-      expects =
-          subst (λ (e : Exam). Expects (with_move s.before colour v) e.unanswered e.game) (sym is)
-          (subst (λ (l : List Asked). Expects (with_move s.before colour v) (drop 1 l) (with_move exam.game colour v))
-          (sym list)
-          (subst (λ (l : List Asked). Expects (with_move s.before colour v) l (with_move exam.game colour v))
-          (sym only.last) (ap (λ (g : GameRecord). with_move g colour v) only.here)));
-      size = right_size s.before entry reply (with_move s.before colour v) s.size right;
-    }
-judged_so_far rule said exam entry later reply (Resized size) new s o list id j none is =
-    let after : GameRecord = after_command s.before (Boardsize size) in
-    let ahead : GameRecord = after_command exam.game (Boardsize size) in
-    let right = holds s.before exam.game exam.sent entry later reply (Resized size) s.size o s.expects id j in
-    let due = resized_due exam.game entry.due reply size j in
-    let only : IsAlone s.before exam.game later =
-    alone_size s.before exam.game exam.sent entry later size due.0 o s.expects in
+    let after : RightEngine = engine_after s.before entry.command entry.due in
+    let right = holds s.before (engine_of exam) exam.sent entry later reply Right s.size o s.expects id j in
     record {
       before = after;
       right = AllRight.one_more entry reply s.right right;
       expects =
-          subst (λ (e : Exam). Expects after e.unanswered e.game) (sym is)
-          (subst (λ (l : List Asked). Expects after (drop 1 l) ahead)
-          (sym list)
-          (subst (λ (l : List Asked). Expects after l ahead)
-          (sym only.last) (ap (λ (g : GameRecord). after_command g (Boardsize size)) only.here)));
+          subst (λ (e : Exam). Expects after e.unanswered (engine_of e)) (sym is)
+          (subst (λ (l : List Asked). Expects after (drop 1 l) (engine_of exam)) (sym list) s.expects.1);
       size = right_size s.before entry reply after s.size right;
     }
+judged_so_far rule said exam entry later reply (Plays colour v) new s o list id j none is =
+    let chosen = plays_chosen exam.game entry.due reply colour v j in
+    opened_so_far rule said exam entry later reply new (λ (e : RightEngine). moved e colour v) s list
+    (alone s.before (engine_of exam) exam.sent entry later (Chooses chosen.0) chosen.1 refl refl o s.expects)
+    (holds s.before (engine_of exam) exam.sent entry later reply (Plays colour v) s.size o s.expects id j)
+    (ap (λ (e : Exam). e.unanswered) is) (ap engine_of is)
+judged_so_far rule said exam entry later reply (Resized size) new s o list id j none is =
+    let due = resized_due exam.game entry.due reply size j in
+    opened_so_far rule said exam entry later reply new (λ (e : RightEngine). resized e size) s list
+    (alone s.before (engine_of exam) exam.sent entry later (Resizes size) due.0 refl refl o s.expects)
+    (holds s.before (engine_of exam) exam.sent entry later reply (Resized size) s.size o s.expects id j)
+    (ap (λ (e : Exam). e.unanswered) is) (ap engine_of is)
+judged_so_far rule said exam entry later reply Undone new s o list id j none is =
+    let due = undone_by_undo exam.game entry.due reply j in
+    opened_so_far rule said exam entry later reply new taken_back s list
+    (alone s.before (engine_of exam) exam.sent entry later MayUndo due.0 refl refl o s.expects)
+    (holds s.before (engine_of exam) exam.sent entry later reply Undone s.size o s.expects id j)
+    (ap (λ (e : Exam). e.unanswered) is) (ap engine_of is)
 judged_so_far rule said exam entry later reply (Wrong kind) new s o list id j none is = absurd (cc none)
 
 id_so_far : (rule : KoRule) (said : List Exchange) (exam : Exam) (entry : Asked) (later : List Asked) (reply : Reply)
     (b : Bool) (new : Exam)
-    → IsRightBefore rule said (entry ∷ later) exam.game → AreOrderly exam.game exam.sent (entry ∷ later)
+    → IsRightBefore rule said (entry ∷ later) (engine_of exam) → AreOrderly exam.game exam.sent (entry ∷ later)
     → exam.unanswered ≡ entry ∷ later → has_id reply.id entry.id ≡ b
     → IdLeaves exam entry reply b None new
-    → IsRightBefore rule (said ++ record { entry = entry; reply = reply } ∷ []) new.unanswered new.game
+    → IsRightBefore rule (said ++ record { entry = entry; reply = reply } ∷ []) new.unanswered (engine_of new)
 id_so_far rule said exam entry later reply false new s o list id h = absurd (cc (h.0))
 id_so_far rule said exam entry later reply true new s o list id h =
     judged_so_far rule said (with_learned exam entry.command reply) entry later reply h.0 new s o list id h.1 h.2 h.3
 
 reply_so_far : (rule : KoRule) (said : List Exchange) (exam : Exam) (list : List Asked) (reply : Reply) (new : Exam)
-    → IsRightBefore rule said list exam.game → AreOrderly exam.game exam.sent list → exam.unanswered ≡ list
+    → IsRightBefore rule said list (engine_of exam) → AreOrderly exam.game exam.sent list → exam.unanswered ≡ list
     → ReplyLeaves exam (oldest list) reply None new
-    → IsRightBefore rule (said ++ exchanged (oldest list) (Some (Ok reply))) new.unanswered new.game
+    → IsRightBefore rule (said ++ exchanged (oldest list) (Some (Ok reply))) new.unanswered (engine_of new)
 reply_so_far rule said exam [] reply new s o list h = absurd (cc (h.0))
 reply_so_far rule said exam (entry ∷ later) reply new s o list h =
     id_so_far rule said exam entry later reply (has_id reply.id entry.id) new s o list refl h
@@ -214,13 +211,13 @@ nothing_exchanged None = refl
 nothing_exchanged (Some entry) = refl
 
 leaves_so_far : (rule : KoRule) (said : List Exchange) (exam : Exam) (read : Option (Result Reply ReplyFault))
-    (new : Exam) → IsRightBefore rule said exam.unanswered exam.game → IsOrderly exam → Leaves exam read None new
-    → IsRightBefore rule (said ++ exchanged (oldest exam.unanswered) read) new.unanswered new.game
+    (new : Exam) → IsRightBefore rule said exam.unanswered (engine_of exam) → IsOrderly exam → Leaves exam read None new
+    → IsRightBefore rule (said ++ exchanged (oldest exam.unanswered) read) new.unanswered (engine_of new)
 leaves_so_far rule said exam None new s o h =
-    subst (λ (more : List Exchange). IsRightBefore rule (said ++ more) new.unanswered new.game)
+    subst (λ (more : List Exchange). IsRightBefore rule (said ++ more) new.unanswered (engine_of new))
     (sym (nothing_exchanged (oldest exam.unanswered)))
-    (subst (λ (all : List Exchange). IsRightBefore rule all new.unanswered new.game) (sym (append-nil said))
-    (subst (λ (e : Exam). IsRightBefore rule said e.unanswered e.game) (sym h.1) s))
+    (subst (λ (all : List Exchange). IsRightBefore rule all new.unanswered (engine_of new)) (sym (append-nil said))
+    (subst (λ (e : Exam). IsRightBefore rule said e.unanswered (engine_of e)) (sym h.1) s))
 leaves_so_far rule said exam (Some (Err shown)) new s o h = absurd (cc (h.0))
 leaves_so_far rule said exam (Some (Ok reply)) new s o h =
     reply_so_far rule said exam exam.unanswered reply new s o refl h
@@ -237,7 +234,7 @@ begun_orderly rule up = record {
 }
 
 unready : (rule : KoRule) (said : List Exchange) (exam : Exam) → IsRightSoFar rule said exam
-    → IsRightBefore rule said exam.unanswered exam.game
+    → IsRightBefore rule said exam.unanswered (engine_of exam)
 unready rule said exam s = record { before = s.before; right = s.right; expects = s.expects; size = s.size }
 
 asked_so_far : (rule : KoRule) (said : List Exchange) (old : Exam) (command : CheckCommand) (new : Exam)
@@ -248,8 +245,8 @@ asked_so_far rule said old command new s room a =
       before = s.before;
       right = s.right;
       expects =
-          subst (λ (e : Exam). Expects s.before e.unanswered e.game) (sym a.new_is)
-          (expects_more s.before old.unanswered old.game entry s.expects
+          subst (λ (e : Exam). Expects s.before e.unanswered (engine_of e)) (sym a.new_is)
+          (expects_more s.before old.unanswered (engine_of old) entry s.expects
           (record { writable = a.writable; limits = a.limits; is_due = a.is_due }));
       size = s.size;
       orderly = asked_orderly old command new s.orderly room a;
@@ -260,7 +257,7 @@ heard_so_far : (rule : KoRule) (said : List Exchange) (old : Exam) (bytes : List
     → Hears old bytes used read None new
     → IsRightSoFar rule (said ++ exchanged (oldest old.unanswered) read) new
 heard_so_far rule said old bytes used read new s h =
-    let after : IsRightBefore rule (said ++ exchanged (oldest old.unanswered) read) new.unanswered new.game =
+    let after : IsRightBefore rule (said ++ exchanged (oldest old.unanswered) read) new.unanswered (engine_of new) =
     leaves_so_far rule said (with_rest old h.0) read new (unready rule said old s) s.orderly h.2 in
     record {
       before = after.before;
@@ -273,7 +270,7 @@ heard_so_far rule said old bytes used read new s h =
 pub right_so_far : (rule : KoRule) (sent came : List ℕ) (said : List Exchange) (exam : Exam)
     → Talks rule sent came said exam → IsRightSoFar rule said exam
 right_so_far rule sent came said exam Talks.start = record {
-  before = fresh_game_under rule;
+  before = fresh_engine rule;
   right = AllRight.nothing;
   expects = refl;
   size = record { least = omega arith; most = omega arith };

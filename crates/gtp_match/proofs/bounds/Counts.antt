@@ -9,7 +9,7 @@ use Rattle.gtp_match.specs.Counting.{unless_started, sent_since_start}
 use Rattle.gtp_match.specs.Hearing.{Hears, HearsAll, HearsAllBy}
 use Rattle.gtp_match.specs.ReplyTable.{outcome, after_outcome}
 use Rattle.gtp_match.specs.Setup.{SetupRecord}
-use Rattle.gtp_match.specs.Sides.{side_of, with_side, with_engine_of, downed_side, handed, heard_reply, answered}
+use Rattle.gtp_match.specs.Sides.{side_of, with_side, with_engine_of, downed_side, with_sent, heard_reply, answered}
 use Rattle.gtp_match.specs.Sides.{confirmed, taken_back}
 use Rattle.gtp_match.specs.Taking.{may_retake}
 use Rattle.gtp_match.specs.Unanswered.{oldest}
@@ -142,7 +142,7 @@ sent_starts c s t = by_up (side_of c.sides s).up
   where
     by_up : (up : Option EngineRun) → (side_of (sent_to c s up).sides t).starts ≡ (side_of c.sides t).starts
     by_up None = refl
-    by_up (Some engine) = up_starts c.sides s t (handed (next_command c s engine) engine)
+    by_up (Some engine) = up_starts c.sides s t (with_sent (next_command c s engine) engine)
 
 -- ---- along the calls
 

@@ -19,7 +19,7 @@ use Rattle.gtp_match.specs.declared.verdicts.Verdict.{Verdict}
 use Rattle.gtp_match.specs.declared.controller.Controller.{Controller}
 use Rattle.gtp_match.specs.Setup.{SetupRecord, IsSetup}
 use Rattle.gtp_match.specs.Unanswered.{oldest}
-use Rattle.gtp_match.specs.Sides.{side_of, with_side, started_side, downed_side, with_engine, with_engine_of, handed}
+use Rattle.gtp_match.specs.Sides.{side_of, with_side, started_side, downed_side, with_engine, with_engine_of, with_sent}
 use Rattle.gtp_match.specs.Sides.{answered, confirmed, taken_back, heard_reply}
 use Rattle.gtp_match.specs.Controller.{new, with_side_up, started, next_command, sent, sent_to, downed, lost}
 use Rattle.gtp_match.specs.Controller.{lost_engine}
@@ -122,7 +122,7 @@ start_total k c s e =
 -- where a command is sent, the side is up
 sent_is : (c : Controller) (s : Colour) → MakerIsUp c → next c ≡ Send s
     → (engine : EngineRun) × ((side_of c.sides s).up ≡ Some engine)
-    × (sent c s ≡ with_side_up c s (handed (next_command c s engine) engine))
+    × (sent c s ≡ with_side_up c s (with_sent (next_command c s engine) engine))
 sent_is c s maker_up e = let says = says_send c s maker_up e in (says.engine, says.up, ap (sent_to c s) says.up)
 
 send_total : (k : ℕ) (c : Controller) (s : Colour) → MakerIsUp c → next c ≡ Send s
@@ -130,7 +130,7 @@ send_total : (k : ℕ) (c : Controller) (s : Colour) → MakerIsUp c → next c 
 send_total k c s maker_up e =
     let x = sent_is c s maker_up e in
     ap (λ (y : Controller). total k y.sides) x.2
-    ∙ total_with k c.sides s (with_engine (handed (next_command c s x.0) x.0) (side_of c.sides s))
+    ∙ total_with k c.sides s (with_engine (with_sent (next_command c s x.0) x.0) (side_of c.sides s))
     ∙ omega (arith, total_of k c.sides s, spent_up k (side_of c.sides s) x.0 x.1)
 
 send_starts : (c : Controller) (s t : Colour) → MakerIsUp c → next c ≡ Send s
@@ -138,7 +138,7 @@ send_starts : (c : Controller) (s t : Colour) → MakerIsUp c → next c ≡ Sen
 send_starts c s t maker_up e =
     let x = sent_is c s maker_up e in
     ap (λ (y : Controller). (side_of y.sides t).starts) x.2
-    ∙ up_starts c.sides s t (handed (next_command c s x.0) x.0)
+    ∙ up_starts c.sides s t (with_sent (next_command c s x.0) x.0)
 
 send_setup : (c : Controller) (s : Colour) → MakerIsUp c → next c ≡ Send s → (sent c s).setup ≡ c.setup
 send_setup c s maker_up e = let x = sent_is c s maker_up e in ap (λ (y : Controller). y.setup) x.2

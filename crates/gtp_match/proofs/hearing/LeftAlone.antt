@@ -12,7 +12,7 @@ use Rattle.gtp_match.specs.Leaving.{WhyPending, OwesWhatIsSent}
 use Rattle.gtp_match.specs.Next.{next_of_free, next_of_idle, next}
 use Rattle.gtp_match.specs.ReplyTable.{outcome, after_outcome, fault_of, refused, retaken_at}
 use Rattle.gtp_match.specs.Replying.{EndsReply, HearsReply, PlayFails}
-use Rattle.gtp_match.specs.Sides.{side_of, with_side, handed, heard_reply}
+use Rattle.gtp_match.specs.Sides.{side_of, with_side, with_sent, heard_reply}
 use Rattle.gtp_match.specs.Sound.{IsSound, IsIdle}
 use Rattle.gtp_match.specs.Taking.{taking_back, takes_back, may_retake, has_all}
 use Rattle.gtp_match.specs.Unanswered.{oldest}
@@ -162,7 +162,7 @@ send_pending c s = by_up (side_of c.sides s).up
 pub sent_is_owed : (c : Controller) (s : Colour) (engine : EngineRun) → IsSound c → next c ≡ Send s
     → (side_of c.sides s).up ≡ Some engine → OwesWhatIsSent c s engine
 sent_is_owed c s engine h e up =
-    let after = handed (next_command c s engine) engine in
+    let after = with_sent (next_command c s engine) engine in
     record {
       after = after;
       up = ap (λ (u : Option EngineRun). (side_of (sent_to c s u).sides s).up) up ∙ up_there c.sides s after;

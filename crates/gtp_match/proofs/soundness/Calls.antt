@@ -21,7 +21,7 @@ use Rattle.gtp_match.specs.declared.controller.Controller.{Controller}
 use Rattle.gtp_match.specs.Setup.{SetupRecord, IsSetup, game_of}
 use Rattle.gtp_match.specs.Script.{script}
 use Rattle.gtp_match.specs.Unanswered.{has_genmove, is_genmove}
-use Rattle.gtp_match.specs.Sides.{side_of, with_side, started_side, with_engine, handed}
+use Rattle.gtp_match.specs.Sides.{side_of, with_side, started_side, with_engine, with_sent}
 use Rattle.gtp_match.specs.Retakes.{AreRetakes}
 use Rattle.gtp_match.specs.Controller.{new, with_side_up, started, next_command, script_or_genmove, undo_or_else, sent}
 use Rattle.gtp_match.specs.Controller.{sent_to}
@@ -422,7 +422,7 @@ handed_plan : (c : Controller) (s : Colour) (engine : EngineRun) (k : Option Com
     → slice_get (script c.game) (engine.confirmed + length engine.unanswered) ≡ k
     → IsUnderWay c.game c.pending (all_retakes c) s engine
     → has_genmove engine.unanswered ≡ false → c.pending ≡ None → BothIdle c s engine ⊎ GoesOn c.game engine
-    → HasPlan c.game c.pending s engine.confirmed (handed (script_or_genmove s k) engine).unanswered
+    → HasPlan c.game c.pending s engine.confirmed (with_sent (script_or_genmove s k) engine).unanswered
 handed_plan c s engine (Some k) e way none free kind =
     inl (script_grows (script c.game) engine.confirmed engine.unanswered (record { id = engine.sent + 1; command = k })
     (in_script c.game c.pending s engine.confirmed engine.unanswered none free way.plan) e)
@@ -445,17 +445,17 @@ handed_plan c s engine None e way none free (inr on) =
 
 -- what the engine of a side that is sent its next command is then
 record IsHanded (c : Controller) (s : Colour) (engine : EngineRun) (command : Command) : Type 0 where
-  way : IsUnderWay c.game c.pending (all_retakes c) s (handed command engine)
+  way : IsUnderWay c.game c.pending (all_retakes c) s (with_sent command engine)
   few : engine.sent + 1 ≤ most_commands c.setup
   taking : IfSome c.pending (TakingBack c.game (all_retakes c)
-      (with_side s (with_engine (handed command engine) (side_of c.sides s)) c.sides))
+      (with_side s (with_engine (with_sent command engine) (side_of c.sides s)) c.sides))
 
 -- all retakes are few
 pub all_few : (c : Controller) → IsSound c → all_retakes c ≤ 3 * c.setup.max_moves
 all_few c h = retakes_few c.retakes c.setup.max_moves h.retakes
 
 longer : (engine : EngineRun) (command : Command)
-    → length (handed command engine).unanswered ≡ length engine.unanswered + 1
+    → length (with_sent command engine).unanswered ≡ length engine.unanswered + 1
 longer engine command = length-append engine.unanswered (record { id = engine.sent + 1; command = command } ∷ [])
 
 -- nothing is to be taken back where a side goes on with its script
@@ -498,7 +498,7 @@ handed_script c s says h free kind =
       };
       few = by_kind kind way;
       taking = nothing_taken c.game (all_retakes c)
-          (with_side s (with_engine (handed (script_or_genmove s k) engine) (side_of c.sides s)) c.sides)
+          (with_side s (with_engine (with_sent (script_or_genmove s k) engine) (side_of c.sides s)) c.sides)
           c.pending free;
     })
   where
@@ -536,9 +536,9 @@ handed_undo c s says h undo =
     let counted : engine.sent + 2 ≤ engine.confirmed + length engine.unanswered + 2 * all_retakes c =
     subst (λ (x : EngineRun). x.sent + 2 ≤ x.confirmed + length x.unanswered + 2 * all_retakes c) e t.counted in
     let entry : SentCommand = record { id = engine.sent + 1; command = command.Undo } in
-    let undo_is_sent : AreUndo (handed command.Undo engine).unanswered =
+    let undo_is_sent : AreUndo (with_sent command.Undo engine).unanswered =
     record { entry = entry; undo = refl; alone = ap (λ (es : List SentCommand). es ++ entry ∷ []) undo.idle } in
-    let next = handed command.Undo engine in
+    let next = with_sent command.Undo engine in
     subst (IsHanded c s engine) (sym command_is) (record {
       way = record {
         plan = inr (inr (undo.pending, undo_is_sent));
@@ -592,7 +592,7 @@ sent_sound c s h e =
     let says = says_send c s (maker_is_up c h) e in
     let engine = my_engine c s says.engine h says.up in
     let side = my_side c s h in
-    let next_engine = handed (next_command c s says.engine) says.engine in
+    let next_engine = with_sent (next_command c s says.engine) says.engine in
     let handed_is = handed_as c s says h in
     let state = with_engine next_engine (side_of c.sides s) in
     let sound : IsSound (with_side_up c s next_engine) =

@@ -42,8 +42,8 @@ more_commands commands name are may = record {
   once = all_pairs_push (λ a b. a ≢ b) commands name are.once (not_there commands name may.no_own);
 }
 
--- the names of the table's commands are 144 bytes
-pub table_names_few : (text : List ℕ) → text ≡ all_names → length text ≤ 144
+-- The names of the table's commands have at most 400 bytes: so many leave room for the own ones, and for more commands.
+pub table_names_few : (text : List ℕ) → text ≡ all_names → length text ≤ 400
 table_names_few text is = rw is (lit≤ tt)
 
 -- a name more

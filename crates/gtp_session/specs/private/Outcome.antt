@@ -13,8 +13,7 @@ use Rattle.gtp_wire.specs.Replies.{written_reply}
 use Rattle.go_base.specs.declared.colours.Colour.{Colour}
 use Rattle.go_base.specs.declared.choices.Choice.{Choice}
 use Rattle.gtp_session.specs.Policy.{May}
-use Rattle.gtp_session.specs.declared.commands.CommandName.{CommandName}
-use Rattle.gtp_session.specs.Commands.{Answer, all_names, answer_to}
+use Rattle.gtp_session.specs.Commands.{Answer, all_names}
 use Rattle.gtp_session.specs.declared.outcome.Text.{Text}
 use Rattle.gtp_session.specs.declared.outcome.Text.TheVariants as text
 
@@ -37,10 +36,6 @@ text_of_outcome game (Err bytes) = bytes.now
 -- the answer that an outcome is, where its command leaves this game
 abbrev pub answer_of : GameRecord → Result Text (Bor (List ℕ)) → Answer
 answer_of game outcome = record { game = game; ok = is_ok outcome; text = text_of_outcome game outcome }
-
--- The command's row answers so to these words, whatever a policy would choose.
-abbrev pub IsAnswerTo : GameRecord → CommandName → List (List ℕ) → Answer → Type 0
-IsAnswerTo game named words given = (choice : Choice) → given ≡ answer_to game named words choice
 
 -- The answer was given: this is the game after it, and these are the bytes of the reply.
 pub record Leaves (given : Answer) (id : Option ℕ) (game : GameRecord) (reply : List ℕ) : Type 0 where

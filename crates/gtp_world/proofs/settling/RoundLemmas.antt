@@ -42,7 +42,8 @@ use Rattle.gtp_match.specs.ReplyTable.{outcome, after_outcome, fault_of, confirm
 use Rattle.gtp_match.specs.Script.{script}
 use Rattle.gtp_match.proofs.scripts.Lines.{next_written, sent_line}
 use Rattle.gtp_match.proofs.soundness.Calls.{my_engine}
-use Rattle.gtp_match.specs.Sides.{side_of, with_side, with_engine, handed as handed_command, heard_reply, confirmed}
+use Rattle.gtp_match.specs.Sides.{side_of, with_side, with_engine, heard_reply, confirmed}
+use Rattle.gtp_match.specs.Sides.{with_sent as with_sent_command}
 use Rattle.gtp_world.specs.Lane.{Lane, written_lane, EngineReads, LaneReads}
 use Rattle.gtp_world.specs.World.{lane_with_next, Sends, lane_where_up, HearsFront, HearsWhereUp, SideHears}
 use Rattle.gtp_match.specs.Controller.{next_text}
@@ -291,7 +292,7 @@ module _ {P : Type 0} (may : May P) (lawful : AllowsLawful may) (rules : Rules) 
 
   -- the incarnation that was sent the command
   abbrev asked : EngineRun
-  asked = handed_command (next_command c s engine) engine
+  asked = with_sent_command (next_command c s engine) engine
 
   number : engine.confirmed + length engine.unanswered ≡ count
   number = omega (arith, ap length ready.idle, ready.confirmed)

@@ -1,18 +1,14 @@
 //! The game: examples worked out by hand, and games of random moves beside those of a plain game.
 mod chains;
 mod copies;
-mod hashed;
+mod drawn;
 mod hashes;
-mod last_taken;
-mod legal;
-mod legal_points;
 mod plain;
+pub mod points;
 mod positional;
 mod positions;
-mod random;
 mod refusals;
 mod setup;
-mod show;
 
 use crate::asserts::{assert_equal, assert_equal_for, assert_true, some};
 use go_base::{Colour, Komi, Move, Point, Size, Vertex};
@@ -20,14 +16,14 @@ use go_board::{Game, KoRule};
 use std::process::Abort;
 
 /// A game on a board of `lines` lines each way, with no komi.
-fn new_game(rt: &impl Abort, lines: u32) -> Game {
+pub fn new_game(rt: &impl Abort, lines: u32) -> Game {
     let size = some(rt, Size::new(lines));
     let komi = some(rt, Komi::from_half_points(0));
     Game::new(size, komi)
 }
 
 /// A game under this ko rule, on a board of `lines` lines each way, with no komi.
-fn new_game_under(rt: &impl Abort, lines: u32, rule: KoRule) -> Game {
+pub fn new_game_under(rt: &impl Abort, lines: u32, rule: KoRule) -> Game {
     let size = some(rt, Size::new(lines));
     let komi = some(rt, Komi::from_half_points(0));
     Game::with_rule(size, komi, rule)
@@ -47,24 +43,18 @@ fn read_move(rt: &impl Abort, word: &str) -> Move {
     }
 }
 
-/// Plays the moves of a text one after the other, with spaces between. The word `undo` takes one back. Each call is
-/// to be accepted.
-fn play_all(rt: &impl Abort, game: &mut Game, moves: &str) {
+/// Plays the moves of a text one after the other, with spaces between. The word `undo` takes one back, and `clear` all.
+/// Each call is to be accepted.
+pub fn play_all(rt: &impl Abort, game: &mut Game, moves: &str) {
     for word in moves.split_whitespace() {
         if word == "undo" {
             assert_true(rt, game.undo().is_ok());
+        } else if word == "clear" {
+            game.clear();
         } else {
             let made = read_move(rt, word);
             assert_equal_for(rt, word, game.play(made.colour, made.vertex), Ok(()));
         }
-    }
-}
-
-fn mark(stone: Option<Colour>) -> u8 {
-    match stone {
-        Some(Colour::Black) => b'X',
-        Some(Colour::White) => b'O',
-        None => b'.',
     }
 }
 
@@ -77,7 +67,11 @@ fn assert_board(rt: &impl Abort, game: &Game, drawing: &str) {
         let text = some(rt, rows.next());
         assert_equal(rt, text.len(), lines as usize);
         for (column, wanted) in (1..=lines).zip(text.bytes()) {
-            let stone = mark(game.at(at(rt, column, row)));
+            let stone = match game.at(at(rt, column, row)) {
+                Some(Colour::Black) => b'X',
+                Some(Colour::White) => b'O',
+                None => b'.',
+            };
             assert_equal_for(rt, (drawing, column, row), stone, wanted);
         }
     }

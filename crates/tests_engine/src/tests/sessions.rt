@@ -1,11 +1,12 @@
 //! Conversations over memory, and what they compare by.
-use crate::asserts::assert_equal;
-use arrayvec::ArrayVec;
+use crate::asserts::assert_equal_for;
+use gtp_session::fault::Fault;
 use gtp_session::first::First;
-use gtp_session::serve::{ServeFault, Served, serve};
+use gtp_session::policy::Policy;
+use gtp_session::serve::{ServeFault, Served, serve, serve_with, serve_within};
 use gtp_session::session::Session;
-use gtp_session::streams::Counted;
-use memory::{Limited, Pieces};
+use gtp_session::streams::{Counted, Incoming, Outgoing};
+use memory::{Limited, Pieces, Written};
 use std::process::Abort;
 
 mod breaks;
@@ -16,73 +17,109 @@ mod memory;
 mod policies;
 mod replies;
 
-/// This text in pieces of these sizes, where the read of one number fails.
-pub fn pieces_of<'a>(text: &'a [u8], sizes: &'a [usize], failing: Option<usize>) -> Pieces<'a> {
-    Pieces {
-        rest: text,
-        sizes,
-        turn: 0,
-        failing,
+/// How an engine is called.
+#[derive(Clone, Copy, Debug, PartialEq, Eq, Drop)]
+pub enum Call {
+    Serve,
+    /// With at most so many reads.
+    Within(u32),
+    /// With at most so many reads, and a fault.
+    With(u32, Fault),
+}
+
+impl Call {
+    /// The session answers what the reader gives.
+    pub fn hold<R: Incoming, W: Outgoing, P: Policy>(
+        self,
+        reader: &mut R,
+        writer: &mut W,
+        session: &mut Session<P>,
+    ) -> Result<Served, ServeFault> {
+        match self {
+            Call::Serve => serve(reader, writer, session),
+            Call::Within(reads) => serve_within(reader, writer, session, reads),
+            Call::With(reads, fault) => serve_with(reader, writer, session, reads, fault),
+        }
     }
 }
 
-/// A reader of it.
-pub fn reader_of<'a>(
-    text: &'a [u8],
-    sizes: &'a [usize],
-    failing: Option<usize>,
-) -> Counted<Pieces<'a>> {
-    Counted::new(pieces_of(text, sizes, failing))
+/// A conversation with a fresh engine with the first policy.
+#[derive(Clone, Copy)]
+pub struct Talk<'a> {
+    pub how: Call,
+    pub input: &'a [u8],
+    /// The input comes in pieces of these sizes, and then the rest.
+    pub sizes: &'a [usize],
+    /// The read of this number fails.
+    pub failing: Option<usize>,
+    /// The writer takes so many bytes, at most `step` of them in a write, none in the first `stuck` writes, and fails
+    /// after that, and at each flush after the first `flushes`.
+    pub room: usize,
+    pub step: usize,
+    pub stuck: usize,
+    pub flushes: usize,
 }
 
-/// A writer that takes `room` bytes, at most `step` of them in a write, and then fails.
-pub fn writer_of<'a>(
-    taken: &'a mut ArrayVec<u8, 4096>,
-    room: usize,
-    step: usize,
-) -> Counted<Limited<'a>> {
-    Counted::new(Limited { taken, room, step })
-}
-
-/// What a fresh engine with the first policy answers to the input, in pieces of these sizes, where the read of one
-/// number fails and the writer takes `room` bytes. The conversation ends like this, and the session is what it left.
+/// The conversation comes to this output and this answer. What is left is the session, and how many reads there were.
 pub fn assert_comes_to(
     rt: &impl Abort,
-    input: &[u8],
-    sizes: &[usize],
-    failing: Option<usize>,
-    room: usize,
+    case: &str,
+    talk: &Talk,
     output: &[u8],
-    served: Result<Served, ServeFault>,
-) -> Session<First> {
-    let mut taken = ArrayVec::new();
+    answer: Result<Served, ServeFault>,
+) -> (Session<First>, usize) {
+    let mut taken = Written::new();
     let mut session = Session::new(First);
-    let mut reader = reader_of(input, sizes, failing);
-    let mut writer = writer_of(&mut taken, room, 100);
-    let answer = serve(&mut reader, &mut writer, &mut session);
-    assert_equal(rt, answer, served);
-    assert_equal(rt, taken.as_slice(), output);
-    session
+    let mut pieces = Pieces {
+        rest: talk.input,
+        sizes: talk.sizes,
+        turn: 0,
+        failing: talk.failing,
+    };
+    let mut reader = Counted::new(&mut pieces);
+    let mut writer = Counted::new(Limited {
+        taken: &mut taken,
+        room: talk.room,
+        step: talk.step,
+        stuck: talk.stuck,
+        flushes: talk.flushes,
+    });
+    let got = talk.how.hold(&mut reader, &mut writer, &mut session);
+    let cuts = (talk.sizes.len(), talk.sizes.first().copied());
+    let place = (case, talk.how, cuts, talk.room);
+    assert_equal_for(rt, place, got, answer);
+    assert_equal_for(rt, place, taken.as_slice(), output);
+    let ended = answer == Ok(Served::Quit);
+    assert_equal_for(rt, place, session.ended(), ended);
+    (session, pieces.turn)
 }
 
-/// A fresh engine with the first policy answers the input, in pieces of these sizes, with the output, and ends like
-/// this.
-pub fn assert_serves(
+/// The sizes of pieces of a byte each.
+static BYTES: [usize; 512] = [1; 512];
+
+/// The engine, called like this, answers the input with the output and comes to this end: byte after byte, in each two
+/// pieces, and in one piece.
+pub fn assert_serves_in_any_cuts(
     rt: &impl Abort,
+    case: &str,
+    how: Call,
     input: &[u8],
-    sizes: &[usize],
     output: &[u8],
     served: Served,
 ) {
-    let session = assert_comes_to(rt, input, sizes, None, 4096, output, Ok(served));
-    assert_equal(rt, session.ended(), served == Served::Quit);
-}
-
-/// The same in one piece, in each two pieces, and byte after byte.
-pub fn assert_serves_in_any_cuts(rt: &impl Abort, input: &[u8], output: &[u8], served: Served) {
-    assert_serves(rt, input, &[], output, served);
-    assert_serves(rt, input, &[1; 512], output, served);
-    for first in 1..input.len() {
-        assert_serves(rt, input, &[first], output, served);
+    for first in 0..=input.len() {
+        let two = [first];
+        let sizes: &[usize] = if first == 0 { &BYTES } else { &two };
+        let talk = Talk {
+            how,
+            input,
+            sizes,
+            failing: None,
+            room: 16384,
+            step: 100,
+            stuck: 0,
+            flushes: usize::MAX,
+        };
+        let _ = assert_comes_to(rt, case, &talk, output, Ok(served));
     }
 }

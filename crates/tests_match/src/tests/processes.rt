@@ -1,5 +1,4 @@
 //! What only tests show of starts, pipes and who goes first.
 mod asking;
-mod clocks;
 mod shown;
 mod starts;

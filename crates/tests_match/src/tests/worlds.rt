@@ -2,35 +2,22 @@
 use crate::asserts::some;
 use go_base::{Komi, Side, Size};
 use gtp_match::Setup;
-use gtp_session::first::First;
-use gtp_world::Maker;
 use std::process::Abort;
 
+mod any;
+mod by_hand;
 mod drawn;
 mod laws;
 mod lost;
-mod recorded;
+mod policies;
 mod retakes;
 mod same;
+mod scenes;
 mod settling;
-mod steps;
 mod unanswered;
+mod watched;
 
 const SIDES: [Side; 2] = [Side::Black, Side::White];
-
-/// Makes policies that take the first candidate.
-#[derive(Clone, Copy, Drop)]
-struct Firsts;
-
-impl Maker for Firsts {
-    type Made = First;
-
-    ghost may_make = { λ maker policy. Unit {0} };
-
-    fn make(&self) -> First {
-        First
-    }
-}
 
 /// A setup of size 2, komi 0, no handicap, 10 moves and 1 restart.
 fn small_setup(rt: &impl Abort) -> Setup {

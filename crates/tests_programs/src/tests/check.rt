@@ -1,7 +1,34 @@
 //! Texts of a check, its options and its counts, as they are written by hand.
+mod complaints;
 mod counts;
+mod options;
 mod progress;
-mod right;
 mod shorter;
 mod texts;
-mod words;
+
+use crate::asserts::{assert_true, some};
+use crate::tests::commands::command;
+use go_base::Size;
+use gtp_check_app::talk::{Purpose, Said};
+use gtp_check_questions::Lesson;
+use std::process::Abort;
+
+/// A conversation of these commands on a board of this size, each with the end of its line. A right engine refuses none
+/// of them.
+fn talk_of<R: Abort + AllocGlobal>(rt: &R, lines: u32, commands: &[(&str, usize)]) -> Vec<Said> {
+    let mut talk = Vec::new(rt.alloc());
+    for (text, end) in commands {
+        let said = Said {
+            command: command(rt, text),
+            purpose: Purpose {
+                lesson: Lesson::Ko,
+                part: 0,
+            },
+            is_illegal: false,
+            size: some(rt, Size::new(lines)),
+            end: *end,
+        };
+        assert_true(rt, talk.push(said).is_ok());
+    }
+    talk
+}

@@ -2,50 +2,12 @@
 mod conversations;
 mod findings;
 
-use crate::asserts::{assert_equal, assert_true};
-use go_base::{Colour, Komi, Move, Size, Vertex};
+use crate::asserts::{assert_equal, assert_true, some};
+use crate::tests::commands::command;
 use go_board::KoRule;
-use gtp_check_judge::{CheckCommand, Examiner, Kind, Known};
-use gtp_wire::{Command, CommandText, Reply};
+use gtp_check_judge::{CheckCommand, Examiner, Kind};
+use gtp_wire::{CommandText, Reply};
 use std::process::Abort;
-
-/// The vertex of this text.
-fn vertex(rt: &impl Abort, text: &[u8]) -> Vertex {
-    match Vertex::read(text) {
-        Some(vertex) => vertex,
-        None => panic!(rt; "no vertex"),
-    }
-}
-
-/// A move.
-fn play(rt: &impl Abort, colour: Colour, text: &[u8]) -> CheckCommand {
-    CheckCommand::Match(Command::Play(Move {
-        colour,
-        vertex: vertex(rt, text),
-    }))
-}
-
-/// A `boardsize`.
-fn boardsize(rt: &impl Abort, size: u32) -> CheckCommand {
-    match Size::new(size) {
-        Some(size) => CheckCommand::Match(Command::Boardsize(size)),
-        None => panic!(rt; "no size"),
-    }
-}
-
-/// A `komi`.
-fn komi(rt: &impl Abort, text: &[u8]) -> CheckCommand {
-    match Komi::read(text) {
-        Some(komi) => CheckCommand::Match(Command::Komi(komi)),
-        None => panic!(rt; "no komi"),
-    }
-}
-
-/// Takes a move back.
-const UNDO: CheckCommand = CheckCommand::Match(Command::Undo);
-
-/// Empties the board.
-const CLEAR: CheckCommand = CheckCommand::Match(Command::ClearBoard);
 
 /// The line of a command, which may be asked and is.
 fn asked(rt: &impl Abort, examiner: &mut Examiner, command: CheckCommand) -> CommandText {
@@ -53,10 +15,11 @@ fn asked(rt: &impl Abort, examiner: &mut Examiner, command: CheckCommand) -> Com
     examiner.ask(command)
 }
 
-/// Asks a command, whose line is to be this.
-fn ask(rt: &impl Abort, examiner: &mut Examiner, command: CheckCommand, line: &[u8]) {
-    let text = asked(rt, examiner, command);
-    assert_equal(rt, text.as_slice(), line);
+/// Asks the command of this line, which is to be written so.
+fn ask(rt: &impl Abort, examiner: &mut Examiner, line: &str) {
+    let (_id, text) = some(rt, line.trim_end().split_once(' '));
+    let written = asked(rt, examiner, command(rt, text));
+    assert_equal(rt, written.as_slice(), line.as_bytes());
 }
 
 /// Hears bytes, of which nothing is left, up to the first finding.
@@ -76,39 +39,30 @@ fn hear(rt: &impl Abort, examiner: &mut Examiner, bytes: &[u8]) -> Option<Kind> 
     panic!(rt; "more than 20 replies")
 }
 
-/// The engine says that it knows what it may be without.
-fn knows_all(rt: &impl Abort, examiner: &mut Examiner) {
-    for known in [Known::FixedHandicap, Known::Undo, Known::FinalScore] {
-        let _ = asked(rt, examiner, CheckCommand::KnownCommand(known));
-    }
-    assert_equal(
-        rt,
-        hear(rt, examiner, b"=3 true\n\n=4 true\n\n=5 true\n\n"),
-        None,
-    );
+/// Whether the command of this text may be asked.
+fn may_ask(rt: &impl Abort, examiner: &Examiner, text: &str) -> bool {
+    examiner.has_room(&command(rt, text))
 }
 
-/// An examiner whose engine has taken this size, cleared its board, and said that it knows what it may be without. The
-/// next command has the id 6.
-fn begun(rt: &impl Abort, size: u32, line: &[u8]) -> Examiner {
+/// An examiner whose engine has taken the size of this line, cleared its board, and said that it knows what it may be
+/// without. The next command has the id 6.
+fn begun(rt: &impl Abort, line: &str) -> Examiner {
     let mut examiner = Examiner::new(KoRule::Simple, 1);
     examiner.started();
-    ask(rt, &mut examiner, boardsize(rt, size), line);
-    assert_true(rt, !examiner.has_room(&CLEAR));
+    ask(rt, &mut examiner, line);
+    assert_true(rt, !may_ask(rt, &examiner, "clear_board"));
     assert_equal(rt, hear(rt, &mut examiner, b"=1\n\n"), None);
-    assert_true(rt, !examiner.has_room(&play(rt, Colour::Black, b"A1")));
-    ask(rt, &mut examiner, CLEAR, b"2 clear_board\n");
-    assert_true(rt, examiner.has_room(&play(rt, Colour::Black, b"A1")));
-    assert_true(rt, !examiner.has_room(&UNDO));
+    assert_true(rt, !may_ask(rt, &examiner, "play b A1"));
+    ask(rt, &mut examiner, "2 clear_board\n");
+    assert_true(rt, may_ask(rt, &examiner, "play b A1"));
+    assert_true(rt, !may_ask(rt, &examiner, "undo"));
     assert_equal(rt, hear(rt, &mut examiner, b"=2\n\n"), None);
-    knows_all(rt, &mut examiner);
-    assert_true(rt, examiner.has_room(&UNDO));
+    ask(rt, &mut examiner, "3 known_command fixed_handicap\n");
+    ask(rt, &mut examiner, "4 known_command undo\n");
+    ask(rt, &mut examiner, "5 known_command final_score\n");
+    let known = b"=3 true\n\n=4 true\n\n=5 true\n\n";
+    assert_equal(rt, hear(rt, &mut examiner, known), None);
+    assert_true(rt, may_ask(rt, &examiner, "undo"));
+    assert_true(rt, !may_ask(rt, &examiner, "final_score"));
     examiner
-}
-
-/// What is found where this is answered to one command, whose line is to be this, on a board of 5x5.
-fn found(rt: &impl Abort, command: CheckCommand, line: &[u8], bytes: &[u8]) -> Option<Kind> {
-    let mut examiner = begun(rt, 5, b"1 boardsize 5\n");
-    ask(rt, &mut examiner, command, line);
-    hear(rt, &mut examiner, bytes)
 }

@@ -3,9 +3,10 @@ use Rattle.std.specs.Prelude.{is_some, option_map}
 use Rattle.gtp_wire.specs.declared.replies.Reply.{Reply}
 use Rattle.gtp_wire.specs.declared.replies.ReplyFault.{ReplyFault}
 use Rattle.gtp_wire.specs.Replies.{with_reply}
+use Rattle.gtp_check_judge.specs.declared.judging.Refusal.{Refusal}
 use Rattle.gtp_check_judge.specs.declared.skills.Skills.{Skills}
 use Rattle.gtp_check_judge.specs.declared.unanswered.Asked.{Asked}
-use Rattle.gtp_check_judge.specs.Exam.{answered_by, refused_size}
+use Rattle.gtp_check_judge.specs.Exam.{answered_by, refused_what}
 use Rattle.gtp_check_judge.specs.Judging.{oldest}
 use Rattle.gtp_check_app.specs.declared.notes.Notes.{Notes}
 use Rattle.gtp_check_app.specs.Notes.{noted}
@@ -21,7 +22,7 @@ is_mapped f (Some x) = refl
 noted_up : (notes : Notes) (asked : Option Asked) (read : Option (Result (Unit {0}) ReplyFault)) (reply : Reply)
     (skills : Skills)
     → noted notes (answered_by asked (option_map (with_reply reply) read) None)
-    (refused_size asked (option_map (with_reply reply) read) None) reply skills
+    (refused_what asked (option_map (with_reply reply) read) None) reply skills
     ≡ noted_of_read notes asked (option_map (with_reply reply) read) skills
 noted_up notes None read reply skills = refl
 noted_up notes (Some asked) None reply skills = refl
@@ -34,10 +35,10 @@ noted_nothing notes None skills = refl
 noted_nothing notes (Some asked) skills = refl
 
 -- what is noted of an engine, be it up or not
-noted_so : (up : Bool) (notes : Notes) (asked answered : Option Asked) (refused : Option ℕ)
+noted_so : (up : Bool) (notes : Notes) (asked answered : Option Asked) (refused : Option Refusal)
     (read : Option (Result (Unit {0}) ReplyFault)) (reply : Reply) (skills : Skills)
     → (up ≡ true → answered ≡ answered_by asked (option_map (with_reply reply) read) None)
-    → (up ≡ true → refused ≡ refused_size asked (option_map (with_reply reply) read) None)
+    → (up ≡ true → refused ≡ refused_what asked (option_map (with_reply reply) read) None)
     → (up ≡ false → (read ≡ None) × (answered ≡ None) × (refused ≡ None))
     → noted notes answered refused reply skills ≡ noted_of_read notes asked (option_map (with_reply reply) read) skills
 noted_so true notes asked answered refused read reply skills has sized still =

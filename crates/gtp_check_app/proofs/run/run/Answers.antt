@@ -1,18 +1,24 @@
 use Rattle.std.proofs.Common.{sym}
-use Rattle.gtp_check_app.specs.Checks.{checked, listed, stopped}
-use Rattle.gtp_check_app.proofs.Running.{clap_ran, held_status, no_plan_ran, shown_status}
+use Rattle.gtp_check_app.specs.Checks.{checked, stopped}
+use Rattle.gtp_check_app.proofs.Running.{answered_status, clap_ran, held_status, list_ran, listed_status, no_plan_ran}
 use Rattle.gtp_check_app.proofs.run.run.Goals as goal
 
 pub returns-in-Err-clause-ran : goal.returns-in-Err-clause-ran
 returns-in-Err-clause-ran g c =
     clap_ran g.S.Process.Process g.O.WriteOnce g.E.WriteOnce _ c.args.progress (g.S.Starter.asked c.args.starter.now)
     c.args.output.now
-    c.args.errors.now c.kind.result (rw (sym c.kind.ensures) at c.in-Err.ensures.fault) c.answer_error.result
-    c.answer_error.new.output c.answer_error.new.errors c.answer_error.ensures
+    c.args.errors.now c.kind.result _ (rw (sym c.kind.ensures) at c.in-Err.ensures.fault) _ _ c.answer_error.ensures
+
+pub returns-in-Err-clause-status : goal.returns-in-Err-clause-status
+returns-in-Err-clause-status g c =
+    answered_status g.S.Process.Process g.O.WriteOnce g.E.WriteOnce c.args.progress
+    (g.S.Starter.asked c.args.starter.now) c.args.output.now c.args.errors.now _ _ _ _ c.answer_error.ensures
 
 pub returns-then-options-clause-ran : goal.returns-then-options-clause-ran
 returns-then-options-clause-ran g c =
-    listed (record { options = c.in-Ok.options; asked = c.in-Ok.ensures.asked; list = c.if-options.true })
+    list_ran g.S.Process.Process g.O.WriteOnce g.E.WriteOnce _ c.args.progress (g.S.Starter.asked c.args.starter.now)
+    c.args.output.now c.args.errors.now
+    (record { options = c.in-Ok.options; asked = c.in-Ok.ensures.asked; list = c.if-options.true }) _ _
     c.list.ensures
 
 pub returns-in-Err-plan_of-clause-ran : goal.returns-in-Err-plan_of-clause-ran
@@ -47,8 +53,8 @@ returns-clause-ran g c =
 
 pub returns-then-options-clause-status : goal.returns-then-options-clause-status
 returns-then-options-clause-status g c =
-    shown_status g.S.Process.Process g.O.WriteOnce g.E.WriteOnce c.args.progress (g.S.Starter.asked c.args.starter.now)
-    c.args.output.now c.args.errors.now _ c.list.result c.list.new.output c.list.new.errors c.list.ensures
+    listed_status g.S.Process.Process g.O.WriteOnce g.E.WriteOnce c.args.progress (g.S.Starter.asked c.args.starter.now)
+    c.args.output.now c.args.errors.now _ _ c.list.ensures
 
 pub returns-in-Ok-check-clause-status : goal.returns-in-Ok-check-clause-status
 returns-in-Ok-check-clause-status g c =

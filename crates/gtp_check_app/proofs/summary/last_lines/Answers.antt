@@ -2,7 +2,7 @@ use Rattle.std.proofs.Common.{◌∙◌, ◌++◌, ℕ, List, [], ◌∷◌, ap,
 use Rattle.gtp_check_questions.specs.declared.lessons.Lesson.{Lesson}
 use Rattle.gtp_check_app.specs.Summary.{boardless_line, counts_line, hidden_lines, lack_lines, lessons_line}
 use Rattle.gtp_check_app.specs.Summary.{missed_lines}
-use Rattle.gtp_check_app.specs.Summary.{refused_line}
+use Rattle.gtp_check_app.specs.Summary.{refused_line, undos_line}
 use Rattle.gtp_check_app.proofs.Joining.{one_more}
 use Rattle.gtp_check_app.proofs.summary.last_lines.Goals as goal
 
@@ -14,6 +14,7 @@ returns c =
     let left_out = lessons_line (codes "not asked, as the options say:") c.args.plan.now.left_out.items in
     let missed = missed_lines ending.over.now ending.missed.now in
     let lacks = lack_lines notes in
+    let undos = undos_line notes.most_undos in
     let refused = refused_line notes.refused.items in
     let counts = counts_line notes.commands ending.starts ending.complaints in
     let one = one_more [] _ _ hidden [] c.new-text.ensures.items c.in_ok-add_hidden.ensures in
@@ -24,7 +25,10 @@ returns c =
     let boards = boardless_line c.args.plan.now notes ending in
     let boarded = one_more [] _ _ boards (hidden ∷ left_out ∷ missed ∷ []) three c.in_ok-add_boardless.ensures in
     let four = one_more [] _ _ lacks (hidden ∷ left_out ∷ missed ∷ boards ∷ []) boarded c.in_ok-add_lacks.ensures in
-    let five = one_more [] _ _ refused (hidden ∷ left_out ∷ missed ∷ boards ∷ lacks ∷ []) four
-    (c.in_ok-add_refused.ensures ∙ ap (λ (sizes : List ℕ). c.add_lacks.new.text.items ++ refused_line sizes)
+    let back = one_more [] _ _ undos (hidden ∷ left_out ∷ missed ∷ boards ∷ lacks ∷ []) four
+    c.in_ok-add_most_undos.ensures in
+    let five = one_more [] _ _ refused (hidden ∷ left_out ∷ missed ∷ boards ∷ lacks ∷ undos ∷ []) back
+    (c.in_ok-add_refused.ensures ∙ ap (λ (sizes : List ℕ). c.add_most_undos.new.text.items ++ refused_line sizes)
     c.deref-2.ensures.0) in
-    one_more [] _ _ counts (hidden ∷ left_out ∷ missed ∷ boards ∷ lacks ∷ refused ∷ []) five c.in_ok-add_counts.ensures
+    one_more [] _ _ counts (hidden ∷ left_out ∷ missed ∷ boards ∷ lacks ∷ undos ∷ refused ∷ []) five
+    c.in_ok-add_counts.ensures

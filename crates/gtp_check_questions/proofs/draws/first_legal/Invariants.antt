@@ -1,8 +1,7 @@
 use Rattle.std.proofs.Common.{ℕ, ◌<◌}
-use Rattle.go_base.specs.Point.{IsOn}
-use Rattle.go_base.specs.declared.vertices.Vertex.TheVariants.{At}
 use Rattle.go_board.specs.Game.{IsLegal}
+use Rattle.gtp_check_questions.specs.Questions.{crossing_of}
 use Rattle.gtp_check_questions.proofs.draws.first_legal.Given as goal
 
-abbrev pub invariant-loop-place : goal.invariant-loop-place
-invariant-loop-place l = (p : ℕ) → p < l.place → IsOn l.game.size p → IsLegal l.game l.colour (At p) → ⊥
+abbrev pub invariant-loop-number : goal.invariant-loop-number
+invariant-loop-number l = (k : ℕ) → k < l.number → IsLegal l.game l.colour (crossing_of k l.game.size) → ⊥

@@ -1,44 +1,18 @@
-//! Handicap points, as their table has them.
+//! Sizes, and the handicap points of each, as their table has them.
 use crate::asserts::{assert_equal_for, some};
 use arrayvec::ArrayVec;
 use go_base::{Size, Vertex, handicap};
-use std::process::Abort;
 
-/// The vertices of the points, with single spaces between, are this text. Of a number that isn't allowed it is empty.
-fn assert_points(rt: &impl Abort, size: u32, stones: u32, wanted: &str) {
-    let mut text: ArrayVec<u8, 40> = ArrayVec::new();
-    if let Some(points) = handicap(some(rt, Size::new(size)), stones) {
-        for point in &points {
-            if !text.is_empty() {
-                let _ = text.try_push(b' ');
-            }
-            let _ = text.try_extend_from_slice(&Vertex::At(*point).write());
-        }
-    }
-    assert_equal_for(rt, (size, stones), text.as_slice(), wanted.as_bytes());
-}
-
-/// Numbers of stones, and the points of each on size 19.
-static POINTS_OF_19: [(u32, &str); 8] = [
-    (2, "D4 Q16"),
-    (3, "D4 Q16 D16"),
-    (4, "D4 Q16 D16 Q4"),
-    (5, "D4 Q16 D16 Q4 K10"),
-    (6, "D4 Q16 D16 Q4 D10 Q10"),
-    (7, "D4 Q16 D16 Q4 D10 Q10 K10"),
-    (8, "D4 Q16 D16 Q4 D10 Q10 K4 K16"),
-    (9, "D4 Q16 D16 Q4 D10 Q10 K4 K16 K10"),
-];
-
-#[test]
-fn handicap_points_of_size_19(rt: HostRuntime) {
-    for (stones, list) in &POINTS_OF_19 {
-        assert_points(&rt, 19, *stones, list);
-    }
-}
-
-/// Sizes, numbers of stones, and the points of each.
-static POINTS: [(u32, u32, &str); 9] = [
+/// Sizes, numbers of stones, and the points of each. Of a number that isn't allowed there are none.
+static POINTS: [(u32, u32, &str); 36] = [
+    (19, 2, "D4 Q16"),
+    (19, 3, "D4 Q16 D16"),
+    (19, 4, "D4 Q16 D16 Q4"),
+    (19, 5, "D4 Q16 D16 Q4 K10"),
+    (19, 6, "D4 Q16 D16 Q4 D10 Q10"),
+    (19, 7, "D4 Q16 D16 Q4 D10 Q10 K10"),
+    (19, 8, "D4 Q16 D16 Q4 D10 Q10 K4 K16"),
+    (19, 9, "D4 Q16 D16 Q4 D10 Q10 K4 K16 K10"),
     (13, 2, "D4 K10"),
     (7, 4, "C3 E5 C5 E3"),
     (25, 5, "D4 W22 D22 W4 N13"),
@@ -48,12 +22,41 @@ static POINTS: [(u32, u32, &str); 9] = [
     (6, 2, ""),
     (19, 1, ""),
     (9, 4_294_967_295, ""),
+    // The first two are in corners: on the third line from the edges below size 13, on the fourth from 13 up.
+    (7, 2, "C3 E5"),
+    (8, 2, "C3 F6"),
+    (9, 2, "C3 G7"),
+    (10, 2, "C3 H8"),
+    (11, 2, "C3 J9"),
+    (12, 2, "C3 K10"),
+    (13, 2, "D4 K10"),
+    (14, 2, "D4 L11"),
+    (15, 2, "D4 M12"),
+    (16, 2, "D4 N13"),
+    (17, 2, "D4 O14"),
+    (18, 2, "D4 P15"),
+    (19, 2, "D4 Q16"),
+    (20, 2, "D4 R17"),
+    (21, 2, "D4 S18"),
+    (22, 2, "D4 T19"),
+    (23, 2, "D4 U20"),
+    (24, 2, "D4 V21"),
+    (25, 2, "D4 W22"),
 ];
 
 #[test]
-fn handicap_points_of_other_sizes(rt: HostRuntime) {
-    for (size, stones, list) in &POINTS {
-        assert_points(&rt, *size, *stones, list);
+fn handicap_points_are_those_of_each_size(rt: HostRuntime) {
+    for (size, stones, wanted) in &POINTS {
+        let mut text: ArrayVec<u8, 40> = ArrayVec::new();
+        if let Some(points) = handicap(some(&rt, Size::new(*size)), *stones) {
+            for point in &points {
+                if !text.is_empty() {
+                    let _ = text.try_push(b' ');
+                }
+                let _ = text.try_extend_from_slice(&Vertex::At(*point).write());
+            }
+        }
+        assert_equal_for(&rt, (size, stones), text.as_slice(), wanted.as_bytes());
     }
 }
 
@@ -87,7 +90,7 @@ static MOST_STONES: [(u32, u32); 25] = [
 ];
 
 #[test]
-fn each_size_allows_the_numbers_of_the_table(rt: HostRuntime) {
+fn sizes_are_1_to_25_and_each_allows_the_handicaps_of_the_table(rt: HostRuntime) {
     for (size, most) in &MOST_STONES {
         let lines = some(&rt, Size::new(*size));
         for stones in 0..12 {
@@ -96,34 +99,7 @@ fn each_size_allows_the_numbers_of_the_table(rt: HostRuntime) {
             assert_equal_for(&rt, (size, stones), is_some, is_allowed);
         }
     }
-}
-
-/// Sizes, and the first two points of each: on the third line from the edges below size 13, on the fourth from 13 up.
-static CORNERS: [(u32, &str); 19] = [
-    (7, "C3 E5"),
-    (8, "C3 F6"),
-    (9, "C3 G7"),
-    (10, "C3 H8"),
-    (11, "C3 J9"),
-    (12, "C3 K10"),
-    (13, "D4 K10"),
-    (14, "D4 L11"),
-    (15, "D4 M12"),
-    (16, "D4 N13"),
-    (17, "D4 O14"),
-    (18, "D4 P15"),
-    (19, "D4 Q16"),
-    (20, "D4 R17"),
-    (21, "D4 S18"),
-    (22, "D4 T19"),
-    (23, "D4 U20"),
-    (24, "D4 V21"),
-    (25, "D4 W22"),
-];
-
-#[test]
-fn the_first_two_points_are_in_the_corners_of_each_size(rt: HostRuntime) {
-    for (size, corners) in &CORNERS {
-        assert_points(&rt, *size, 2, corners);
+    for number in [0, 26, 27, 4_294_967_295] {
+        assert_equal_for(&rt, number, Size::new(number), None);
     }
 }

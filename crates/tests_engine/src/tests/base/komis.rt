@@ -36,14 +36,6 @@ static SPELLINGS: [(&str, Option<i32>); 30] = [
     ("5.05", None),
 ];
 
-#[test]
-fn komi_is_read_in_half_points(rt: HostRuntime) {
-    for (text, wanted) in &SPELLINGS {
-        let half_points = Komi::read(text.as_bytes()).map(|komi| komi.half_points());
-        assert_equal_for(&rt, text, half_points, *wanted);
-    }
-}
-
 /// Komi in half points, and the text of each.
 static WRITTEN: [(i32, &str); 7] = [
     (13, "6.5"),
@@ -56,14 +48,18 @@ static WRITTEN: [(i32, &str); 7] = [
 ];
 
 #[test]
-fn komi_is_written_in_points(rt: HostRuntime) {
+fn komi_is_read_in_half_points_and_written_in_points(rt: HostRuntime) {
+    for (text, wanted) in &SPELLINGS {
+        let half_points = Komi::read(text.as_bytes()).map(|komi| komi.half_points());
+        assert_equal_for(&rt, text, half_points, *wanted);
+    }
     for (half_points, wanted) in &WRITTEN {
         let komi = some(&rt, Komi::from_half_points(*half_points));
         assert_equal_for(&rt, wanted, komi.half_points(), *half_points);
-        assert_equal(&rt, komi.write().as_slice(), wanted.as_bytes());
+        assert_equal_for(&rt, wanted, komi.write().as_slice(), wanted.as_bytes());
     }
     for half_points in [2_000_000_000, -2_000_000_000, 2_147_483_647, -2_147_483_648] {
-        assert_equal(&rt, Komi::from_half_points(half_points), None);
+        assert_equal_for(&rt, half_points, Komi::from_half_points(half_points), None);
     }
 }
 

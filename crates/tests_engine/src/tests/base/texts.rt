@@ -4,20 +4,16 @@ use arrayvec::ArrayVec;
 use go_base::{Point, Vertex, push, push_vertex, push_word, split_digits};
 
 #[test]
-fn separators_are_between_words_alone(rt: HostRuntime) {
-    let mut text: ArrayVec<u8, 16> = ArrayVec::new();
-    push_word(&mut text, b'-', b"one");
-    push_word(&mut text, b'-', b"two");
-    push(&mut text, b"!");
-    assert_equal(&rt, text.as_slice(), b"one-two!".as_slice());
-}
-
-#[test]
-fn vertices_are_separated_by_spaces(rt: HostRuntime) {
-    let mut text: ArrayVec<u8, 16> = ArrayVec::new();
-    push_vertex(&mut text, Vertex::Pass);
-    push_vertex(&mut text, Vertex::At(some(&rt, Point::new(4, 16))));
-    assert_equal(&rt, text.as_slice(), b"pass D16".as_slice());
+fn separators_are_between_words_and_spaces_between_vertices(rt: HostRuntime) {
+    let mut words: ArrayVec<u8, 16> = ArrayVec::new();
+    push_word(&mut words, b'-', b"one");
+    push_word(&mut words, b'-', b"two");
+    push(&mut words, b"!");
+    assert_equal(&rt, words.as_slice(), b"one-two!".as_slice());
+    let mut vertices: ArrayVec<u8, 16> = ArrayVec::new();
+    push_vertex(&mut vertices, Vertex::Pass);
+    push_vertex(&mut vertices, Vertex::At(some(&rt, Point::new(4, 16))));
+    assert_equal(&rt, vertices.as_slice(), b"pass D16".as_slice());
 }
 
 /// Texts, the digits in front of each, and what follows them.

@@ -1,4 +1,4 @@
-//! Ints, sizes and colours in every spelling.
+//! Ints and colours in every spelling, and which values are equal.
 use crate::asserts::{assert_equal, assert_equal_for, some};
 use go_base::laws::{Values, equality_law};
 use go_base::{Choice, Colour, Komi, Move, Point, Side, Size, Vertex, read_int, write_int};
@@ -22,13 +22,6 @@ static INTS: [(&str, Option<u32>); 15] = [
     ("1.0", None),
 ];
 
-#[test]
-fn ints_are_digits_up_to_the_greatest(rt: HostRuntime) {
-    for (text, number) in &INTS {
-        assert_equal_for(&rt, text, read_int(text.as_bytes()), *number);
-    }
-}
-
 /// Numbers, and the text of each.
 static WRITTEN: [(u32, &str); 5] = [
     (0, "0"),
@@ -39,19 +32,13 @@ static WRITTEN: [(u32, &str); 5] = [
 ];
 
 #[test]
-fn ints_are_written_without_leading_zeros(rt: HostRuntime) {
+fn ints_are_digits_up_to_the_greatest_and_are_written_without_leading_zeros(rt: HostRuntime) {
+    for (text, number) in &INTS {
+        assert_equal_for(&rt, text, read_int(text.as_bytes()), *number);
+    }
     for (number, text) in &WRITTEN {
-        assert_equal(&rt, write_int(*number).as_slice(), text.as_bytes());
+        assert_equal_for(&rt, number, write_int(*number).as_slice(), text.as_bytes());
     }
-}
-
-#[test]
-fn sizes_are_1_to_25(rt: HostRuntime) {
-    for number in 0..28 {
-        let is_size = number >= 1 && number <= 25;
-        assert_equal_for(&rt, number, Size::new(number).is_some(), is_size);
-    }
-    assert_equal(&rt, Size::new(4_294_967_295), None);
 }
 
 /// Texts, and the colour that each spells, if it spells one.

@@ -1,110 +1,104 @@
 //! Vertices and choices in every spelling.
 use crate::asserts::{assert_equal, assert_equal_for, some};
 use go_base::{Choice, Point, Vertex};
-use std::process::Abort;
 
-/// The vertex where a column and a row cross.
-fn at(rt: &impl Abort, column: u32, row: u32) -> Vertex {
-    Vertex::At(some(rt, Point::new(column, row)))
+/// What a text spells.
+enum Spelled {
+    /// The vertex of a column and a row.
+    Point(u32, u32),
+    Pass,
+    Resign,
+    Nothing,
 }
 
-/// Texts, and the column and the row of the point that each spells.
-static POINTS: [(&str, u32, u32); 9] = [
-    ("A1", 1, 1),
-    ("a1", 1, 1),
-    ("H8", 8, 8),
-    ("J9", 9, 9),
-    ("j9", 9, 9),
-    ("T19", 19, 19),
-    ("Z25", 25, 25),
-    ("z25", 25, 25),
-    ("Q10", 16, 10),
-];
-
-/// Spellings of a pass.
-static PASSES: [&str; 3] = ["pass", "PASS", "pAsS"];
-
-/// Texts that spell no vertex.
-static OTHERS: [&str; 17] = [
-    "", "A", "1", "I5", "i5", "A0", "A26", "A01", "B01", "Z26", "AA1", "A1 ", "A+1", "1A", "pas",
-    "passs", "resign",
+/// Texts, and what each spells.
+static SPELLINGS: [(&str, Spelled); 41] = [
+    ("A1", Spelled::Point(1, 1)),
+    ("a1", Spelled::Point(1, 1)),
+    ("H8", Spelled::Point(8, 8)),
+    ("J5", Spelled::Point(9, 5)),
+    ("j5", Spelled::Point(9, 5)),
+    ("J9", Spelled::Point(9, 9)),
+    ("j9", Spelled::Point(9, 9)),
+    ("T19", Spelled::Point(19, 19)),
+    ("Z25", Spelled::Point(25, 25)),
+    ("z25", Spelled::Point(25, 25)),
+    ("Q10", Spelled::Point(16, 10)),
+    ("pass", Spelled::Pass),
+    ("PASS", Spelled::Pass),
+    ("pAsS", Spelled::Pass),
+    ("PaSs", Spelled::Pass),
+    ("resign", Spelled::Resign),
+    ("RESIGN", Spelled::Resign),
+    ("Resign", Spelled::Resign),
+    ("rEsIgN", Spelled::Resign),
+    ("", Spelled::Nothing),
+    ("A", Spelled::Nothing),
+    ("1", Spelled::Nothing),
+    ("I5", Spelled::Nothing),
+    ("i5", Spelled::Nothing),
+    ("A0", Spelled::Nothing),
+    ("A26", Spelled::Nothing),
+    ("A01", Spelled::Nothing),
+    ("B01", Spelled::Nothing),
+    ("Z26", Spelled::Nothing),
+    ("AA1", Spelled::Nothing),
+    ("A1 ", Spelled::Nothing),
+    ("A+1", Spelled::Nothing),
+    ("1A", Spelled::Nothing),
+    ("pas", Spelled::Nothing),
+    ("passs", Spelled::Nothing),
+    ("re", Spelled::Nothing),
+    ("resig", Spelled::Nothing),
+    ("resigns", Spelled::Nothing),
+    ("resign ", Spelled::Nothing),
+    (" resign", Spelled::Nothing),
+    ("D4 D5", Spelled::Nothing),
 ];
 
 #[test]
-fn vertices_in_every_spelling(rt: HostRuntime) {
-    for (text, column, row) in &POINTS {
-        let wanted = Some(at(&rt, *column, *row));
-        assert_equal_for(&rt, text, Vertex::read(text.as_bytes()), wanted);
-    }
-    for text in &PASSES {
-        assert_equal_for(&rt, text, Vertex::read(text.as_bytes()), Some(Vertex::Pass));
-    }
-    for text in &OTHERS {
-        assert_equal_for(&rt, text, Vertex::read(text.as_bytes()), None);
+fn choices_are_vertices_or_resign_in_every_spelling(rt: HostRuntime) {
+    for (text, spelled) in &SPELLINGS {
+        let (vertex, choice) = match spelled {
+            Spelled::Point(column, row) => {
+                let point = some(&rt, Point::new(*column, *row));
+                (
+                    Some(Vertex::At(point)),
+                    Some(Choice::Play(Vertex::At(point))),
+                )
+            }
+            Spelled::Pass => (Some(Vertex::Pass), Some(Choice::Play(Vertex::Pass))),
+            Spelled::Resign => (None, Some(Choice::Resign)),
+            Spelled::Nothing => (None, None),
+        };
+        assert_equal_for(&rt, text, Vertex::read(text.as_bytes()), vertex);
+        assert_equal_for(&rt, text, Choice::read(text.as_bytes()), choice);
     }
 }
 
 /// Columns, rows, and the text of the point where they cross.
-static WRITTEN: [(u32, u32, &str); 5] = [
+static WRITTEN: [(u32, u32, &str); 11] = [
     (1, 1, "A1"),
     (8, 8, "H8"),
     (9, 9, "J9"),
     (16, 10, "Q10"),
     (25, 25, "Z25"),
+    (1, 7, "A7"),
+    (8, 7, "H7"),
+    (9, 7, "J7"),
+    (10, 7, "K7"),
+    (24, 7, "Y7"),
+    (25, 7, "Z7"),
 ];
 
 #[test]
-fn vertices_are_written_in_capitals(rt: HostRuntime) {
+fn vertices_are_written_in_capitals_of_which_i_is_left_out(rt: HostRuntime) {
     for (column, row, text) in &WRITTEN {
-        let written = at(&rt, *column, *row).write();
-        assert_equal(&rt, written.as_slice(), text.as_bytes());
+        let point = some(&rt, Point::new(*column, *row));
+        let written = Vertex::At(point).write();
+        assert_equal_for(&rt, text, written.as_slice(), text.as_bytes());
+        let capital = text.as_bytes().first().copied();
+        assert_equal_for(&rt, text, Some(point.letter()), capital);
     }
     assert_equal(&rt, Vertex::Pass.write().as_slice(), b"pass".as_slice());
-}
-
-/// Spellings of a resignation.
-static RESIGNS: [&str; 4] = ["resign", "RESIGN", "Resign", "rEsIgN"];
-
-/// Texts that spell no choice.
-static NO_CHOICES: [&str; 9] = [
-    "", "resig", "resigns", "resign ", " resign", "re", "I5", "A26", "D4 D5",
-];
-
-#[test]
-fn choices_are_resign_in_any_case_or_vertices(rt: HostRuntime) {
-    for text in &RESIGNS {
-        assert_equal_for(
-            &rt,
-            text,
-            Choice::read(text.as_bytes()),
-            Some(Choice::Resign),
-        );
-    }
-    for text in &NO_CHOICES {
-        assert_equal_for(&rt, text, Choice::read(text.as_bytes()), None);
-    }
-    for text in ["J5", "j5"] {
-        let wanted = Some(Choice::Play(at(&rt, 9, 5)));
-        assert_equal_for(&rt, text, Choice::read(text.as_bytes()), wanted);
-    }
-    let pass = Choice::read(b"PaSs");
-    assert_equal(&rt, pass, Some(Choice::Play(Vertex::Pass)));
-}
-
-/// Columns, and the letter of each.
-static LETTERS: [(u32, u8); 6] = [
-    (1, b'A'),
-    (8, b'H'),
-    (9, b'J'),
-    (10, b'K'),
-    (24, b'Y'),
-    (25, b'Z'),
-];
-
-#[test]
-fn letters_of_columns_leave_out_i(rt: HostRuntime) {
-    for (column, letter) in &LETTERS {
-        let point = some(&rt, Point::new(*column, 7));
-        assert_equal_for(&rt, column, point.letter(), *letter);
-    }
 }

@@ -1,17 +1,9 @@
 //! The stones and the liberties of chains.
 use super::{new_game, play_all};
 use crate::asserts::{assert_equal_for, some};
-use go_base::{Colour, Point, Vertex};
+use go_base::{Colour, Vertex};
 use go_board::Chain;
 use std::process::Abort;
-
-/// The point of a name.
-fn read_point(rt: &impl Abort, name: &str) -> Point {
-    match some(rt, Vertex::read(name.as_bytes())) {
-        Vertex::At(point) => point,
-        Vertex::Pass => rt.abort(),
-    }
-}
 
 /// The lines of the board, the moves, a point, and of the chain there its colour, its stones and its liberties.
 static CHAINS: [(u32, &str, &str, Option<(Colour, u32, u32)>); 24] = [
@@ -62,7 +54,9 @@ fn each_chain_has_its_stones_and_liberties(rt: HostRuntime) {
             stones,
             liberties,
         });
-        let chain = game.chain(read_point(&rt, name));
-        assert_equal_for(&rt, (moves, name), chain, wanted);
+        let Vertex::At(point) = some(&rt, Vertex::read(name.as_bytes())) else {
+            rt.abort()
+        };
+        assert_equal_for(&rt, (moves, name), game.chain(point), wanted);
     }
 }

@@ -1,12 +1,13 @@
-//! Hashes of boards.
-use super::{at, new_game, new_game_under, play_all};
+//! Hashes of boards, and those that are kept from move to move.
+use super::{at, new_game, new_game_under, play_all, read_move};
 use crate::asserts::{assert_equal, assert_equal_for, assert_true};
 use go_base::{Colour, Vertex};
-use go_board::{Game, KoRule, stone_key};
+use go_board::{HashedGame, KoRule, NothingToUndo, PlayFault, stone_key};
 use std::process::Abort;
 
-/// A colour, a column, a row, and the key of such a stone: SplitMix64 from state 0 draws it after as many draws as twice
-/// the point's place, and one more for White. (From a program in Python; its first draw is 0xe220a8397b1dcdaf, as published.)
+/// A colour, a column, a row, and the key of such a stone: SplitMix64 from state 0 draws it after as many draws as
+/// twice the point's place, and one more for White. (From a program in Python; its first draw is 0xe220a8397b1dcdaf, as
+/// published.)
 static KEYS: [(Colour, u32, u32, u64); 6] = [
     (Colour::Black, 1, 1, 0x03d6_8453_23ce_3c71),
     (Colour::White, 1, 1, 0xc952_c562_0043_c714),
@@ -15,14 +16,6 @@ static KEYS: [(Colour, u32, u32, u64); 6] = [
     (Colour::Black, 25, 25, 0x7594_deaa_71fe_ba98),
     (Colour::Black, 10, 10, 0x613a_9c99_235d_15be),
 ];
-
-#[test]
-fn each_key(rt: HostRuntime) {
-    for (colour, column, row, key) in &KEYS {
-        let point = at(&rt, *column, *row);
-        assert_equal_for(&rt, (column, row), stone_key(*colour, point), *key);
-    }
-}
 
 /// The lines of the board, the moves, and the hash of the board after them.
 static HASHES: [(u32, &str, u64); 6] = [
@@ -35,7 +28,11 @@ static HASHES: [(u32, &str, u64); 6] = [
 ];
 
 #[test]
-fn each_hash(rt: HostRuntime) {
+fn each_key_and_each_hash(rt: HostRuntime) {
+    for (colour, column, row, key) in &KEYS {
+        let point = at(&rt, *column, *row);
+        assert_equal_for(&rt, (column, row), stone_key(*colour, point), *key);
+    }
     for (lines, moves, hash) in &HASHES {
         let mut game = new_game(&rt, *lines);
         play_all(&rt, &mut game, moves);
@@ -43,51 +40,126 @@ fn each_hash(rt: HostRuntime) {
     }
 }
 
-/// The hash after these moves.
-fn hash_after(rt: &impl Abort, rule: KoRule, moves: &str) -> u64 {
-    let mut game = new_game_under(rt, 4, rule);
-    play_all(rt, &mut game, moves);
-    game.board_hash()
-}
-
 #[test]
-fn equal_boards_have_equal_hashes(rt: HostRuntime) {
-    let taken = "bA2 wC1 bB1 wB2 bD4 wA1";
-    let retaken = "bA2 wC1 bB1 wB2 bD4 wA1 bpass wpass bB1";
-    let before = hash_after(&rt, KoRule::Simple, "wB2 bB1 wC1 bD4 bpass bA2");
-    // The ko is taken and taken back.
-    assert_equal(&rt, hash_after(&rt, KoRule::Simple, retaken), before);
-    assert_true(&rt, hash_after(&rt, KoRule::Simple, taken) != before);
-    assert_equal(
-        &rt,
-        hash_after(&rt, KoRule::Positional, taken),
-        hash_after(&rt, KoRule::Simple, taken),
-    );
-}
-
-/// The hash of the board after the game's last move, from that before it.
-fn kept(rt: &impl Abort, game: &Game, before: u64) -> u64 {
-    let mut hash = before;
-    let Some(last) = game.moves().last() else {
-        return hash;
-    };
-    if let Vertex::At(point) = last.vertex {
-        hash = hash.wrapping_add(stone_key(last.colour, point));
-    }
-    for point in game.taken_by_last_move().iter() {
-        assert_equal(rt, game.at(*point), None);
-        hash = hash.wrapping_sub(stone_key(last.colour.other(), *point));
-    }
-    hash
-}
-
-#[test]
-fn a_hash_is_kept_from_move_to_move(rt: HostRuntime) {
+fn a_hash_is_kept_from_move_to_move_by_the_keys_of_stones(rt: HostRuntime) {
     let mut game = new_game(&rt, 4);
     let mut hash = game.board_hash();
     for word in "bA3 bB3 bC2 bC1 wA2 wB2 bA1 wB1 bA1 wpass wB1 wA2".split_whitespace() {
+        let made = read_move(&rt, word);
         play_all(&rt, &mut game, word);
-        hash = kept(&rt, &game, hash);
+        if let Vertex::At(point) = &made.vertex {
+            hash = hash.wrapping_add(stone_key(made.colour, *point));
+        }
+        for point in game.taken_by_last_move().iter() {
+            assert_equal_for(&rt, word, game.at(*point), None);
+            hash = hash.wrapping_sub(stone_key(made.colour.other(), *point));
+        }
         assert_equal_for(&rt, word, hash, game.board_hash());
     }
+}
+
+/// Plays the moves of a text, with spaces between, as the other tests do. After each one the kept hash is to be the
+/// board's.
+fn play_hashed(rt: &impl Abort, hashed: &mut HashedGame, moves: &str) {
+    for word in moves.split_whitespace() {
+        if word == "undo" {
+            assert_true(rt, hashed.undo().is_ok());
+        } else {
+            let made = read_move(rt, word);
+            assert_equal_for(rt, word, hashed.play(made.colour, made.vertex), Ok(()));
+        }
+        assert_equal_for(rt, word, hashed.hash(), hashed.game().board_hash());
+    }
+}
+
+/// A hashed game after these moves under this rule, on a board of 4 lines each way.
+fn hashed_after(rt: &impl Abort, rule: KoRule, moves: &str) -> HashedGame {
+    let mut hashed = HashedGame::new(new_game_under(rt, 4, rule));
+    play_hashed(rt, &mut hashed, moves);
+    hashed
+}
+
+/// White takes a ko.
+const TAKEN: &str = "bA2 wC1 bB1 wB2 bD4 wA1";
+
+/// A rule, moves under it, and moves under simple ko that leave the same board.
+static SAME: [(KoRule, &str, &str); 8] = [
+    (KoRule::Simple, "bA1 wB2", "wB2 bA1"),
+    (KoRule::Simple, "bpass wpass bD4", "bD4"),
+    (KoRule::Simple, "bA1 undo", ""),
+    // A stone is taken, and that is taken back.
+    (
+        KoRule::Simple,
+        "bA3 bB3 wA2 wB2 bA1 wB1 undo",
+        "bA3 bB3 wA2 wB2 bA1",
+    ),
+    (
+        KoRule::Simple,
+        "bA3 bB3 wA2 wB2 bA1 wB1",
+        "wB1 wB2 wA2 bB3 bA3",
+    ),
+    // A ko is taken, and taken back after passes.
+    (
+        KoRule::Simple,
+        "bA2 wC1 bB1 wB2 wA1 bpass wpass bB1",
+        "wB2 wC1 bB1 bA2",
+    ),
+    (
+        KoRule::Simple,
+        "bA2 wC1 bB1 wB2 bD4 wA1 bpass wpass bB1",
+        "wB2 bB1 wC1 bD4 bpass bA2",
+    ),
+    (KoRule::Positional, TAKEN, TAKEN),
+];
+
+/// Moves that leave boards of which no two are equal.
+static DIFFERENT: [&str; 8] = [
+    "",
+    "bA1",
+    "wA1",
+    "bA2",
+    "bA1 wA2",
+    "bA2 wC1 bB1 wB2 wA1",
+    TAKEN,
+    "wB2 bB1 wC1 bD4 bpass bA2",
+];
+
+#[test]
+fn equal_boards_alone_have_equal_hashes(rt: HostRuntime) {
+    for (rule, moves, others) in &SAME {
+        let hash = hashed_after(&rt, *rule, moves).hash();
+        let other = hashed_after(&rt, KoRule::Simple, others).hash();
+        assert_equal_for(&rt, (rule, moves), hash, other);
+    }
+    for (index, moves) in DIFFERENT.iter().enumerate() {
+        let hash = hashed_after(&rt, KoRule::Simple, moves).hash();
+        for (number, others) in DIFFERENT.iter().enumerate() {
+            let other = hashed_after(&rt, KoRule::Simple, others).hash();
+            assert_equal_for(&rt, (moves, others), hash == other, index == number);
+        }
+    }
+}
+
+#[test]
+fn refusals_leave_the_hash_and_copies_have_hashes_of_their_own(rt: HostRuntime) {
+    // The key of Black's stone on A1.
+    let key = 0x03d6_8453_23ce_3c71;
+    let mut hashed = hashed_after(&rt, KoRule::Simple, "");
+    assert_equal(&rt, hashed.undo(), Err(NothingToUndo));
+    assert_equal(&rt, hashed.hash(), 0);
+    play_hashed(&rt, &mut hashed, "bA1");
+    assert_equal(&rt, hashed.hash(), key);
+    let a1 = at(&rt, 1, 1);
+    let refused = hashed.play(Colour::White, Vertex::At(a1));
+    assert_equal(&rt, refused, Err(PlayFault::Occupied));
+    assert_equal(&rt, hashed.hash(), key);
+    let mut copy = hashed.copied();
+    play_hashed(&rt, &mut copy, "wB1 wA2");
+    // White's two stones took Black's.
+    assert_equal(&rt, copy.game().at(a1), None);
+    assert_equal(&rt, hashed.hash(), key);
+    hashed.copy_from(&copy);
+    let other = hashed_after(&rt, KoRule::Simple, "wA2 wB1").hash();
+    assert_equal(&rt, hashed.hash(), other);
+    assert_equal(&rt, hashed.into_game().moves().len(), 3);
 }

@@ -3,6 +3,7 @@
 use arrayvec::ArrayVec;
 use go_base::{Colour, Move, Point, Vertex};
 use go_board::{KoRule, NothingToUndo, PlayFault};
+use std::mem;
 
 /// How many places a row has: its points and its edge.
 const ROW: usize = 26;
@@ -39,33 +40,9 @@ fn place_of(point: Point) -> usize {
 /// The most moves of a game.
 pub const MOVES: usize = 200;
 
-/// Places, in the order in which they were put in.
-#[derive(Drop)]
-struct Found {
-    marked: [bool; PLACES],
-    order: ArrayVec<u16, PLACES>,
-}
-
-impl Found {
-    fn contains(&self, place: usize) -> bool {
-        self.marked.get(place).copied().unwrap_or(false)
-    }
-
-    fn insert(&mut self, place: usize) {
-        if let Some(marked) = self.marked.get_mut(place) {
-            if !*marked {
-                *marked = true;
-                if let Ok(place) = u16::try_from(place) {
-                    let _ = self.order.try_push(place);
-                }
-            }
-        }
-    }
-}
-
 /// What each place holds.
 #[derive(Clone, Copy)]
-struct PlainBoard {
+pub struct PlainBoard {
     cells: [Cell; PLACES],
     /// Behind the highest row there is nothing but edge.
     end: usize,
@@ -82,22 +59,6 @@ fn beside(place: usize) -> [usize; 4] {
 }
 
 impl PlainBoard {
-    /// The board with `lines` lines each way, without a stone.
-    fn empty(lines: u32) -> PlainBoard {
-        let mut board = PlainBoard {
-            cells: [Cell::Edge; PLACES],
-            end: ROW.saturating_mul(lines.saturating_add(1) as usize),
-        };
-        for row in 1..=lines {
-            for column in 1..=lines {
-                if let Some(point) = Point::new(column, row) {
-                    board.set(place_of(point), Cell::Empty);
-                }
-            }
-        }
-        board
-    }
-
     fn at(&self, place: usize) -> Cell {
         self.cells.get(place).copied().unwrap_or(Cell::Edge)
     }
@@ -112,57 +73,50 @@ impl PlainBoard {
         beside(place).iter().any(|next| self.at(*next) == wanted)
     }
 
-    /// The places that hold what is sought and whose chain touches what is wanted.
-    fn touching(&self, sought: Cell, wanted: Cell) -> Found {
-        let mut found = Found {
-            marked: [false; PLACES],
-            order: ArrayVec::new(),
-        };
+    /// Marks the places that hold what is sought and whose chain touches what is wanted.
+    fn touching(&self, sought: Cell, wanted: Cell) -> [bool; PLACES] {
+        let mut marked = [false; PLACES];
+        let mut order: ArrayVec<usize, PLACES> = ArrayVec::new();
         for place in 0..self.end {
             if self.at(place) == sought && self.has_beside(place, wanted) {
-                found.insert(place);
-            }
-        }
-        for number in 0..self.end {
-            let Some(place) = found.order.get(number).copied() else {
-                break;
-            };
-            for next in beside(usize::from(place)) {
-                if self.at(next) == sought {
-                    found.insert(next);
+                if let Some(mark) = marked.get_mut(place) {
+                    *mark = true;
+                    let _ = order.try_push(place);
                 }
             }
         }
-        found
-    }
-
-    /// Removes, all at once, the stones of this colour whose chains have no liberty. Returns how many there were.
-    fn remove_captured(&mut self, colour: Colour) -> u32 {
-        let stone = Cell::stone(colour);
-        let free = self.touching(stone, Cell::Empty);
-        let mut removed = 0_u32;
-        for place in 0..self.end {
-            if self.at(place) == stone && !free.contains(place) {
-                self.set(place, Cell::Empty);
-                removed = removed.saturating_add(1);
+        for number in 0..self.end {
+            let Some(place) = order.get(number).copied() else {
+                break;
+            };
+            for next in beside(place) {
+                if self.at(next) == sought {
+                    if let Some(mark) = marked.get_mut(next) {
+                        if !*mark {
+                            *mark = true;
+                            let _ = order.try_push(next);
+                        }
+                    }
+                }
             }
         }
-        removed
+        marked
     }
 
-    /// Puts a stone on a point, and then removes the other colour's stones that have no liberty. Returns how many it
-    /// took.
+    /// Puts a stone on a point, and then removes, all at once, the other colour's stones whose chains have no liberty.
+    /// Returns how many it took.
     fn put(&mut self, colour: Colour, place: usize) -> u32 {
         self.set(place, Cell::stone(colour));
-        self.remove_captured(colour.other())
-    }
-
-    /// Whether the chain of the stone of this colour on a point has a liberty.
-    fn is_free(&self, colour: Colour, place: usize) -> bool {
-        self.has_beside(place, Cell::Empty)
-            || self
-                .touching(Cell::stone(colour), Cell::Empty)
-                .contains(place)
+        let other = Cell::stone(colour.other());
+        let free = self.touching(other, Cell::Empty);
+        let mut taken = 0_u32;
+        for (place, is_free) in free.iter().enumerate() {
+            if self.at(place) == other && !*is_free {
+                self.set(place, Cell::Empty);
+                taken = taken.saturating_add(1);
+            }
+        }
+        taken
     }
 
     /// How many points count for a colour: its stones, and the empty points from which one reaches its stones alone.
@@ -170,9 +124,9 @@ impl PlainBoard {
         let own = self.touching(Cell::Empty, Cell::stone(colour));
         let others = self.touching(Cell::Empty, Cell::stone(colour.other()));
         let mut area: i32 = 0;
-        for place in 0..self.end {
+        for (place, (by_own, by_others)) in own.iter().zip(&others).enumerate() {
             let is_stone = self.at(place) == Cell::stone(colour);
-            if is_stone || (own.contains(place) && !others.contains(place)) {
+            if is_stone || (*by_own && !*by_others) {
                 area = area.saturating_add(1);
             }
         }
@@ -184,21 +138,28 @@ impl PlainBoard {
 #[derive(Drop)]
 pub struct PlainGame {
     rule: KoRule,
-    moves: ArrayVec<Move, MOVES>,
+    pub moves: ArrayVec<Move, MOVES>,
     board: PlainBoard,
     /// The boards before the first move and after each.
     boards: [PlainBoard; MOVES + 1],
-    taken_by_black: u32,
-    taken_by_white: u32,
+    pub taken_by_black: u32,
+    pub taken_by_white: u32,
 }
 
 impl PlainGame {
+    /// A game on an empty board with `lines` lines each way.
     pub fn new(lines: u32, rule: KoRule) -> PlainGame {
-        PlainGame::begun_on(PlainBoard::empty(lines), rule)
-    }
-
-    /// A game that begins on this board.
-    fn begun_on(board: PlainBoard, rule: KoRule) -> PlainGame {
+        let mut board = PlainBoard {
+            cells: [Cell::Edge; PLACES],
+            end: ROW.saturating_mul(lines.saturating_add(1) as usize),
+        };
+        for row in 1..=lines {
+            for column in 1..=lines {
+                if let Some(point) = Point::new(column, row) {
+                    board.set(place_of(point), Cell::Empty);
+                }
+            }
+        }
         PlainGame {
             rule,
             moves: ArrayVec::new(),
@@ -215,22 +176,11 @@ impl PlainGame {
         self.boards[0] = self.board;
     }
 
-    pub fn moves(&self) -> &[Move] {
-        &self.moves
-    }
-
     pub fn at(&self, point: Point) -> Option<Colour> {
         match self.board.at(place_of(point)) {
             Cell::Black => Some(Colour::Black),
             Cell::White => Some(Colour::White),
             Cell::Empty | Cell::Edge => None,
-        }
-    }
-
-    pub fn captured(&self, colour: Colour) -> u32 {
-        match colour {
-            Colour::Black => self.taken_by_black,
-            Colour::White => self.taken_by_white,
         }
     }
 
@@ -260,7 +210,7 @@ impl PlainGame {
     }
 
     /// The board that a move would leave and how many stones it would take, or why it is refused.
-    fn next(&self, colour: Colour, vertex: Vertex) -> Result<(PlainBoard, u32), PlayFault> {
+    pub fn next(&self, colour: Colour, vertex: Vertex) -> Result<(PlainBoard, u32), PlayFault> {
         let Vertex::At(point) = vertex else {
             return Ok((self.board, 0));
         };
@@ -272,17 +222,16 @@ impl PlainGame {
         }
         let mut board = self.board;
         let taken = board.put(colour, place);
-        if !board.is_free(colour, place) {
-            return Err(PlayFault::Suicide);
+        if !board.has_beside(place, Cell::Empty) {
+            let free = board.touching(Cell::stone(colour), Cell::Empty);
+            if !free.get(place).copied().unwrap_or(false) {
+                return Err(PlayFault::Suicide);
+            }
         }
         if self.forbids(&board) {
             return Err(PlayFault::Ko);
         }
         Ok((board, taken))
-    }
-
-    pub fn legal(&self, colour: Colour, vertex: Vertex) -> bool {
-        self.next(colour, vertex).is_ok()
     }
 
     pub fn play(&mut self, colour: Colour, vertex: Vertex) -> Result<(), PlayFault> {
@@ -307,11 +256,13 @@ impl PlainGame {
         let Some(last) = self.moves.last().copied() else {
             return Err(NothingToUndo);
         };
-        let mut game = PlainGame::begun_on(self.boards[0], self.rule);
-        for made in self.moves.iter().take(self.moves.len().saturating_sub(1)) {
-            let _ = game.play(made.colour, made.vertex);
+        let moves = mem::replace(&mut self.moves, ArrayVec::new());
+        self.board = self.boards[0];
+        self.taken_by_black = 0;
+        self.taken_by_white = 0;
+        for made in moves.iter().take(moves.len().saturating_sub(1)) {
+            let _ = self.play(made.colour, made.vertex);
         }
-        *self = game;
         Ok(last)
     }
 }

@@ -2,7 +2,6 @@
 use super::{new_game_under, play_all, read_move};
 use crate::asserts::{assert_equal_for, assert_true};
 use go_board::{KoRule, PlayFault};
-use std::process::Abort;
 
 /// White takes one stone at B1 by A1, in a corner where Black can take back. Then both pass.
 const LEFT: &str = "bA2 wC1 bB1 wB2 bD4 wA1 bpass wpass";
@@ -13,19 +12,35 @@ const FILLED: &str =
     "wA1 wB1 wC1 wD1 wE1 wF1 wG1 wA2 wB2 wC2 wD2 wE2 wF2 wG2 wA3 wB3 wD3 wE3 wF3 wG3 wA4 wB4 wC4 wD4 wE4 \
     wF4 wG4 wA5 wB5 wC5 wD5 wF5 wG5 wA6 wB6 wC6 wD6 wE6 wF6 wG6 wA7 wB7 wC7 wD7 wE7 wF7 wG7 wE5 bC3 wpass";
 
-/// A play that brings a board back: what is shown, the lines, the handicap stones, the moves, and the play.
-type Back = (&'static str, u32, u32, &'static str, &'static str);
+/// A play that brings a board back: what is shown, the lines, the handicap stones, the moves, the play, and its answer
+/// under simple ko.
+type Back = (
+    &'static str,
+    u32,
+    u32,
+    &'static str,
+    &'static str,
+    Result<(), PlayFault>,
+);
 
-/// Those that bring back another board than the one before the previous move.
-static BACK: [Back; 9] = [
-    ("two passes", 4, 0, LEFT, "bB1"),
-    ("earlier boards have their handicap", 9, 2, LEFT, "bB1"),
+/// Those that bring back another board than the one before the previous move, and one that brings back that.
+static BACK: [Back; 10] = [
+    ("two passes", 4, 0, LEFT, "bB1", Ok(())),
+    (
+        "earlier boards have their handicap",
+        9,
+        2,
+        LEFT,
+        "bB1",
+        Ok(()),
+    ),
     (
         "a handicap stone comes back as any other",
         9,
         2,
         "wB3 bE3 wC2 bD2 wC4 bD4 wD3 bpass wpass",
         "bC3",
+        Ok(()),
     ),
     (
         "the board after the first move",
@@ -33,14 +48,23 @@ static BACK: [Back; 9] = [
         0,
         "bA1 wB1 bA2 wB2 bA1 wA2",
         "bA1",
+        Ok(()),
     ),
-    ("the board before the first move", 7, 2, FILLED, "bE5"),
+    (
+        "the board before the first move",
+        7,
+        2,
+        FILLED,
+        "bE5",
+        Ok(()),
+    ),
     (
         "two stones sent and one returned",
         4,
         0,
         "bA2 wC2 bB2 wD1 wB1 bpass wA1 bC1",
         "wB1",
+        Ok(()),
     ),
     (
         "a capture of two stones",
@@ -48,6 +72,7 @@ static BACK: [Back; 9] = [
         0,
         "bA2 wC2 bB2 wD1 bC1 wB1 bpass wA1",
         "bC1",
+        Ok(()),
     ),
     (
         "three kos, in turn",
@@ -55,6 +80,7 @@ static BACK: [Back; 9] = [
         0,
         "bB1 bF1 wA7 bA2 wC1 wB2 bG2 wE1 wF2 bA6 wC7 wB6 wA1 bB7 wG1 bB1 wA7",
         "bF1",
+        Ok(()),
     ),
     // The first A1 and the first capture by it were taken back, and so may come again. The board before the capture was
     // not.
@@ -64,35 +90,34 @@ static BACK: [Back; 9] = [
         0,
         "bA1 undo wB1 wB2 wA2 bA1 undo bA1 wB1 wB2",
         "wA2",
+        Ok(()),
+    ),
+    (
+        "at once",
+        4,
+        0,
+        "bA2 wC1 bB1 wB2 bD4 wA1",
+        "bB1",
+        Err(PlayFault::Ko),
     ),
 ];
 
-/// One that brings back the board before the previous move.
-static AT_ONCE: Back = ("at once", 4, 0, "bA2 wC1 bB1 wB2 bD4 wA1", "bB1");
-
-/// The play is answered so under a rule.
-fn assert_answer(rt: &impl Abort, rule: KoRule, back: &Back, wanted: Result<(), PlayFault>) {
-    let (case, lines, stones, moves, last) = *back;
-    let mut game = new_game_under(rt, lines, rule);
-    if stones > 0 {
-        assert_true(rt, game.place_handicap(stones).is_ok());
-    }
-    play_all(rt, &mut game, moves);
-    let made = read_move(rt, last);
-    assert_equal_for(
-        rt,
-        (case, rule),
-        game.play(made.colour, made.vertex),
-        wanted,
-    );
-}
-
 #[test]
 fn boards_come_back_under_simple_ko_alone(rt: HostRuntime) {
-    for back in &BACK {
-        assert_answer(&rt, KoRule::Simple, back, Ok(()));
-        assert_answer(&rt, KoRule::Positional, back, Err(PlayFault::Ko));
+    for (case, lines, stones, moves, last, simple) in &BACK {
+        let answers = [
+            (KoRule::Simple, *simple),
+            (KoRule::Positional, Err(PlayFault::Ko)),
+        ];
+        for (rule, wanted) in answers {
+            let mut game = new_game_under(&rt, *lines, rule);
+            if *stones > 0 {
+                assert_true(&rt, game.place_handicap(*stones).is_ok());
+            }
+            play_all(&rt, &mut game, moves);
+            let made = read_move(&rt, last);
+            let answer = game.play(made.colour, made.vertex);
+            assert_equal_for(&rt, (case, rule), answer, wanted);
+        }
     }
-    assert_answer(&rt, KoRule::Simple, &AT_ONCE, Err(PlayFault::Ko));
-    assert_answer(&rt, KoRule::Positional, &AT_ONCE, Err(PlayFault::Ko));
 }

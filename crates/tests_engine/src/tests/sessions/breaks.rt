@@ -1,287 +1,183 @@
 //! Conversations whose streams break, over memory.
-use crate::asserts::assert_equal;
-use crate::tests::sessions::memory::{Pieces, Reporting, Stuck, StuckOnce, Unflushed, Waiting};
-use crate::tests::sessions::{pieces_of, reader_of, writer_of};
-use arrayvec::ArrayVec;
+use crate::asserts::{assert_equal, assert_equal_for, some};
+use crate::tests::sessions::commands::{KO_INPUT, KO_OUTPUT};
+use crate::tests::sessions::memory::{Limited, Pieces, Written};
+use crate::tests::sessions::{Call, Talk, assert_comes_to};
 use gtp_session::fault::Fault;
 use gtp_session::first::First;
-use gtp_session::serve::{ServeFault, Served, serve, serve_with, serve_within};
+use gtp_session::serve::{ServeFault, Served};
 use gtp_session::session::Session;
 use gtp_session::streams::Counted;
-use std::alloc::Global;
-use std::cell::Cell;
 use std::process::Abort;
-use std::rc::Rc;
-use std::test::Fail;
 
-/// Lines with their replies, and how many moves the record has after each: a ko on a board of size 4, which Black may
-/// take back only after two passes.
-static KO: [(&[u8], &[u8], usize); 12] = [
-    (b"boardsize 4\n", b"=\n\n", 0),
-    (b"play b A2\n", b"=\n\n", 1),
-    (b"play w C1\n", b"=\n\n", 2),
-    (b"play b B1\n", b"=\n\n", 3),
-    (b"play w B2\n", b"=\n\n", 4),
-    (b"play b D4\n", b"=\n\n", 5),
-    (b"play w A1\n", b"=\n\n", 6),
-    (b"play b B1\n", b"? illegal move\n\n", 6),
-    (b"play b pass\n", b"=\n\n", 7),
-    (b"play w pass\n", b"=\n\n", 8),
-    (b"play b B1\n", b"=\n\n", 9),
+/// The length of each line of the ko.
+const KO_SIZES: &[usize] = &[12, 10, 10, 10, 10, 10, 10, 10, 12, 12, 10, 10];
+
+/// How many bytes the replies to its first lines have, and how many moves the record has after these lines: to none of
+/// them, to one, and so on.
+static KO_REPLIES: [(usize, usize); 13] = [
+    (0, 0),
+    (3, 0),
+    (6, 1),
+    (9, 2),
+    (12, 3),
+    (15, 4),
+    (18, 5),
+    (21, 6),
+    (37, 6),
+    (40, 7),
+    (43, 8),
+    (46, 9),
+    (114, 9),
+];
+
+/// How many bytes the replies to the first `lines` lines have, and how many moves the record has after these.
+fn ko_after(rt: &impl Abort, lines: usize) -> (&'static [u8], usize) {
+    let (bytes, moves) = *some(rt, KO_REPLIES.get(lines));
+    (some(rt, KO_OUTPUT.get(..bytes)), moves)
+}
+
+/// The line whose reply breaks is executed, and none is read after it.
+#[test]
+fn a_writer_breaks_after_each_number_of_bytes_and_at_each_flush(rt: HostRuntime) {
+    let broken = Err(ServeFault::Write);
+    let mut talk = Talk {
+        how: Call::Within(1000),
+        input: KO_INPUT,
+        sizes: KO_SIZES,
+        failing: None,
+        room: 0,
+        step: 7,
+        stuck: 0,
+        flushes: usize::MAX,
+    };
+    assert_equal(&rt, KO_OUTPUT.len(), 114);
+    let output = KO_OUTPUT;
+    for room in 0..output.len() {
+        talk.room = room;
+        // That of no lines is among them, so that this is one more than were answered whole.
+        let executed = KO_REPLIES.iter().filter(|row| row.0 <= room).count();
+        let (session, reads) = assert_comes_to(&rt, "room", &talk, &output[..room], broken);
+        assert_equal_for(&rt, room, reads, executed);
+        let (_replies, moves) = ko_after(&rt, executed);
+        assert_equal_for(&rt, room, session.game().moves().len(), moves);
+    }
+    talk.how = Call::Serve;
+    talk.sizes = &[];
+    talk.room = 4096;
+    for flushes in 0..12_usize {
+        talk.flushes = flushes;
+        let (replies, moves) = ko_after(&rt, flushes.saturating_add(1));
+        let (session, _reads) = assert_comes_to(&rt, "flush", &talk, replies, broken);
+        assert_equal_for(&rt, flushes, session.game().moves().len(), moves);
+    }
+}
+
+/// How an engine is called at first, and the sizes of the pieces of the ko.
+static CUTS: [(Call, &[usize]); 2] = [(Call::Serve, KO_SIZES), (Call::Within(1000), &[1; 126])];
+
+#[test]
+fn a_reader_fails_at_each_line_or_byte_and_the_next_call_goes_on(rt: HostRuntime) {
+    assert_equal(&rt, KO_INPUT.len(), 126);
+    for (how, sizes) in &CUTS {
+        let mut before = 0_usize;
+        for failing in 0..=sizes.len() {
+            let read = some(&rt, KO_INPUT.get(..before));
+            let lines = read.iter().filter(|byte| **byte == b'\n').count();
+            let mut taken = Written::new();
+            let mut session = Session::new(First);
+            let mut pieces = Pieces {
+                rest: KO_INPUT,
+                sizes,
+                turn: 0,
+                failing: Some(failing),
+            };
+            let calls = [
+                (*how, Err(ServeFault::Read), lines),
+                (Call::Serve, Ok(Served::EndOfInput), 12),
+            ];
+            for (how, wanted, executed) in calls {
+                let mut reader = Counted::new(&mut pieces);
+                let mut writer = Counted::new(Limited {
+                    taken: &mut taken,
+                    room: usize::MAX,
+                    step: usize::MAX,
+                    stuck: 0,
+                    flushes: usize::MAX,
+                });
+                let answer = how.hold(&mut reader, &mut writer, &mut session);
+                let (replies, moves) = ko_after(&rt, executed);
+                assert_equal_for(&rt, failing, answer, wanted);
+                assert_equal_for(&rt, failing, taken.as_slice(), replies);
+                assert_equal_for(&rt, failing, session.game().moves().len(), moves);
+                if answer.is_err() {
+                    assert_equal_for(&rt, failing, pieces.turn, failing.saturating_add(1));
+                }
+            }
+            before = before.saturating_add(sizes.get(failing).copied().unwrap_or(0));
+        }
+    }
+}
+
+/// A call and its answer, and how many moves the record has after it.
+type Called = (Call, Result<Served, ServeFault>, usize);
+
+/// What is shown, the input, the size of its first piece, how many of the writer's first writes take nothing, the
+/// calls, and the output of both.
+static TWICE: [(&str, &[u8], usize, usize, [Called; 2], &[u8]); 2] = [
+    // The reply that was not taken isn't written again.
     (
-        b"showboard\n",
-        b"= . . . X 4\n. . . . 3\nX O . . 2\n. X O . 1\nA B C D\ncaptures B 1 W 1\n\n",
-        9,
+        "the next call goes on after a write that took nothing",
+        b"1 play b D4\n2 play w E5\n",
+        12,
+        1,
+        [
+            (Call::Serve, Err(ServeFault::Write), 1),
+            (Call::Serve, Ok(Served::EndOfInput), 2),
+        ],
+        b"=2\n\n",
+    ),
+    (
+        "each call counts its own genmoves",
+        b"genmove b\ngenmove w\ngenmove b\n",
+        10,
+        0,
+        [
+            (
+                Call::With(1, Fault::Stop(2)),
+                Err(ServeFault::TooManyReads),
+                1,
+            ),
+            (Call::With(1, Fault::Stop(2)), Ok(Served::Stopped), 3),
+        ],
+        b"= A1\n\n= B1\n\n",
     ),
 ];
 
-/// The lines, joined.
-fn input(alloc: Global) -> Result<Vec<u8>, Fail> {
-    let mut text = Vec::new(alloc);
-    for (line, _reply, _moves) in &KO {
-        text.extend_from_slice(line)?;
-    }
-    Ok(text)
-}
-
-/// The length of each line.
-fn sizes(alloc: Global) -> Result<Vec<usize>, Fail> {
-    let mut sizes = Vec::new(alloc);
-    for (line, _reply, _moves) in &KO {
-        sizes.push(line.len())?;
-    }
-    Ok(sizes)
-}
-
-/// The replies to the first `lines` lines, joined.
-fn replies(alloc: Global, lines: usize) -> Result<Vec<u8>, Fail> {
-    let mut text = Vec::new(alloc);
-    for (index, (_line, reply, _moves)) in KO.iter().enumerate() {
-        if index < lines {
-            text.extend_from_slice(reply)?;
-        }
-    }
-    Ok(text)
-}
-
-/// How many moves the record has after the first `lines` lines.
-fn moves_after(lines: usize) -> usize {
-    let mut moves = 0;
-    for (index, (_line, _reply, after)) in KO.iter().enumerate() {
-        if index < lines {
-            moves = *after;
-        }
-    }
-    moves
-}
-
-/// How many replies are whole in the first `bytes` bytes of the output.
-fn whole_replies(bytes: usize) -> usize {
-    let mut end = 0usize;
-    let mut whole = 0usize;
-    for (_line, reply, _moves) in &KO {
-        end = end.saturating_add(reply.len());
-        if end <= bytes {
-            whole = whole.saturating_add(1);
-        }
-    }
-    whole
-}
-
-/// The session executed the first `lines` lines, and this is what it answered.
-fn assert_answered<R: Abort + AllocGlobal>(
-    rt: &R,
-    session: &Session<First>,
-    taken: &[u8],
-    lines: usize,
-) -> Result<(), Fail> {
-    assert_equal(rt, taken, replies(rt.alloc(), lines)?.as_slice());
-    assert_equal(rt, session.game().moves().len(), moves_after(lines));
-    Ok(())
-}
-
-/// A writer with this room breaks. The line whose reply broke was executed, and none was read after it.
-fn assert_breaks(rt: &impl Abort, input: &[u8], sizes: &[usize], output: &[u8], room: usize) {
-    let mut pieces = pieces_of(input, sizes, None);
-    let mut taken = ArrayVec::new();
-    let mut session = Session::new(First);
-    let mut reader = Counted::new(&mut pieces);
-    let mut writer = writer_of(&mut taken, room, 7);
-    let answer = serve_within(&mut reader, &mut writer, &mut session, 1000);
-    let executed = whole_replies(room).saturating_add(1);
-    assert_equal(rt, answer, Err(ServeFault::Write));
-    assert_equal(rt, taken.as_slice(), output);
-    assert_equal(rt, session.game().moves().len(), moves_after(executed));
-    assert_equal(rt, pieces.turn, executed);
-}
-
 #[test]
-fn a_writer_breaks_after_each_number_of_bytes(rt: HostRuntime) -> Result<(), Fail> {
-    let input = input(rt.alloc())?;
-    let sizes = sizes(rt.alloc())?;
-    let output = replies(rt.alloc(), 12)?;
-    for room in 0..output.len() {
-        assert_breaks(&rt, &input, &sizes, &output[..room], room);
-    }
-    Ok(())
-}
-
-/// The engine answers what these pieces give, adds it to what was taken, and ends like this.
-fn assert_serves_on(
-    rt: &impl Abort,
-    pieces: &mut Pieces,
-    taken: &mut Vec<u8>,
-    session: &mut Session<First>,
-    served: Result<Served, ServeFault>,
-) {
-    let answer = serve(&mut Counted::new(pieces), &mut Counted::new(taken), session);
-    assert_equal(rt, answer, served);
-}
-
-#[test]
-fn a_reader_fails_at_each_line_and_the_next_call_goes_on(rt: HostRuntime) -> Result<(), Fail> {
-    let input = input(rt.alloc())?;
-    let sizes = sizes(rt.alloc())?;
-    for failing in 0..13usize {
-        let mut pieces = pieces_of(&input, &sizes, Some(failing));
-        let mut taken = Vec::new(rt.alloc());
+fn the_next_call_goes_on_and_counts_anew(rt: HostRuntime) {
+    for (case, input, size, stuck, calls, output) in &TWICE {
+        let mut taken = Written::new();
         let mut session = Session::new(First);
-        let failed = Err(ServeFault::Read);
-        assert_serves_on(&rt, &mut pieces, &mut taken, &mut session, failed);
-        assert_answered(&rt, &session, &taken, failing)?;
-        assert_equal(&rt, pieces.turn, failing.saturating_add(1));
-        let end = Ok(Served::EndOfInput);
-        assert_serves_on(&rt, &mut pieces, &mut taken, &mut session, end);
-        assert_answered(&rt, &session, &taken, 12)?;
-    }
-    Ok(())
-}
-
-/// The read of one byte fails, before which so many lines were read.
-fn assert_fails_at<R: Abort + AllocGlobal>(
-    rt: &R,
-    input: &[u8],
-    failing: usize,
-    lines: usize,
-) -> Result<(), Fail> {
-    let mut pieces = pieces_of(input, &[1; 512], Some(failing));
-    let mut taken = Vec::new(rt.alloc());
-    let mut session = Session::new(First);
-    let answer = serve_within(
-        &mut Counted::new(&mut pieces),
-        &mut Counted::new(&mut taken),
-        &mut session,
-        1000,
-    );
-    assert_equal(rt, answer, Err(ServeFault::Read));
-    assert_equal(rt, pieces.turn, failing.saturating_add(1));
-    assert_answered(rt, &session, &taken, lines)
-}
-
-#[test]
-fn a_reader_fails_after_each_byte(rt: HostRuntime) -> Result<(), Fail> {
-    let input = input(rt.alloc())?;
-    let mut lines = 0usize;
-    for (failing, byte) in input.iter().enumerate() {
-        assert_fails_at(&rt, &input, failing, lines)?;
-        if *byte == b'\n' {
-            lines = lines.saturating_add(1);
+        let sizes = [*size];
+        let mut reader = Counted::new(Pieces {
+            rest: input,
+            sizes: &sizes,
+            turn: 0,
+            failing: None,
+        });
+        let mut writer = Counted::new(Limited {
+            taken: &mut taken,
+            room: 4096,
+            step: 100,
+            stuck: *stuck,
+            flushes: usize::MAX,
+        });
+        for (how, wanted, moves) in calls {
+            let answer = how.hold(&mut reader, &mut writer, &mut session);
+            assert_equal_for(&rt, case, answer, *wanted);
+            assert_equal_for(&rt, case, session.game().moves().len(), *moves);
         }
+        assert_equal_for(&rt, case, taken.as_slice(), output);
     }
-    Ok(())
-}
-
-#[test]
-fn a_flush_that_fails_is_a_write_fault(rt: HostRuntime) -> Result<(), Fail> {
-    let input = input(rt.alloc())?;
-    for flushes in 0..12usize {
-        let mut taken = Vec::new(rt.alloc());
-        let mut session = Session::new(First);
-        let answer = serve(
-            &mut Counted::new(input.as_slice()),
-            &mut Counted::new(Unflushed {
-                taken: &mut taken,
-                flushes,
-            }),
-            &mut session,
-        );
-        assert_equal(&rt, answer, Err(ServeFault::Write));
-        assert_answered(&rt, &session, &taken, flushes.saturating_add(1))?;
-    }
-    Ok(())
-}
-
-#[test]
-fn a_write_that_takes_nothing_is_a_write_fault(rt: HostRuntime) {
-    let mut pieces = pieces_of(b"play b D4\nplay w E5\n", &[10], None);
-    let mut session = Session::new(First);
-    let answer = serve(
-        &mut Counted::new(&mut pieces),
-        &mut Counted::new(Stuck),
-        &mut session,
-    );
-    assert_equal(&rt, answer, Err(ServeFault::Write));
-    assert_equal(&rt, session.game().moves().len(), 1);
-    assert_equal(&rt, pieces.turn, 1);
-}
-
-#[test]
-fn the_next_call_goes_on_after_a_write_that_took_nothing(rt: HostRuntime) {
-    let mut session = Session::new(First);
-    let mut reader = reader_of(b"1 play b D4\n2 play w E5\n", &[12], None);
-    let mut once = StuckOnce {
-        taken: Vec::new(rt.alloc()),
-        stuck: true,
-    };
-    let mut writer = Counted::new(&mut once);
-    let answer = serve(&mut reader, &mut writer, &mut session);
-    assert_equal(&rt, answer, Err(ServeFault::Write));
-    assert_equal(&rt, session.game().moves().len(), 1);
-    let answer = serve(&mut reader, &mut writer, &mut session);
-    assert_equal(&rt, answer, Ok(Served::EndOfInput));
-    assert_equal(&rt, session.game().moves().len(), 2);
-    // The reply that was not taken isn't written again.
-    assert_equal(&rt, once.taken.as_slice(), b"=2\n\n".as_slice());
-}
-
-#[test]
-fn several_reads_of_one_call_wait_for_the_replies(rt: HostRuntime) -> Result<(), Fail> {
-    let lines: [&[u8]; 3] = [b"1 name\n", b"2 version\n", b"3 quit\n"];
-    let flushed = Rc::new(rt.alloc(), Cell::new(0))?;
-    let mut reader = Counted::new(Waiting {
-        lines: &lines,
-        next: 0,
-        flushed: flushed.clone()?,
-    });
-    let mut writer = Counted::new(Reporting {
-        replies: 0,
-        last: 0,
-        flushed,
-    });
-    let mut session = Session::new(First);
-    let answer = serve_within(&mut reader, &mut writer, &mut session, 10);
-    assert_equal(&rt, answer, Ok(Served::Quit));
-    Ok(())
-}
-
-/// The engine stops at this fault after one read.
-fn assert_stops<R: Abort + AllocGlobal>(rt: &R, fault: Fault) {
-    let mut pieces = pieces_of(b"genmove b\nname\n", &[10], Some(1));
-    let mut session = Session::new(First);
-    let mut taken = Vec::new(rt.alloc());
-    let answer = serve_with(
-        &mut Counted::new(&mut pieces),
-        &mut Counted::new(&mut taken),
-        &mut session,
-        10,
-        fault,
-    );
-    assert_equal(rt, answer, Ok(Served::Stopped));
-    assert_equal(rt, pieces.turn, 1);
-}
-
-#[test]
-fn nothing_is_read_after_a_stop(rt: HostRuntime) {
-    assert_stops(&rt, Fault::Stop(1));
-    assert_stops(&rt, Fault::Cut(1, 2));
 }

@@ -1,37 +1,24 @@
-//! What commands answer, from the bytes in to the bytes out. Most of it is in `tests/references/engine/worked.txt`, which the
-//! built engine is given.
-use crate::asserts::assert_equal_for;
-use crate::tests::sessions::{assert_serves_in_any_cuts, reader_of, writer_of};
-use arrayvec::ArrayVec;
-use gtp_session::first::First;
-use gtp_session::serve::{Served, serve};
-use gtp_session::session::Session;
-use std::alloc::{AllocError, Global};
-use std::process::Abort;
-use std::test::Fail;
+//! What commands answer, from the bytes in to the bytes out. Most of it is in `tests/references/engine/worked.txt`,
+//! which the built engine is given.
+use crate::tests::sessions::{Call, assert_serves_in_any_cuts};
+use gtp_session::serve::Served;
 
-/// A command and the reply to it, without the newlines that end them.
-type Answered = (&'static [u8], &'static [u8]);
+/// A ko on a board of size 4, which Black may take back only after two passes.
+pub const KO_INPUT: &[u8] =
+    b"boardsize 4\nplay b A2\nplay w C1\nplay b B1\nplay w B2\nplay b D4\nplay w A1\nplay b B1\n\
+        play b pass\nplay w pass\nplay b B1\nshowboard\n";
 
-/// Each command is answered by the reply beside it, in a fresh session with the first policy, in any cuts.
-fn assert_answers(rt: &impl Abort, alloc: Global, lines: &[Answered]) -> Result<(), Fail> {
-    let mut input = Vec::new(alloc);
-    let mut output = Vec::new(alloc);
-    for (command, reply) in lines {
-        add_all(&mut input, &[command, b"\n"])?;
-        add_all(&mut output, &[reply, b"\n\n"])?;
-    }
-    assert_serves_in_any_cuts(rt, &input, &output, Served::EndOfInput);
-    Ok(())
-}
+/// The replies to it.
+pub const KO_OUTPUT: &[u8] = b"=\n\n=\n\n=\n\n=\n\n=\n\n=\n\n=\n\n? illegal move\n\n=\n\n=\n\n=\n\n\
+        = . . . X 4\n. . . . 3\nX O . . 2\n. X O . 1\nA B C D\ncaptures B 1 W 1\n\n";
 
-/// Conversations of fresh sessions with the first policy, each to the end of the input: its name, the input and the
-/// output.
-pub static CONVERSATIONS: [(&str, &[u8], &[u8]); 9] = [
+/// Conversations of fresh sessions with the first policy: the name of each, the input, the output, and how it ends.
+pub static CONVERSATIONS: [(&str, &[u8], &[u8], Served); 20] = [
     (
         "ids",
         b"99999999999 name\n5\n2147483647 name\n2147483648 name\n007 version\n",
         b"? unknown command\n\n?5 unknown command\n\n=2147483647 stepgo\n\n? unknown command\n\n=7 1.0\n\n",
+        Served::EndOfInput,
     ),
     (
         "spellings and refusals of play",
@@ -39,30 +26,33 @@ pub static CONVERSATIONS: [(&str, &[u8], &[u8]); 9] = [
             PLAY b B1\nboardsize 26\nboardsize nine\n",
         b"=\n\n? syntax error\n\n=\n\n? illegal move\n\n? syntax error\n\n? syntax error\n\n=\n\n\
             ? syntax error\n\n? unknown command\n\n? unacceptable size\n\n? syntax error\n\n",
+        Served::EndOfInput,
     ),
     (
         "suicide is illegal",
         b"boardsize 2\nplay b B1\nplay b A2\nplay w A1\n",
         b"=\n\n=\n\n=\n\n? illegal move\n\n",
+        Served::EndOfInput,
     ),
     (
         "ko is lifted by passes",
-        b"boardsize 4\nplay b A2\nplay w C1\nplay b B1\nplay w B2\nplay b D4\nplay w A1\nplay b B1\n\
-            play b pass\nplay w pass\nplay b B1\nshowboard\n",
-        b"=\n\n=\n\n=\n\n=\n\n=\n\n=\n\n=\n\n? illegal move\n\n=\n\n=\n\n=\n\n\
-            = . . . X 4\n. . . . 3\nX O . . 2\n. X O . 1\nA B C D\ncaptures B 1 W 1\n\n",
+        KO_INPUT,
+        KO_OUTPUT,
+        Served::EndOfInput,
     ),
     (
         "undo takes a capture back",
         b"boardsize 2\nplay b A1\nplay w B1\nplay b A2\nplay w B2\nshowboard\nundo\nshowboard\n",
         b"=\n\n=\n\n=\n\n=\n\n=\n\n= . O 2\n. O 1\nA B\ncaptures B 0 W 2\n\n=\n\n\
             = X . 2\nX O 1\nA B\ncaptures B 0 W 0\n\n",
+        Served::EndOfInput,
     ),
     (
         "a score is area and komi",
         b"boardsize 3\nkomi 0.5\nplay b B1\nplay b B2\nplay b B3\nfinal_score\nclear_board\nkomi 0\n\
             final_score\n",
         b"=\n\n=\n\n=\n\n=\n\n=\n\n= B+8.5\n\n=\n\n=\n\n= 0\n\n",
+        Served::EndOfInput,
     ),
     (
         "spellings of komi and the scores they give",
@@ -70,118 +60,103 @@ pub static CONVERSATIONS: [(&str, &[u8], &[u8]); 9] = [
             komi +7.\nfinal_score\n",
         b"=\n\n= B+3.5\n\n=\n\n? syntax error\n\n? syntax error\n\n? syntax error\n\n? syntax error\n\n\
             = W+0.5\n\n=\n\n= W+7\n\n",
+        Served::EndOfInput,
     ),
     (
         "handicap stones are never taken back",
         b"undo\nfixed_handicap 2\nundo\n",
         b"? cannot undo\n\n= D4 Q16\n\n? cannot undo\n\n",
+        Served::EndOfInput,
     ),
     (
         "known_command speaks of the commands that are there",
         b"known_command genmove\nknown_command time_left\nknown_command\ntime_left b 10 0\nname x y\n",
         b"= true\n\n= false\n\n? syntax error\n\n? unknown command\n\n= stepgo\n\n",
+        Served::EndOfInput,
+    ),
+    (
+        "further words are ignored",
+        b"protocol_version 1\nversion 9\nboardsize 9 19\nkomi 5 6.7\nplay b A1 A2\ngenmove w b\nundo 2\n\
+            version\nfinal_score now\nclear_board 9\nfixed_handicap 2 3\n",
+        b"= 2\n\n= 1.0\n\n=\n\n=\n\n=\n\n= B1\n\n=\n\n= 1.0\n\n= B+76\n\n=\n\n= C3 G7\n\n",
+        Served::EndOfInput,
+    ),
+    (
+        "fixed handicaps and their refusals",
+        b"fixed_handicap 3\nfixed_handicap 1\nboardsize 9\nfixed_handicap 1\nfixed_handicap 10\n\
+            fixed_handicap 9\nboardsize 8\nfixed_handicap 5\nfixed_handicap 4\nclear_board\nplay b pass\n\
+            fixed_handicap 2\n",
+        b"= D4 Q16 D16\n\n? board not empty\n\n=\n\n? invalid number of stones\n\n\
+            ? invalid number of stones\n\n= C3 G7 C7 G3 C5 G5 E3 E7 E5\n\n=\n\n\
+            ? invalid number of stones\n\n= C3 F6 C6 F3\n\n=\n\n=\n\n? board not empty\n\n",
+        Served::EndOfInput,
+    ),
+    (
+        "each name that is listed is a known command",
+        b"known_command protocol_version\nknown_command name\nknown_command version\n\
+            known_command known_command\nknown_command list_commands\nknown_command quit\n\
+            known_command boardsize\nknown_command clear_board\nknown_command komi\nknown_command play\n\
+            known_command genmove\nknown_command fixed_handicap\nknown_command undo\n\
+            known_command final_score\nknown_command showboard\nlist_commands\n",
+        b"= true\n\n= true\n\n= true\n\n= true\n\n= true\n\n= true\n\n= true\n\n= true\n\n= true\n\n\
+            = true\n\n= true\n\n= true\n\n= true\n\n= true\n\n= true\n\n= protocol_version\nname\nversion\n\
+            known_command\nlist_commands\nquit\nboardsize\nclear_board\nkomi\nplay\ngenmove\n\
+            fixed_handicap\nundo\nfinal_score\nshowboard\n\n",
+        Served::EndOfInput,
+    ),
+    (
+        "the first conversation",
+        b"1 protocol_version\n2 quit\n",
+        b"=1 2\n\n=2\n\n",
+        Served::Quit,
+    ),
+    (
+        "comments and control characters are no part of a line",
+        b"# a comment\n\t\n3\tna\x01me # x\r\n",
+        b"=3 stepgo\n\n",
+        Served::EndOfInput,
+    ),
+    (
+        "nothing is executed after quit",
+        b"quit\nname\n",
+        b"=\n\n",
+        Served::Quit,
+    ),
+    (
+        "a choice is made before quit",
+        b"genmove b\nquit\nname\n",
+        b"= A1\n\n=\n\n",
+        Served::Quit,
+    ),
+    (
+        "comments and control characters in a play",
+        b"# a game\n\t\n3\tpl\x01ay b D4 # corner\r\n",
+        b"=3\n\n",
+        Served::EndOfInput,
+    ),
+    (
+        "an unfinished play is not executed",
+        b"play b D1",
+        b"",
+        Served::EndOfInput,
+    ),
+    (
+        "a play, and an unfinished one",
+        b"# a game\n\t\n3\tpl\x01ay b D4 # corner\r\nplay b D1",
+        b"=3\n\n",
+        Served::EndOfInput,
+    ),
+    (
+        "the first candidates",
+        b"boardsize 2\ngenmove b\ngenmove w\nboardsize 1\n7 genmove b\n",
+        b"=\n\n= A1\n\n= B1\n\n=\n\n=7 pass\n\n",
+        Served::EndOfInput,
     ),
 ];
 
-/// A fresh engine answers the conversation of this name, of one piece.
-fn assert_conversation(rt: &impl Abort, name: &str, input: &[u8], output: &[u8]) {
-    let mut taken = ArrayVec::new();
-    let mut session = Session::new(First);
-    let mut reader = reader_of(input, &[], None);
-    let mut writer = writer_of(&mut taken, 4096, 100);
-    let answer = serve(&mut reader, &mut writer, &mut session);
-    assert_equal_for(rt, name, answer, Ok(Served::EndOfInput));
-    assert_equal_for(rt, name, taken.as_slice(), output);
-}
-
 #[test]
-fn conversations_are_answered(rt: HostRuntime) {
-    for (name, input, output) in &CONVERSATIONS {
-        assert_conversation(&rt, name, input, output);
+fn conversations_are_answered_in_any_cuts(rt: HostRuntime) {
+    for (name, input, output, served) in &CONVERSATIONS {
+        assert_serves_in_any_cuts(&rt, name, Call::Serve, input, output, *served);
     }
-}
-
-/// The names, in the order in which they are listed.
-static NAMES: [&[u8]; 15] = [
-    b"protocol_version",
-    b"name",
-    b"version",
-    b"known_command",
-    b"list_commands",
-    b"quit",
-    b"boardsize",
-    b"clear_board",
-    b"komi",
-    b"play",
-    b"genmove",
-    b"fixed_handicap",
-    b"undo",
-    b"final_score",
-    b"showboard",
-];
-
-/// Adds the parts to the text.
-fn add_all(text: &mut Vec<u8>, parts: &[&[u8]]) -> Result<(), AllocError> {
-    for part in parts {
-        text.extend_from_slice(part)?;
-    }
-    Ok(())
-}
-
-#[test]
-fn each_name_that_is_listed_is_a_known_command(rt: HostRuntime) -> Result<(), Fail> {
-    let mut input = Vec::new(rt.alloc());
-    let mut output = Vec::new(rt.alloc());
-    let mut listed = Vec::new(rt.alloc());
-    for name in &NAMES {
-        let before: &[u8] = if listed.is_empty() { b"= " } else { b"\n" };
-        add_all(&mut input, &[b"known_command ", name, b"\n"])?;
-        add_all(&mut output, &[b"= true\n\n"])?;
-        add_all(&mut listed, &[before, name])?;
-    }
-    add_all(&mut input, &[b"list_commands\n"])?;
-    add_all(&mut output, &[&listed, b"\n\n"])?;
-    assert_serves_in_any_cuts(&rt, &input, &output, Served::EndOfInput);
-    Ok(())
-}
-
-/// Commands with more words than they need.
-static FURTHER_WORDS: [Answered; 11] = [
-    (b"protocol_version 1", b"= 2"),
-    (b"version 9", b"= 1.0"),
-    (b"boardsize 9 19", b"="),
-    (b"komi 5 6.7", b"="),
-    (b"play b A1 A2", b"="),
-    (b"genmove w b", b"= B1"),
-    (b"undo 2", b"="),
-    (b"version", b"= 1.0"),
-    (b"final_score now", b"= B+76"),
-    (b"clear_board 9", b"="),
-    (b"fixed_handicap 2 3", b"= C3 G7"),
-];
-
-#[test]
-fn further_words_are_ignored(rt: HostRuntime) -> Result<(), Fail> {
-    assert_answers(&rt, rt.alloc(), &FURTHER_WORDS)
-}
-
-/// Handicaps, and why others are refused.
-static HANDICAPS: [Answered; 12] = [
-    (b"fixed_handicap 3", b"= D4 Q16 D16"),
-    (b"fixed_handicap 1", b"? board not empty"),
-    (b"boardsize 9", b"="),
-    (b"fixed_handicap 1", b"? invalid number of stones"),
-    (b"fixed_handicap 10", b"? invalid number of stones"),
-    (b"fixed_handicap 9", b"= C3 G7 C7 G3 C5 G5 E3 E7 E5"),
-    (b"boardsize 8", b"="),
-    (b"fixed_handicap 5", b"? invalid number of stones"),
-    (b"fixed_handicap 4", b"= C3 F6 C6 F3"),
-    (b"clear_board", b"="),
-    (b"play b pass", b"="),
-    (b"fixed_handicap 2", b"? board not empty"),
-];
-
-#[test]
-fn fixed_handicaps_and_their_refusals(rt: HostRuntime) -> Result<(), Fail> {
-    assert_answers(&rt, rt.alloc(), &HANDICAPS)
 }

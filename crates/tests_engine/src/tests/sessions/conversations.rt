@@ -1,153 +1,206 @@
 //! Conversations from the bytes in to the bytes out, what `serve` returns, and the game that it leaves.
-use crate::asserts::{assert_equal, assert_true, some};
-use crate::tests::sessions::memory::{Reporting, Strict, Waiting};
-use crate::tests::sessions::{assert_comes_to, assert_serves_in_any_cuts, reader_of, writer_of};
-use arrayvec::ArrayVec;
-use go_base::{Colour, Point};
+use crate::asserts::{assert_equal, assert_equal_for};
+use crate::tests::board::{new_game, play_all};
+use crate::tests::sessions::memory::{Reporting, Waiting};
+use crate::tests::sessions::{Call, Talk, assert_comes_to};
+use gtp_session::fault::Fault;
 use gtp_session::first::First;
-use gtp_session::serve::{ServeFault, Served, serve, serve_within};
+use gtp_session::serve::{ServeFault, Served};
 use gtp_session::session::Session;
 use gtp_session::streams::Counted;
-use std::alloc::Global;
 use std::cell::Cell;
-use std::process::Abort;
 use std::rc::Rc;
 use std::test::Fail;
 
-#[test]
-fn the_first_conversation(rt: HostRuntime) {
-    assert_serves_in_any_cuts(
-        &rt,
-        b"1 protocol_version\n2 quit\n",
-        b"=1 2\n\n=2\n\n",
-        Served::Quit,
-    );
-}
+/// How an engine is called, and its input.
+type Asked = (Call, &'static [u8]);
+
+/// The sizes of the pieces, the number of the read that fails, how many bytes the writer takes, how many in a write, and
+/// how many of its first writes take none.
+type Streams = (&'static [usize], Option<usize>, usize, usize, usize);
+
+/// The output, the answer, the moves that were made, and how many reads there were.
+type Outcome = (
+    &'static [u8],
+    Result<Served, ServeFault>,
+    &'static str,
+    usize,
+);
+
+/// One piece, and a writer that takes all.
+const WHOLE: Streams = (&[], None, 16384, 100, 0);
+
+/// What is shown, and the conversation.
+static TALKS: [(&str, Asked, Streams, Outcome); 13] = [
+    (
+        "nothing is executed after a writer that breaks",
+        (Call::Serve, b"1 name\n2 quit\n"),
+        (&[], None, 3, 100, 0),
+        (b"=1 ", Err(ServeFault::Write), "", 1),
+    ),
+    (
+        "no read is allowed",
+        (Call::Within(0), b"name\n"),
+        WHOLE,
+        (b"", Err(ServeFault::TooManyReads), "", 0),
+    ),
+    (
+        "a read that fails ends the conversation",
+        (Call::Serve, b"name\nquit\n"),
+        (&[], Some(0), 4096, 100, 0),
+        (b"", Err(ServeFault::Read), "", 1),
+    ),
+    (
+        "nothing is read after quit",
+        (Call::Serve, b"name\nquit\nname\n"),
+        (&[10], Some(1), 4096, 100, 0),
+        (b"= stepgo\n\n=\n\n", Ok(Served::Quit), "", 1),
+    ),
+    (
+        "comments and control characters in a play",
+        (Call::Serve, b"# a game\n\t\n3\tpl\x01ay b D4 # corner\r\n"),
+        WHOLE,
+        (b"=3\n\n", Ok(Served::EndOfInput), "bD4", 2),
+    ),
+    (
+        "an unfinished play is not executed",
+        (Call::Serve, b"play b D1"),
+        WHOLE,
+        (b"", Ok(Served::EndOfInput), "", 2),
+    ),
+    (
+        "a play whose reply breaks was made, and the next was not",
+        (Call::Serve, b"1 play b A1\n2 play b B1\n"),
+        (&[], None, 3, 100, 0),
+        (b"=1\n", Err(ServeFault::Write), "bA1", 1),
+    ),
+    (
+        "a write that takes nothing is a write fault",
+        (Call::Serve, b"play b D4\nplay w E5\n"),
+        (&[10], None, 4096, 100, usize::MAX),
+        (b"", Err(ServeFault::Write), "bD4", 1),
+    ),
+    (
+        "nothing is executed after a stop",
+        (
+            Call::With(10, Fault::Stop(1)),
+            b"genmove b\nplay w D4\nquit\n",
+        ),
+        WHOLE,
+        (b"", Ok(Served::Stopped), "bA1", 1),
+    ),
+    (
+        "nothing is read after a stop",
+        (Call::With(10, Fault::Stop(1)), b"genmove b\nname\n"),
+        (&[10], Some(1), 4096, 100, 0),
+        (b"", Ok(Served::Stopped), "bA1", 1),
+    ),
+    (
+        "nothing is read after a cut",
+        (Call::With(10, Fault::Cut(1, 2)), b"genmove b\nname\n"),
+        (&[10], Some(1), 4096, 100, 0),
+        (b"= ", Ok(Served::Stopped), "bA1", 1),
+    ),
+    (
+        "a writer breaks in a flood",
+        (Call::With(10, Fault::Flood(1)), b"genmove b\nplay w D4\n"),
+        (&[], None, 4001, 7, 0),
+        (&[b'\n'; 4001], Err(ServeFault::Write), "bA1", 1),
+    ),
+    (
+        "an ended session meets no fault",
+        (Call::With(1000, Fault::Stop(1)), b"quit\ngenmove b\n"),
+        WHOLE,
+        (b"=\n\n", Ok(Served::Quit), "", 1),
+    ),
+];
 
 #[test]
-fn comments_and_control_characters_are_no_part_of_a_line(rt: HostRuntime) {
-    assert_serves_in_any_cuts(
-        &rt,
-        b"# a comment\n\t\n3\tna\x01me # x\r\n",
-        b"=3 stepgo\n\n",
-        Served::EndOfInput,
-    );
+fn nothing_is_read_or_executed_after_the_end(rt: HostRuntime) {
+    for (case, (how, input), streams, (output, answer, made, reads)) in &TALKS {
+        let (sizes, failing, room, step, stuck) = *streams;
+        let talk = Talk {
+            how: *how,
+            input,
+            sizes,
+            failing,
+            room,
+            step,
+            stuck,
+            flushes: usize::MAX,
+        };
+        let (session, turns) = assert_comes_to(&rt, case, &talk, output, *answer);
+        assert_equal_for(&rt, case, turns, *reads);
+        let mut game = new_game(&rt, 19);
+        play_all(&rt, &mut game, made);
+        assert_equal_for(&rt, case, session.game().moves(), game.moves());
+        let shown = session.game().show();
+        assert_equal_for(&rt, case, shown.as_slice(), game.show().as_slice());
+    }
 }
 
 #[test]
-fn nothing_is_executed_after_quit(rt: HostRuntime) {
-    assert_serves_in_any_cuts(&rt, b"quit\nname\n", b"=\n\n", Served::Quit);
+fn one_read_has_room_for_4096_bytes(rt: HostRuntime) {
+    let mut input = [b' '; 4096];
+    input[..4].copy_from_slice(b"name");
+    input[4095] = b'\n';
+    let talk = Talk {
+        how: Call::Within(1),
+        input: &input,
+        sizes: &[],
+        failing: None,
+        room: 4096,
+        step: 100,
+        stuck: 0,
+        flushes: usize::MAX,
+    };
+    let more = Err(ServeFault::TooManyReads);
+    let (_session, reads) = assert_comes_to(&rt, "4096", &talk, b"= stepgo\n\n", more);
+    assert_equal(&rt, reads, 1);
 }
+
+/// How an engine is called, and what each read gives.
+static READS: [(&str, Call, &[&[u8]]); 3] = [
+    (
+        "a line a read",
+        Call::Serve,
+        &[b"1 name\n", b"2 version\n", b"3 quit\n"],
+    ),
+    (
+        "several reads of one call",
+        Call::Within(10),
+        &[b"1 name\n", b"2 version\n", b"3 quit\n"],
+    ),
+    (
+        "several lines of one read",
+        Call::Serve,
+        &[b"1 name\n2 version\n3 quit\n"],
+    ),
+];
 
 #[test]
-fn nothing_is_executed_after_a_writer_that_breaks(rt: HostRuntime) {
-    let broken = Err(ServeFault::Write);
-    let session = assert_comes_to(&rt, b"1 name\n2 quit\n", &[], None, 3, b"=1 ", broken);
-    assert_true(&rt, !session.ended());
-}
-
-/// In so many reads at most a fresh engine answers the input with the output, and would read on.
-fn assert_reads_no_more(rt: &impl Abort, input: &[u8], reads: u32, output: &[u8]) {
-    let mut taken = ArrayVec::new();
-    let mut session = Session::new(First);
-    let mut reader = reader_of(input, &[], None);
-    let mut writer = writer_of(&mut taken, 4096, 100);
-    let answer = serve_within(&mut reader, &mut writer, &mut session, reads);
-    assert_equal(rt, answer, Err(ServeFault::TooManyReads));
-    assert_equal(rt, taken.as_slice(), output);
-}
-
-#[test]
-fn no_read_is_allowed(rt: HostRuntime) {
-    assert_reads_no_more(&rt, b"name\n", 0, b"");
-}
-
-#[test]
-fn a_read_that_fails_ends_the_conversation(rt: HostRuntime) {
-    let failed = Err(ServeFault::Read);
-    assert_comes_to(&rt, b"name\nquit\n", &[], Some(0), 4096, b"", failed);
-}
-
-#[test]
-fn nothing_is_read_after_quit(rt: HostRuntime) {
-    let input = b"name\nquit\nname\n";
-    let quit = Ok(Served::Quit);
-    assert_comes_to(&rt, input, &[10], Some(1), 4096, b"= stepgo\n\n=\n\n", quit);
-}
-
-#[test]
-fn each_line_is_answered_and_flushed_before_the_next_is_read(rt: HostRuntime) -> Result<(), Fail> {
-    let flushed = Rc::new(rt.alloc(), Cell::new(0))?;
-    let lines: [&[u8]; 3] = [b"1 name\n", b"2 version\n", b"3 quit\n"];
-    let mut reader = Counted::new(Waiting {
-        lines: &lines,
-        next: 0,
-        flushed: flushed.clone()?,
-    });
-    let mut writer = Counted::new(Reporting {
-        replies: 0,
-        last: 0,
-        flushed,
-    });
-    let mut session = Session::new(First);
-    let answer = serve(&mut reader, &mut writer, &mut session);
-    assert_equal(&rt, answer, Ok(Served::Quit));
-    Ok(())
-}
-
-/// One move was made: Black has a stone on this point.
-fn assert_one_stone(rt: &impl Abort, session: &Session<First>, column: u32, row: u32) {
-    let point = some(rt, Point::new(column, row));
-    assert_equal(rt, session.game().moves().len(), 1);
-    assert_equal(rt, session.game().at(point), Some(Colour::Black));
-}
-
-#[test]
-fn comments_and_control_characters_in_a_play(rt: HostRuntime) {
-    let input = b"# a game\n\t\n3\tpl\x01ay b D4 # corner\r\n";
-    assert_serves_in_any_cuts(&rt, input, b"=3\n\n", Served::EndOfInput);
-    let end = Ok(Served::EndOfInput);
-    let session = assert_comes_to(&rt, input, &[], None, 4096, b"=3\n\n", end);
-    assert_one_stone(&rt, &session, 4, 4);
-}
-
-#[test]
-fn an_unfinished_play_is_not_executed(rt: HostRuntime) {
-    assert_serves_in_any_cuts(&rt, b"play b D1", b"", Served::EndOfInput);
-    let end = Ok(Served::EndOfInput);
-    let session = assert_comes_to(&rt, b"play b D1", &[], None, 4096, b"", end);
-    assert_equal(&rt, session.game().moves().len(), 0);
-}
-
-#[test]
-fn a_play_whose_reply_breaks_was_made_and_the_next_was_not(rt: HostRuntime) {
-    let input = b"1 play b A1\n2 play b B1\n";
-    let broken = Err(ServeFault::Write);
-    let session = assert_comes_to(&rt, input, &[], None, 3, b"=1\n", broken);
-    assert_one_stone(&rt, &session, 1, 1);
-}
-
-#[test]
-fn a_reply_is_one_write_and_is_flushed_before_the_next(rt: HostRuntime) -> Result<(), Fail> {
-    let writes = Rc::new(rt.alloc(), Cell::new(0))?;
-    let mut session = Session::new(First);
-    let mut reader = reader_of(b"1 name\n2 version\n3 quit\n", &[], None);
-    let mut writer = Counted::new(Strict {
-        writes: writes.clone()?,
-        whole: false,
-    });
-    let answer = serve(&mut reader, &mut writer, &mut session);
-    assert_equal(&rt, answer, Ok(Served::Quit));
-    assert_equal(&rt, writes.get(), 3);
-    Ok(())
-}
-
-#[test]
-fn one_read_has_room_for_4096_bytes(rt: HostRuntime) -> Result<(), Fail> {
-    let mut input = Vec::new(rt.alloc());
-    input.extend_from_slice(b"name")?;
-    input.resize(4095, b' ')?;
-    input.push(b'\n')?;
-    assert_reads_no_more(&rt, &input, 1, b"= stepgo\n\n");
+fn a_reply_is_one_write_and_is_flushed_before_the_next_write_or_read(
+    rt: HostRuntime,
+) -> Result<(), Fail> {
+    for (case, how, lines) in &READS {
+        let writes = Rc::new(rt.alloc(), Cell::new(0))?;
+        let flushed = Rc::new(rt.alloc(), Cell::new(0))?;
+        let mut reader = Counted::new(Waiting {
+            lines: *lines,
+            next: 0,
+            flushed: flushed.clone()?,
+        });
+        let mut writer = Counted::new(Reporting {
+            writes: writes.clone()?,
+            whole: false,
+            replies: 0,
+            last: 0,
+            flushed,
+        });
+        let mut session = Session::new(First);
+        let answer = how.hold(&mut reader, &mut writer, &mut session);
+        assert_equal_for(&rt, case, answer, Ok(Served::Quit));
+        assert_equal_for(&rt, case, writes.get(), 3);
+    }
     Ok(())
 }

@@ -1,218 +1,120 @@
 //! Faults that are asked for, over memory.
 use crate::asserts::{assert_equal, assert_equal_for, some};
-use crate::tests::sessions::{reader_of, writer_of};
-use arrayvec::ArrayVec;
+use crate::tests::sessions::memory::Written;
+use crate::tests::sessions::{Call, Talk, assert_comes_to, assert_serves_in_any_cuts};
 use gtp_session::book::Book;
 use gtp_session::fault::Fault;
 use gtp_session::first::First;
-use gtp_session::laws;
-use gtp_session::policy::Policy;
 use gtp_session::serve::{ServeFault, Served, serve_with};
 use gtp_session::session::Session;
 use gtp_session::streams::Counted;
-use std::process::Abort;
 use std::test::Fail;
 
 /// One genmove that fails, and two that succeed.
-static INPUT: &[u8] = b"genmove\n1 genmove b\n2 name\n3 genmove w\n4 name\n";
+const INPUT: &[u8] = b"genmove\n1 genmove b\n2 name\n3 genmove w\n4 name\n";
 
-/// A fresh engine with this fault answers the input, in pieces of these sizes, with the output, and ends like this.
-fn assert_bends<R: Abort + AllocGlobal, P: Policy>(
-    rt: &R,
-    policy: P,
-    fault: Fault,
-    input: &[u8],
-    sizes: &[usize],
-    output: &[u8],
-    served: Served,
-) {
-    let mut taken = Vec::new(rt.alloc());
-    let mut session = Session::new(policy);
-    let mut reader = reader_of(input, sizes, None);
-    let mut writer = Counted::new(&mut taken);
-    let answer = serve_with(&mut reader, &mut writer, &mut session, 1000, fault);
-    assert_equal(rt, answer, Ok(served));
-    assert_equal(rt, session.ended(), served == Served::Quit);
-    assert_equal(rt, taken.as_slice(), output);
-}
+/// What is answered without a fault, with a cut in the second genmove that succeeds, and with junk in the first.
+const UNBENT: &[u8] = b"? syntax error\n\n=1 A1\n\n=2 stepgo\n\n=3 B1\n\n=4 stepgo\n\n";
 
-/// What the first policy answers to that input, in one piece, byte after byte, and in each two pieces.
-fn assert_bends_in_any_cuts<R: Abort + AllocGlobal>(
-    rt: &R,
-    fault: Fault,
-    output: &[u8],
-    served: Served,
-) {
-    assert_bends(rt, First, fault, INPUT, &[], output, served);
-    assert_bends(rt, First, fault, INPUT, &[1; 64], output, served);
-    for first in 1..INPUT.len() {
-        assert_bends(rt, First, fault, INPUT, &[first], output, served);
-    }
-}
+const CUT: &[u8] = b"? syntax error\n\n=1 A1\n\n=2 stepgo\n\n=3 B1\n";
 
-#[test]
-fn without_a_fault_nothing_is_bent(rt: HostRuntime) {
-    let output = b"? syntax error\n\n=1 A1\n\n=2 stepgo\n\n=3 B1\n\n=4 stepgo\n\n";
-    assert_bends_in_any_cuts(&rt, Fault::Off, output, Served::EndOfInput);
-    assert_bends_in_any_cuts(&rt, Fault::Stop(3), output, Served::EndOfInput);
-    assert_bends_in_any_cuts(&rt, Fault::Junk(3), output, Served::EndOfInput);
-}
+const JUNK: &[u8] = b"? syntax error\n\nhello\n\n=2 stepgo\n\n=3 B1\n\n=4 stepgo\n\n";
 
-/// Faults that no genmove meets.
-static UNMET: [Fault; 4] = [
-    Fault::Stop(0),
-    Fault::Cut(0, 3),
-    Fault::Junk(0),
-    Fault::Flood(0),
+/// A fault, what is answered with it, and how that ends. The answer has three parts: the second is so many newlines.
+static BENT: [(Fault, &[u8], usize, &[u8], Served); 15] = [
+    // Of no genmove, or of one that doesn't come.
+    (Fault::Off, UNBENT, 0, b"", Served::EndOfInput),
+    (Fault::Stop(3), UNBENT, 0, b"", Served::EndOfInput),
+    (Fault::Junk(3), UNBENT, 0, b"", Served::EndOfInput),
+    (Fault::Stop(0), UNBENT, 0, b"", Served::EndOfInput),
+    (Fault::Cut(0, 3), UNBENT, 0, b"", Served::EndOfInput),
+    (Fault::Junk(0), UNBENT, 0, b"", Served::EndOfInput),
+    (Fault::Flood(0), UNBENT, 0, b"", Served::EndOfInput),
+    // A genmove that fails is not counted.
+    (
+        Fault::Stop(1),
+        b"? syntax error\n\n",
+        0,
+        b"",
+        Served::Stopped,
+    ),
+    // An engine stops at its second genmove.
+    (
+        Fault::Stop(2),
+        b"? syntax error\n\n=1 A1\n\n=2 stepgo\n\n",
+        0,
+        b"",
+        Served::Stopped,
+    ),
+    (
+        Fault::Cut(2, 0),
+        b"? syntax error\n\n=1 A1\n\n=2 stepgo\n\n",
+        0,
+        b"",
+        Served::Stopped,
+    ),
+    // A reply is cut, if it is that long.
+    (Fault::Cut(2, 6), CUT, 0, b"", Served::Stopped),
+    (
+        Fault::Cut(2, 7),
+        b"? syntax error\n\n=1 A1\n\n=2 stepgo\n\n=3 B1\n\n",
+        0,
+        b"",
+        Served::Stopped,
+    ),
+    (
+        Fault::Cut(2, 2048),
+        b"? syntax error\n\n=1 A1\n\n=2 stepgo\n\n=3 B1\n\n",
+        0,
+        b"",
+        Served::Stopped,
+    ),
+    // Junk or a flood goes out, and the conversation goes on.
+    (Fault::Junk(1), JUNK, 0, b"", Served::EndOfInput),
+    (
+        Fault::Flood(2),
+        b"? syntax error\n\n=1 A1\n\n=2 stepgo\n\n",
+        8193,
+        b"=4 stepgo\n\n",
+        Served::EndOfInput,
+    ),
 ];
 
 #[test]
-fn a_fault_with_number_0_meets_no_genmove(rt: HostRuntime) {
-    let output = b"? syntax error\n\n=1 A1\n\n=2 stepgo\n\n=3 B1\n\n=4 stepgo\n\n";
-    for fault in &UNMET {
-        assert_bends_in_any_cuts(&rt, *fault, output, Served::EndOfInput);
+fn each_fault_bends_the_replies_in_any_cuts(rt: HostRuntime) {
+    for (fault, front, newlines, back, served) in &BENT {
+        let mut output = Written::new();
+        assert_equal(&rt, output.try_extend_from_slice(front).is_ok(), true);
+        for _ in 0..*newlines {
+            assert_equal(&rt, output.try_push(b'\n').is_ok(), true);
+        }
+        assert_equal(&rt, output.try_extend_from_slice(back).is_ok(), true);
+        let how = Call::With(1000, *fault);
+        assert_serves_in_any_cuts(&rt, "bent", how, INPUT, &output, *served);
     }
-}
-
-#[test]
-fn a_genmove_that_fails_is_not_counted(rt: HostRuntime) {
-    assert_bends_in_any_cuts(&rt, Fault::Stop(1), b"? syntax error\n\n", Served::Stopped);
-}
-
-#[test]
-fn an_engine_stops_at_its_second_genmove(rt: HostRuntime) {
-    let output = b"? syntax error\n\n=1 A1\n\n=2 stepgo\n\n";
-    assert_bends_in_any_cuts(&rt, Fault::Stop(2), output, Served::Stopped);
-    assert_bends_in_any_cuts(&rt, Fault::Cut(2, 0), output, Served::Stopped);
-}
-
-#[test]
-fn a_reply_is_cut(rt: HostRuntime) {
-    let output = b"? syntax error\n\n=1 A1\n\n=2 stepgo\n\n=3 B1\n";
-    assert_bends_in_any_cuts(&rt, Fault::Cut(2, 6), output, Served::Stopped);
-    let output = b"? syntax error\n\n=1 A1\n\n=2 stepgo\n\n=3 B1\n\n";
-    assert_bends_in_any_cuts(&rt, Fault::Cut(2, 7), output, Served::Stopped);
-    assert_bends_in_any_cuts(&rt, Fault::Cut(2, 2048), output, Served::Stopped);
-}
-
-#[test]
-fn junk_goes_out_and_the_conversation_goes_on(rt: HostRuntime) {
-    let output = b"? syntax error\n\nhello\n\n=2 stepgo\n\n=3 B1\n\n=4 stepgo\n\n";
-    assert_bends_in_any_cuts(&rt, Fault::Junk(1), output, Served::EndOfInput);
-}
-
-#[test]
-fn a_flood_goes_out_and_the_conversation_goes_on(rt: HostRuntime) -> Result<(), Fail> {
-    let mut output = Vec::new(rt.alloc());
-    output.extend_from_slice(b"? syntax error\n\n=1 A1\n\n=2 stepgo\n\n")?;
-    output.extend_from_slice(&[b'\n'; 8193])?;
-    output.extend_from_slice(b"=4 stepgo\n\n")?;
-    assert_bends_in_any_cuts(&rt, Fault::Flood(2), output.as_slice(), Served::EndOfInput);
-    Ok(())
-}
-
-#[test]
-fn a_resignation_is_a_genmove_that_succeeds(rt: HostRuntime) {
-    let book = some(&rt, Book::read(b"resign"));
-    assert_bends(
-        &rt,
-        book,
-        Fault::Stop(1),
-        b"genmove b\nname\n",
-        &[],
-        b"",
-        Served::Stopped,
-    );
-}
-
-/// A fresh engine with this fault answers the input, by a writer with this room that takes `step` bytes at a time, and
-/// ends like this.
-fn assert_bends_into(
-    rt: &impl Abort,
-    fault: Fault,
-    input: &[u8],
-    room: usize,
-    step: usize,
-    output: &[u8],
-    served: Result<Served, ServeFault>,
-) -> Session<First> {
-    let mut taken = ArrayVec::new();
-    let mut session = Session::new(First);
-    let mut reader = reader_of(input, &[], None);
-    let mut writer = writer_of(&mut taken, room, step);
-    let answer = serve_with(&mut reader, &mut writer, &mut session, 10, fault);
-    assert_equal(rt, answer, served);
-    assert_equal(rt, taken.as_slice(), output);
-    session
-}
-
-#[test]
-fn nothing_is_executed_after_a_stop(rt: HostRuntime) {
-    let input = b"genmove b\nplay w D4\nquit\n";
-    let stopped = Ok(Served::Stopped);
-    let session = assert_bends_into(&rt, Fault::Stop(1), input, 4096, 100, b"", stopped);
-    assert_equal(&rt, session.game().moves().len(), 1);
-    assert_equal(&rt, session.ended(), false);
-}
-
-#[test]
-fn a_writer_breaks_in_a_flood(rt: HostRuntime) {
-    let input = b"genmove b\nplay w D4\n";
-    let broken = Err(ServeFault::Write);
-    let newlines = [b'\n'; 4001];
-    let session = assert_bends_into(&rt, Fault::Flood(1), input, 4001, 7, &newlines, broken);
-    assert_equal(&rt, session.game().moves().len(), 1);
 }
 
 /// Faults, and what is written with each.
-static BENT: [(Fault, &[u8]); 2] = [
-    (
-        Fault::Cut(2, 6),
-        b"? syntax error\n\n=1 A1\n\n=2 stepgo\n\n=3 B1\n",
-    ),
-    (
-        Fault::Junk(1),
-        b"? syntax error\n\nhello\n\n=2 stepgo\n\n=3 B1\n\n=4 stepgo\n\n",
-    ),
-];
+static BROKEN: [(Fault, &[u8]); 2] = [(Fault::Cut(2, 6), CUT), (Fault::Junk(1), JUNK)];
 
 #[test]
-fn a_writer_breaks_after_each_number_of_bytes(rt: HostRuntime) {
-    for (fault, output) in &BENT {
+fn a_writer_breaks_after_each_number_of_bytes_of_a_fault(rt: HostRuntime) {
+    for (fault, output) in &BROKEN {
         for room in 0..output.len() {
-            let front = &output[..room];
+            let talk = Talk {
+                how: Call::With(10, *fault),
+                input: INPUT,
+                sizes: &[],
+                failing: None,
+                room,
+                step: 3,
+                stuck: 0,
+                flushes: usize::MAX,
+            };
             let broken = Err(ServeFault::Write);
-            assert_bends_into(&rt, *fault, INPUT, room, 3, front, broken);
+            let _ = assert_comes_to(&rt, "room", &talk, &output[..room], broken);
         }
     }
-}
-
-#[test]
-fn each_call_counts_its_own_genmoves(rt: HostRuntime) {
-    let mut taken = ArrayVec::new();
-    let mut session = Session::new(First);
-    let mut reader = reader_of(b"genmove b\ngenmove w\ngenmove b\n", &[10], None);
-    let mut writer = writer_of(&mut taken, 4096, 100);
-    let first = serve_with(&mut reader, &mut writer, &mut session, 1, Fault::Stop(2));
-    let second = serve_with(&mut reader, &mut writer, &mut session, 1, Fault::Stop(2));
-    assert_equal(&rt, first, Err(ServeFault::TooManyReads));
-    assert_equal(&rt, second, Ok(Served::Stopped));
-    assert_equal(&rt, session.game().moves().len(), 3);
-    assert_equal(&rt, taken.as_slice(), b"= A1\n\n= B1\n\n".as_slice());
-}
-
-#[test]
-fn an_ended_session_meets_no_fault(rt: HostRuntime) {
-    let input = b"quit\ngenmove b\n";
-    assert_bends(
-        &rt,
-        First,
-        Fault::Stop(1),
-        input,
-        &[],
-        b"=\n\n",
-        Served::Quit,
-    );
 }
 
 /// Lines, and whether the reply to each is that of a genmove that succeeded.
@@ -228,17 +130,23 @@ static GENMOVES: [(&[u8], bool); 8] = [
 ];
 
 #[test]
-fn a_session_shows_which_replies_answer_a_genmove(rt: HostRuntime) {
-    let book = some(&rt, Book::read(b"C3,resign"));
-    let mut session = Session::new(book);
+fn a_genmove_succeeds_by_a_move_or_a_resignation_and_not_on_a_full_record(
+    rt: HostRuntime,
+) -> Result<(), Fail> {
+    let mut session = Session::new(some(&rt, Book::read(b"C3,resign")));
     for (line, genmove) in &GENMOVES {
-        assert_equal(&rt, session.feed(line).genmove, *genmove);
+        assert_equal_for(&rt, line, session.feed(line).genmove, *genmove);
     }
     assert_equal(&rt, session.game().moves().len(), 2);
-}
-
-#[test]
-fn a_genmove_on_a_full_record_is_none(rt: HostRuntime) {
+    // A fault meets a resignation.
+    let mut taken = Vec::new(rt.alloc());
+    let mut session = Session::new(some(&rt, Book::read(b"resign")));
+    let mut reader = Counted::new(b"genmove b\nname\n".as_slice());
+    let mut writer = Counted::new(&mut taken);
+    let answer = serve_with(&mut reader, &mut writer, &mut session, 1000, Fault::Stop(1));
+    assert_equal(&rt, answer, Ok(Served::Stopped));
+    assert_equal(&rt, session.ended(), false);
+    assert_equal(&rt, taken.as_slice(), b"".as_slice());
     let mut session = Session::new(First);
     for _turn in 0..2000 {
         session.feed(b"play b pass\n");
@@ -246,74 +154,50 @@ fn a_genmove_on_a_full_record_is_none(rt: HostRuntime) {
     let fed = session.feed(b"genmove b\n");
     assert_equal(&rt, fed.reply.is_some(), true);
     assert_equal(&rt, fed.genmove, false);
+    Ok(())
 }
 
-/// Texts of faults.
-static READ: [(&str, Fault); 10] = [
-    ("none", Fault::Off),
-    ("stop:1", Fault::Stop(1)),
-    ("stop:2000", Fault::Stop(2000)),
-    ("stop:007", Fault::Stop(7)),
-    ("cut:2:6", Fault::Cut(2, 6)),
-    ("cut:2000:2048", Fault::Cut(2000, 2048)),
-    ("cut:1:0", Fault::Cut(1, 0)),
-    ("junk:2", Fault::Junk(2)),
-    ("flood:2", Fault::Flood(2)),
-    ("flood:02000", Fault::Flood(2000)),
-];
-
-/// This is read of the text.
-fn assert_reads(rt: &impl Abort, text: &str, fault: Option<Fault>) {
-    assert_equal_for(rt, text, Fault::read(text.as_bytes()), fault);
-}
-
-#[test]
-fn texts_of_faults_are_read(rt: HostRuntime) {
-    for (text, fault) in &READ {
-        assert_reads(&rt, text, Some(*fault));
-    }
-}
-
-/// Texts that name no fault.
-static REFUSED: [&str; 24] = [
-    "",
-    "None",
-    "none:",
-    "none:1",
-    "stop",
-    "stop:",
-    "stop:0",
-    "stop:2001",
-    "stop:-1",
-    "stop:+1",
-    "stop:1:",
-    "stop:1:2",
-    " stop:1",
-    "stop:1 ",
-    "Stop:1",
-    "cut:1",
-    "cut:1:",
-    "cut:1:2049",
-    "cut:0:1",
-    "cut::1",
-    "cut:1:2:3",
-    "junk:",
-    "flood:2001",
-    "flood:1:1",
+/// Texts, and the fault that each names, if it names one.
+static TEXTS: [(&str, Option<Fault>); 34] = [
+    ("none", Some(Fault::Off)),
+    ("stop:1", Some(Fault::Stop(1))),
+    ("stop:2000", Some(Fault::Stop(2000))),
+    ("stop:007", Some(Fault::Stop(7))),
+    ("cut:2:6", Some(Fault::Cut(2, 6))),
+    ("cut:2000:2048", Some(Fault::Cut(2000, 2048))),
+    ("cut:1:0", Some(Fault::Cut(1, 0))),
+    ("junk:2", Some(Fault::Junk(2))),
+    ("flood:2", Some(Fault::Flood(2))),
+    ("flood:02000", Some(Fault::Flood(2000))),
+    ("", None),
+    ("None", None),
+    ("none:", None),
+    ("none:1", None),
+    ("stop", None),
+    ("stop:", None),
+    ("stop:0", None),
+    ("stop:2001", None),
+    ("stop:-1", None),
+    ("stop:+1", None),
+    ("stop:1:", None),
+    ("stop:1:2", None),
+    (" stop:1", None),
+    ("stop:1 ", None),
+    ("Stop:1", None),
+    ("cut:1", None),
+    ("cut:1:", None),
+    ("cut:1:2049", None),
+    ("cut:0:1", None),
+    ("cut::1", None),
+    ("cut:1:2:3", None),
+    ("junk:", None),
+    ("flood:2001", None),
+    ("flood:1:1", None),
 ];
 
 #[test]
-fn other_texts_are_no_faults(rt: HostRuntime) {
-    for text in &REFUSED {
-        assert_reads(&rt, text, None);
+fn texts_name_faults_of_genmoves_1_to_2000(rt: HostRuntime) {
+    for (text, fault) in &TEXTS {
+        assert_equal_for(&rt, text, Fault::read(text.as_bytes()), *fault);
     }
-}
-
-#[test]
-fn the_laws_of_faults_can_be_cited(_rt: HostRuntime) {
-    laws::faults_bend_one_reply();
-    laws::fault_texts();
-    laws::stops_are_whole::<First>();
-    laws::stops_and_cuts_stop::<First>();
-    laws::no_fault_changes_nothing::<First>();
 }

@@ -7,6 +7,9 @@ use std::io;
 use std::io::{ErrorKind, Read, Write};
 use std::rc::Rc;
 
+/// What an engine has written.
+pub type Written = ArrayVec<u8, 16384>;
+
 /// Gives a text in pieces of these sizes, and then the rest, and fails the read of one number.
 #[derive(Drop)]
 pub struct Pieces<'a> {
@@ -34,18 +37,25 @@ impl Read for Pieces<'_> {
     }
 }
 
-/// Takes at most `step` bytes a write, and fails once it took `room` bytes.
+/// Takes nothing of its first `stuck` texts, and doesn't fail. After that it takes at most `step` bytes a write, and
+/// fails once it took `room` bytes, and at each flush after the first `flushes`.
 #[derive(Drop)]
 pub struct Limited<'a> {
-    pub taken: &'a mut ArrayVec<u8, 4096>,
+    pub taken: &'a mut Written,
     pub room: usize,
     pub step: usize,
+    pub stuck: usize,
+    pub flushes: usize,
 }
 
 impl Write for Limited<'_> {
     ghost contents = { λ w. Some w.taken.now.items };
 
     fn write(&mut self, buf: &[u8]) -> io::Result<usize> {
+        if self.stuck > 0 {
+            self.stuck -= 1;
+            return Ok(0);
+        }
         let free = self.room.min(self.taken.remaining_capacity());
         let count = self.step.min(free).min(buf.len());
         if count == 0 && !buf.is_empty() {
@@ -61,13 +71,20 @@ impl Write for Limited<'_> {
     }
 
     fn flush(&mut self) -> io::Result<()> {
+        if self.flushes == 0 {
+            return Err(io::Error::from(ErrorKind::BrokenPipe));
+        }
+        self.flushes -= 1;
         Ok(())
     }
 }
 
-/// Counts the replies that were taken whole, and reports their number at each flush.
+/// Takes each text whole, counts the writes, and fails one that comes before the reply that it took was flushed. Counts
+/// the replies that were taken whole, and reports their number at each flush.
 #[derive(Drop)]
 pub struct Reporting {
+    pub writes: Rc<Cell<u32>>,
+    pub whole: bool,
     pub replies: u32,
     pub last: u8,
     pub flushed: Rc<Cell<u32>>,
@@ -75,6 +92,11 @@ pub struct Reporting {
 
 impl Write for Reporting {
     fn write(&mut self, buf: &[u8]) -> io::Result<usize> {
+        if self.whole {
+            return Err(io::Error::from(ErrorKind::BrokenPipe));
+        }
+        self.whole = buf.ends_with(b"\n\n");
+        self.writes.set(self.writes.get().saturating_add(1));
         let mut last = self.last;
         let mut replies = self.replies;
         for &byte in buf {
@@ -89,6 +111,7 @@ impl Write for Reporting {
     }
 
     fn flush(&mut self) -> io::Result<()> {
+        self.whole = false;
         self.flushed.set(self.replies);
         Ok(())
     }
@@ -116,86 +139,5 @@ impl Read for Waiting<'_> {
         buf[..count].copy_from_slice(&line[..count]);
         self.next = next + 1;
         Ok(count)
-    }
-}
-
-/// Takes each text whole, counts the writes, and fails one that comes before the reply that it took was flushed.
-#[derive(Drop)]
-pub struct Strict {
-    pub writes: Rc<Cell<u32>>,
-    pub whole: bool,
-}
-
-impl Write for Strict {
-    fn write(&mut self, buf: &[u8]) -> io::Result<usize> {
-        if self.whole {
-            return Err(io::Error::from(ErrorKind::BrokenPipe));
-        }
-        self.whole = buf.ends_with(b"\n\n");
-        self.writes.set(self.writes.get().saturating_add(1));
-        Ok(buf.len())
-    }
-
-    fn flush(&mut self) -> io::Result<()> {
-        self.whole = false;
-        Ok(())
-    }
-}
-
-/// Takes no byte of any text, and doesn't fail.
-#[derive(Clone, Copy, Drop)]
-pub struct Stuck;
-
-impl Write for Stuck {
-    fn write(&mut self, _buf: &[u8]) -> io::Result<usize> {
-        Ok(0)
-    }
-
-    fn flush(&mut self) -> io::Result<()> {
-        Ok(())
-    }
-}
-
-/// Takes no byte of its first text, and doesn't fail; takes all after that.
-#[derive(Drop)]
-pub struct StuckOnce {
-    pub taken: Vec<u8>,
-    pub stuck: bool,
-}
-
-impl Write for StuckOnce {
-    fn write(&mut self, buf: &[u8]) -> io::Result<usize> {
-        if self.stuck {
-            self.stuck = false;
-            return Ok(0);
-        }
-        self.taken.extend_from_slice(buf)?;
-        Ok(buf.len())
-    }
-
-    fn flush(&mut self) -> io::Result<()> {
-        Ok(())
-    }
-}
-
-/// Takes all, and fails each flush after the first `flushes`.
-#[derive(Drop)]
-pub struct Unflushed<'a> {
-    pub taken: &'a mut Vec<u8>,
-    pub flushes: usize,
-}
-
-impl Write for Unflushed<'_> {
-    fn write(&mut self, buf: &[u8]) -> io::Result<usize> {
-        self.taken.extend_from_slice(buf)?;
-        Ok(buf.len())
-    }
-
-    fn flush(&mut self) -> io::Result<()> {
-        if self.flushes == 0 {
-            return Err(io::Error::from(ErrorKind::BrokenPipe));
-        }
-        self.flushes -= 1;
-        Ok(())
     }
 }

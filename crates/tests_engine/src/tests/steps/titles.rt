@@ -1,8 +1,8 @@
 //! Names and versions that are set at any time.
 use crate::asserts::{assert_equal, assert_equal_for};
-use crate::tests::steps::{Taken, assert_replies, feed_all};
+use crate::tests::steps::{Taken, feed_all};
 use go_board::KoRule;
-use gtp_session::steps::{NoTitle, Steps};
+use gtp_session::steps::Steps;
 
 /// Two lines of which the first ends after 7 bytes, and the second after 17.
 static LINES: &[u8] = b"1 name\n2 version\n";
@@ -24,19 +24,4 @@ fn titles_are_those_at_the_end_of_the_line(rt: HostRuntime) {
         };
         assert_equal_for(&rt, count, taken.as_slice(), output);
     }
-}
-
-#[test]
-fn what_is_no_title_is_refused(rt: HostRuntime) {
-    let mut steps = Steps::new(KoRule::Simple);
-    let long = [b'x'; 201];
-    let bad: [&[u8]; 4] = [b"a\n\nb", b" a", b"a\x7f", &long];
-    for text in bad {
-        assert_equal(&rt, steps.set_name(text), Err(NoTitle));
-        assert_equal(&rt, steps.set_version(text), Err(NoTitle));
-    }
-    assert_replies(&rt, &mut steps, b"name", b"= stepgo");
-    assert_replies(&rt, &mut steps, b"version", b"= 1.0");
-    assert_equal(&rt, steps.set_version(&long[1..]), Ok(()));
-    assert_replies(&rt, &mut steps, b"name x", b"= stepgo");
 }

@@ -1,5 +1,5 @@
 //! Lines: ids, words, and what is too long.
-use crate::asserts::{assert_equal, assert_equal_for};
+use crate::asserts::assert_equal_for;
 use arrayvec::ArrayVec;
 use go_base::write_int;
 use gtp_wire::{Line, LineReader};
@@ -30,21 +30,6 @@ fn show(line: &Line, shown: &mut Shown) {
     let _ = shown.try_push(b';');
 }
 
-/// What a new reader gives of a text.
-fn show_lines(text: &[u8]) -> Shown {
-    let mut shown = ArrayVec::new();
-    let mut reader = LineReader::new();
-    let mut left = text;
-    for _ in 0..=text.len() {
-        let fed = reader.feed(left);
-        left = &left[fed.used..];
-        if let Some(line) = &fed.line {
-            show(line, &mut shown);
-        }
-    }
-    shown
-}
-
 /// Texts, and their lines.
 static LINES: [(&[u8], &[u8]); 13] = [
     (
@@ -72,34 +57,43 @@ static LINES: [(&[u8], &[u8]); 13] = [
 #[test]
 fn a_line_is_an_id_and_words(rt: HostRuntime) {
     for (text, wanted) in &LINES {
-        assert_equal_for(&rt, text, show_lines(text).as_slice(), wanted);
-    }
-}
-
-/// Whether a newline after these three pieces ends a line that is a command.
-fn is_command(front: &[u8], middle: &[u8], end: &[u8]) -> Option<bool> {
-    let mut reader = LineReader::new();
-    reader.feed(front);
-    reader.feed(middle);
-    reader.feed(end);
-    match reader.feed(b"\n").line? {
-        Line::Command(_) => Some(true),
-        Line::TooLong => Some(false),
+        let mut shown = ArrayVec::new();
+        let mut reader = LineReader::new();
+        let mut left = *text;
+        for _ in 0..=text.len() {
+            let fed = reader.feed(left);
+            left = &left[fed.used..];
+            if let Some(line) = &fed.line {
+                show(line, &mut shown);
+            }
+        }
+        assert_equal_for(&rt, text, shown.as_slice(), wanted);
     }
 }
 
 #[test]
 fn the_words_of_a_line_have_at_most_1000_bytes(rt: HostRuntime) {
     let letters = [b'x'; 987];
-    let whole = is_command(b"known_command ", &letters[..986], b"");
-    assert_equal(&rt, whole, Some(true));
-    let longer = is_command(b"known_command ", &letters, b"");
-    assert_equal(&rt, longer, Some(false));
-    let with_id = is_command(b"7 known_command ", &letters[..985], b"");
-    assert_equal(&rt, with_id, Some(false));
-    // Neither a comment nor spaces count.
-    let comment = is_command(b"# known_command ", &letters, b"");
-    assert_equal(&rt, comment, None);
     let spaces = [b' '; 5000];
-    assert_equal(&rt, is_command(&spaces, b"name", &spaces), Some(true));
+    // Three pieces, and whether a newline after them ends a line that is a command, if it ends one.
+    let lines: [(&[u8], &[u8], &[u8], Option<bool>); 5] = [
+        (b"known_command ", &letters[..986], b"", Some(true)),
+        (b"known_command ", &letters, b"", Some(false)),
+        (b"7 known_command ", &letters[..985], b"", Some(false)),
+        // Neither a comment nor spaces count.
+        (b"# known_command ", &letters, b"", None),
+        (&spaces, b"name", &spaces, Some(true)),
+    ];
+    for (front, middle, end, wanted) in lines {
+        let mut reader = LineReader::new();
+        reader.feed(front);
+        reader.feed(middle);
+        reader.feed(end);
+        let is_command = match reader.feed(b"\n").line {
+            Some(Line::Command(_)) => Some(true),
+            Some(Line::TooLong) => Some(false),
+            None => None,
+        };
+        assert_equal_for(&rt, (front, middle.len()), is_command, wanted);
+    }
 }

@@ -1,61 +1,85 @@
-use super::steps::{answer, black_answered, ended, first_sent};
-use crate::asserts::{assert_equal, assert_true};
-use go_base::Side;
-use gtp_match::{ForfeitCause, Verdict, record_line};
-use std::process::Abort;
+//! What Black's first `genmove` is answered by.
+use super::steps::{Opening, Played};
+use crate::tests::shows::{Shows, assert_shows};
+use go_base::Colour::{Black, White};
+use gtp_match::ForfeitCause::{self, IllegalMove, NoMove, NoVertex};
+use gtp_match::Verdict;
 
-/// Black's `genmove`, answered by these bytes, forfeits the game for this cause, which the line has.
-fn forfeits(rt: &impl Abort, bytes: &[u8], cause: ForfeitCause, text: &[u8]) {
-    let played = black_answered(rt, bytes);
-    ended(rt, &played, Verdict::Forfeit(Side::Black, cause), text);
-    assert_true(rt, !played.in_step(Side::Black));
-    assert_true(rt, played.in_step(Side::White));
-}
+/// Answers by which Black forfeits, the cause, and how the line has it.
+static FORFEITS: [(&str, ForfeitCause, &[u8]); 8] = [
+    (
+        "=4 I5\n\n",
+        NoVertex,
+        b"game 1: W+F(no vertex) moves 0 restarts 0 0",
+    ),
+    (
+        "=4 A1 B2\n\n",
+        NoVertex,
+        b"game 1: W+F(no vertex) moves 0 restarts 0 0",
+    ),
+    (
+        "=4 A1\nB2\n\n",
+        NoVertex,
+        b"game 1: W+F(no vertex) moves 0 restarts 0 0",
+    ),
+    (
+        "=4\n\n",
+        NoVertex,
+        b"game 1: W+F(no vertex) moves 0 restarts 0 0",
+    ),
+    (
+        "=4 A01\n\n",
+        NoVertex,
+        b"game 1: W+F(no vertex) moves 0 restarts 0 0",
+    ),
+    (
+        "=4 C1\n\n",
+        IllegalMove,
+        b"game 1: W+F(illegal move) moves 0 restarts 0 0",
+    ),
+    (
+        "?4 no\n\n",
+        NoMove,
+        b"game 1: W+F(no move) moves 0 restarts 0 0",
+    ),
+    (
+        "?4 A1\n\n",
+        NoMove,
+        b"game 1: W+F(no move) moves 0 restarts 0 0",
+    ),
+];
+
+/// Answers by which Black resigns.
+static RESIGNATIONS: [&str; 2] = ["=4 RESIGN\n\n", "=4 rEsIgN \n\n"];
+
+/// Answers that are the move A1.
+static MOVES: [&str; 3] = ["=4 \nA1\n\n", "=4\nA1\n\n", "=004 a1\n\n"];
 
 #[test]
-fn a_resignation_in_any_case_ends_the_match(rt: HostRuntime) {
-    let text = b"game 1: W+R moves 0 restarts 0 0";
-    let answers: [&[u8]; 2] = [b"=4 RESIGN\n\n", b"=4 rEsIgN \n\n"];
-    for bytes in answers {
-        let played = black_answered(&rt, bytes);
-        ended(&rt, &played, Verdict::Resign(Side::Black), text.as_slice());
-        assert_true(&rt, played.in_step(Side::Black));
+fn an_answer_in_any_case_moves_or_resigns_and_one_that_is_no_move_forfeits(rt: HostRuntime) {
+    for text in &MOVES {
+        let mut played = Played::new(&rt, text, Opening::Asked(1));
+        played.hear(&rt, Black, text.as_bytes(), text.len(), None);
+        assert_shows(&rt, (text, 0), &played.game, &Shows::Record(b"A1"));
     }
-}
-
-#[test]
-fn an_answer_that_is_no_move_forfeits(rt: HostRuntime) {
-    let no_vertex: &[u8] = b"game 1: W+F(no vertex) moves 0 restarts 0 0";
-    let no_move: &[u8] = b"game 1: W+F(no move) moves 0 restarts 0 0";
-    let illegal: &[u8] = b"game 1: W+F(illegal move) moves 0 restarts 0 0";
-    let answers: [(&[u8], ForfeitCause, &[u8]); 8] = [
-        (b"=4 I5\n\n", ForfeitCause::NoVertex, no_vertex),
-        (b"=4 A1 B2\n\n", ForfeitCause::NoVertex, no_vertex),
-        (b"=4 A1\nB2\n\n", ForfeitCause::NoVertex, no_vertex),
-        (b"=4\n\n", ForfeitCause::NoVertex, no_vertex),
-        (b"=4 A01\n\n", ForfeitCause::NoVertex, no_vertex),
-        (b"=4 C1\n\n", ForfeitCause::IllegalMove, illegal),
-        (b"?4 no\n\n", ForfeitCause::NoMove, no_move),
-        (b"?4 A1\n\n", ForfeitCause::NoMove, no_move),
-    ];
-    for (bytes, cause, text) in answers {
-        forfeits(&rt, bytes, cause, text);
+    for text in &RESIGNATIONS {
+        let mut played = Played::new(&rt, text, Opening::Asked(1));
+        played.hear(&rt, Black, text.as_bytes(), text.len(), None);
+        let ended = Shows::Ended(Verdict::Resign(Black), b"game 1: W+R moves 0 restarts 0 0");
+        for what in [ended, Shows::InStep(Black, true)] {
+            assert_shows(&rt, (text, 0), &played.game, &what);
+        }
     }
-}
-
-#[test]
-fn a_refused_setup_command_is_unfit(rt: HostRuntime) {
-    let mut played = first_sent(&rt, 1);
-    answer(&rt, &mut played, Side::Black, b"?1 no\n\n");
-    let text = b"game 1: unfit black moves 0 restarts 0 0";
-    ended(&rt, &played, Verdict::Unfit(Side::Black), text.as_slice());
-}
-
-#[test]
-fn an_answer_may_begin_with_newlines_and_be_written_small(rt: HostRuntime) {
-    let answers: [&[u8]; 3] = [b"=4 \nA1\n\n", b"=4\nA1\n\n", b"=004 a1\n\n"];
-    for bytes in answers {
-        let played = black_answered(&rt, bytes);
-        assert_equal(&rt, record_line(&played).as_slice(), b"A1".as_slice());
+    for (text, cause, line) in &FORFEITS {
+        let mut played = Played::new(&rt, text, Opening::Asked(1));
+        played.hear(&rt, Black, text.as_bytes(), text.len(), None);
+        let ended = Shows::Ended(Verdict::Forfeit(Black, *cause), line);
+        for what in [
+            ended,
+            Shows::InStep(Black, false),
+            Shows::InStep(White, true),
+        ] {
+            assert_shows(&rt, (text, 0), &played.game, &what);
+        }
     }
 }

@@ -1,174 +1,112 @@
 //! Bytes that show a fault, heard whole and in two pieces.
-use super::steps::{black_asked, first_sent, hear, up};
-use crate::asserts::{assert_equal, assert_true, some};
+use super::steps::{Opening, Played, Scene, Step, padded, play};
+use crate::asserts::{assert_equal_for, assert_true, some};
+use crate::tests::shows::Shows;
 use go_base::Side;
-use gtp_match::{Action, Match, SideFault, Status};
+use gtp_match::SideFault::{self, NoStatus, Overlong, Unasked, WrongId};
+use gtp_match::{Action, Status};
 use std::process::Abort;
 
-/// What was done of a side before its bytes are heard.
-#[derive(Clone, Copy)]
-enum Place {
-    /// Black was sent the first command of its script.
-    InScript,
-    /// Black was asked for a move.
-    Asked,
-    /// White was sent nothing.
-    Unasked,
-}
+/// Where bytes are heard: how the match begins, whose bytes they are, and what is done once that side is down.
+type Hearing = (Opening, Side, Action);
 
-impl Place {
-    /// A match with one restart in which that was done.
-    fn begin(self, rt: &impl Abort) -> Match {
-        match self {
-            Place::InScript | Place::Unasked => first_sent(rt, 1),
-            Place::Asked => black_asked(rt, 1),
-        }
-    }
+/// Black was sent the first command of its script.
+const IN_SCRIPT: Hearing = (Opening::Sent(1), Side::Black, Action::Start(Side::Black));
 
-    /// The side of which it was done.
-    fn side(self) -> Side {
-        match self {
-            Place::InScript | Place::Asked => Side::Black,
-            Place::Unasked => Side::White,
-        }
-    }
+/// Black was asked for a move.
+const ASKED: Hearing = (Opening::Asked(1), Side::Black, Action::Start(Side::Black));
 
-    /// What is done once the side is down.
-    fn after_the_fault(self) -> Action {
-        match self {
-            Place::InScript | Place::Asked => Action::Start(Side::Black),
-            Place::Unasked => Action::Send(Side::Black),
-        }
-    }
+/// White was sent nothing.
+const UNASKED: Hearing = (Opening::Sent(1), Side::White, Action::Send(Side::Black));
 
-    /// The side is down, no move was made, and the match goes on.
-    fn assert_down(self, rt: &impl Abort, played: &Match) {
-        assert_equal(rt, played.status(self.side()), Status::Down);
-        assert_equal(rt, played.next(), self.after_the_fault());
-        assert_true(rt, played.game().moves().is_empty());
-    }
-}
+/// A name, where bytes are heard, the bytes, and the fault that they show.
+type Case<'a> = (&'static str, Hearing, &'a [u8], SideFault);
 
-/// These bytes show the fault by their last byte, heard whole, by one call or by all of a read.
-fn assert_whole(rt: &impl Abort, place: Place, bytes: &[u8], fault: SideFault) {
-    let mut played = place.begin(rt);
-    hear(
-        rt,
-        &mut played,
-        place.side(),
-        bytes,
-        bytes.len(),
-        Some(fault),
-    );
-    place.assert_down(rt, &played);
-    let mut played = place.begin(rt);
-    assert_equal(rt, played.hear_all(place.side(), bytes), Some(fault));
-    place.assert_down(rt, &played);
-}
-
-/// The fault is shown in two pieces too, of which the first shows nothing and leaves the side as it is.
-fn assert_cut(rt: &impl Abort, place: Place, bytes: &[u8], at: usize, fault: SideFault) {
+/// These bytes show the fault by their last byte, in two pieces that are cut here: the first, if it isn't empty, shows
+/// nothing, and leaves the side as it is. Then the side is down, no move was made, and the match goes on. So it is
+/// where all of a piece is heard by one call, and where each call hears what it uses.
+fn assert_cut(rt: &impl Abort, case: &Case, at: usize) {
+    let (name, (opening, side, after), bytes, fault) = *case;
     let first = some(rt, bytes.get(..at));
     let second = some(rt, bytes.get(at..));
-    let mut played = place.begin(rt);
-    let (status, next) = (played.status(place.side()), played.next());
-    hear(rt, &mut played, place.side(), first, first.len(), None);
-    assert_equal(rt, played.status(place.side()), status);
-    assert_equal(rt, played.next(), next);
-    hear(
-        rt,
-        &mut played,
-        place.side(),
-        second,
-        second.len(),
-        Some(fault),
-    );
-    place.assert_down(rt, &played);
-    let mut played = place.begin(rt);
-    assert_equal(rt, played.hear_all(place.side(), first), None);
-    assert_equal(rt, played.hear_all(place.side(), second), Some(fault));
-    place.assert_down(rt, &played);
-}
-
-/// The fault is shown by the whole, and with a cut after the first, a middle and the last byte but one.
-fn assert_shown(rt: &impl Abort, place: Place, bytes: &[u8], fault: SideFault) {
-    assert_whole(rt, place, bytes, fault);
-    assert_cut(rt, place, bytes, 1, fault);
-    assert_cut(rt, place, bytes, bytes.len() / 2, fault);
-    assert_cut(rt, place, bytes, bytes.len().saturating_sub(1), fault);
-}
-
-#[test]
-fn a_byte_that_begins_no_reply_in_any_cut(rt: HostRuntime) {
-    assert_shown(&rt, Place::InScript, b"\n \r\n\nh", SideFault::NoStatus);
-    assert_shown(&rt, Place::Asked, b"\n \r\n\nh", SideFault::NoStatus);
+    for by_one_call in [false, true] {
+        let case = (name, at, by_one_call);
+        let mut played = Played::new(rt, name, opening);
+        played.place = (name, at);
+        let before = (played.game.status(side), played.game.next());
+        if by_one_call {
+            assert_equal_for(rt, case, played.game.hear_all(side, first), None);
+        } else if at > 0 {
+            played.hear(rt, side, first, first.len(), None);
+        }
+        assert_equal_for(
+            rt,
+            case,
+            (played.game.status(side), played.game.next()),
+            before,
+        );
+        if by_one_call {
+            assert_equal_for(rt, case, played.game.hear_all(side, second), Some(fault));
+        } else {
+            played.hear(rt, side, second, second.len(), Some(fault));
+        }
+        let then = (played.game.status(side), played.game.next());
+        assert_equal_for(rt, case, then, (Status::Down, after));
+        assert_true(rt, played.game.game().moves().is_empty());
+    }
 }
 
 #[test]
-fn bytes_that_end_no_reply_in_any_cut(rt: HostRuntime) {
-    assert_shown(&rt, Place::InScript, &[b'\n'; 8193], SideFault::Overlong);
-    assert_shown(&rt, Place::Asked, &[b'\n'; 8193], SideFault::Overlong);
+fn a_fault_is_shown_by_its_last_byte_in_any_cut(rt: HostRuntime) {
+    let newlines = [b'\n'; 8193];
+    let script_reply = padded::<8193>(b"=1 ", b'a', b"");
+    let move_reply = padded::<8193>(b"=4 ", b'a', b"");
+    let cases: [Case; 11] = [
+        ("no reply", IN_SCRIPT, b"\n \r\n\nh", NoStatus),
+        ("no reply to genmove", ASKED, b"\n \r\n\nh", NoStatus),
+        ("newlines", IN_SCRIPT, &newlines, Overlong),
+        ("newlines after genmove", ASKED, &newlines, Overlong),
+        ("no end", IN_SCRIPT, &script_reply, Overlong),
+        ("no end of a move", ASKED, &move_reply, Overlong),
+        ("another id", IN_SCRIPT, b"=2\n\n", WrongId),
+        ("a move of another id", ASKED, b"=5 A1\n\n", WrongId),
+        ("a move without an id", ASKED, b"= A1\n\n", WrongId),
+        ("unasked", UNASKED, b"=1\n\n", Unasked),
+        ("an unasked failure", UNASKED, b"? no\n\n", Unasked),
+    ];
+    for case in &cases {
+        let (_, _, bytes, _) = case;
+        for at in [0, 1, bytes.len() / 2, bytes.len().saturating_sub(1)] {
+            assert_cut(&rt, case, at);
+        }
+    }
 }
 
-#[test]
-fn a_reply_that_does_not_end_in_any_cut(rt: HostRuntime) {
-    let mut bytes = [b'a'; 8193];
-    bytes[0] = b'=';
-    bytes[1] = b'1';
-    bytes[2] = b' ';
-    assert_shown(&rt, Place::InScript, &bytes, SideFault::Overlong);
-    bytes[1] = b'4';
-    assert_shown(&rt, Place::Asked, &bytes, SideFault::Overlong);
-}
+static NEWLINES: [Scene; 1] = [(
+    "newlines show a fault by the first that is too many",
+    Opening::Sent(1),
+    &[
+        Step::Answer(Side::Black, &[b'\n'; 8192]),
+        Step::See(Shows::Up(Side::Black, 0, 1)),
+        Step::Heard(Side::Black, b"\n", 1, Some(Overlong)),
+        Step::See(Shows::Down(Side::Black)),
+    ],
+)];
 
 #[test]
-fn another_id_in_any_cut(rt: HostRuntime) {
-    assert_shown(&rt, Place::InScript, b"=2\n\n", SideFault::WrongId);
-    assert_shown(&rt, Place::Asked, b"=5 A1\n\n", SideFault::WrongId);
-    assert_shown(&rt, Place::Asked, b"= A1\n\n", SideFault::WrongId);
-}
-
-#[test]
-fn a_reply_that_nothing_asked_for_in_any_cut(rt: HostRuntime) {
-    assert_shown(&rt, Place::Unasked, b"=1\n\n", SideFault::Unasked);
-    assert_shown(&rt, Place::Unasked, b"? no\n\n", SideFault::Unasked);
-}
-
-#[test]
-fn newlines_show_a_fault_by_the_first_that_is_too_many(rt: HostRuntime) {
-    let mut played = first_sent(&rt, 1);
-    hear(&rt, &mut played, Side::Black, &[b'\n'; 8192], 8192, None);
-    assert_equal(&rt, played.status(Side::Black), up(0, 1));
-    hear(
+fn newlines_and_a_reply_are_read_up_to_the_last_byte_that_fits(rt: HostRuntime) {
+    play(&rt, &NEWLINES);
+    let mut played = Played::new(&rt, "a reply that just ends", Opening::Sent(1));
+    played.hear(
         &rt,
-        &mut played,
         Side::Black,
-        b"\n",
-        1,
-        Some(SideFault::Overlong),
+        &padded::<8192>(b"", b'\n', b"=1\n\n"),
+        8192,
+        None,
     );
-    assert_equal(&rt, played.status(Side::Black), Status::Down);
-}
-
-#[test]
-fn a_reply_may_end_on_the_last_byte_that_is_read(rt: HostRuntime) {
-    let mut bytes = [b'\n'; 8192];
-    bytes[8188] = b'=';
-    bytes[8189] = b'1';
-    let mut played = first_sent(&rt, 1);
-    hear(&rt, &mut played, Side::Black, &bytes, 8192, None);
-    assert_equal(&rt, played.status(Side::Black), up(1, 0));
-    let mut bytes = [b'\n'; 8193];
-    bytes[8189] = b'=';
-    bytes[8190] = b'1';
-    let mut played = first_sent(&rt, 1);
-    hear(
-        &rt,
-        &mut played,
-        Side::Black,
-        &bytes,
-        8193,
-        Some(SideFault::Overlong),
-    );
-    assert_equal(&rt, played.status(Side::Black), Status::Down);
+    played.go(&rt, &[Step::See(Shows::Up(Side::Black, 1, 0))]);
+    let mut played = Played::new(&rt, "a reply that ends too late", Opening::Sent(1));
+    let bytes = padded::<8193>(b"", b'\n', b"=1\n\n");
+    played.hear(&rt, Side::Black, &bytes, 8193, Some(Overlong));
+    played.go(&rt, &[Step::See(Shows::Down(Side::Black))]);
 }

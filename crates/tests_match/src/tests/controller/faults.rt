@@ -1,84 +1,124 @@
-use super::steps::{answer, ended, first_sent, hear, up};
-use crate::asserts::{assert_equal, assert_true};
+//! What a side does wrong, or right, once it was sent its first command.
+use super::steps::{Opening, Played, Scene, Step, play};
+use crate::asserts::assert_equal;
+use crate::tests::shows::{Shows, assert_shows};
 use go_base::Side;
-use gtp_match::{Action, Match, SideFault, Status, Verdict, result_line};
-use std::process::Abort;
+use gtp_match::{Action, SideFault, Verdict};
 use std::test::Fail;
 
-/// Bytes of a side, how many of them are used, and the fault that they show where Black was sent its first command.
-type Shown<'a> = (Side, &'a [u8], usize, SideFault);
-
-/// Each fault that a side may show there.
-fn faults(newlines: &[u8]) -> [Shown; 5] {
-    [
-        (Side::Black, b"=2 D4\n\n", 7, SideFault::WrongId),
-        (Side::Black, b"= 1\n\n", 5, SideFault::WrongId),
-        (Side::Black, b"hello", 1, SideFault::NoStatus),
-        (Side::Black, newlines, 8193, SideFault::Overlong),
-        (Side::White, b"=1\n\n", 4, SideFault::Unasked),
-    ]
-}
+/// Each fault that a side may show where Black was sent its first command: its name, the side, its bytes, how many of
+/// them are used, and the fault.
+static FAULTS: [(&str, Side, &[u8], usize, SideFault); 5] = [
+    (
+        "another id",
+        Side::Black,
+        b"=2 D4\n\n",
+        7,
+        SideFault::WrongId,
+    ),
+    ("no id", Side::Black, b"= 1\n\n", 5, SideFault::WrongId),
+    ("no reply", Side::Black, b"hello", 1, SideFault::NoStatus),
+    (
+        "too long",
+        Side::Black,
+        &[b'\n'; 8193],
+        8193,
+        SideFault::Overlong,
+    ),
+    ("unasked", Side::White, b"=1\n\n", 4, SideFault::Unasked),
+];
 
 #[test]
-fn each_fault_puts_its_side_down_and_the_other_goes_on(rt: HostRuntime) {
-    for (side, bytes, used, fault) in faults(&[b'\n'; 8193]) {
-        let mut played = first_sent(&rt, 1);
-        hear(&rt, &mut played, side, bytes, used, Some(fault));
-        assert_equal(&rt, played.status(side), Status::Down);
+fn each_fault_puts_its_side_down_and_gives_it_up_without_restarts(rt: HostRuntime) {
+    for (name, side, bytes, used, fault) in &FAULTS {
+        let mut played = Played::new(&rt, name, Opening::Sent(1));
+        played.hear(&rt, *side, bytes, *used, Some(*fault));
         // What White wrote leaves Black's script to be sent.
-        let next = match side {
-            Side::Black => Action::Start(Side::Black),
-            Side::White => Action::Send(Side::Black),
+        let (next, line): (Action, &'static [u8]) = match side {
+            Side::Black => (
+                Action::Start(Side::Black),
+                b"game 1: abandoned black moves 0 restarts 0 0",
+            ),
+            Side::White => (
+                Action::Send(Side::Black),
+                b"game 1: abandoned white moves 0 restarts 0 0",
+            ),
         };
-        assert_equal(&rt, played.next(), next);
+        for what in [Shows::Down(*side), Shows::Next(next)] {
+            assert_shows(&rt, (name, 0), &played.game, &what);
+        }
+        let mut played = Played::new(&rt, name, Opening::Sent(0));
+        assert_shows(&rt, (name, 1), &played.game, &Shows::NoLine);
+        played.hear(&rt, *side, bytes, *used, Some(*fault));
+        let ended = Shows::Ended(Verdict::Abandoned(*side), line);
+        assert_shows(&rt, (name, 1), &played.game, &ended);
     }
 }
 
-#[test]
-fn blank_lines_carriage_returns_and_zeros_beside_an_id(rt: HostRuntime) {
-    let answers: [&[u8]; 3] = [
-        b"\n=1\r\n\r\n",
-        b"\r\n \n\r\n=1\r \r\n\r\n",
-        b"=0000000001\n\n",
-    ];
-    for bytes in answers {
-        let mut played = first_sent(&rt, 1);
-        answer(&rt, &mut played, Side::Black, bytes);
-        assert_equal(&rt, played.status(Side::Black), up(1, 0));
-    }
-}
+static SCENES: [Scene; 6] = [
+    (
+        "carriage returns after an id",
+        Opening::Sent(1),
+        &[
+            Step::Answer(Side::Black, b"\n=1\r\n\r\n"),
+            Step::See(Shows::Up(Side::Black, 1, 0)),
+        ],
+    ),
+    (
+        "blank lines before an id",
+        Opening::Sent(1),
+        &[
+            Step::Answer(Side::Black, b"\r\n \n\r\n=1\r \r\n\r\n"),
+            Step::See(Shows::Up(Side::Black, 1, 0)),
+        ],
+    ),
+    (
+        "zeros before an id",
+        Opening::Sent(1),
+        &[
+            Step::Answer(Side::Black, b"=0000000001\n\n"),
+            Step::See(Shows::Up(Side::Black, 1, 0)),
+        ],
+    ),
+    (
+        "a setup command is refused",
+        Opening::Sent(1),
+        &[
+            Step::Answer(Side::Black, b"?1 no\n\n"),
+            Step::See(Shows::Ended(
+                Verdict::Unfit(Side::Black),
+                b"game 1: unfit black moves 0 restarts 0 0",
+            )),
+        ],
+    ),
+    (
+        "a side is lost without restarts",
+        Opening::Sent(0),
+        &[
+            Step::Lose(Side::White),
+            Step::See(Shows::Ended(
+                Verdict::Abandoned(Side::White),
+                b"game 1: abandoned white moves 0 restarts 0 0",
+            )),
+        ],
+    ),
+    (
+        "a side that is down is not heard",
+        Opening::Sent(1),
+        &[
+            Step::Lose(Side::Black),
+            Step::Answer(Side::Black, b"=1\n\nhello"),
+            Step::See(Shows::Down(Side::Black)),
+            Step::See(Shows::Next(Action::Start(Side::Black))),
+            Step::Lose(Side::Black),
+            Step::See(Shows::Next(Action::Start(Side::Black))),
+        ],
+    ),
+];
 
-/// The side, which has no restart, is abandoned.
-fn given_up(rt: &impl Abort, played: &Match, side: Side) {
-    let text: &[u8] = match side {
-        Side::Black => b"game 1: abandoned black moves 0 restarts 0 0",
-        Side::White => b"game 1: abandoned white moves 0 restarts 0 0",
-    };
-    ended(rt, played, Verdict::Abandoned(side), text);
-}
-
 #[test]
-fn without_restarts_each_fault_and_each_loss_gives_the_side_up(rt: HostRuntime) {
-    for (side, bytes, used, fault) in faults(&[b'\n'; 8193]) {
-        let mut played = first_sent(&rt, 0);
-        assert_true(&rt, result_line(1, &played).is_none());
-        hear(&rt, &mut played, side, bytes, used, Some(fault));
-        given_up(&rt, &played, side);
-    }
-    let mut played = first_sent(&rt, 0);
-    played.lost(Side::White);
-    given_up(&rt, &played, Side::White);
-}
-
-#[test]
-fn a_side_that_is_down_is_not_heard(rt: HostRuntime) {
-    let mut played = first_sent(&rt, 1);
-    played.lost(Side::Black);
-    hear(&rt, &mut played, Side::Black, b"=1\n\nhello", 9, None);
-    assert_equal(&rt, played.status(Side::Black), Status::Down);
-    assert_equal(&rt, played.next(), Action::Start(Side::Black));
-    played.lost(Side::Black);
-    assert_equal(&rt, played.next(), Action::Start(Side::Black));
+fn a_first_answer_in_any_spelling_a_refusal_and_a_loss(rt: HostRuntime) {
+    play(&rt, &SCENES);
 }
 
 #[test]

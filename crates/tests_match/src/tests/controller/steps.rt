@@ -1,20 +1,247 @@
 //! The steps that the tests of matches share.
-use crate::asserts::{assert_equal, assert_true, some};
-use go_base::{Komi, Side, Size, Vertex};
-use gtp_match::{Action, Heard, Match, ResultText, Setup, SideFault, Status, Verdict, result_line};
-use gtp_wire::{CommandText, ReplyText, write_reply_into};
+ghost use Rattle.gtp_match.specs.Losing.{CanBeShown};
+
+use crate::asserts::{assert_equal_for, some};
+use crate::tests::shows::{Place, Shows, assert_shows};
+use go_base::{Komi, Side, Size};
+use gtp_match::{Action, Heard, LossCause, Match, Owed, Setup, SideFault};
+use gtp_wire::write_command;
 use std::process::Abort;
 
-/// A setup of this size, komi and handicap.
+/// How many commands are unanswered, the line of the oldest, empty where there is none, and the bytes that are kept.
+pub type Owes<'a> = (u32, &'a [u8], &'a [u8]);
+
+/// A step of a test: what is done to a match, or what it has to show.
+#[derive(Clone, Copy)]
+pub enum Step {
+    /// A side is started, which has to come next.
+    Start(Side),
+    /// A side is sent its next command, which has to be this line and to come next.
+    Send(Side, &'static [u8]),
+    /// The same, and the side has to answer before anything else is done.
+    SendAndWait(Side, &'static [u8]),
+    /// A side is sent its next command, as by `Send`, and answers with these bytes, as by `Answer`.
+    Say(Side, &'static [u8], &'static [u8]),
+    /// A side of size 2 and komi 0 is brought through the three commands of its script.
+    Bring(Side),
+    /// A side answers with these bytes: all of them are used, without a fault.
+    Answer(Side, &'static [u8]),
+    /// Of these bytes so many are used, and they show this fault, if any.
+    Heard(Side, &'static [u8], usize, Option<SideFault>),
+    /// All these bytes are heard by one call, without a fault.
+    HearAll(Side, &'static [u8]),
+    /// Nothing is reported of these bytes: no side fails by them, and no refusal in them is retaken.
+    GoesOn(Side, &'static [u8]),
+    /// The first retake of a move is reported of these bytes, and this was owed.
+    Retake(Side, &'static [u8], Owes<'static>),
+    /// A side is lost.
+    Lose(Side),
+    /// A side owes this, if anything.
+    Owes(Side, Option<Owes<'static>>),
+    /// How many commands were sent so far.
+    Sent(u32),
+    /// The match shows this.
+    See(Shows),
+}
+
+/// How a match begins.
+#[derive(Clone, Copy)]
+pub enum Opening {
+    /// Both sides are started: of this size, komi in half points, most moves and most restarts.
+    Started(u32, i32, u32, u32),
+    /// Of size 2, komi 0, 10 moves and so many restarts, both sides are started, and Black is sent its first command.
+    Sent(u32),
+    /// Of the same size, komi, moves and restarts, both sides are in step, and Black is asked for the first move.
+    Asked(u32),
+}
+
+/// A row of a test: its name, how it begins, and its steps.
+pub type Scene = (&'static str, Opening, &'static [Step]);
+
+/// The three commands of a script of size 2 and komi 0, and their answers.
+static SCRIPT: [(&[u8], &[u8]); 3] = [
+    (b"1 boardsize 2\n", b"=1\n\n"),
+    (b"2 komi 0\n", b"=2\n\n"),
+    (b"3 clear_board\n", b"=3\n\n"),
+];
+
+/// Both sides are brought into step, and Black is asked for a move.
+static ASK: [Step; 6] = [
+    Step::Bring(Side::Black),
+    Step::Bring(Side::White),
+    Step::See(Shows::InStep(Side::Black, true)),
+    Step::See(Shows::InStep(Side::White, true)),
+    Step::SendAndWait(Side::Black, b"4 genmove b\n"),
+    Step::See(Shows::InStep(Side::Black, false)),
+];
+
+/// A match, where its test is, and how many commands were sent.
+#[derive(Drop)]
+pub struct Played {
+    pub game: Match,
+    pub place: Place,
+    sent: u32,
+}
+
+impl Played {
+    /// A match that begins so, for the row of this name.
+    pub fn new(rt: &impl Abort, name: &'static str, opening: Opening) -> Self {
+        let setup = match opening {
+            Opening::Started(size, half_points, max_moves, max_restarts) => {
+                setup_with(rt, (size, half_points, 0), max_moves, max_restarts)
+            }
+            Opening::Sent(max_restarts) | Opening::Asked(max_restarts) => {
+                setup_with(rt, (2, 0, 0), 10, max_restarts)
+            }
+        };
+        let mut played = Played {
+            game: Match::new(setup),
+            place: (name, 0),
+            sent: 0,
+        };
+        played.take(rt, &Step::Start(Side::Black));
+        played.take(rt, &Step::Start(Side::White));
+        match opening {
+            Opening::Started(..) => {}
+            Opening::Sent(_) => played.send(rt, Side::Black, b"1 boardsize 2\n"),
+            Opening::Asked(_) => played.go(rt, &ASK),
+        }
+        played
+    }
+
+    /// These steps are taken.
+    pub fn go(&mut self, rt: &impl Abort, steps: &[Step]) {
+        let (name, _) = self.place;
+        for (number, step) in steps.iter().enumerate() {
+            self.place = (name, number);
+            self.take(rt, step);
+        }
+    }
+
+    fn take(&mut self, rt: &impl Abort, step: &Step) {
+        match step {
+            Step::Start(side) => {
+                assert_eq!(rt; self.game.next(), Action::Start(*side), "{:?}", self.place);
+                self.game.started(*side);
+            }
+            Step::Send(side, line) => self.send(rt, *side, line),
+            Step::SendAndWait(side, line) => {
+                self.send(rt, *side, line);
+                assert_equal_for(rt, self.place, self.game.next(), Action::Wait(*side));
+            }
+            Step::Say(side, line, bytes) => {
+                self.send(rt, *side, line);
+                self.hear(rt, *side, bytes, bytes.len(), None);
+            }
+            Step::Bring(side) => {
+                for (line, bytes) in &SCRIPT {
+                    self.send(rt, *side, line);
+                    self.hear(rt, *side, bytes, bytes.len(), None);
+                }
+            }
+            Step::Answer(side, bytes) => self.hear(rt, *side, bytes, bytes.len(), None),
+            Step::Heard(side, bytes, used, fault) => {
+                self.hear(rt, *side, bytes, *used, *fault);
+            }
+            Step::HearAll(side, bytes) => {
+                assert_equal_for(rt, self.place, self.game.hear_all(*side, bytes), None);
+            }
+            Step::GoesOn(side, bytes) => self.report(rt, *side, bytes, None, None),
+            Step::Retake(side, bytes, want) => self.report(rt, *side, bytes, Some(*want), None),
+            Step::Lose(side) => self.game.lost(*side),
+            Step::Owes(side, want) => self.assert_owes(rt, *side, *want),
+            Step::Sent(count) => assert_equal_for(rt, self.place, self.sent, *count),
+            Step::See(what) => assert_shows(rt, self.place, &self.game, what),
+        }
+    }
+
+    /// Sends a side its next command, which has to be this line and to come next.
+    fn send(&mut self, rt: &impl Abort, side: Side, line: &[u8]) {
+        assert_eq!(rt; self.game.next(), Action::Send(side), "{:?}", self.place);
+        assert_equal_for(rt, self.place, self.game.send(side).as_slice(), line);
+        self.sent = self.sent.saturating_add(1);
+    }
+
+    /// A side's bytes are heard: so many are used, and this fault is shown, if any.
+    pub fn hear(
+        &mut self,
+        rt: &impl Abort,
+        side: Side,
+        bytes: &[u8],
+        used: usize,
+        fault: Option<SideFault>,
+    ) {
+        let heard = self.game.heard(side, bytes);
+        assert_equal_for(rt, self.place, heard, Heard { used, fault });
+    }
+
+    /// Of these bytes the first retake of a move is reported where something was owed at one, and a loss of this cause
+    /// where something was owed at one.
+    pub fn report(
+        &mut self,
+        rt: &impl Abort,
+        side: Side,
+        bytes: &[u8],
+        retake: Option<Owes>,
+        loss: Option<(LossCause, Owes)>,
+    ) {
+        let report = self.game.hear_reporting(side, bytes);
+        assert_equal_for(rt, self.place, report.retake.is_some(), retake.is_some());
+        assert_equal_for(rt, self.place, report.loss.is_some(), loss.is_some());
+        if let Some(found) = &report.retake {
+            assert_equal_for(rt, self.place, found.count, 1);
+            assert_owed(rt, self.place, &found.owed, some(rt, retake));
+        }
+        if let Some(found) = &report.loss {
+            let (cause, want) = some(rt, loss);
+            assert_equal_for(rt, self.place, found.cause, cause);
+            assert_owed(rt, self.place, &found.owed, want);
+        }
+    }
+
+    /// A side owes this, if anything.
+    fn assert_owes(&self, rt: &impl Abort, side: Side, want: Option<Owes>) {
+        let owed = self.game.owed(side);
+        assert_equal_for(rt, self.place, owed.is_some(), want.is_some());
+        if let Some(owed) = &owed {
+            assert_owed(rt, self.place, owed, some(rt, want));
+        }
+    }
+}
+
+/// This is owed.
+fn assert_owed(rt: &impl Abort, place: Place, owed: &Owed, want: Owes)
+    requires { CanBeShown owed.now }
+{
+    let (unanswered, line, bytes) = want;
+    assert_equal_for(rt, place, owed.unanswered, unanswered);
+    assert_equal_for(rt, place, owed.bytes.as_slice(), bytes);
+    match owed.oldest {
+        None => assert_equal_for(rt, place, line, b"".as_slice()),
+        Some(entry) => {
+            assert!(rt; entry.id <= 2_147_483_647);
+            let text = write_command(Some(entry.id), &entry.command);
+            assert_equal_for(rt, place, text.as_slice(), line);
+        }
+    }
+}
+
+/// Each row is played.
+pub fn play(rt: &impl Abort, scenes: &[Scene]) {
+    for (name, opening, steps) in scenes {
+        Played::new(rt, name, *opening).go(rt, steps);
+    }
+}
+
+/// A setup of this size, komi and handicap, most moves and most restarts.
 pub fn setup_with(
     rt: &impl Abort,
-    size: u32,
-    half_points: i32,
-    handicap: u32,
+    board: (u32, i32, u32),
     max_moves: u32,
     max_restarts: u32,
 ) -> Setup {
-    let size = some(rt, Size::new(size));
+    let (lines, half_points, handicap) = board;
+    let size = some(rt, Size::new(lines));
     let komi = some(rt, Komi::from_half_points(half_points));
     some(
         rt,
@@ -22,176 +249,15 @@ pub fn setup_with(
     )
 }
 
-/// A side is started, which has to come next.
-pub fn start(rt: &impl Abort, played: &mut Match, side: Side) {
-    assert_eq!(rt; played.next(), Action::Start(side));
-    played.started(side);
-}
-
-/// Sends a side its next command, which has to come next.
-pub fn send_next(rt: &impl Abort, played: &mut Match, side: Side) -> CommandText {
-    assert_eq!(rt; played.next(), Action::Send(side));
-    played.send(side)
-}
-
-/// Sends a side its next command, which has to be this line.
-pub fn send(rt: &impl Abort, played: &mut Match, side: Side, line: &[u8]) {
-    assert_equal(rt, send_next(rt, played, side).as_slice(), line);
-}
-
-/// Sends a side its next command, as `send` does, which the side has to answer before anything else is done.
-pub fn send_and_wait(rt: &impl Abort, played: &mut Match, side: Side, line: &[u8]) {
-    send(rt, played, side, line);
-    assert_equal(rt, played.next(), Action::Wait(side));
-}
-
-/// A side answers with these bytes: all of them are used, without a fault.
-pub fn answer(rt: &impl Abort, played: &mut Match, side: Side, bytes: &[u8]) {
-    hear(rt, played, side, bytes, bytes.len(), None);
-}
-
-/// A side's bytes are heard: `used` of them are used, and this fault is shown, if any.
-pub fn hear(
-    rt: &impl Abort,
-    played: &mut Match,
-    side: Side,
-    bytes: &[u8],
-    used: usize,
-    fault: Option<SideFault>,
-) {
-    assert_equal(rt, played.heard(side, bytes), Heard { used, fault });
-}
-
-/// A match of which both sides are started.
-pub fn both_started(rt: &impl Abort, setup: Setup) -> Match {
-    let mut played = Match::new(setup);
-    start(rt, &mut played, Side::Black);
-    start(rt, &mut played, Side::White);
-    played
-}
-
-/// A command that a side is sent, and the bytes by which it answers.
-pub type Exchange<'a> = (Side, &'a [u8], &'a [u8]);
-
-/// These commands are sent, each answered before the next. Returns how many.
-pub fn converse(rt: &impl Abort, played: &mut Match, exchanges: &[Exchange]) -> u32 {
-    let mut sent: u32 = 0;
-    for (side, line, bytes) in exchanges {
-        send(rt, played, *side, line);
-        sent = sent.saturating_add(1);
-        answer(rt, played, *side, bytes);
+/// An array of one byte, but for what it begins with and what it ends in.
+pub fn padded<const LEN: usize>(head: &[u8], byte: u8, tail: &[u8]) -> [u8; LEN] {
+    let mut bytes = [byte; LEN];
+    for (place, other) in bytes.iter_mut().zip(head) {
+        *place = *other;
     }
-    sent
-}
-
-/// Brings a side of size 2 and komi 0 through the three commands of its script, as `converse` does.
-pub fn bring(rt: &impl Abort, played: &mut Match, side: Side) -> u32 {
-    converse(
-        rt,
-        played,
-        &[
-            (side, b"1 boardsize 2\n", b"=1\n\n"),
-            (side, b"2 komi 0\n", b"=2\n\n"),
-            (side, b"3 clear_board\n", b"=3\n\n"),
-        ],
-    )
-}
-
-/// A match of size 2, komi 0 and 10 moves with both sides in step.
-pub fn both_in_step(rt: &impl Abort, max_restarts: u32) -> Match {
-    let mut played = both_started(rt, setup_with(rt, 2, 0, 0, 10, max_restarts));
-    bring(rt, &mut played, Side::Black);
-    bring(rt, &mut played, Side::White);
-    assert_true(rt, played.in_step(Side::Black));
-    assert_true(rt, played.in_step(Side::White));
-    played
-}
-
-/// A match of size 2, komi 0 and 10 moves with both sides in step, and the first `genmove` sent to Black.
-pub fn black_asked(rt: &impl Abort, max_restarts: u32) -> Match {
-    let mut played = both_in_step(rt, max_restarts);
-    send_and_wait(rt, &mut played, Side::Black, b"4 genmove b\n");
-    assert_true(rt, !played.in_step(Side::Black));
-    played
-}
-
-/// The match to which Black answered the first `genmove` with these bytes.
-pub fn black_answered(rt: &impl Abort, bytes: &[u8]) -> Match {
-    let mut played = black_asked(rt, 1);
-    answer(rt, &mut played, Side::Black, bytes);
-    played
-}
-
-/// A match of size 2, of which both sides are started and Black was sent its first command.
-pub fn first_sent(rt: &impl Abort, max_restarts: u32) -> Match {
-    let mut played = both_started(rt, setup_with(rt, 2, 0, 0, 10, max_restarts));
-    send(rt, &mut played, Side::Black, b"1 boardsize 2\n");
-    played
-}
-
-/// The line of a match that has ended, as game 1.
-pub fn line(rt: &impl Abort, played: &Match) -> ResultText {
-    some(rt, result_line(1, played))
-}
-
-/// The match ended by this verdict, and has this line.
-pub fn ended(rt: &impl Abort, played: &Match, verdict: Verdict, text: &[u8]) {
-    assert_equal(rt, played.next(), Action::Done(verdict));
-    assert_equal(rt, line(rt, played).as_slice(), text);
-}
-
-/// A side that is up, and was not asked for a move.
-pub fn up(confirmed: u32, unanswered: u32) -> Status {
-    Status::Up {
-        confirmed,
-        unanswered,
-        asked: false,
+    let from = LEN.saturating_sub(tail.len());
+    for (place, other) in bytes.iter_mut().skip(from).zip(tail) {
+        *place = *other;
     }
-}
-
-/// Black moved at A1, and White was sent that.
-pub fn white_sent_a1(rt: &impl Abort) -> Match {
-    let mut played = black_answered(rt, b"=4 A1\n\n");
-    send_and_wait(rt, &mut played, Side::White, b"4 play b A1\n");
-    played
-}
-
-/// Black moved at A1, and White refused that.
-pub fn refused(rt: &impl Abort) -> Match {
-    let mut played = white_sent_a1(rt);
-    answer(rt, &mut played, Side::White, b"?4 no\n\n");
-    played
-}
-
-/// Black moved at A1, White refused that, and Black was sent `undo`.
-pub fn undo_sent(rt: &impl Abort) -> Match {
-    let mut played = refused(rt);
-    send_and_wait(rt, &mut played, Side::Black, b"5 undo\n");
-    played
-}
-
-/// The record has `moves` moves, and the first move was retaken `retakes` times.
-pub fn has_moves(rt: &impl Abort, played: &Match, moves: usize, retakes: u32) {
-    assert_equal(rt, played.game().moves().len(), moves);
-    assert_equal(rt, played.retakes(1), retakes);
-}
-
-/// A success of this id and text.
-pub fn success(id: u32, text: &[u8]) -> ReplyText {
-    let mut reply = ReplyText::new();
-    write_reply_into(&mut reply, true, Some(id), text);
-    reply
-}
-
-/// A side is sent a command, which it has to answer, and answers it by this id and text.
-fn send_and_answer(rt: &impl Abort, played: &mut Match, side: Side, id: u32, text: &[u8]) {
-    let _ = send_next(rt, played, side);
-    assert_equal(rt, played.next(), Action::Wait(side));
-    answer(rt, played, side, success(id, text).as_slice());
-}
-
-/// A side makes this move by its command of this id, and the other side is sent it.
-pub fn make_move(rt: &impl Abort, played: &mut Match, side: Side, id: u32, vertex: Vertex) {
-    send_and_answer(rt, played, side, id, vertex.write().as_slice());
-    send_and_answer(rt, played, side.other(), id, b"");
+    bytes
 }

@@ -1,7 +1,7 @@
 //! A conversation with an engine in memory: the code that the page for callers has.
 ghost use Rattle.std.specs.Prelude.{⊤, None};
 
-use crate::asserts::assert_equal;
+use crate::asserts::assert_equal_for;
 use byte_streams::CallFault;
 use gtp_process::{Ending, Process, READ_ROOM, quit_and_end, read_some, write_whole};
 use gtp_wire::{Reply, ReplyReader};
@@ -61,7 +61,7 @@ impl Process for Canned {
         Ok(())
     }
 
-    fn go_first(&self) {}
+    fn let_run_first(&self) {}
 
     fn end(self) -> Ending {
         let Canned { text: _, read: _ } = self;
@@ -81,7 +81,7 @@ fn an_engine_is_asked_its_name(rt: HostRuntime) {
         let mut reply = Reply::new();
         let asked = ask_name(&mut engine, &mut reply);
         quit_and_end(Some(engine), &mut [0u8; READ_ROOM]);
-        assert_equal(&rt, asked.is_some(), answers);
-        assert_equal(&rt, reply.text.as_slice(), name);
+        assert_equal_for(&rt, text, asked.is_some(), answers);
+        assert_equal_for(&rt, text, reply.text.as_slice(), name);
     }
 }

@@ -1,13 +1,23 @@
-//! Games and worlds that are the same.
-use crate::asserts::{assert_equal, some};
-use go_base::{Point, Side};
+//! Games and worlds that are the same, and what every world keeps.
+use super::SIDES;
+use super::any::AnyWorld;
+use crate::asserts::{assert_equal, assert_true, some};
+use go_base::Point;
 use go_board::Game;
-use gtp_match::Match;
-use gtp_world::{Maker, World};
+use gtp_match::Status;
+use gtp_session::steps::Wait;
 use std::process::Abort;
 
-/// Two games have the same stones on each point.
-fn assert_same_stones(rt: &impl Abort, one: &Game, two: &Game) {
+/// Two games are the same: size, komi, handicap and moves, the board at each point, captures and score.
+pub fn assert_same_game(rt: &impl Abort, one: &Game, two: &Game) {
+    assert_equal(rt, one.size(), two.size());
+    assert_equal(rt, one.komi(), two.komi());
+    assert_equal(rt, one.handicap(), two.handicap());
+    assert_equal(rt, one.moves(), two.moves());
+    assert_equal(rt, one.score(), two.score());
+    for side in SIDES {
+        assert_equal(rt, one.captured(side), two.captured(side));
+    }
     let lines = one.size().get();
     for row in 1..=lines {
         for column in 1..=lines {
@@ -17,59 +27,44 @@ fn assert_same_stones(rt: &impl Abort, one: &Game, two: &Game) {
     }
 }
 
-/// The captures of a side are the same.
-fn assert_same_captures(rt: &impl Abort, one: &Game, two: &Game, side: Side) {
-    assert_equal(rt, one.captured(side), two.captured(side));
-}
-
-/// Two games are the same: size, komi, handicap and moves, the board at each point, captures and score.
-pub fn assert_same_game(rt: &impl Abort, one: &Game, two: &Game) {
-    assert_equal(rt, one.size(), two.size());
-    assert_equal(rt, one.komi(), two.komi());
-    assert_equal(rt, one.handicap(), two.handicap());
-    assert_equal(rt, one.moves(), two.moves());
-    assert_same_stones(rt, one, two);
-    assert_same_captures(rt, one, two, Side::Black);
-    assert_same_captures(rt, one, two, Side::White);
-    assert_equal(rt, one.score(), two.score());
-}
-
-/// Two controllers have the same of a side.
-fn assert_same_side(rt: &impl Abort, one: &Match, two: &Match, side: Side) {
-    assert_equal(rt, one.status(side), two.status(side));
-    assert_equal(rt, one.restarts(side), two.restarts(side));
-}
-
-/// Two controllers do the same next, hold the same game, and have the same of both sides.
-pub fn assert_same_match(rt: &impl Abort, one: &Match, two: &Match) {
-    assert_equal(rt, one.next(), two.next());
-    assert_same_game(rt, one.game(), two.game());
-    assert_same_side(rt, one, two, Side::Black);
-    assert_same_side(rt, one, two, Side::White);
-}
-
-/// Two worlds show the same of the engine of a side.
-fn assert_same_lane<B: Maker, W: Maker>(
-    rt: &impl Abort,
-    one: &World<B, W>,
-    two: &World<B, W>,
-    side: Side,
-) {
-    assert_equal(rt, one.to_engine(side), two.to_engine(side));
-    assert_equal(rt, one.to_controller(side), two.to_controller(side));
-    assert_equal(rt, one.running(side).is_some(), two.running(side).is_some());
-    if let Some(first) = one.running(side) {
-        assert_same_game(rt, first, some(rt, two.running(side)));
+/// Two worlds show the same: what the controllers do next, their games, and what they and the worlds have of each side.
+pub fn assert_same_world(rt: &impl Abort, one: &AnyWorld, two: &AnyWorld) {
+    let (first, second) = (one.controller(), two.controller());
+    assert_equal(rt, first.next(), second.next());
+    assert_same_game(rt, first.game(), second.game());
+    for side in SIDES {
+        assert_equal(rt, first.status(side), second.status(side));
+        assert_equal(rt, first.restarts(side), second.restarts(side));
+        assert_equal(rt, one.to_engine(side), two.to_engine(side));
+        assert_equal(rt, one.to_controller(side), two.to_controller(side));
+        assert_equal(rt, one.waits_for(side), two.waits_for(side));
+        assert_equal(rt, one.game(side).is_some(), two.game(side).is_some());
+        if let (Some(game), Some(same)) = (one.game(side), two.game(side)) {
+            assert_same_game(rt, game, same);
+        }
+        if let (Some(engine), Some(same)) = (one.steps(side), two.steps(side)) {
+            assert_equal(rt, engine.reply(), same.reply());
+        }
     }
 }
 
-/// Two worlds show the same.
-pub fn assert_same_world<B: Maker, W: Maker>(
-    rt: &impl Abort,
-    one: &World<B, W>,
-    two: &World<B, W>,
-) {
-    assert_same_match(rt, one.controller(), two.controller());
-    assert_same_lane(rt, one, two, Side::Black);
-    assert_same_lane(rt, one, two, Side::White);
+/// A running engine in step holds the controller's game and waits for nothing. Nor does one wait that has answered all.
+/// None waits for an answer to a line of its author's own, and the lists keep their room.
+pub fn assert_agrees(rt: &impl Abort, world: &AnyWorld) {
+    let played = world.controller();
+    for side in SIDES {
+        assert_true(rt, world.to_engine(side).len() <= 512);
+        assert_true(rt, world.to_controller(side).len() <= 16_384);
+        let wait = world.waits_for(side).unwrap_or(Wait::Nothing);
+        assert_true(rt, wait != Wait::Answer);
+        if let Status::Up { unanswered: 0, .. } = played.status(side) {
+            assert_equal(rt, wait, Wait::Nothing);
+        }
+        if let Some(game) = world.game(side) {
+            if played.in_step(side) {
+                assert_same_game(rt, game, played.game());
+                assert_equal(rt, wait, Wait::Nothing);
+            }
+        }
+    }
 }

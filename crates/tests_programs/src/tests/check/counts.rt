@@ -5,10 +5,9 @@ use gtp_check_app::notes::Notes;
 use gtp_check_app::tally::Tally;
 use gtp_check_judge::Kind;
 use gtp_check_questions::Lesson;
-use std::test::Fail;
 
 #[test]
-fn three_of_a_kind_are_shown_in_a_lesson(rt: HostRuntime) -> Result<(), Fail> {
+fn three_of_a_kind_are_shown_and_starts_without_a_right_answer_are_counted(rt: HostRuntime) {
     let mut tally = Tally::new(1);
     let refused = Fault::Wrote(Kind::Refused);
     let mut shown: u32 = 0;
@@ -28,15 +27,9 @@ fn three_of_a_kind_are_shown_in_a_lesson(rt: HostRuntime) -> Result<(), Fail> {
     assert_equal(&rt, tally.complaints, 7);
     assert_equal(&rt, tally.take_start(), true);
     assert_equal(&rt, tally.take_start(), false);
-    Ok(())
-}
-
-#[test]
-fn starts_without_a_right_answer_are_counted(rt: HostRuntime) -> Result<(), Fail> {
     let mut notes = Notes::new();
     notes.start();
     notes.start();
     assert_equal(&rt, notes.fruitless, 2);
     assert_equal(&rt, notes.has_answered, false);
-    Ok(())
 }

@@ -1,199 +1,132 @@
 //! Shorter conversations, and the hint of positional ko.
-use crate::asserts::assert_equal;
-use go_base::{Colour, Komi, Move, Size, Vertex};
-use gtp_check_app::flat::{Commands, games_in, last_games, shortened, shortenings};
+use super::talk_of;
+use crate::asserts::{assert_equal, assert_equal_for, assert_true, some};
+use crate::tests::commands::command;
+use gtp_check_app::flat::{games_in, last_games, shortened, shortenings};
 use gtp_check_app::superko::is_positional;
-use gtp_check_app::talk::{Purpose, Said};
-use gtp_check_judge::{CheckCommand, Known};
-use gtp_check_questions::Lesson;
-use gtp_wire::Command;
-use std::alloc::{AllocError, Global};
 use std::test::Fail;
 
-/// A play of Black.
-fn play(vertex: &str) -> CheckCommand {
-    by(Colour::Black, vertex)
-}
-
-/// A play of a colour.
-fn by(colour: Colour, vertex: &str) -> CheckCommand {
-    let vertex = Vertex::read(vertex.as_bytes()).unwrap_or(Vertex::Pass);
-    CheckCommand::Match(Command::Play(Move { colour, vertex }))
-}
-
-/// A size; 5 where the number is none.
-pub fn size_of(number: u32) -> Size {
-    match (Size::new(number), Size::new(5)) {
-        (Some(size), _) | (None, Some(size)) => size,
-        _ => unreachable!(),
-    }
-}
-
-/// The size is set.
-pub fn size(number: u32) -> CheckCommand {
-    CheckCommand::Match(Command::Boardsize(size_of(number)))
-}
-
-/// Komi is set.
-pub fn komi(half_points: i32) -> CheckCommand {
-    match Komi::from_half_points(half_points) {
-        Some(komi) => CheckCommand::Match(Command::Komi(komi)),
-        None => CheckCommand::Name,
-    }
-}
-
-/// A conversation of these commands on a board of 5x5, of which that with this number is a `play` that a right engine
-/// refuses.
-fn talk(alloc: Global, commands: &[CheckCommand], refused: usize) -> Result<Vec<Said>, AllocError> {
-    let mut talk = Vec::new(alloc);
-    for (number, command) in commands.iter().enumerate() {
-        talk.extend_from_slice(&[Said {
-            command: *command,
-            purpose: Purpose {
-                lesson: Lesson::Ko,
-                part: 0,
-            },
-            is_illegal: number == refused,
-            size: size_of(5),
-            end: 0,
-        }])?;
-    }
-    Ok(talk)
-}
-
-/// Whether a conversation is these commands.
-fn is(commands: &Commands, wanted: &[CheckCommand]) -> bool {
-    commands.as_slice() == wanted
-}
-
-const CLEAR: CheckCommand = CheckCommand::Match(Command::ClearBoard);
-
-const UNDO: CheckCommand = CheckCommand::Match(Command::Undo);
-
-const GENMOVE: CheckCommand = CheckCommand::Match(Command::Genmove(Colour::White));
-
-const SCORE: CheckCommand = CheckCommand::FinalScore;
-
-const UNDO_IS_KNOWN: CheckCommand = CheckCommand::KnownCommand(Known::Undo);
-
-const SCORE_IS_KNOWN: CheckCommand = CheckCommand::KnownCommand(Known::FinalScore);
-
 /// Two games. In the first a stone is put on another one, and two moves are taken back.
-fn two_games(alloc: Global) -> Result<Vec<Said>, AllocError> {
-    let commands = [
-        UNDO_IS_KNOWN,
-        SCORE_IS_KNOWN,
-        size(9),
-        komi(1),
-        size(5),
-        CLEAR,
-        play("A1"),
-        komi(3),
-        play("A1"),
-        play("B1"),
-        GENMOVE,
-        UNDO,
-        UNDO,
-        CLEAR,
-        play("C3"),
-        UNDO,
-        SCORE,
-    ];
-    talk(alloc, commands.as_slice(), 8)
-}
+static TWO_GAMES: [(&str, usize); 17] = [
+    ("known_command undo", 0),
+    ("known_command final_score", 0),
+    ("boardsize 9", 0),
+    ("komi 0.5", 0),
+    ("boardsize 5", 0),
+    ("clear_board", 0),
+    ("play b A1", 0),
+    ("komi 1.5", 0),
+    ("play b A1", 0),
+    ("play b B1", 0),
+    ("genmove w", 0),
+    ("undo", 0),
+    ("undo", 0),
+    ("clear_board", 0),
+    ("play b C3", 0),
+    ("undo", 0),
+    ("final_score", 0),
+];
+
+/// How many of the last games stay, and whether they are whole, and not flat; and the commands that stay.
+static SHORTER: [(usize, bool, &[&str]); 3] = [
+    (
+        1,
+        false,
+        &[
+            "known_command final_score",
+            "boardsize 5",
+            "komi 1.5",
+            "clear_board",
+            "final_score",
+        ],
+    ),
+    (
+        1,
+        true,
+        &[
+            "known_command undo",
+            "known_command final_score",
+            "boardsize 5",
+            "komi 1.5",
+            "clear_board",
+            "play b C3",
+            "undo",
+            "final_score",
+        ],
+    ),
+    (
+        2,
+        false,
+        &[
+            "known_command final_score",
+            "boardsize 5",
+            "komi 0.5",
+            "clear_board",
+            "play b A1",
+            "komi 1.5",
+            "clear_board",
+            "final_score",
+        ],
+    ),
+];
 
 #[test]
-fn the_last_game_is_flat(rt: HostRuntime) -> Result<(), Fail> {
-    let talk = two_games(rt.alloc())?;
+fn the_last_games_are_flat_or_whole_and_ever_more_are_tried(rt: HostRuntime) -> Result<(), Fail> {
+    let mut talk = talk_of(&rt, 5, &TWO_GAMES);
+    some(&rt, talk.get_mut(8)).is_illegal = true;
     assert_equal(&rt, games_in(talk.as_slice()), 2);
-    let flat = shortened(rt.alloc(), talk.as_slice(), last_games(1, 0, false))?;
-    let wanted = [SCORE_IS_KNOWN, size(5), komi(3), CLEAR, SCORE];
-    assert_equal(&rt, is(&flat, wanted.as_slice()), true);
-    Ok(())
-}
-
-#[test]
-fn the_last_game_is_whole(rt: HostRuntime) -> Result<(), Fail> {
-    let talk = two_games(rt.alloc())?;
-    let whole = shortened(rt.alloc(), talk.as_slice(), last_games(1, 0, true))?;
-    let wanted = [
-        UNDO_IS_KNOWN,
-        SCORE_IS_KNOWN,
-        size(5),
-        komi(3),
-        CLEAR,
-        play("C3"),
-        UNDO,
-        SCORE,
-    ];
-    assert_equal(&rt, is(&whole, wanted.as_slice()), true);
-    Ok(())
-}
-
-#[test]
-fn the_last_two_games_are_flat(rt: HostRuntime) -> Result<(), Fail> {
-    let talk = two_games(rt.alloc())?;
-    let both = shortened(rt.alloc(), talk.as_slice(), last_games(2, 0, false))?;
-    let wanted = [
-        SCORE_IS_KNOWN,
-        size(5),
-        komi(1),
-        CLEAR,
-        play("A1"),
-        komi(3),
-        CLEAR,
-        SCORE,
-    ];
-    assert_equal(&rt, is(&both, wanted.as_slice()), true);
-    Ok(())
-}
-
-#[test]
-fn ever_more_games_are_tried(rt: HostRuntime) -> Result<(), Fail> {
+    for (games, is_whole, texts) in &SHORTER {
+        let mut wanted = Vec::new(rt.alloc());
+        for text in *texts {
+            wanted.push(command(&rt, text))?;
+        }
+        let shortening = last_games(*games, 0, *is_whole);
+        let commands = shortened(rt.alloc(), talk.as_slice(), shortening)?;
+        assert_equal_for(&rt, *texts, commands.as_slice(), wanted.as_slice());
+    }
     let mut last: usize = 0;
     for one in shortenings() {
-        assert_equal(&rt, one.games >= last, true);
-        assert_equal(&rt, one.more_than < one.games, true);
+        assert_true(&rt, one.games >= last);
+        assert_true(&rt, one.more_than < one.games);
         last = one.games;
     }
     assert_equal(&rt, last, 256);
     Ok(())
 }
 
-#[test]
-fn positional_ko_explains_a_refusal(rt: HostRuntime) -> Result<(), Fail> {
-    // White takes B1. Once Black has passed, B1 takes A1 back, and the board is the one after White's B2.
-    let mut commands = [
-        size(5),
-        CLEAR,
-        play("A2"),
-        by(Colour::White, "C1"),
-        play("B1"),
-        by(Colour::White, "B2"),
-        by(Colour::White, "A1"),
-        play("pass"),
-        play("B1"),
-    ];
-    let none = commands.len();
-    let refused = talk(rt.alloc(), commands.as_slice(), none)?;
-    assert_equal(&rt, is_positional(refused.as_slice()), true);
+/// Conversations that differ in the size that is set and in the last two commands, and whether positional ko forbids
+/// the last one. White takes B1. Once Black has passed, B1 takes A1 back, and the board is the one after White's B2.
+static LAST_PLAYS: [(&str, &[&str], bool); 5] = [
+    ("boardsize 5", &["play b pass", "play b B1"], true),
     // The play before isn't one that it forbids.
-    if let [before @ .., _] = refused.as_slice() {
-        assert_equal(&rt, is_positional(before), false);
-    }
+    ("boardsize 5", &["play b pass"], false),
     // The board isn't of the size that they set: the engine refused it.
-    commands[0] = size(6);
-    let other_size = talk(rt.alloc(), commands.as_slice(), none)?;
-    assert_equal(&rt, is_positional(other_size.as_slice()), false);
-    commands[0] = size(5);
+    ("boardsize 6", &["play b pass", "play b B1"], false),
     // A move of the engine's own isn't known.
-    commands[7] = GENMOVE;
-    let unknown = talk(rt.alloc(), commands.as_slice(), none)?;
-    assert_equal(&rt, is_positional(unknown.as_slice()), false);
+    ("boardsize 5", &["genmove w", "play b B1"], false),
     // A stone is there.
-    commands[7] = play("pass");
-    commands[8] = play("A1");
-    let other = talk(rt.alloc(), commands.as_slice(), none)?;
-    assert_equal(&rt, is_positional(other.as_slice()), false);
-    Ok(())
+    ("boardsize 5", &["play b pass", "play b A1"], false),
+];
+
+#[test]
+fn positional_ko_explains_a_refusal(rt: HostRuntime) {
+    for (size, last, is_so) in &LAST_PLAYS {
+        let mut texts = Vec::new(rt.alloc());
+        for text in [
+            *size,
+            "clear_board",
+            "play b A2",
+            "play w C1",
+            "play b B1",
+            "play w B2",
+            "play w A1",
+        ] {
+            assert_true(&rt, texts.push((text, 0)).is_ok());
+        }
+        for text in *last {
+            assert_true(&rt, texts.push((*text, 0)).is_ok());
+        }
+        let talk = talk_of(&rt, 5, texts.as_slice());
+        assert_equal_for(&rt, (*size, *last), is_positional(talk.as_slice()), *is_so);
+    }
 }

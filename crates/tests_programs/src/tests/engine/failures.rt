@@ -1,85 +1,148 @@
 //! Streams that fail, and how failures are reported.
-use super::{Broken, Holding, assert_handed_on};
+use super::run_over;
 use crate::asserts::{assert_equal, assert_equal_for};
+use crate::tests::streams::{WIDE, assert_handed_on};
 use gtp_engine_app::failure::{Failure, report};
-use gtp_engine_app::run::run;
 use gtp_session::serve::ServeFault;
-use gtp_session::streams::Counted;
-use std::alloc::Global;
 use std::io::ErrorKind;
-use std::process::Abort;
 
-/// A run whose writes to the output fail has this status and reports this text.
-fn assert_breaks<R: Abort + AllocGlobal>(rt: &R, words: &[&str], status: u8, text: &str) {
-    let mut errors = Vec::new(rt.alloc());
-    let answer = run(
-        rt.alloc(),
-        words,
-        &mut Counted::new(b"1 name\n".as_slice()),
-        &mut Counted::new(Broken),
-        &mut errors,
-    );
-    assert_equal_for(rt, words, answer, status);
-    assert_equal_for(rt, words, errors.as_slice(), text.as_bytes());
-}
+/// The input of a run of which each read fails, and that of another.
+const BROKEN: Option<&[u8]> = None;
 
-#[test]
-fn a_read_that_fails_is_status_3(rt: HostRuntime) {
-    let mut output = Vec::new(rt.alloc());
-    let mut errors = Vec::new(rt.alloc());
-    let words = ["gtp_engine"];
-    let status = run(
-        rt.alloc(),
-        words.as_slice(),
-        &mut Counted::new(Broken),
-        &mut Counted::new(&mut output),
-        &mut errors,
-    );
-    assert_equal(&rt, status, 3);
-    assert_equal(&rt, output.len(), 0);
-    assert_equal(
-        &rt,
-        errors.as_slice(),
-        b"gtp_engine: read fault\n".as_slice(),
-    );
-}
+const NAME: Option<&[u8]> = Some(b"1 name\n");
 
-/// Words of runs that write.
-static WRITE: [&[&str]; 3] = [
-    &["gtp_engine"],
-    &["gtp_engine", "--help"],
-    &["gtp_engine", "--version"],
+/// Where neither the output nor the errors can be written; where the output can't be; and where both can.
+const NEITHER: (usize, usize) = (0, 0);
+
+const ERRORS: (usize, usize) = (0, WIDE);
+
+const BOTH: (usize, usize) = (WIDE, WIDE);
+
+/// Arguments, input and rooms of runs that fail, with the status of each and what it reports.
+static RUNS: [(&[&str], Option<&[u8]>, (usize, usize), u8, &str); 23] = [
+    (&[], BROKEN, BOTH, 3, "gtp_engine: read fault\n"),
+    (&[], NAME, ERRORS, 3, "gtp_engine: write fault\n"),
+    (&["--help"], NAME, ERRORS, 3, "gtp_engine: write fault\n"),
+    (&["--version"], NAME, ERRORS, 3, "gtp_engine: write fault\n"),
+    (&["--policy", "third"], BROKEN, NEITHER, 2, ""),
+    (&["--book", "C3,D44"], BROKEN, NEITHER, 2, ""),
+    (&[], BROKEN, NEITHER, 3, ""),
+    (
+        &["--book", "C3,D44"],
+        BROKEN,
+        BOTH,
+        2,
+        "gtp_engine: bad book\n",
+    ),
+    (
+        &["--fault", "stop"],
+        BROKEN,
+        BOTH,
+        2,
+        "gtp_engine: bad fault\n",
+    ),
+    // A bad book is reported under every policy, and before a bad fault.
+    (
+        &["--book", "C3,D44"],
+        NAME,
+        BOTH,
+        2,
+        "gtp_engine: bad book\n",
+    ),
+    (
+        &["--book", "C3,D44", "--policy", "first"],
+        NAME,
+        BOTH,
+        2,
+        "gtp_engine: bad book\n",
+    ),
+    (
+        &["--policy", "random", "--book=C3,D44"],
+        NAME,
+        BOTH,
+        2,
+        "gtp_engine: bad book\n",
+    ),
+    (
+        &["--policy", "book", "--book", "C3,D44"],
+        NAME,
+        BOTH,
+        2,
+        "gtp_engine: bad book\n",
+    ),
+    (&["--fault", ""], NAME, BOTH, 2, "gtp_engine: bad fault\n"),
+    (
+        &["--fault", "stop"],
+        NAME,
+        BOTH,
+        2,
+        "gtp_engine: bad fault\n",
+    ),
+    (
+        &["--fault", "stop:0"],
+        NAME,
+        BOTH,
+        2,
+        "gtp_engine: bad fault\n",
+    ),
+    (
+        &["--fault", "cut:1:2049"],
+        NAME,
+        BOTH,
+        2,
+        "gtp_engine: bad fault\n",
+    ),
+    (
+        &["--fault", "junk:2001"],
+        NAME,
+        BOTH,
+        2,
+        "gtp_engine: bad fault\n",
+    ),
+    (
+        &["--fault", "Flood:1"],
+        NAME,
+        BOTH,
+        2,
+        "gtp_engine: bad fault\n",
+    ),
+    (
+        &["--fault", "stop", "--book", "C3,D44"],
+        NAME,
+        BOTH,
+        2,
+        "gtp_engine: bad book\n",
+    ),
+    (
+        &["--fault", "stop:1", "--book", "C3,D44"],
+        NAME,
+        BOTH,
+        2,
+        "gtp_engine: bad book\n",
+    ),
+    (
+        &["--fault", "junk:1", "--book", "C3,D44"],
+        NAME,
+        BOTH,
+        2,
+        "gtp_engine: bad book\n",
+    ),
+    (
+        &["--fault", "none", "--book", "C3,D44"],
+        NAME,
+        BOTH,
+        2,
+        "gtp_engine: bad book\n",
+    ),
 ];
 
 #[test]
-fn a_write_that_fails_is_status_3(rt: HostRuntime) {
-    for words in &WRITE {
-        assert_breaks(&rt, words, 3, "gtp_engine: write fault\n");
-    }
-}
-
-/// Words of runs that fail, and the status of each.
-static FAIL: [(&[&str], u8); 3] = [
-    (&["gtp_engine", "--policy", "third"], 2),
-    (&["gtp_engine", "--book", "C3,D44"], 2),
-    (&["gtp_engine"], 3),
-];
-
-/// The status of a run of which each read and write fails.
-fn broken_status(alloc: Global, words: &[&str]) -> u8 {
-    run(
-        alloc,
-        words,
-        &mut Counted::new(Broken),
-        &mut Counted::new(Broken),
-        &mut Broken,
-    )
-}
-
-#[test]
-fn the_status_stays_where_nothing_can_be_reported(rt: HostRuntime) {
-    for (words, status) in &FAIL {
-        assert_equal(&rt, broken_status(rt.alloc(), words), *status);
+fn a_run_that_fails_is_status_2_or_3_and_is_reported_whole_and_once(rt: HostRuntime) {
+    for (arguments, input, rooms, status, text) in &RUNS {
+        let ran = run_over(&rt, arguments, *input, *rooms);
+        assert_equal_for(&rt, (*arguments, *rooms), ran.status, *status);
+        assert_equal_for(&rt, (*arguments, *rooms), ran.output.taken.len(), 0);
+        assert_handed_on(&rt, (*arguments, *rooms), &ran.errors, text);
     }
 }
 
@@ -115,45 +178,10 @@ fn each_failure_is_reported_in_a_line(rt: HostRuntime) {
         let mut errors = Vec::new(rt.alloc());
         let reported = report(*failure, &mut errors);
         assert_equal_for(&rt, line, reported, *status);
-        assert_equal(&rt, errors.as_slice(), line.as_bytes());
+        assert_equal_for(&rt, line, errors.as_slice(), line.as_bytes());
     }
     let no_text = Failure::of_arguments(ErrorKind::InvalidData);
     assert_equal(&rt, no_text, Failure::BadArgument);
     let no_memory = Failure::of_arguments(ErrorKind::OutOfMemory);
     assert_equal(&rt, no_memory, Failure::OutOfMemory);
-}
-
-/// Words of runs whose reads fail, and what each reports.
-static REPORTED: [(&[&str], &str); 3] = [
-    (
-        &["gtp_engine", "--book", "C3,D44"],
-        "gtp_engine: bad book\n",
-    ),
-    (
-        &["gtp_engine", "--fault", "stop"],
-        "gtp_engine: bad fault\n",
-    ),
-    (&["gtp_engine"], "gtp_engine: read fault\n"),
-];
-
-/// What a run whose reads fail reports.
-fn reported_by(alloc: Global, words: &[&str]) -> Holding {
-    let mut errors = Holding::new(alloc);
-    let mut output = Vec::new(alloc);
-    let _ = run(
-        alloc,
-        words,
-        &mut Counted::new(Broken),
-        &mut Counted::new(&mut output),
-        &mut errors,
-    );
-    errors
-}
-
-#[test]
-fn what_is_wrong_is_handed_on_whole_and_once(rt: HostRuntime) {
-    for (words, text) in &REPORTED {
-        let errors = reported_by(rt.alloc(), words);
-        assert_handed_on(&rt, text, &errors, text.as_bytes());
-    }
 }

@@ -1,11 +1,10 @@
 //! The options of the command line, and the mistakes in them.
-use super::{assert_answers, assert_refuses};
+use super::{assert_ends, run_over};
+use crate::asserts::assert_equal_for;
+use crate::tests::streams::WIDE;
 
-#[test]
-fn the_end_of_the_input_is_status_0(rt: HostRuntime) {
-    assert_answers(&rt, &[], b"", b"");
-    assert_answers(&rt, &[], b"name\nversi", b"= stepgo\n\n");
-}
+/// Inputs that end, and what is answered.
+static ENDS: [(&[u8], &[u8]); 2] = [(b"", b""), (b"name\nversi", b"= stepgo\n\n")];
 
 /// Arguments with each option.
 static TAKEN: [&[&str]; 14] = [
@@ -26,14 +25,17 @@ static TAKEN: [&[&str]; 14] = [
 ];
 
 #[test]
-fn each_option_is_taken(rt: HostRuntime) {
+fn each_option_is_taken_and_the_end_of_the_input_is_status_0(rt: HostRuntime) {
+    for (input, output) in &ENDS {
+        assert_ends(&rt, &[], input, output, 0);
+    }
     for arguments in &TAKEN {
         let output = b"=1 stepgo\n\n=\n\n";
-        assert_answers(&rt, arguments, b"1 name\nquit\nname\n", output);
+        assert_ends(&rt, arguments, b"1 name\nquit\nname\n", output, 0);
     }
 }
 
-/// Arguments with a mistake, and how the text that reports it begins.
+/// Arguments with a mistake, of which nothing is answered, and how the text that reports it begins.
 static MISTAKES: [(&[&str], &str); 16] = [
     (
         &["--policy", "third"],
@@ -96,21 +98,10 @@ static MISTAKES: [(&[&str], &str); 16] = [
 #[test]
 fn a_mistake_in_the_arguments_is_status_2_with_the_text_of_clap(rt: HostRuntime) {
     for (arguments, text) in &MISTAKES {
-        assert_refuses(&rt, arguments, text);
-    }
-}
-
-/// Arguments with a bad book.
-static BAD_BOOKS: [&[&str]; 4] = [
-    &["--book", "C3,D44"],
-    &["--book", "C3,D44", "--policy", "first"],
-    &["--policy", "random", "--book=C3,D44"],
-    &["--policy", "book", "--book", "C3,D44"],
-];
-
-#[test]
-fn a_bad_book_is_reported_under_every_policy(rt: HostRuntime) {
-    for arguments in &BAD_BOOKS {
-        assert_refuses(&rt, arguments, "gtp_engine: bad book\n");
+        let ran = run_over(&rt, arguments, Some(b"1 name\n"), (WIDE, WIDE));
+        let beginning = ran.errors.taken.get(..text.len());
+        assert_equal_for(&rt, *arguments, ran.output.taken.len(), 0);
+        assert_equal_for(&rt, *arguments, beginning, Some(text.as_bytes()));
+        assert_equal_for(&rt, *arguments, ran.status, 2);
     }
 }

@@ -1,40 +1,123 @@
-//! The policies, the seed and the ko rule.
-use super::{assert_answers, joined, run_with};
-use crate::asserts::{assert_equal, assert_true};
+//! The policies, the seed, the ko rule, and faults that are asked for.
+use super::{assert_ends, run_over};
+use crate::asserts::assert_true;
+use crate::tests::streams::WIDE;
 use gtp_session::random::Random;
 use gtp_session::serve::serve;
 use gtp_session::session::Session;
 use gtp_session::streams::Counted;
-use std::alloc::Global;
 
-/// Arguments with the first policy.
-static FIRST: [&[&str]; 3] = [
-    &["--policy", "first"],
-    &[],
-    &["--seed", "7", "--book", "C3"],
-];
+/// Two boards, on which moves are asked for, and what the first policy answers.
+const SMALL: &[u8] = b"boardsize 2\ngenmove b\ngenmove w\nboardsize 1\ngenmove b\n";
 
-#[test]
-fn the_first_policy_plays_the_first_candidate_and_is_the_default(rt: HostRuntime) {
-    for arguments in &FIRST {
-        assert_answers(
-            &rt,
-            arguments,
-            b"boardsize 2\ngenmove b\ngenmove w\nboardsize 1\ngenmove b\n",
-            b"=\n\n= A1\n\n= B1\n\n=\n\n= pass\n\n",
-        );
-    }
-}
+const CANDIDATES: &[u8] = b"=\n\n= A1\n\n= B1\n\n=\n\n= pass\n\n";
 
-#[test]
-fn the_book_policy_plays_by_the_book(rt: HostRuntime) {
-    assert_answers(
-        &rt,
+/// White takes at A1, and after two passes Black wants to take back.
+const CORNER: &[u8] =
+    b"boardsize 4\nplay b A2\nplay w C1\nplay b B1\nplay w B2\nplay b D4\nplay w A1\n\
+    play b B1\nplay b pass\nplay w pass\nplay b B1\nshowboard\n";
+
+/// Two genmoves that succeed, after one that fails.
+const GENMOVES: &[u8] = b"genmove\n1 genmove b\n2 name\n3 genmove w\n4 name\n";
+
+/// Arguments, an input, what is answered, and the status.
+static ANSWERS: [(&[&str], &[u8], &[u8], u8); 17] = [
+    // The first policy is the default.
+    (&["--policy", "first"], SMALL, CANDIDATES, 0),
+    (&[], SMALL, CANDIDATES, 0),
+    (&["--seed", "7", "--book", "C3"], SMALL, CANDIDATES, 0),
+    (
         &["--policy", "book", "--book", "C3,,resign"],
         b"boardsize 9\ngenmove b\ngenmove w\ngenmove b\ngenmove b\ngenmove\nplay b C3\n",
         b"=\n\n= C3\n\n= pass\n\n= resign\n\n= resign\n\n? syntax error\n\n? illegal move\n\n",
+        0,
+    ),
+    (&["--policy", "book"], b"genmove b\n", b"= pass\n\n", 0),
+    // Positional ko outlives two passes, and simple ko doesn't.
+    (
+        &["--ko", "simple"],
+        CORNER,
+        b"=\n\n=\n\n=\n\n=\n\n=\n\n=\n\n=\n\n? illegal move\n\n=\n\n=\n\n\
+        =\n\n= . . . X 4\n. . . . 3\nX O . . 2\n. X O . 1\nA B C D\ncaptures B 1 W 1\n\n",
+        0,
+    ),
+    (
+        &["--ko", "positional"],
+        CORNER,
+        b"=\n\n=\n\n=\n\n=\n\n=\n\n=\n\n=\n\n? illegal move\n\n=\n\n=\n\n\
+        ? illegal move\n\n= . . . X 4\n. . . . 3\nX O . . 2\nO . O . 1\nA B C D\n\
+        captures B 0 W 1\n\n",
+        0,
+    ),
+    // A fault that stops is status 4 without a text, and after one that goes on the status is 0.
+    (&["--fault", "stop:1"], GENMOVES, b"? syntax error\n\n", 4),
+    (
+        &["--fault", "stop:2"],
+        GENMOVES,
+        b"? syntax error\n\n=1 A1\n\n=2 stepgo\n\n",
+        4,
+    ),
+    (
+        &["--fault", "cut:2:6"],
+        GENMOVES,
+        b"? syntax error\n\n=1 A1\n\n=2 stepgo\n\n=3 B1\n",
+        4,
+    ),
+    (&["--fault", "cut:1:0"], GENMOVES, b"? syntax error\n\n", 4),
+    (
+        &["--policy", "first", "--fault", "stop:1"],
+        GENMOVES,
+        b"? syntax error\n\n",
+        4,
+    ),
+    (
+        &["--policy", "random", "--seed", "7", "--fault", "stop:1"],
+        GENMOVES,
+        b"? syntax error\n\n",
+        4,
+    ),
+    (
+        &["--policy", "book", "--book", "C3", "--fault", "stop:1"],
+        GENMOVES,
+        b"? syntax error\n\n",
+        4,
+    ),
+    (
+        &["--fault", "none"],
+        GENMOVES,
+        b"? syntax error\n\n=1 A1\n\n=2 stepgo\n\n=3 B1\n\n=4 stepgo\n\n",
+        0,
+    ),
+    (
+        &["--fault=stop:3"],
+        GENMOVES,
+        b"? syntax error\n\n=1 A1\n\n=2 stepgo\n\n=3 B1\n\n=4 stepgo\n\n",
+        0,
+    ),
+    (
+        &["--fault=junk:2"],
+        GENMOVES,
+        b"? syntax error\n\n=1 A1\n\n=2 stepgo\n\nhello\n\n=4 stepgo\n\n",
+        0,
+    ),
+];
+
+#[test]
+fn options_decide_what_is_played_and_a_fault_that_stops_is_status_4(rt: HostRuntime) {
+    for (arguments, input, output, status) in &ANSWERS {
+        assert_ends(&rt, arguments, input, output, *status);
+    }
+    let newlines = [b'\n'; 8193];
+    let mut flood = Vec::new(rt.alloc());
+    assert_true(&rt, flood.extend_from_slice(b"? syntax error\n\n").is_ok());
+    assert_true(&rt, flood.extend_from_slice(&newlines).is_ok());
+    assert_true(
+        &rt,
+        flood
+            .extend_from_slice(b"=2 stepgo\n\n=3 B1\n\n=4 stepgo\n\n")
+            .is_ok(),
     );
-    assert_answers(&rt, &["--policy", "book"], b"genmove b\n", b"= pass\n\n");
+    assert_ends(&rt, &["--fault=flood:1"], GENMOVES, flood.as_slice(), 0);
 }
 
 /// A board of size 9 and twenty moves.
@@ -42,59 +125,7 @@ const TWENTY_MOVES: &[u8] = b"boardsize 9\n\
     genmove b\ngenmove w\ngenmove b\ngenmove w\ngenmove b\ngenmove w\ngenmove b\ngenmove w\ngenmove b\ngenmove w\n\
     genmove b\ngenmove w\ngenmove b\ngenmove w\ngenmove b\ngenmove w\ngenmove b\ngenmove w\ngenmove b\ngenmove w\n";
 
-/// White takes at A1, and after two passes Black wants to take back.
-const CORNER: &[u8] =
-    b"boardsize 4\nplay b A2\nplay w C1\nplay b B1\nplay w B2\nplay b D4\nplay w A1\n\
-    play b B1\nplay b pass\nplay w pass\nplay b B1\nshowboard\n";
-
-/// What is answered until both have passed.
-const FRONT: &[u8] = b"=\n\n=\n\n=\n\n=\n\n=\n\n=\n\n=\n\n? illegal move\n\n=\n\n=\n\n";
-
-/// Rules, and what is answered to the last play and to the last command under each.
-static ENDS: [(&str, &[u8]); 2] = [
-    (
-        "simple",
-        b"=\n\n= . . . X 4\n. . . . 3\nX O . . 2\n. X O . 1\nA B C D\ncaptures B 1 W 1\n\n",
-    ),
-    (
-        "positional",
-        b"? illegal move\n\n= . . . X 4\n. . . . 3\nX O . . 2\nO . O . 1\nA B C D\n\
-        captures B 0 W 1\n\n",
-    ),
-];
-
-#[test]
-fn positional_ko_outlives_two_passes(rt: HostRuntime) {
-    for (rule, end) in &ENDS {
-        let wanted = joined(&rt, &[FRONT, end]);
-        assert_answers(&rt, &["--ko", *rule], CORNER, wanted.as_slice());
-    }
-}
-
-#[test]
-fn one_seed_plays_one_game_and_another_seed_another(rt: HostRuntime) {
-    let seven = ["--policy", "random", "--seed", "7"];
-    let eight = ["--policy", "random", "--seed", "8"];
-    let first = run_with(&rt, seven.as_slice(), TWENTY_MOVES);
-    let again = run_with(&rt, seven.as_slice(), TWENTY_MOVES);
-    let other = run_with(&rt, eight.as_slice(), TWENTY_MOVES);
-    assert_equal(&rt, first.status, 0);
-    assert_equal(&rt, first.output.as_slice(), again.output.as_slice());
-    assert_true(&rt, first.output.as_slice() != other.output.as_slice());
-}
-
-/// What a fresh engine writes that draws by this seed.
-fn drawn_with(alloc: Global, seed: u32, input: &[u8]) -> Vec<u8> {
-    let mut input = input;
-    let mut output = Vec::new(alloc);
-    let mut session = Session::new(Random::new(seed));
-    let mut reader = Counted::new(&mut input);
-    let mut writer = Counted::new(&mut output);
-    let _ = serve(&mut reader, &mut writer, &mut session);
-    output
-}
-
-/// Arguments of the random policy, and the seed that they name.
+/// Arguments of the random policy, and the seed that they name. The default seed is 1.
 static SEEDS: [(&[&str], u32); 5] = [
     (&["--policy", "random"], 1),
     (&["--policy", "random", "--seed", "0"], 0),
@@ -107,9 +138,18 @@ static SEEDS: [(&[&str], u32); 5] = [
 ];
 
 #[test]
-fn the_default_seed_is_1(rt: HostRuntime) {
+fn the_random_policy_draws_by_its_seed_which_is_1_by_default(rt: HostRuntime) {
     for (arguments, seed) in &SEEDS {
-        let drawn = drawn_with(rt.alloc(), *seed, TWENTY_MOVES);
-        assert_answers(&rt, arguments, TWENTY_MOVES, drawn.as_slice());
+        // What a fresh engine writes that draws by this seed.
+        let mut drawn = Vec::new(rt.alloc());
+        let mut reader = Counted::new(TWENTY_MOVES);
+        let mut writer = Counted::new(&mut drawn);
+        let mut session = Session::new(Random::new(*seed));
+        let _ = serve(&mut reader, &mut writer, &mut session);
+        assert_ends(&rt, arguments, TWENTY_MOVES, drawn.as_slice(), 0);
+        // One seed plays one game, and another seed another.
+        let eight = ["--policy", "random", "--seed", "8"];
+        let other = run_over(&rt, &eight, Some(TWENTY_MOVES), (WIDE, WIDE));
+        assert_true(&rt, drawn.as_slice() != other.output.taken.as_slice());
     }
 }

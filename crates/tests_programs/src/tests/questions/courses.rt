@@ -1,5 +1,5 @@
 //! Whole courses.
-use crate::asserts::{assert_equal, assert_true};
+use crate::asserts::{assert_equal, assert_equal_for, assert_true, assert_true_for};
 use arrayvec::ArrayVec;
 use go_board::KoRule;
 use gtp_check_judge::{CheckCommand, Examiner, Known};
@@ -106,12 +106,6 @@ impl Talk {
         self.asked = self.asked.saturating_add(1);
     }
 
-    /// The engine is ended without `quit`.
-    fn kill(&mut self) {
-        self.kills = self.kills.saturating_add(1);
-        self.examiner.lost();
-    }
-
     /// A move that is asked in a lesson is counted.
     fn count(&mut self, lesson: Option<Lesson>, command: &CheckCommand) {
         let is_move = matches!(
@@ -124,12 +118,6 @@ impl Talk {
         }
     }
 
-    /// The engine is asked a command of a lesson.
-    fn ask_in(&mut self, rt: &impl Abort, lesson: Option<Lesson>, command: CheckCommand) {
-        self.count(lesson, &command);
-        self.ask(rt, command);
-    }
-
     /// Does what a course says, until it is over.
     fn hold(&mut self, rt: &impl Abort, course: &mut Course) {
         for _call in 0..1_000_000u32 {
@@ -137,8 +125,14 @@ impl Talk {
             match course.next(&self.examiner) {
                 Action::Start => self.start(rt),
                 Action::Restart => self.examiner.lost(),
-                Action::Kill => self.kill(),
-                Action::Ask(command) => self.ask_in(rt, lesson, command),
+                Action::Kill => {
+                    self.kills = self.kills.saturating_add(1);
+                    self.examiner.lost();
+                }
+                Action::Ask(command) => {
+                    self.count(lesson, &command);
+                    self.ask(rt, command);
+                }
                 Action::Wait => self.hear(rt),
                 Action::Skip => {}
                 Action::Done => break,
@@ -149,53 +143,33 @@ impl Talk {
     }
 }
 
-/// All lessons.
-fn all() -> Lessons {
-    let mut all = Lessons::new();
-    for lesson in LESSONS {
-        let _ = all.try_push(lesson);
+/// An engine of all sizes or of one, which may be without `undo`; the least number of commands that it is asked; how
+/// often it is started and killed, where that is known; and the least number of moves that each lesson asks of it.
+static COURSES: [(Option<u32>, bool, u32, (Option<u32>, Option<u32>), u32); 4] = [
+    (None, true, 100_001, (Some(12), Some(5)), 0),
+    // A size that no list has.
+    (Some(6), true, 0, (None, Some(1)), 8),
+    (Some(19), true, 50_001, (None, None), 0),
+    (None, false, 20_001, (None, None), 0),
+];
+
+#[test]
+fn nothing_is_found_of_our_engine_with_all_sizes_or_one_or_without_undo(rt: HostRuntime) {
+    for (only_size, has_undo, asked, (starts, kills), moves) in &COURSES {
+        let mut lessons = Lessons::new();
+        for lesson in LESSONS {
+            let _ = lessons.try_push(lesson);
+        }
+        let mut talk = Talk::new(*only_size, *has_undo);
+        talk.hold(&rt, &mut Course::new(lessons, None, 1));
+        let case = (*only_size, *has_undo);
+        assert_true_for(&rt, (case, talk.asked), talk.asked >= *asked);
+        assert_equal_for(&rt, case, talk.starts, starts.unwrap_or(talk.starts));
+        assert_equal_for(&rt, case, talk.kills, kills.unwrap_or(talk.kills));
+        for (lesson, made) in LESSONS.iter().zip(talk.moves) {
+            assert_true_for(&rt, (case, *lesson, made), made >= *moves);
+        }
     }
-    all
-}
-
-#[test]
-fn nothing_is_found_of_our_engine(rt: HostRuntime) {
-    let mut talk = Talk::new(None, true);
-    let mut course = Course::new(all(), None, 1);
-    talk.hold(&rt, &mut course);
-    let _ = println!(rt; "{} commands, {} starts", talk.asked, talk.starts);
-    assert_true(&rt, talk.asked > 100_000);
-    assert_equal(&rt, talk.starts, 12);
-    assert_equal(&rt, talk.kills, 5);
-}
-
-#[test]
-fn an_engine_of_a_size_that_no_list_has_is_asked_all_lessons(rt: HostRuntime) {
-    let mut talk = Talk::new(Some(6), true);
-    let mut course = Course::new(all(), None, 1);
-    talk.hold(&rt, &mut course);
-    for moves in talk.moves {
-        assert_true(&rt, moves >= 8);
-    }
-    assert_equal(&rt, talk.kills, 1);
-}
-
-#[test]
-fn an_engine_of_one_size_is_asked_on_that_size(rt: HostRuntime) {
-    let mut talk = Talk::new(Some(19), true);
-    let mut course = Course::new(all(), None, 1);
-    talk.hold(&rt, &mut course);
-    let _ = println!(rt; "{} commands", talk.asked);
-    assert_true(&rt, talk.asked > 50_000);
-}
-
-#[test]
-fn an_engine_without_undo_is_not_asked_for_it(rt: HostRuntime) {
-    let mut talk = Talk::new(None, false);
-    let mut course = Course::new(all(), None, 1);
-    talk.hold(&rt, &mut course);
-    let _ = println!(rt; "{} commands", talk.asked);
-    assert_true(&rt, talk.asked > 20_000);
 }
 
 #[test]
@@ -211,13 +185,4 @@ fn a_part_is_left_after_a_finding_and_a_lesson_after_ten(rt: HostRuntime) {
     }
     assert_equal(&rt, course.lesson(), Some(Lesson::Komi));
     assert_equal(&rt, course.place().part, 0);
-}
-
-#[test]
-fn each_lesson_has_a_name_of_its_own(rt: HostRuntime) {
-    for (number, lesson) in LESSONS.iter().enumerate() {
-        for (other, another) in LESSONS.iter().enumerate() {
-            assert_equal(&rt, lesson.name() == another.name(), number == other);
-        }
-    }
 }

@@ -1,6 +1,7 @@
-//! Engines in memory, in place of processes, and writers that fail.
+//! Engines in memory, in place of processes.
 ghost use Rattle.std.specs.Prelude.{⊤, None};
 
+use crate::tests::streams::Log;
 use byte_streams::CallFault;
 use gtp_process::{Ending, Process, StartFault, StartReason, Starter};
 use gtp_session::book::Book;
@@ -9,50 +10,7 @@ use gtp_session::policy::Policy;
 use gtp_session::session::{Fed, Session};
 use std::alloc::{AllocError, Global};
 use std::cell::Cell;
-use std::io;
-use std::io::{ErrorKind, Read, Write};
-use std::rc::Rc;
-
-/// A stream of which each write and flush fails.
-#[derive(Clone, Copy, Drop)]
-pub struct Full;
-
-impl Write for Full {
-    fn write(&mut self, _buf: &[u8]) -> io::Result<usize> {
-        Err(io::Error::from(ErrorKind::BrokenPipe))
-    }
-
-    fn flush(&mut self) -> io::Result<()> {
-        Err(io::Error::from(ErrorKind::BrokenPipe))
-    }
-}
-
-/// A stream that takes `room` bytes; a write into it fails when it is full. At each flush it keeps how many it has
-/// taken, and notes that in the log.
-#[derive(Drop)]
-pub struct Narrow {
-    pub taken: Vec<u8>,
-    pub flushed: Vec<usize>,
-    pub room: usize,
-    pub log: Log,
-}
-
-impl Write for Narrow {
-    fn write(&mut self, buf: &[u8]) -> io::Result<usize> {
-        let count = buf.len().min(self.room);
-        if count == 0 {
-            return Err(io::Error::from(ErrorKind::BrokenPipe));
-        }
-        self.taken.extend_from_slice(&buf[..count])?;
-        self.room = self.room.saturating_sub(count);
-        Ok(count)
-    }
-
-    fn flush(&mut self) -> io::Result<()> {
-        self.log.flushed.set(self.taken.len());
-        Ok(self.flushed.push(self.taken.len())?)
-    }
-}
+use std::io::Read;
 
 /// What an engine in memory does.
 #[derive(Drop)]
@@ -66,8 +24,8 @@ enum Engine {
     /// Takes what it is sent, and writes one text. Once that was read its pipes are broken.
     Stops,
     /// Answers each command by the next one of these answers, which end at semicolons and have their spaces written as
-    /// underscores, and none once they are used up. How much of them is used.
-    Answers(Vec<u8>, usize),
+    /// underscores, and none once they are used up.
+    Answers,
     /// Writes what it is sent, and nothing else.
     Echoes,
     /// Takes all that it is sent, and can't be read.
@@ -79,10 +37,12 @@ enum Engine {
     Interrupted(Session<First>, u32),
 }
 
-/// A conversation with an engine in memory: the engine, what it wrote, how much of that was read, and how often the
-/// call that is tried was interrupted.
+/// A conversation with an engine in memory: the engine, its answers and how much of them is used, what it wrote, how
+/// much of that was read, and how often the call that is tried was interrupted.
 pub struct Talk {
     engine: Engine,
+    answers: Vec<u8>,
+    used: usize,
     written: Vec<u8>,
     read: usize,
     interruptions: u32,
@@ -106,7 +66,7 @@ impl Talk {
         };
         if self.interruptions < *often {
             self.interruptions = self.interruptions.saturating_add(1);
-            add_one(&self.log.interrupted);
+            add(&self.log.interrupted, 1);
             return Err(CallFault::Interrupted);
         }
         self.interruptions = 0;
@@ -210,7 +170,7 @@ impl Process for Talk {
             _ => text,
         };
         if text == b"quit\n".as_slice() {
-            add_one(&self.log.quits);
+            add(&self.log.quits, 1);
             self.log.ended_by_quit.set(self.log.ended.get());
             add(&self.log.flushed_by_quits, self.log.flushed.get());
         }
@@ -219,15 +179,18 @@ impl Process for Talk {
                 answer(session, text, &mut self.written)
             }
             Engine::Book(session) => answer(session, text, &mut self.written),
-            Engine::Answers(answers, used) => {
-                answer_next(answers.as_slice(), used, text, &mut self.written)
-            }
+            Engine::Answers => answer_next(
+                self.answers.as_slice(),
+                &mut self.used,
+                text,
+                &mut self.written,
+            ),
             Engine::Echoes => self.written.extend_from_slice(text),
             Engine::Says | Engine::Stops | Engine::Mute | Engine::Broken => Ok(()),
         };
         match taken {
             Ok(()) => {
-                add_one(&self.log.writes);
+                add(&self.log.writes, 1);
                 Ok(text.len())
             }
             Err(AllocError) => Err(CallFault::Other),
@@ -238,74 +201,27 @@ impl Process for Talk {
         self.interrupt()
     }
 
-    fn go_first(&self) {
-        add_one(&self.log.go_first);
+    fn let_run_first(&self) {
+        add(&self.log.let_run_first, 1);
     }
 
     fn end(self) -> Ending {
         let Talk {
             engine,
+            answers,
+            used: _,
             written,
             read: _,
             interruptions: _,
             log,
         } = self;
-        add_one(&log.ended);
+        add(&log.ended, 1);
         drop(engine);
+        drop(answers);
         drop(written);
         drop(log);
         Ending::Status(7)
     }
-}
-
-/// What was done with the engines.
-#[derive(Drop)]
-pub struct Counts {
-    /// How many were started.
-    pub started: Cell<u32>,
-    /// How many were ended.
-    pub ended: Cell<u32>,
-    /// How many were sent `quit`.
-    pub quits: Cell<u32>,
-    /// How many had been ended when the last `quit` was sent.
-    pub ended_by_quit: Cell<u32>,
-    /// How many bytes a stream with this log had taken when it was last flushed.
-    pub flushed: Cell<usize>,
-    /// The sum of these numbers at each `quit`.
-    pub flushed_by_quits: Cell<usize>,
-    /// The sum of these numbers at each start.
-    pub flushed_by_starts: Cell<usize>,
-    /// How many writes went through.
-    pub writes: Cell<u32>,
-    /// How often one was let run before it was read.
-    pub go_first: Cell<u32>,
-    /// How many calls of pipes were interrupted.
-    pub interrupted: Cell<u32>,
-}
-
-/// What was done with the engines, as the starter, each engine and the test see it.
-pub type Log = Rc<Counts>;
-
-/// Nothing was done yet.
-pub fn new_log(alloc: Global) -> Result<Log, AllocError> {
-    let counts = Counts {
-        started: Cell::new(0),
-        ended: Cell::new(0),
-        quits: Cell::new(0),
-        ended_by_quit: Cell::new(0),
-        flushed: Cell::new(0),
-        flushed_by_quits: Cell::new(0),
-        flushed_by_starts: Cell::new(0),
-        writes: Cell::new(0),
-        go_first: Cell::new(0),
-        interrupted: Cell::new(0),
-    };
-    Ok(Rc::new(alloc, counts)?)
-}
-
-/// Counts one more.
-fn add_one(count: &Cell<u32>) {
-    count.set(count.get().saturating_add(1));
 }
 
 /// Counts `more`.
@@ -319,7 +235,7 @@ pub struct InMemory {
     pub alloc: Global,
     pub log: Log,
     /// The number of the start, from 1, for which memory is refused; 0 where it never is.
-    pub refused: u32,
+    pub refused: usize,
 }
 
 impl Starter for InMemory {
@@ -335,7 +251,7 @@ impl Starter for InMemory {
             ["gtp_engine", "--policy", "book", "--book", text] => book_engine(text)?,
             ["says", ..] | ["refuses"] => Engine::Says,
             ["stops", _] => Engine::Stops,
-            ["answers", answers] => answers_with(self.alloc, answers)?,
+            ["answers", _] => Engine::Answers,
             ["echoes"] => Engine::Echoes,
             ["mute"] => Engine::Mute,
             ["broken"] => Engine::Broken,
@@ -343,43 +259,45 @@ impl Starter for InMemory {
             ["interrupted", "often"] => Engine::Interrupted(Session::new(First), 1000),
             _ => return Err(StartFault::NotStarted(StartReason::NotFound)),
         };
-        add_one(&self.log.started);
+        add(&self.log.started, 1);
         add(&self.log.flushed_by_starts, self.log.flushed.get());
         if self.log.started.get() == self.refused {
             return Err(StartFault::OutOfMemory);
         }
-        let text = match words {
-            ["says", text] | ["stops", text] => text.as_bytes(),
-            ["refuses"] => b"?1 no\n\n",
-            _ => b"",
+        let (text, answers) = match words {
+            ["says", text] | ["stops", text] => (*text, ""),
+            ["refuses"] => ("?1 no\n\n", ""),
+            ["answers", answers] => ("", *answers),
+            _ => ("", ""),
         };
-        match make_talk(self.alloc, engine, text, &self.log) {
+        match make_talk(self.alloc, engine, text, answers, &self.log) {
             Ok(started) => Ok(started),
             Err(AllocError) => Err(StartFault::OutOfMemory),
         }
     }
 }
 
-/// A conversation with the engine, which wrote this text at once.
-fn make_talk(alloc: Global, engine: Engine, text: &[u8], log: &Log) -> Result<Talk, AllocError> {
+/// A conversation with the engine, which wrote this text at once and has these answers.
+fn make_talk(
+    alloc: Global,
+    engine: Engine,
+    text: &str,
+    answers: &str,
+    log: &Log,
+) -> Result<Talk, AllocError> {
     let mut written = Vec::new(alloc);
-    written.extend_from_slice(text)?;
+    written.extend_from_slice(text.as_bytes())?;
+    let mut kept = Vec::new(alloc);
+    kept.extend_from_slice(answers.as_bytes())?;
     Ok(Talk {
         engine,
+        answers: kept,
+        used: 0,
         written,
         read: 0,
         interruptions: 0,
         log: log.clone()?,
     })
-}
-
-/// An engine with these answers.
-fn answers_with(alloc: Global, answers: &str) -> Result<Engine, StartFault> {
-    let mut kept = Vec::new(alloc);
-    match kept.extend_from_slice(answers.as_bytes()) {
-        Ok(()) => Ok(Engine::Answers(kept, 0)),
-        Err(AllocError) => Err(StartFault::OutOfMemory),
-    }
 }
 
 /// An engine that plays by this book.

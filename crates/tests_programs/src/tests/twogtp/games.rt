@@ -1,44 +1,62 @@
 //! Games, and what is written of them.
-use super::runs::{FIRST, assert_plays};
+use super::runs::{FIRST, played};
+
+/// An engine that only passes.
+const PASSES: &str = "gtp_engine --policy book";
+
+/// One that plays by a book, and one that resigns.
+const WALL: &str = "gtp_engine --policy book --book B1,,B2,,B3";
+
+const RESIGNS: &str = "gtp_engine --policy book --book resign";
 
 /// One game on the smallest board.
 const PASSED: &str = "game 1: W+6.5 moves 2 restarts 0 0\n";
 
-/// Arguments of games on the smallest board, and their lines. Komi is 6.5 where the words don't say.
-static SMALLEST: [(&[&str], &str); 4] = [
-    (&["--size", "1", "--komi", "6.5"], PASSED),
-    (&["--size", "1"], PASSED),
+/// Both engines, arguments, what is written, and the status. Komi is 6.5 where the words don't say.
+static PLAYED: [(&str, &str, &[&str], &str, u8); 16] = [
+    // Both pass on the smallest board.
+    (FIRST, FIRST, &["--size", "1", "--komi", "6.5"], PASSED, 0),
+    (FIRST, FIRST, &["--size", "1"], PASSED, 0),
     (
+        FIRST,
+        FIRST,
         &["--size", "1", "--komi=-3.5"],
         "game 1: B+3.5 moves 2 restarts 0 0\n",
+        0,
     ),
     (
+        FIRST,
+        FIRST,
         &["--size", "1", "--games", "2"],
         "game 1: W+6.5 moves 2 restarts 0 0\ngame 2: W+6.5 moves 2 restarts 0 0\n",
+        0,
     ),
-];
-
-#[test]
-fn both_pass_on_the_smallest_board(rt: HostRuntime) {
-    for (more, lines) in &SMALLEST {
-        assert_plays(&rt, (FIRST, FIRST), more, lines, 0);
-    }
     // A command is cut at runs of spaces.
-    let spaced = ("  gtp_engine   --policy first ", FIRST);
-    assert_plays(&rt, spaced, &["--size", "1"], PASSED, 0);
-}
-
-/// What more is asked for of a game of ten moves, and what is written of it.
-static SHOWN: [(&[&str], &str); 4] = [
     (
+        "  gtp_engine   --policy first ",
+        FIRST,
+        &["--size", "1"],
+        PASSED,
+        0,
+    ),
+    // The record is between the line and the board.
+    (
+        FIRST,
+        FIRST,
         &["--size", "2", "--komi", "0", "--max-moves", "10"],
         "game 1: limit moves 10 restarts 0 0\n",
+        0,
     ),
     (
+        FIRST,
+        FIRST,
         &["--size", "2", "--komi", "0", "--max-moves", "10", "--show"],
         "game 1: limit moves 10 restarts 0 0\n. O 2\n. O 1\nA B\ncaptures B 3 W 5\n\n",
+        0,
     ),
     (
+        FIRST,
+        FIRST,
         &[
             "--size",
             "2",
@@ -49,8 +67,11 @@ static SHOWN: [(&[&str], &str); 4] = [
             "--record",
         ],
         "game 1: limit moves 10 restarts 0 0\nA1 B1 A2 B2 A1 A2 A1 B1 A2 B2\n",
+        0,
     ),
     (
+        FIRST,
+        FIRST,
         &[
             "--size",
             "2",
@@ -63,45 +84,66 @@ static SHOWN: [(&[&str], &str); 4] = [
         ],
         "game 1: limit moves 10 restarts 0 0\nA1 B1 A2 B2 A1 A2 A1 B1 A2 B2\n\
             . O 2\n. O 1\nA B\ncaptures B 3 W 5\n\n",
+        0,
+    ),
+    // Books are played to their end.
+    (
+        WALL,
+        WALL,
+        &["--size", "3", "--komi", "0.5", "--show"],
+        "game 1: B+8.5 moves 7 restarts 0 0\n. X . 3\n. X . 2\n. X . 1\nA B C\ncaptures B 0 W 0\n\n",
+        0,
+    ),
+    // White moves first where there is a handicap. It resigns at once in the second game, before Black is asked.
+    (
+        PASSES,
+        PASSES,
+        &["--size", "9", "--handicap", "2"],
+        "game 1: B+74.5 moves 2 restarts 0 0\n",
+        0,
+    ),
+    (
+        PASSES,
+        RESIGNS,
+        &["--size", "9", "--handicap", "2"],
+        "game 1: B+R moves 0 restarts 0 0\n",
+        0,
+    ),
+    // A program that is not there, or an engine that echoes, is abandoned.
+    (
+        "no_such_program",
+        "gtp_engine",
+        &["--restarts", "1", "--size", "9"],
+        "game 1: abandoned black moves 0 restarts 1 0\n",
+        1,
+    ),
+    // The games that remain are played.
+    (
+        "gtp_engine",
+        "no_such_program",
+        &["--restarts", "0", "--games", "2"],
+        "game 1: abandoned white moves 0 restarts 0 0\ngame 2: abandoned white moves 0 restarts 0 0\n",
+        1,
+    ),
+    (
+        "echoes",
+        FIRST,
+        &["--restarts", "1"],
+        "game 1: abandoned black moves 0 restarts 1 0\n",
+        1,
+    ),
+    (
+        FIRST,
+        "echoes",
+        &["--restarts", "1"],
+        "game 1: abandoned white moves 0 restarts 0 1\n",
+        1,
     ),
 ];
 
 #[test]
-fn the_record_is_between_the_line_and_the_board(rt: HostRuntime) {
-    for (more, text) in &SHOWN {
-        assert_plays(&rt, (FIRST, FIRST), more, text, 0);
+fn the_record_is_before_the_board_and_a_side_that_can_not_play_is_abandoned(rt: HostRuntime) {
+    for (black, white, more, output, status) in &PLAYED {
+        let _ = played(&rt, (black, white), more, (output, "", *status));
     }
-}
-
-#[test]
-fn a_program_that_is_not_there_is_abandoned(rt: HostRuntime) {
-    let black = ["--restarts", "1", "--size", "9"];
-    let line = "game 1: abandoned black moves 0 restarts 1 0\n";
-    let engines = ("no_such_program", "gtp_engine");
-    assert_plays(&rt, engines, &black, line, 1);
-    // The games that remain are played.
-    let white = ["--restarts", "0", "--games", "2"];
-    let lines =
-        "game 1: abandoned white moves 0 restarts 0 0\ngame 2: abandoned white moves 0 restarts 0 0\n";
-    let engines = ("gtp_engine", "no_such_program");
-    assert_plays(&rt, engines, &white, lines, 1);
-}
-
-/// An engine that only passes.
-const PASSES: &str = "gtp_engine --policy book";
-
-#[test]
-fn books_are_played_to_their_end(rt: HostRuntime) {
-    let wall = "gtp_engine --policy book --book B1,,B2,,B3";
-    let small = ["--size", "3", "--komi", "0.5", "--show"];
-    let text =
-        "game 1: B+8.5 moves 7 restarts 0 0\n. X . 3\n. X . 2\n. X . 1\nA B C\ncaptures B 0 W 0\n\n";
-    assert_plays(&rt, (wall, wall), &small, text, 0);
-    // White moves first where there is a handicap. It resigns at once in the second game, before Black is asked.
-    let handicap = ["--size", "9", "--handicap", "2"];
-    let line = "game 1: B+74.5 moves 2 restarts 0 0\n";
-    assert_plays(&rt, (PASSES, PASSES), &handicap, line, 0);
-    let resigns = "gtp_engine --policy book --book resign";
-    let line = "game 1: B+R moves 0 restarts 0 0\n";
-    assert_plays(&rt, (PASSES, resigns), &handicap, line, 0);
 }

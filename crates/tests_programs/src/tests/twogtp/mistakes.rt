@@ -1,47 +1,85 @@
 //! Mistakes in the words, and the lines of failures.
-use super::fakes::Full;
-use super::runs::{assert_refused, run_between, run_with};
-use crate::asserts::{assert_equal, assert_true_for};
+use super::runs::{FREE, run_with};
+use crate::asserts::{assert_equal_for, assert_true_for};
+use crate::tests::streams::{narrow_stream, new_log};
 use cli::failure::{Failure, PlanError};
 use std::io::ErrorKind;
 use std::process::Abort;
 use twogtp_app::failure::{Mistake, NAME};
 
-/// Commands of both engines and more words with a mistake, and how it is reported.
-static WORDS: [(&str, &str, &[&str], &str); 6] = [
-    ("", "gtp_engine", &[], "twogtp: no command for black\n"),
+/// A run with these arguments writes nothing to the output and starts nothing, and its status is 2. What it reports
+/// begins with this text, is no more where that ends with a newline, and has these parts.
+fn assert_refused<R: Abort + AllocGlobal>(rt: &R, arguments: &[&str], text: &str, parts: &[&str]) {
+    let ran = run_with(rt, arguments, &[], FREE);
+    let reported = ran.reported(rt);
+    assert_true_for(rt, (arguments, reported), reported.starts_with(text));
+    assert_true_for(
+        rt,
+        (arguments, reported),
+        !text.ends_with('\n') || reported == text,
+    );
+    for part in parts {
+        assert_true_for(rt, (arguments, reported), reported.contains(*part));
+    }
+    assert_equal_for(rt, arguments, ran.written(rt), "");
+    assert_equal_for(rt, arguments, ran.status, 2);
+    assert_equal_for(rt, arguments, ran.log.started.get(), 0);
+}
+
+/// Arguments with a mistake, and how it is reported.
+static WORDS: [(&[&str], &str); 6] = [
     (
-        "  ",
-        " ",
-        &["--komi", "x"],
+        &["--black", "", "--white", "gtp_engine"],
         "twogtp: no command for black\n",
     ),
-    ("x", "", &["--komi", "x"], "twogtp: no command for white\n"),
-    ("x", "y", &["--komi", "6.7"], "twogtp: bad komi\n"),
     (
-        "x",
-        "y",
-        &["--komi", "6.7", "--handicap", "1"],
+        &["--black", "  ", "--white", " ", "--komi", "x"],
+        "twogtp: no command for black\n",
+    ),
+    (
+        &["--black", "x", "--white", "", "--komi", "x"],
+        "twogtp: no command for white\n",
+    ),
+    (
+        &["--black", "x", "--white", "y", "--komi", "6.7"],
         "twogtp: bad komi\n",
     ),
     (
-        "x",
-        "y",
-        &["--size", "6", "--handicap", "2"],
+        &[
+            "--black",
+            "x",
+            "--white",
+            "y",
+            "--komi",
+            "6.7",
+            "--handicap",
+            "1",
+        ],
+        "twogtp: bad komi\n",
+    ),
+    (
+        &[
+            "--black",
+            "x",
+            "--white",
+            "y",
+            "--size",
+            "6",
+            "--handicap",
+            "2",
+        ],
         "twogtp: bad handicap\n",
     ),
 ];
 
 #[test]
 fn mistakes_in_the_words_are_reported_in_their_order(rt: HostRuntime) {
-    for (black, white, more, text) in &WORDS {
-        let ran = run_between(&rt, (black, white), more);
-        assert_refused(&rt, &ran, text);
-        assert_equal(&rt, ran.errors.len(), text.len());
+    for (arguments, text) in &WORDS {
+        assert_refused(&rt, arguments, text, &[]);
     }
 }
 
-/// Words that `clap` refuses, and how it reports that.
+/// Arguments that `clap` refuses, and how it reports that.
 static REFUSED: [(&[&str], &str); 3] = [
     (
         &["--black", "x"],
@@ -69,22 +107,19 @@ static NUMBERS: [(&str, &str, &str); 8] = [
     ("--restarts", "1001", "0..=1000"),
 ];
 
-/// The number is refused, with the limits of the option.
-fn assert_limited<R: Abort + AllocGlobal>(rt: &R, option: &str, number: &str, limits: &str) {
-    let ran = run_between(rt, ("", "y"), &[option, number]);
-    assert_refused(rt, &ran, "error: invalid value ");
-    let text = ran.reported(rt);
-    assert_true_for(rt, text, text.contains(option));
-    assert_true_for(rt, text, text.contains(limits));
-}
-
 #[test]
 fn mistakes_of_the_command_line_come_first(rt: HostRuntime) {
-    for (words, text) in &REFUSED {
-        assert_refused(&rt, &run_with(&rt, words), text);
+    for (arguments, text) in &REFUSED {
+        assert_refused(&rt, arguments, text, &[]);
     }
     for (option, number, limits) in &NUMBERS {
-        assert_limited(&rt, option, number, limits);
+        let arguments = ["--black", "", "--white", "y", *option, *number];
+        assert_refused(
+            &rt,
+            &arguments,
+            "error: invalid value ",
+            &[*option, *limits],
+        );
     }
 }
 
@@ -99,29 +134,36 @@ static FAILURES: [(Failure, &str); 4] = [
     ),
 ];
 
+/// Why arguments are not collected, with the line and the status of each.
+static NOT_COLLECTED: [(ErrorKind, &str, u8); 2] = [
+    (ErrorKind::InvalidData, "twogtp: bad argument\n", 2),
+    (ErrorKind::OutOfMemory, "twogtp: out of memory\n", 3),
+];
+
 #[test]
 fn each_failure_is_reported_in_a_line(rt: HostRuntime) {
+    let log = new_log(&rt);
     for (failure, text) in &FAILURES {
         let mut errors = Vec::new(rt.alloc());
-        assert_equal(&rt, failure.report(NAME, &mut errors), 3);
-        assert_equal(&rt, errors.as_slice(), text.as_bytes());
-        assert_equal(&rt, failure.report(NAME, &mut Full), 3);
+        assert_equal_for(&rt, *text, failure.report(NAME, &mut errors), 3);
+        assert_equal_for(&rt, *text, errors.as_slice(), text.as_bytes());
+        assert_equal_for(
+            &rt,
+            *text,
+            failure.report(NAME, &mut narrow_stream(&rt, 0, &log)),
+            3,
+        );
     }
-}
-
-/// Arguments that are not collected for this reason are reported by this text, with this status.
-fn assert_not_collected<R: Abort + AllocGlobal>(rt: &R, kind: ErrorKind, text: &str, status: u8) {
-    let error = PlanError::<Mistake>::of_arguments(kind);
-    let mut errors = Vec::new(rt.alloc());
-    assert_equal(rt, error.report(NAME, &mut errors), status);
-    assert_equal(rt, errors.as_slice(), text.as_bytes());
-    assert_equal(rt, error.report(NAME, &mut Full), status);
-}
-
-#[test]
-fn arguments_that_are_not_collected_are_a_mistake_or_want_of_memory(rt: HostRuntime) {
-    let no_text = ErrorKind::InvalidData;
-    assert_not_collected(&rt, no_text, "twogtp: bad argument\n", 2);
-    let no_memory = ErrorKind::OutOfMemory;
-    assert_not_collected(&rt, no_memory, "twogtp: out of memory\n", 3);
+    for (kind, text, status) in &NOT_COLLECTED {
+        let error = PlanError::<Mistake>::of_arguments(*kind);
+        let mut errors = Vec::new(rt.alloc());
+        assert_equal_for(&rt, *text, error.report(NAME, &mut errors), *status);
+        assert_equal_for(&rt, *text, errors.as_slice(), text.as_bytes());
+        assert_equal_for(
+            &rt,
+            *text,
+            error.report(NAME, &mut narrow_stream(&rt, 0, &log)),
+            *status,
+        );
+    }
 }

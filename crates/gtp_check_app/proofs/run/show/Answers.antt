@@ -1,8 +1,0 @@
-use Rattle.gtp_check_app.specs.Checks.{broke, went_out}
-use Rattle.gtp_check_app.proofs.run.show.Goals as goal
-
-pub returns-in-Ok : goal.returns-in-Ok
-returns-in-Ok g c = went_out c.in-Ok.ensures.whole
-
-pub returns-in-Err : goal.returns-in-Err
-returns-in-Err g c = rw c.report.ensures.status (broke c.in-Err.ensures.broke c.report.ensures.written)

@@ -1,0 +1,67 @@
+//! The words of the command line, and the plan.
+use crate::asserts::{assert_equal, assert_true_for};
+use go_base::Size;
+use go_board::KoRule;
+use gtp_check_app::options::read_options;
+use gtp_check_app::plan::plan_of;
+use gtp_check_questions::Lesson;
+use std::test::Fail;
+
+#[test]
+fn options_have_defaults_and_lessons_are_chosen_in_their_order(
+    rt: HostRuntime,
+) -> Result<(), Fail> {
+    let words = ["gtp_check", " an  engine "];
+    let options = read_options(rt.alloc(), words.as_slice())?;
+    assert_equal(&rt, options.rule, KoRule::Simple);
+    assert_equal(
+        &rt,
+        (options.size, options.seed, options.restarts),
+        (0, 1, 200),
+    );
+    let plan = plan_of(rt.alloc(), &options)?;
+    assert_equal(&rt, plan.words.len(), 2);
+    assert_equal(&rt, plan.scene_size, None);
+    assert_equal(&rt, plan.lessons.len(), 13);
+    assert_equal(&rt, plan.left_out.len(), 0);
+    let words = [
+        "gtp_check",
+        "engine",
+        "--quick",
+        "--only",
+        "komi",
+        "--only",
+        "ko",
+        "--only",
+        "start",
+        "--skip",
+        "start",
+        "--size",
+        "9",
+        "--ko",
+        "positional",
+    ];
+    let options = read_options(rt.alloc(), words.as_slice())?;
+    assert_equal(&rt, options.rule, KoRule::Positional);
+    let plan = plan_of(rt.alloc(), &options)?;
+    assert_equal(&rt, plan.lessons.as_slice(), [Lesson::Ko].as_slice());
+    assert_equal(&rt, plan.left_out.len(), 12);
+    assert_equal(&rt, plan.scene_size, Size::new(9));
+    Ok(())
+}
+
+/// Words of which one option is out of its limits, or names no lesson.
+static BEYOND: [[&str; 4]; 4] = [
+    ["gtp_check", "engine", "--size", "4"],
+    ["gtp_check", "engine", "--size", "26"],
+    ["gtp_check", "engine", "--restarts", "1001"],
+    ["gtp_check", "engine", "--only", "nothing"],
+];
+
+#[test]
+fn numbers_have_limits(rt: HostRuntime) {
+    for words in &BEYOND {
+        let options = read_options(rt.alloc(), words.as_slice());
+        assert_true_for(&rt, *words, options.is_err());
+    }
+}
