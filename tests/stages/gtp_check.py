@@ -85,6 +85,10 @@ class Same(Checks):
 class Hostile(Checks):
     """Engines that misbehave."""
 
+    def test_refusing(self):
+        """hostile: refuses, by the whole course: no pass is earned."""
+        self.nothing(hostile.refusing("refuses"))
+
     def test_silent(self):
         """hostile: silent, which is waited for."""
         self.nothing(hostile.is_waiting(self.room()))

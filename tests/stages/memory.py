@@ -96,8 +96,8 @@ def checks_of_engines():
     asked = "check: not asked, as the options say: sizes ko captures suicide joining handicaps komi drawn record genmoves games restarts\n"
     # It refuses its name and each size: 5 questions, and the sizes 5 to 25.
     sizes = " ".join(map(str, range(5, 26)))
-    yield Run("a check in which nothing is found", 0,
-              f'check: "", version "", seed 1, simple ko\n{asked}check: not asked on any board: start\n'
+    yield Run("a check in which nothing is found and no move is asked", 4,
+              f'check: "", version "", seed 1, simple ko\n{asked}check: start: no play and no genmove was asked on any board of it\n'
               f"check: it refuses the sizes {sizes}\ncheck: 26 commands, 1 start, 0 complaints\n", "",
               ["gtp_check", "--only", "start", f"{HOSTILE} refuses"])  # fmt: skip
     # It ends at once, three times.

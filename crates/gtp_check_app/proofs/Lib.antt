@@ -5,6 +5,7 @@ mod Games
 mod Gathering
 mod Joining
 mod LessonLoops
+mod Passing
 mod Progressing
 mod Running
 mod Settling

@@ -4,6 +4,7 @@ use Rattle.std.specs.Prelude.{◌≡◌, ◌⊎◌, ℕ, ◌==◌, Bool, true, f
 use Rattle.std.specs.Prelude.{Result, Ok, Err}
 use Rattle.clap.specs.Words.{Text}
 use Rattle.clap.specs.declared.error.kind.ErrorKind.{ErrorKind}
+use Rattle.clap.specs.declared.error.kind.ErrorKind.TheVariants.{UnknownArgument}
 use Rattle.byte_streams.specs.declared.calls.WriteOnce.{Ghosts as WriterGhosts}
 use Rattle.byte_streams.specs.Writing.{BreaksAt, GoesOut, IsWritten}
 use Rattle.gtp_process.specs.declared.causes.Unstarted.{Unstarted}
@@ -16,6 +17,7 @@ use Rattle.cli.specs.Requests.{Shows, outputs, writers}
 use Rattle.cli.specs.Status.{IsRequest, error_line, own_failure, usage_failure}
 use Rattle.cli.specs.declared.failure.Failure.{Failure}
 use Rattle.cli.specs.declared.failure.Failure.TheVariants.{OutOfMemory, Write}
+use Rattle.gtp_check_questions.specs.declared.lessons.Lesson.{Lesson}
 use Rattle.gtp_check_app.specs.declared.failure.Mistake.{Mistake}
 use Rattle.cli.specs.declared.failure.PlanError.TheVariants.{BadWords}
 use Rattle.gtp_check_app.specs.declared.options.Options.{Options}
@@ -28,7 +30,8 @@ use Rattle.gtp_check_app.specs.Listing.{list_lines}
 use Rattle.gtp_check_app.specs.Options.{AsksFor, AsksForText, HasFault}
 use Rattle.gtp_check_app.specs.Plans.{HasNoPlan, IsPlanOf}
 use Rattle.gtp_check_app.specs.Progress.{IsShown, cleared}
-use Rattle.gtp_check_app.specs.Status.{ReportsFailure, ReportsMistake, program_name, status_of}
+use Rattle.gtp_check_app.specs.Status.{ReportsFailure, ReportsMistake, hint_line, is_earned, program_name}
+use Rattle.gtp_check_app.specs.Status.{status_of}
 use Rattle.gtp_check_app.specs.Summary.{last_lines}
 use Rattle.gtp_check_app.specs.Turns.{HasStopped, State, TurnsAreOver, before_all, process_of}
 
@@ -42,11 +45,20 @@ IsClosedWhere known false process = IsEnded known process
 abbrev pub IsClosed : {P : Type 0} → Ghosts P → State P → Type 0
 IsClosed known last = IsClosedWhere known (length last.check.exam.unanswered == 0) (process_of last.engine)
 
+-- the lessons that were to be asked and were not, or not to their end, where the course is in this one
+abbrev pub missed_from : Plan → ℕ → List Lesson
+missed_from plan lesson = drop (min lesson (length plan.lessons.items)) plan.lessons.items
+
+-- the status of a check that is over so
+abbrev pub status_in : {P : Type 0} → Plan → State P → ℕ
+status_in plan last = status_of last.tally.complaints
+    (is_earned plan.lessons.items (missed_from plan last.course.place.lesson) last.notes.asked.items)
+
 -- What the last lines say of a check that is over for this reason: the lessons from the one on in which the course is,
 -- what isn't shown, the starts and the complaints.
 pub record IsEnding (plan : Plan) (tally : Tally) (lesson starts : ℕ) (why : Over) (ending : Ending) : Type 0 where
   pub over : ending.over.now ≡ why
-  pub missed : ending.missed.now ≡ drop (min lesson (length plan.lessons.items)) plan.lessons.items
+  pub missed : ending.missed.now ≡ missed_from plan lesson
   pub hidden : ending.hidden.now ≡ tally.hidden
   pub starts_are : ending.starts ≡ starts
   pub complaints : ending.complaints ≡ tally.complaints
@@ -67,7 +79,7 @@ pub record IsFirstFailure (why : Over) (starts : ℕ) (start : Unstarted) : Type
 module _ {P O E : Type 0} (known : Ghosts P) (outs : WriterGhosts O) (errs : WriterGhosts E) (plan : Plan)
     (progress : Bool) (asked : Attempts P) (out : O) (errors : E) where
   -- A check was held to its end, and the line of its progress is cleared. The last lines went out, and the status says
-  -- whether something was found. Or the engine wasn't started at the first try: that is reported on standard error, and
+  -- whether something was found, and whether a pass is earned. Or the engine wasn't started at the first try: that is reported on standard error, and
   -- the status is that of a mistake.
   pub data IsHeld : ℕ → Attempts P → O → E → Type 0 where
     is_over : {why : Over} {last : State P} {has : Attempts P} {between written : O} {seen sees : E} {text : List ℕ}
@@ -75,7 +87,7 @@ module _ {P O E : Type 0} (known : Ghosts P) (outs : WriterGhosts O) (errs : Wri
         → IsShown errs progress (cleared ∷ []) seen sees
         → ((start : Unstarted) → IsFirstFailure why last.check.starts start → ⊥)
         → IsClosed known last → AreLastLines plan last why text → GoesOut outs text between written
-        → IsHeld (status_of last.tally.complaints) has written sees
+        → IsHeld (status_in plan last) has written sees
     not_started : {why : Over} {start : Unstarted} {last : State P} {has : Attempts P} {written : O}
         {seen sees reported : E}
         → TurnsAreOver known plan outs errs progress (before_all plan) asked out errors why last has written seen
@@ -121,7 +133,7 @@ pub record AsksForList (words : List Text) : Type 0 where
   pub asked : AsksFor words options
   pub list : options.list ≡ true
 
--- The options that the words ask for have no word of a command. That is reported.
+-- The options that the words ask for come to no plan, by a mistake that is reported.
 pub record AsksWrongly {E : Type 0} (errs : WriterGhosts E) (words : List Text) (before after : E) : Type 0 where
   pub options : Options
   pub asked : AsksFor words options
@@ -129,13 +141,20 @@ pub record AsksWrongly {E : Type 0} (errs : WriterGhosts E) (words : List Text) 
   pub mistake : HasNoPlan options (BadWords what)
   pub reported : ReportsMistake errs what before after
 
--- The words have a mistake. One text is written.
+-- A hint is written where there is a word too many, as most such words belong to the engine's command.
+pub record IsHinted {E : Type 0} (errs : WriterGhosts E) (kind : ErrorKind) (before after : E) : Type 0 where
+  pub hint : kind ≡ UnknownArgument → IsWritten errs hint_line before after
+  pub no_hint : (kind ≡ UnknownArgument → ⊥) → after ≡ before
+
+-- The words have a mistake. One text is written, and where it is due the hint.
 pub record IsRefusedByClap {E : Type 0} (errs : WriterGhosts E) (words : List Text) (before after : E) : Type 0 where
   pub kind : ErrorKind
   pub mistake : ¬ IsRequest kind
   pub has : HasFault words kind
   pub text : List ℕ
-  pub written : IsWritten errs text before after
+  pub between : E
+  pub written : IsWritten errs text before between
+  pub hinted : IsHinted errs kind between after
 
 -- the words have a mistake, or what they ask for has one
 abbrev pub HasMistake : {E : Type 0} → WriterGhosts E → List Text → E → E → Type 0

@@ -45,26 +45,26 @@ nothing_noted = record {
 abbrev pub started : Notes → Notes
 started notes = record notes { has_answered = false; fruitless = one_more notes.fruitless; in_a_row = 0 }
 
--- a command of a match is asked on a board, of a size that was taken
-abbrev pub match_on_board : Command → Bool
-match_on_board (Boardsize size) = false
-match_on_board (Komi komi) = true
-match_on_board ClearBoard = true
-match_on_board (FixedHandicap stones) = true
-match_on_board (Play move) = true
-match_on_board (Genmove colour) = true
-match_on_board Undo = true
-match_on_board Quit = false
+-- a command of a match asks for a move: a `play` or a `genmove`
+abbrev pub is_move : Command → Bool
+is_move (Boardsize size) = false
+is_move (Komi komi) = false
+is_move ClearBoard = false
+is_move (FixedHandicap stones) = false
+is_move (Play move) = true
+is_move (Genmove colour) = true
+is_move Undo = false
+is_move Quit = false
 
 -- the same of any command
-abbrev pub is_on_board : CheckCommand → Bool
-is_on_board (Match command) = match_on_board command
-is_on_board FinalScore = true
-is_on_board Name = false
-is_on_board Version = false
-is_on_board (KnownCommand known) = false
+abbrev pub asks_for_move : CheckCommand → Bool
+asks_for_move (Match command) = is_move command
+asks_for_move FinalScore = false
+asks_for_move Name = false
+asks_for_move Version = false
+asks_for_move (KnownCommand known) = false
 
--- something was asked on a board in the lesson, which is noted once
+-- a move was asked in the lesson, which is noted once
 abbrev pub with_lesson : Lesson → Notes → Notes
 with_lesson lesson notes =
     if is_among notes.asked.items lesson then notes
@@ -74,7 +74,7 @@ with_lesson lesson notes =
 abbrev pub counted : Lesson → CheckCommand → Notes → Notes
 counted lesson command notes =
     let more = record notes { commands = one_more notes.commands } in
-    if is_on_board command then with_lesson lesson more else more
+    if asks_for_move command then with_lesson lesson more else more
 
 -- a right answer came
 abbrev pub with_answer : Notes → Notes

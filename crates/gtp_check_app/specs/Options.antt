@@ -1,5 +1,5 @@
 -- The program's command line, in the words of the crate `clap`, and what it asks for. (Own.)
-use Rattle.std.specs.Prelude.{◌≡◌, ℕ, pos, Bool, List, [], ◌∷◌, filter, map, codes, if◌then◌else◌}
+use Rattle.std.specs.Prelude.{◌≡◌, pos, Bool, List, [], ◌∷◌, filter, map, codes, if◌then◌else◌}
 use Rattle.std.specs.Borrow.{Bor}
 use Rattle.std.specs.List.{list_any}
 use Rattle.std.specs.Str.{bytes_eq}

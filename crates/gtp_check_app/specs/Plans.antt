@@ -13,7 +13,7 @@ use Rattle.gtp_check_questions.specs.declared.lessons.Lesson.TheVariants.{Games}
 use Rattle.gtp_check_questions.specs.declared.lessons.Lesson.TheVariants.{Restarts}
 use Rattle.gtp_wire.specs.Words.{words}
 use Rattle.gtp_check_app.specs.declared.failure.Mistake.{Mistake}
-use Rattle.gtp_check_app.specs.declared.failure.Mistake.TheVariants.{NoCommand}
+use Rattle.gtp_check_app.specs.declared.failure.Mistake.TheVariants.{NoCommand, NoLesson}
 use Rattle.cli.specs.declared.failure.PlanError.{PlanError}
 use Rattle.cli.specs.declared.failure.PlanError.TheVariants.{BadArgument, BadWords, OutOfMemory}
 use Rattle.gtp_check_app.specs.declared.options.Options.{Options}
@@ -67,13 +67,16 @@ pub record IsPlanOf (options : Options) (plan : Plan) : Type 0 where
   pub rule : plan.rule ≡ options.rule
   pub seed : plan.seed ≡ options.seed
   pub lessons : plan.lessons.items ≡ filter (is_chosen options) all_lessons
+  pub has_lessons : plan.lessons.items ≢ []
   pub left_out : plan.left_out.items ≡ filter (λ lesson. not (is_chosen options lesson)) all_lessons
   pub singly : plan.singly ≡ options.singly
   pub restarts : plan.restarts ≡ options.restarts
 
--- Why the options come to no plan: the command has no word, or memory was refused. That an argument isn't UTF-8 is none
--- of theirs.
+-- Why the options come to no plan: the command has no word; or it has, and no lesson is left; or memory was refused.
+-- That an argument isn't UTF-8 is none of theirs.
 abbrev pub HasNoPlan : Options → PlanError Mistake → Type 0
 HasNoPlan options BadArgument = ⊥
 HasNoPlan options (BadWords NoCommand) = words options.command.now ≡ []
+HasNoPlan options (BadWords NoLesson) =
+    (words options.command.now ≢ []) × (filter (is_chosen options) all_lessons ≡ [])
 HasNoPlan options OutOfMemory = Unit {0}

@@ -1,27 +1,44 @@
 -- The statuses with which the program ends, and the lines of its failures. (Own.)
-use Rattle.std.specs.Prelude.{◌≡◌, ◌⊎◌, ℕ, nat_lt, if◌then◌else◌, List, codes}
+use Rattle.std.specs.Prelude.{◌≡◌, ◌⊎◌, ℕ, ◌==◌, ◌&&◌, Bool, nat_lt, if◌then◌else◌, List, codes, length}
+use Rattle.std.specs.List.{list_all}
 use Rattle.cli.specs.Failures.{IsReported, ReportsFailure as NamedReportsFailure}
 use Rattle.cli.specs.Status.{done, own_failure, usage_failure}
 use Rattle.cli.specs.declared.failure.Failure.{Failure}
+use Rattle.gtp_check_questions.specs.declared.lessons.Lesson.{Lesson}
+use Rattle.gtp_check_app.specs.Plans.{is_among}
 use Rattle.gtp_check_app.specs.declared.failure.Mistake.{Mistake}
-use Rattle.gtp_check_app.specs.declared.failure.Mistake.TheVariants.{NoCommand}
+use Rattle.gtp_check_app.specs.declared.failure.Mistake.TheVariants.{NoCommand, NoLesson}
 use Rattle.byte_streams.specs.declared.calls.WriteOnce.{Ghosts}
 
 -- something was found
 abbrev pub something_found : ℕ
 something_found = 1
 
--- the status of a check that found so much
-abbrev pub status_of : ℕ → ℕ
-status_of complaints = if nat_lt 0 complaints then something_found else done
+-- nothing was found, and a pass isn't earned
+abbrev pub not_earned : ℕ
+not_earned = 4
+
+-- A pass is earned: none of the lessons that were to be asked is missed, and in each of them a move was asked.
+abbrev pub is_earned : List Lesson → List Lesson → List Lesson → Bool
+is_earned lessons missed asked = (length missed == 0) && list_all (is_among asked) lessons
+
+-- the status of a check with so many complaints
+abbrev pub status_of : ℕ → Bool → ℕ
+status_of complaints earned =
+    if nat_lt 0 complaints then something_found else (if earned then done else not_earned)
 
 -- the program's name in the lines of mistakes and failures
 abbrev pub program_name : List ℕ
 program_name = codes "gtp_check"
 
+-- what follows on a word too many
+abbrev pub hint_line : List ℕ
+hint_line = codes "An engine's command is one argument: put it in quotes\n"
+
 -- what a mistake in the words is called
 abbrev pub mistake_text : Mistake → List ℕ
 mistake_text NoCommand = codes "no command of an engine"
+mistake_text NoLesson = codes "--only, --skip and --quick leave no lesson to ask"
 
 -- the line of a mistake was written, whole unless the stream broke at it
 abbrev pub ReportsMistake : {E : Type 0} → Ghosts E → Mistake → E → E → Type 0
@@ -32,4 +49,4 @@ abbrev pub ReportsFailure : {E : Type 0} → Ghosts E → Failure → E → E �
 ReportsFailure errs what before after = NamedReportsFailure errs program_name what before after
 
 abbrev pub IsStatus : ℕ → Type 0
-IsStatus n = (n ≡ done) ⊎ (n ≡ something_found) ⊎ (n ≡ usage_failure) ⊎ (n ≡ own_failure)
+IsStatus n = (n ≡ done) ⊎ (n ≡ something_found) ⊎ (n ≡ usage_failure) ⊎ (n ≡ own_failure) ⊎ (n ≡ not_earned)

@@ -1,6 +1,6 @@
 -- The first line and the last lines of a check. (Own.)
 use Rattle.std.specs.Prelude.{ℕ, ◌==◌, ◌&&◌, Bool, true, false, not, if◌then◌else◌, List, [], ◌∷◌, ◌++◌, codes}
-use Rattle.std.specs.Prelude.{filter, length}
+use Rattle.std.specs.Prelude.{length}
 use Rattle.std.specs.Prelude.{map, slice_get}
 use Rattle.std.specs.Prelude.{Option, None, Some, unwrap_or}
 use Rattle.std.specs.Fmt.{decimal}
@@ -81,21 +81,22 @@ missed_lines NoRightAnswer missed =
 missed_lines (NotStarted unstarted) missed =
     unstarted_line unstarted ++ lessons_line (codes "not asked, or not to their end, for that:") missed
 
--- The lesson was to be asked and isn't missed, but no command of it was on a board: the sizes of its boards were
--- refused.
-abbrev pub is_boardless : List Lesson → List Lesson → List Lesson → Lesson → Bool
-is_boardless lessons missed asked lesson =
+-- The lesson was to be asked and isn't missed, but no move was asked in it: the sizes of its boards were refused, or
+-- what came before the first move was answered wrongly on each.
+abbrev pub is_unplayed : List Lesson → List Lesson → List Lesson → Lesson → Bool
+is_unplayed lessons missed asked lesson =
     is_among lessons lesson && (not (is_among missed lesson) && not (is_among asked lesson))
 
--- those lessons of all, in their order
-abbrev pub boardless : List Lesson → List Lesson → List Lesson → List Lesson
-boardless lessons missed asked = filter (is_boardless lessons missed asked) all_lessons
+-- the line of such a lesson, and nothing of another one
+abbrev pub unplayed_line : Bool → Lesson → List ℕ
+unplayed_line false lesson = []
+unplayed_line true lesson = concat (
+    codes "check: " ∷ name_of lesson ∷ codes ": no play and no genmove was asked on any board of it\n" ∷ [])
 
--- the line that names them, where there are any
-abbrev pub boardless_line : Plan → Notes → Ending → List ℕ
-boardless_line plan notes ending =
-    lessons_line (codes "not asked on any board:")
-    (boardless plan.lessons.items ending.missed.now notes.asked.items)
+-- those lines of all lessons, in their order
+abbrev pub unplayed_lines : List Lesson → List Lesson → List Lesson → List ℕ
+unplayed_lines lessons missed asked =
+    concat (map (λ lesson. unplayed_line (is_unplayed lessons missed asked lesson) lesson) all_lessons)
 
 -- that the engine lacks the command of this name, where it said so
 abbrev pub lack_line : Bool → List ℕ → List ℕ
@@ -143,13 +144,13 @@ counts_line commands starts complaints = concat (
     codes ", " ∷ counted_text starts (codes " start") ∷
     codes ", " ∷ counted_text complaints (codes " complaint") ∷ codes "\n" ∷ [])
 
--- The last lines: complaints that aren't shown, lessons that weren't asked, what the engine lacks, how far it takes
--- back, what it refuses, and the counts.
+-- The last lines: complaints that aren't shown, lessons that weren't asked, those in which no move was asked, what the
+-- engine lacks, how far it takes back, what it refuses, and the counts.
 abbrev pub last_lines : Plan → Notes → Ending → List ℕ
 last_lines plan notes ending = concat (
     hidden_lines ending.hidden.now ∷
     lessons_line (codes "not asked, as the options say:") plan.left_out.items ∷
     missed_lines ending.over.now ending.missed.now ∷
-    boardless_line plan notes ending ∷
+    unplayed_lines plan.lessons.items ending.missed.now notes.asked.items ∷
     lack_lines notes ∷ undos_line notes.most_undos ∷ refused_line notes.refused.items ∷
     counts_line notes.commands ending.starts ending.complaints ∷ [])

@@ -34,7 +34,7 @@ use Rattle.gtp_check_app.specs.declared.engine.Engine.{Engine}
 use Rattle.gtp_check_app.specs.declared.engine.Fault.{Fault}
 use Rattle.cli.specs.declared.failure.Failure.{Failure}
 use Rattle.cli.specs.declared.failure.Failure.TheVariants.{OutOfMemory, TooManyTurns, Write}
-use Rattle.gtp_check_app.specs.declared.engine.Fault.TheVariants.{Wrote}
+use Rattle.gtp_check_app.specs.declared.engine.Fault.TheVariants.{CutOff, Wrote}
 use Rattle.gtp_check_app.specs.declared.flat.Shortening.{Shortening}
 use Rattle.gtp_check_app.specs.declared.notes.Notes.{Notes}
 use Rattle.gtp_check_app.specs.declared.plan.Plan.{Plan}
@@ -118,10 +118,15 @@ pub record IsNext (old : Course) (exam : Exam) (action : Action) (new : Course) 
       → Renews lesson old exam action new)
   pub turns : IfSome (lesson_of old) (λ lesson. HasRoomFor exam Name → IsTurn lesson old exam action new)
 
--- the rest of the part was left: something was found in it
-pub record HasLeft (old new : Course) : Type 0 where
+-- the engine was lost: it was cut off while it owed an answer
+abbrev pub is_loss : Fault → Bool
+is_loss (Wrote kind) = false
+is_loss (CutOff cause) = true
+
+-- the rest of the part was left: something was found in it, a loss of the engine or something else
+pub record HasLeft (is_loss : Bool) (old new : Course) : Type 0 where
   pub leaves : Leaves old new
-  pub found : IfSome (lesson_of old) (λ lesson. new ≡ part_over lesson (with_finding old))
+  pub found : IfSome (lesson_of old) (λ lesson. new ≡ part_over lesson (with_finding is_loss old))
 
 -- for what a command is asked now: the lesson and the part in which the course is
 abbrev pub purpose_in : Course → Purpose
@@ -132,10 +137,10 @@ purpose_in course = record {
 
 -- Something was found in what was asked for this purpose: that part is left, if the course is in it. Where it is
 -- another part of the lesson, it counts in that all the same.
-pub record HasNoted (purpose : Purpose) (old new : Course) : Type 0 where
-  pub leaves : is_same_purpose purpose (purpose_in old) ≡ true → HasLeft old new
+pub record HasNoted (purpose : Purpose) (is_loss : Bool) (old new : Course) : Type 0 where
+  pub leaves : is_same_purpose purpose (purpose_in old) ≡ true → HasLeft is_loss old new
   pub counts : is_same_purpose purpose (purpose_in old) ≡ false → is_same_lesson purpose (purpose_in old) ≡ true
-      → new ≡ with_finding old
+      → new ≡ with_finding is_loss old
   pub stays : is_same_purpose purpose (purpose_in old) ≡ false → is_same_lesson purpose (purpose_in old) ≡ false
       → new ≡ old
 
@@ -229,7 +234,7 @@ module _ {P : Type 0} (known : Ghosts P) where
     pub ended : known.leaves engine.process ending
     pub is : wrong ≡ wrong_with fault before.check.exam (dialogue engine before.notes) ending
     pub course : Course
-    pub notes : HasNoted (wrong_purpose wrong) before.course course
+    pub notes : HasNoted (wrong_purpose wrong) (is_loss fault) before.course course
     pub leads : after ≡ record before { check = after_loss before.check; course = course; engine = None }
 
 module _ {P : Type 0} (known : Ghosts P) (plan : Plan) where

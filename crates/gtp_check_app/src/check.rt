@@ -5,7 +5,7 @@ ghost use Rattle.arrayvec.specs.ArrayVec.{array_vec_len};
 ghost use Rattle.gtp_process.specs.Endings.{IsEnded};
 ghost use Rattle.gtp_process.specs.Quitting.{QuitsIfAny};
 ghost use Rattle.gtp_check_judge.specs.Exam.{HasRoomFor};
-ghost use Rattle.gtp_check_app.specs.Checks.{AreLastLines, IsClosed, IsEnding};
+ghost use Rattle.gtp_check_app.specs.Checks.{AreLastLines, IsClosed, IsEnding, missed_from, status_in};
 ghost use Rattle.gtp_check_app.specs.Turns.{AsksEngine, HasStopped, IsHeardOut, StopsIn};
 ghost use Rattle.gtp_check_app.specs.Turns.{MayStart, TurnsAreOver, before_all, is_first_due, process_of};
 ghost use Rattle.gtp_check_app.specs.Turns.{purpose_in, state_of, without_engine};
@@ -18,6 +18,7 @@ use crate::engine::{Engine, Fault, Room};
 use crate::notes::Notes;
 use crate::plan::Plan;
 use crate::progress::clear;
+use crate::status::{is_earned, status_of};
 use crate::summary::{Ending, Over, first_line, last_lines};
 use crate::talk::Purpose;
 use crate::tally::Tally;
@@ -383,11 +384,13 @@ impl<S: Starter> Check<S> {
         Ok(())
     }
 
-    /// How many complaints there are.
-    pub fn complaints(&self) -> u32
-        ensures { result ≡ self.now.tally.complaints }
+    /// The status, where the check is over.
+    pub fn status(&self, plan: &Plan<'_>) -> u8
+        ensures { result ≡ status_in plan.now (state_of self.now) }
     {
-        self.tally.complaints
+        let missed = missed_from(plan, self.course.place().lesson);
+        let is_earned = is_earned(&plan.lessons, missed, &self.notes.asked);
+        status_of(self.tally.complaints, is_earned)
     }
 
     /// How many engines were started.
@@ -445,14 +448,21 @@ fn ending_of<'c>(
 ) -> Ending<'c>
     ensures { IsEnding plan.now tally.now lesson starts over.now result }
 {
-    let done = lesson.min(plan.lessons.len());
     Ending {
         over,
-        missed: &plan.lessons[done..],
+        missed: missed_from(plan, lesson),
         hidden: tally.hidden.as_slice(),
         starts,
         complaints: tally.complaints,
     }
+}
+
+/// The lessons that were to be asked and were not, or not to their end, where the course is in this one.
+fn missed_from<'c>(plan: &'c Plan<'_>, lesson: usize) -> &'c [Lesson]
+    ensures { result.now ≡ missed_from plan.now lesson }
+{
+    let done = lesson.min(plan.lessons.len());
+    &plan.lessons[done..]
 }
 
 /// What the course asks for next.

@@ -7,7 +7,8 @@ ghost use Rattle.gtp_check_app.specs.Complaints.{complaint_lines};
 ghost use Rattle.gtp_check_app.specs.Dialogues.{AsksForMore, is_same_lesson, is_same_purpose, wrong_of};
 ghost use Rattle.gtp_check_app.specs.Progress.{IsShown, cleared};
 ghost use Rattle.gtp_check_app.specs.Shortening.{shortenings};
-ghost use Rattle.gtp_check_app.specs.Turns.{Closes, HasNoted, IsComplaint, Shortens, TriesShorter, state_of};
+ghost use Rattle.gtp_check_app.specs.Turns.{Closes, HasNoted, IsComplaint, Shortens, TriesShorter, is_loss};
+ghost use Rattle.gtp_check_app.specs.Turns.{state_of};
 ghost use Rattle.gtp_check_app.specs.private.Steps.{ComplaintGoesOut, ComplaintStops};
 ghost use Rattle.gtp_check_app.specs.declared.complaint.Complaint.{Complaint};
 ghost use Rattle.cli.specs.declared.failure.Failure.TheVariants as failure;
@@ -87,7 +88,7 @@ impl<S: Starter> Check<S> {
             answered,
             said: engine.end(),
         };
-        note_finding(&mut self.course, found.purpose());
+        note_finding(&mut self.course, found.purpose(), is_loss(fault));
         Some(found)
     }
 
@@ -223,13 +224,23 @@ fn complaint_of(number: u32, lesson: Lesson, found: &Tried, rule: KoRule) -> Com
 
 /// Something was found in what was asked for this purpose: that part is left, if the course is in it. Where it is
 /// another part of the lesson, it counts in that all the same.
-fn note_finding(course: &mut Course, purpose: Purpose)
-    ensures { HasNoted purpose course.old course.new }
+fn note_finding(course: &mut Course, purpose: Purpose, is_loss: bool)
+    ensures { HasNoted purpose is_loss course.old course.new }
 {
     let now = purpose_in(course);
     if purpose.is_same(now) {
-        course.leave();
+        course.leave(is_loss);
     } else if purpose.is_same_lesson(now) {
-        course.note_finding();
+        course.note_finding(is_loss);
+    }
+}
+
+/// Whether the engine was lost: it was cut off while it owed an answer.
+fn is_loss(fault: Fault) -> bool
+    ensures { result ≡ is_loss fault }
+{
+    match fault {
+        Fault::Wrote(_) => false,
+        Fault::CutOff(_) => true,
     }
 }

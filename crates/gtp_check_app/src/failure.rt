@@ -1,4 +1,4 @@
-//! The mistake in the words that the program reports itself, and its name in the lines of mistakes and failures.
+//! The mistakes in the words that the program reports itself, and its name in the lines of mistakes and failures.
 ghost use Rattle.gtp_check_app.specs.Status.{mistake_text};
 
 use cli::failure::MistakeText;
@@ -11,6 +11,8 @@ pub const NAME: &[u8] = b"gtp_check";
 pub enum Mistake {
     /// There is no command, or it has no word.
     NoCommand,
+    /// `--only`, `--skip` and `--quick` leave no lesson to ask.
+    NoLesson,
 }
 
 impl MistakeText for Mistake {
@@ -19,6 +21,7 @@ impl MistakeText for Mistake {
     fn text(&self) -> &'static [u8] {
         match self {
             Mistake::NoCommand => b"no command of an engine",
+            Mistake::NoLesson => b"--only, --skip and --quick leave no lesson to ask",
         }
     }
 }

@@ -1,6 +1,6 @@
 //! What is noted of right answers.
 ghost use Rattle.std.specs.Prelude.{◌≡◌};
-ghost use Rattle.gtp_check_app.specs.Notes.{beginning_of, counted, is_on_board, is_refused, lacks, match_on_board};
+ghost use Rattle.gtp_check_app.specs.Notes.{asks_for_move, beginning_of, counted, is_move, is_refused, lacks};
 ghost use Rattle.gtp_check_app.specs.Notes.{noted, noted_of, nothing_noted, started, with_answer, with_lacks};
 ghost use Rattle.gtp_check_app.specs.Notes.{is_taken, taken_by, undos_after, with_lesson, with_match, with_most_undos};
 ghost use Rattle.gtp_check_app.specs.Notes.{with_refusal, with_size, with_taken};
@@ -42,7 +42,7 @@ pub struct Notes {
     pub fruitless: u32,
     /// How many commands were asked.
     pub commands: u32,
-    /// The lessons in which something was asked that needs a board of a size that is set, each once.
+    /// The lessons in which a `play` or a `genmove` was asked, each once.
     pub asked: Lessons,
 }
 
@@ -82,12 +82,12 @@ impl Notes {
         ensures { self.new ≡ counted lesson command.now self.old }
     {
         self.commands = self.commands.saturating_add(1);
-        if is_on_board(command) {
+        if asks_for_move(command) {
             self.ask(lesson);
         }
     }
 
-    /// Something was asked on a board in a lesson.
+    /// A move was asked in a lesson.
     fn ask(&mut self, lesson: Lesson)
         ensures { self.new ≡ with_lesson lesson self.old }
     {
@@ -227,29 +227,31 @@ fn taken_by(command: &Command, ok: bool) -> Option<Size>
     }
 }
 
-/// Whether a command is asked on a board, of a size that was taken.
-fn is_on_board(command: &CheckCommand) -> bool
-    ensures { result ≡ is_on_board command.now }
+/// Whether a command asks for a move: a `play` or a `genmove`.
+fn asks_for_move(command: &CheckCommand) -> bool
+    ensures { result ≡ asks_for_move command.now }
 {
     match command {
-        CheckCommand::Match(command) => match_on_board(command),
-        CheckCommand::FinalScore => true,
-        CheckCommand::Name | CheckCommand::Version | CheckCommand::KnownCommand(_) => false,
+        CheckCommand::Match(command) => is_move(command),
+        CheckCommand::FinalScore
+        | CheckCommand::Name
+        | CheckCommand::Version
+        | CheckCommand::KnownCommand(_) => false,
     }
 }
 
 /// The same of a command of a match.
-fn match_on_board(command: &Command) -> bool
-    ensures { result ≡ match_on_board command.now }
+fn is_move(command: &Command) -> bool
+    ensures { result ≡ is_move command.now }
 {
     match command {
-        Command::Boardsize(_) | Command::Quit => false,
-        Command::Komi(_)
+        Command::Play(_) | Command::Genmove(_) => true,
+        Command::Boardsize(_)
+        | Command::Komi(_)
         | Command::ClearBoard
         | Command::FixedHandicap(_)
-        | Command::Play(_)
-        | Command::Genmove(_)
-        | Command::Undo => true,
+        | Command::Undo
+        | Command::Quit => false,
     }
 }
 

@@ -25,13 +25,15 @@ Each complaint is a block of lines: the conversation since the engine was
 started, as it was sent, and what was wrong. The other lines begin with #,
 which is a comment, so a block can be pasted into the engine as it is.
 The last line is: check: N commands, M starts, K complaints
-An engine that doesn't answer is waited for; put timeout before its command.
+An engine that doesn't answer is waited for; patience before its command ends
+it.
 
 Status:
-  0  nothing was found
+  0  nothing was found, and moves were asked in each lesson
   1  something was found
   2  the arguments have a mistake, or the engine could not be started
   3  the program could not go on: write fault, out of memory, too many turns
+  4  nothing was found, but in some lesson no move was asked
 
 Example:
   gtp_check 'gnugo --mode gtp --chinese-rules'

@@ -36,7 +36,7 @@ pub struct Plan<'a> {
 ///
 /// # Errors
 ///
-/// `OutOfMemory`, or the mistake that the command has no word.
+/// `OutOfMemory`, or a mistake: that the command has no word, or else that no lesson is left.
 pub fn plan_of<'a>(alloc: Global, options: &Options<'a>) -> Result<Plan<'a>, PlanError<Mistake>>
     ensures plan { IfOk result (IsPlanOf options.now) }
     ensures no_plan { IfErr result (HasNoPlan options.now) }
@@ -45,12 +45,16 @@ pub fn plan_of<'a>(alloc: Global, options: &Options<'a>) -> Result<Plan<'a>, Pla
     if words.is_empty() {
         return Err(PlanError::BadWords(Mistake::NoCommand));
     }
+    let lessons = chosen(options);
+    if lessons.is_empty() {
+        return Err(PlanError::BadWords(Mistake::NoLesson));
+    }
     Ok(Plan {
         words,
         scene_size: scene_size_of(options.size),
         rule: options.rule,
         seed: options.seed,
-        lessons: chosen(options),
+        lessons,
         left_out: left_out(options),
         singly: options.singly,
         restarts: options.restarts,

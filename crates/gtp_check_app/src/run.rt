@@ -1,13 +1,14 @@
 //! The program, over any writers and any means to start processes.
 ghost use Rattle.std.specs.Prelude.{◌≡◌, IfNone, IfSome, codes, map};
 ghost use Rattle.gtp_process.specs.declared.causes.Unstarted.{Unstarted};
+ghost use Rattle.clap.specs.declared.error.kind.ErrorKind.TheVariants.{UnknownArgument};
 ghost use Rattle.byte_streams.specs.Writing.{IsWritten};
 ghost use Rattle.gtp_process.specs.Shown.{unstarted_text};
 ghost use Rattle.cli.specs.Requests.{outputs, writers};
 ghost use Rattle.cli.specs.Status.{error_line};
 ghost use Rattle.gtp_check_app.specs.Checks.{Ends, HasRun, IsFirstFailure};
-ghost use Rattle.gtp_check_app.specs.Status.{IsStatus, status_of};
-ghost use Rattle.gtp_check_app.specs.private.Answering.{Lists};
+ghost use Rattle.gtp_check_app.specs.Status.{IsStatus, hint_line};
+ghost use Rattle.gtp_check_app.specs.private.Answering.{IsAnswered, Lists};
 
 use crate::check::Check;
 use crate::failure::NAME;
@@ -18,21 +19,23 @@ use crate::progress::clear;
 use crate::summary::Over;
 use arrayvec::ArrayVec;
 use byte_streams::{WriteOnce, write_or_break, write_text};
+use clap::error::ErrorKind;
 use cli::failure::Failure;
 use cli::requests::{answer_error, show};
 use go_base::push;
 use gtp_process::{Starter, Unstarted, push_unstarted};
-use std::alloc::Global;
+use std::alloc::{AllocError, Global};
 use std::convert::AsStr;
 
 /// Does what the words of the command line ask for, the first of which is the program's name. Checks the engine that
 /// they name, and writes what is wrong with it to `output`. Returns the status that the program ends with:
 ///
-/// - 0 where nothing was found, and where the words ask for help, the version or the list of lessons, which goes to
-///   `output`;
+/// - 0 where nothing was found, each lesson was asked to its end, and in each a move was asked; and where the words ask
+///   for help, the version or the list of lessons, which goes to `output`;
 /// - 1 where something was found;
-/// - 2 where the words have a mistake, or the engine wasn't started at the first try;
-/// - 3 where the output can't be written, memory was refused, or a check had too many turns.
+/// - 2 where the words have a mistake or leave no lesson, or the engine wasn't started at the first try;
+/// - 3 where the output can't be written, memory was refused, or a check had too many turns;
+/// - 4 where nothing was found, and a lesson wasn't asked to its end, or no move was asked in it.
 ///
 /// What a status of 2 or 3 means is written to `errors`, and whether that can be written changes nothing. Where
 /// `progress` is asked for, `errors` is a terminal: what is waited for is written to it, each time in place of its
@@ -52,13 +55,7 @@ pub fn run<A: AsStr, O: WriteOnce, E: WriteOnce, S: Starter>(
 {
     let options = match read_options(alloc, words) {
         Ok(options) => options,
-        Err(error) => return answer_error(
-            NAME,
-            error.kind(),
-            error.to_string(alloc),
-            output,
-            errors,
-        ),
+        Err(error) => return answer(error.kind(), error.to_string(alloc), output, errors),
     };
     if options.list {
         return list(alloc, output, errors);
@@ -70,6 +67,37 @@ pub fn run<A: AsStr, O: WriteOnce, E: WriteOnce, S: Starter>(
     match check(alloc, &plan, progress, output, errors, starter) {
         Ok(status) => status,
         Err(failure) => failure.report(NAME, errors),
+    }
+}
+
+/// What follows on a word too many.
+const HINT: &[u8] = b"An engine's command is one argument: put it in quotes\n";
+
+/// Answers what `clap` returns in place of options, and returns the status. A hint follows on a word too many, since
+/// most such words belong to the engine's command.
+fn answer<O: WriteOnce, E: WriteOnce>(
+    kind: ErrorKind,
+    text: Result<String, AllocError>,
+    output: &mut O,
+    errors: &mut E,
+) -> u8
+    ensures { IsAnswered (writers O.WriteOnce E.WriteOnce) kind text
+        (outputs output.old errors.old) result (outputs output.new errors.new) }
+{
+    let status = answer_error(NAME, kind, text, output, errors);
+    if status == 2 {
+        hint(kind, errors);
+    }
+    status
+}
+
+/// Writes the hint where there is a word too many.
+fn hint<E: WriteOnce>(kind: ErrorKind, errors: &mut E)
+    ensures hint { kind ≡ UnknownArgument → IsWritten E.WriteOnce hint_line errors.old errors.new }
+    ensures no_hint { (kind ≡ UnknownArgument → ⊥) → errors.new ≡ errors.old }
+{
+    if kind == ErrorKind::UnknownArgument {
+        write_or_break(errors, HINT);
     }
 }
 
@@ -102,7 +130,7 @@ fn check<O: WriteOnce, E: WriteOnce, S: Starter>(
     clear(progress, errors);
     match turns {
         Ok(over) => {
-            let complaints = check.complaints();
+            let status = check.status(plan);
             let starts = check.starts();
             let lines = check.end(plan, &over)?;
             if let Some(unstarted) = first_failure(&over, starts) {
@@ -110,7 +138,7 @@ fn check<O: WriteOnce, E: WriteOnce, S: Starter>(
                 return Ok(2);
             }
             write_text(output, lines.as_slice())?;
-            Ok(status_of(complaints))
+            Ok(status)
         }
         Err(failure) => {
             check.end_at_once();
@@ -128,13 +156,6 @@ fn first_failure(over: &Over, starts: u32) -> Option<&Unstarted>
         Over::NotStarted(unstarted) if starts == 0 => Some(unstarted),
         _ => None,
     }
-}
-
-/// The status of a check that is over, with so many complaints.
-fn status_of(complaints: u32) -> u8
-    ensures { result ≡ status_of complaints }
-{
-    if complaints > 0 { 1 } else { 0 }
 }
 
 /// The engine wasn't started at the first try.

@@ -4,7 +4,7 @@ ghost use Rattle.std.specs.List.{concat};
 ghost use Rattle.gtp_process.specs.Shown.{unstarted_text};
 ghost use Rattle.gtp_check_app.specs.Summary.{counted_text, counts_line, first_line, hidden_line, hidden_lines};
 ghost use Rattle.gtp_check_app.specs.Summary.{hidden_of, ko_text};
-ghost use Rattle.gtp_check_app.specs.Summary.{boardless, boardless_line, is_boardless};
+ghost use Rattle.gtp_check_app.specs.Summary.{is_unplayed, unplayed_line, unplayed_lines};
 ghost use Rattle.gtp_check_app.specs.Summary.{lack_line, lack_lines, last_lines, lessons_line, missed_lines, plural};
 ghost use Rattle.gtp_check_app.specs.Summary.{refused_line, shown_or, sizes_line, spaced_name, spaced_size};
 ghost use Rattle.gtp_check_app.specs.Summary.{undos_line, unstarted_line};
@@ -112,7 +112,7 @@ pub fn last_lines(
     add_hidden(&mut text, ending.hidden)?;
     add_lessons(&mut text, &plan.left_out, b"not asked, as the options say:")?;
     add_missed(&mut text, ending.over, ending.missed)?;
-    add_boardless(&mut text, plan, notes, ending)?;
+    add_unplayed(&mut text, &plan.lessons, ending.missed, &notes.asked)?;
     add_lacks(&mut text, notes)?;
     add_most_undos(&mut text, notes.most_undos)?;
     add_refused(&mut text, &notes.refused)?;
@@ -214,38 +214,42 @@ fn add_missed(text: &mut Vec<u8>, over: &Over, missed: &[Lesson]) -> Result<(), 
     }
 }
 
-/// The lessons in which nothing was asked on a board, since the engine refused the sizes.
-fn add_boardless(
+/// The lessons of these that were asked to their end without a move, a line each.
+fn add_unplayed(
     text: &mut Vec<u8>,
-    plan: &Plan<'_>,
-    notes: &Notes,
-    ending: &Ending<'_>,
+    lessons: &[Lesson],
+    missed: &[Lesson],
+    asked: &[Lesson],
 ) -> Result<(), AllocError>
     ensures { OnOk result (text.new.items ≡
-        text.old.items ++ boardless_line plan.now notes.now ending.now) }
+        text.old.items ++ unplayed_lines lessons.now missed.now asked.now) }
 {
-    let lessons = boardless(&plan.lessons, ending.missed, &notes.asked);
-    add_lessons(text, &lessons, b"not asked on any board:")
-}
-
-/// Those lessons, in the order of all.
-fn boardless(lessons: &[Lesson], missed: &[Lesson], asked: &[Lesson]) -> Lessons
-    ensures { result.items ≡ boardless lessons.now missed.now asked.now }
-{
-    let mut kept = Lessons::new();
     for lesson in LESSONS {
-        add_if(
-            &mut kept,
-            lesson,
-            is_boardless(lessons, missed, asked, lesson),
-        );
+        add_if_unplayed(text, is_unplayed(lessons, missed, asked, lesson), lesson)?;
     }
-    kept
+    Ok(())
 }
 
-/// Whether a lesson was to be asked and isn't missed, but no command of it was on a board.
-fn is_boardless(lessons: &[Lesson], missed: &[Lesson], asked: &[Lesson], lesson: Lesson) -> bool
-    ensures { result ≡ is_boardless lessons.now missed.now asked.now lesson }
+/// The line of a lesson, where it is one of those.
+fn add_if_unplayed(text: &mut Vec<u8>, is_one: bool, lesson: Lesson) -> Result<(), AllocError>
+    ensures { OnOk result (text.new.items ≡ text.old.items ++ unplayed_line is_one lesson) }
+{
+    if !is_one {
+        return Ok(());
+    }
+    add_all(
+        text,
+        &[
+            b"check: ",
+            lesson.name().as_bytes(),
+            b": no play and no genmove was asked on any board of it\n",
+        ],
+    )
+}
+
+/// Whether a lesson is among these and isn't missed, but no move was asked in it.
+fn is_unplayed(lessons: &[Lesson], missed: &[Lesson], asked: &[Lesson], lesson: Lesson) -> bool
+    ensures { result ≡ is_unplayed lessons.now missed.now asked.now lesson }
 {
     if !is_among(lessons, lesson) || is_among(missed, lesson) {
         return false;

@@ -84,7 +84,7 @@ holds lessons scene_size seed asked started course
     step lessons a s old course exam action (holds lessons scene_size seed a s old walk) goes
 holds lessons scene_size seed asked started course (Walks.leaves {old = old} walks leaves) =
     left lessons asked started old course (holds lessons scene_size seed asked started old walks) leaves
-holds lessons scene_size seed asked started course (Walks.finds {old = old} walks) =
+holds lessons scene_size seed asked started course (Walks.finds {old = old} is_loss walks) =
     let held = holds lessons scene_size seed asked started old walks in
     record { same = held.same; few = held.few }
 

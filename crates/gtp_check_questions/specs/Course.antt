@@ -18,13 +18,14 @@ use Rattle.gtp_check_questions.specs.Stretches.{steps_if}
 use Rattle.gtp_check_questions.specs.Lessons.{parts_of, stretches_of}
 
 -- The lessons of a course, where it is in them, and what of its opening the engine was asked since it was started. How
--- much was found in its lesson so far; the size of the boards of scenes, once it is known; and the seed of what is
--- drawn.
+-- much was found in its lesson so far, and how often the engine was lost in it; the size of the boards of scenes, once
+-- it is known; and the seed of what is drawn.
 pub record Course : Type 0 where
   pub lessons : List Lesson
   pub place : Place
   pub opening : Opening
   pub findings : ℕ
+  pub losses : ℕ
   pub scene_size : Option ℕ
   pub seed : ℕ
 
@@ -35,6 +36,7 @@ begun lessons scene_size seed = record {
   place = first_place;
   opening = opening.Name;
   findings = 0;
+  losses = 0;
   scene_size = scene_size;
   seed = seed;
 }
@@ -57,9 +59,16 @@ IsRunning course = course.place.lesson < length course.lessons
 abbrev pub most_findings : ℕ
 most_findings = 10
 
--- one more was found in the lesson
-abbrev pub with_finding : Course → Course
-with_finding course = record course { findings = min (course.findings + 1) most_findings }
+-- and after so many losses of the engine
+abbrev pub most_losses : ℕ
+most_losses = 3
+
+-- one more was found in the lesson, which is a loss of the engine or isn't
+abbrev pub with_finding : Bool → Course → Course
+with_finding is_loss course = record course {
+  findings = min (course.findings + 1) most_findings;
+  losses = if is_loss then min (course.losses + 1) most_losses else course.losses;
+}
 
 -- The start finds the size of scenes, and is over then.
 abbrev pub finds_size : Lesson → Bool
@@ -93,13 +102,13 @@ scene_size_of lesson course = size_in lesson course.scene_size course.place.part
 abbrev pub has_next_part : Lesson → Course → Bool
 has_next_part lesson course =
     nat_lt (course.place.part + 1) (parts_of lesson) && not (finds_size lesson && is_some course.scene_size)
-    && nat_lt course.findings most_findings
+    && (nat_lt course.findings most_findings && nat_lt course.losses most_losses)
 
 -- The part is over: its lesson's next one comes, or the next lesson, in which nothing was found yet.
 abbrev pub part_over : Lesson → Course → Course
 part_over lesson course =
     if has_next_part lesson course then record course { place = next_part course.place }
-    else record course { place = next_lesson course.place; findings = 0 }
+    else record course { place = next_lesson course.place; findings = 0; losses = 0 }
 
 abbrev pub has_next_step : Lesson → Place → Bool
 has_next_step lesson place =

@@ -1,5 +1,5 @@
 -- What holds of every course.
-use Rattle.std.specs.Prelude.{◌≡◌, ℕ, ◌+◌, ◌*◌, ◌^◌, ◌<◌, ◌≤◌, ℤ, pos, neg_ℤ, ◌≤ℤ◌, List, length, slice_get}
+use Rattle.std.specs.Prelude.{Bool, ◌≡◌, ℕ, ◌+◌, ◌*◌, ◌^◌, ◌<◌, ◌≤◌, ℤ, pos, neg_ℤ, ◌≤ℤ◌, List, length, slice_get}
 use Rattle.std.specs.Prelude.{Option, Some}
 use Rattle.go_base.specs.declared.colours.Colour.{Colour}
 use Rattle.go_board.specs.Game.{GameRecord}
@@ -58,8 +58,8 @@ pub data Walks (lessons : List Lesson) (scene_size : Option ℕ) (seed : ℕ) : 
       → Walks lessons scene_size seed (counted action + asked) (starts action + started) new
   leaves : {asked started : ℕ} {old new : Course} → Walks lessons scene_size seed asked started old → Leaves old new
       → Walks lessons scene_size seed asked started new
-  finds : {asked started : ℕ} {old : Course} → Walks lessons scene_size seed asked started old
-      → Walks lessons scene_size seed asked started (with_finding old)
+  finds : {asked started : ℕ} {old : Course} (is_loss : Bool) → Walks lessons scene_size seed asked started old
+      → Walks lessons scene_size seed asked started (with_finding is_loss old)
 
 -- No more commands are asked, steps passed over and engines ended, all together, than the lessons have steps at most,
 -- and five after each start.

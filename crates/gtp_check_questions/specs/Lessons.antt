@@ -67,21 +67,24 @@ parts_of Restarts = 5
 abbrev pub scene_stretches : List Stretch
 scene_stretches =
     stretch.Size ∷ stretch.Taken ∷ stretch.Komi ∷ stretch.Clear ∷ stretch.Moves ∷ stretch.Own ∷ stretch.Corner ∷
-    stretch.Pass ∷ stretch.Own ∷ stretch.Undo ∷ stretch.Own ∷ stretch.Undo ∷ stretch.Own ∷ stretch.Act ∷ stretch.Own ∷
+    stretch.Pass ∷ stretch.Undo ∷ stretch.Own ∷ stretch.Pass ∷ stretch.Own ∷ stretch.Undo ∷ stretch.Own ∷
+    stretch.Undo ∷ stretch.Own ∷ stretch.Act ∷ stretch.Own ∷ stretch.Elsewhere ∷ stretch.Undo ∷ stretch.Own ∷
     stretch.Elsewhere ∷ stretch.Own ∷ stretch.Undo ∷ stretch.Own ∷ stretch.Undo ∷ stretch.Corner ∷ stretch.Act ∷
     stretch.Emptied 12 ∷ stretch.Moves ∷ stretch.Clear ∷ stretch.Own ∷ []
 
 abbrev pub refused_stretches : List Stretch
 refused_stretches =
     stretch.Size ∷ stretch.Taken ∷ stretch.Komi ∷ stretch.Clear ∷ stretch.Moves ∷ stretch.Own ∷ stretch.Corner ∷
-    stretch.Pass ∷ stretch.Own ∷ stretch.Undo ∷ stretch.Own ∷ stretch.Act ∷ stretch.Own ∷ stretch.Elsewhere ∷
-    stretch.Own ∷ stretch.Undo ∷ stretch.Own ∷ stretch.Act ∷ stretch.Corner ∷ stretch.Emptied 12 ∷ stretch.Moves ∷
+    stretch.Pass ∷ stretch.Undo ∷ stretch.Own ∷ stretch.Pass ∷ stretch.Own ∷ stretch.Undo ∷ stretch.Own ∷
+    stretch.Act ∷ stretch.Own ∷ stretch.Elsewhere ∷ stretch.Undo ∷ stretch.Own ∷ stretch.Elsewhere ∷ stretch.Own ∷
+    stretch.Undo ∷ stretch.Own ∷ stretch.Act ∷ stretch.Corner ∷ stretch.Emptied 12 ∷ stretch.Moves ∷
     stretch.Clear ∷ stretch.Own ∷ []
 
 abbrev pub start_stretches : List Stretch
 start_stretches =
     stretch.Size ∷ stretch.Taken ∷ stretch.Komi ∷ stretch.Clear ∷ stretch.Edges ∷ stretch.Genmoves 1 ∷
-    stretch.Own ∷ stretch.Undo ∷ stretch.Undo ∷ stretch.Genmoves 2 ∷ stretch.Clear ∷ stretch.Moves ∷
+    stretch.Undo ∷ stretch.Own ∷ stretch.Genmoves 1 ∷ stretch.Own ∷ stretch.Undo ∷ stretch.Undo ∷
+    stretch.Genmoves 2 ∷ stretch.Clear ∷ stretch.Moves ∷
     stretch.Restart ∷ stretch.Size ∷ stretch.Taken ∷ stretch.Komi ∷ stretch.Clear ∷ stretch.Undo ∷ stretch.Own ∷ []
 
 abbrev pub sizes_stretches : List Stretch
@@ -108,13 +111,14 @@ komi_stretches =
 
 abbrev pub drawn_stretches : List Stretch
 drawn_stretches =
-    stretch.Size ∷ stretch.Taken ∷ stretch.Komi ∷ stretch.Clear ∷ stretch.Probed 1500 ∷ stretch.Back 40 ∷ []
+    stretch.Size ∷ stretch.Taken ∷ stretch.Komi ∷ stretch.Clear ∷ stretch.Probed 1500 ∷ stretch.Back 40 ∷
+    stretch.Probed 60 ∷ []
 
 abbrev pub record_stretches : List Stretch
 record_stretches =
     stretch.Size ∷ stretch.Taken ∷ stretch.Komi ∷ stretch.Clear ∷ stretch.Drawn 1030 ∷ stretch.Back 12 ∷
-    stretch.Drawn 970 ∷ stretch.Back 300 ∷ stretch.Probed 60 ∷ stretch.Back 20 ∷ stretch.Clear ∷ stretch.Passes 1010 ∷
-    stretch.Moves ∷ stretch.Own ∷ stretch.Back 1020 ∷ stretch.Own ∷ stretch.Moves ∷ stretch.Waits 600 ∷
+    stretch.Drawn 970 ∷ stretch.Back 300 ∷ stretch.Probed 60 ∷ stretch.Back 20 ∷ stretch.Probed 60 ∷ stretch.Clear ∷
+    stretch.Passes 1010 ∷ stretch.Moves ∷ stretch.Own ∷ stretch.Back 1020 ∷ stretch.Own ∷ stretch.Moves ∷ stretch.Waits 600 ∷
     stretch.Emptied 400 ∷ stretch.Undo ∷ stretch.Own ∷ stretch.Score ∷ []
 
 -- The board is filled for the choices of both colours, and again for the capture of all that fills it.

@@ -24,6 +24,9 @@ const MOST_SIZE: u32 = 25;
 /// After so many findings in one lesson the next one begins.
 const MOST_FINDINGS: u32 = 10;
 
+/// So it does after so many losses of the engine.
+const MOST_LOSSES: u32 = 3;
+
 /// Takes the last move back.
 const UNDO: CheckCommand = CheckCommand::Match(Command::Undo);
 
@@ -36,6 +39,7 @@ pub struct Course {
     place: Place,
     opening: Opening,
     findings: u32,
+    losses: u32,
     scene_size: Option<Size>,
     seed: u32,
 }
@@ -50,6 +54,7 @@ impl Model for Course {
       place = c.place;
       opening = c.opening;
       findings = c.findings;
+      losses = c.losses;
       scene_size = c.scene_size;
       seed = c.seed;
     } };
@@ -81,6 +86,7 @@ impl Course {
             place: Place::first(),
             opening: Opening::Name,
             findings: 0,
+            losses: 0,
             scene_size,
             seed,
         }
@@ -97,7 +103,7 @@ impl Course {
     /// A step is passed over only where it asks nothing, or where its command may not be asked although nothing is
     /// unanswered; so is a legal probe of an engine without `undo`. A part is left where its size was refused. The
     /// engine is ended and started again where a step says so, or where no more ids are left, and only once it owes no
-    /// answer. After ten findings in a lesson the next one begins.
+    /// answer. After ten findings in a lesson, or three losses of the engine, the next one begins.
     pub fn next(&mut self, examiner: &Examiner) -> Action
         ensures goes { GoesTo self.old examiner.now.exam result self.new }
         ensures over { IsOver self.old → result ≡ Done }
@@ -135,23 +141,27 @@ impl Course {
         }
     }
 
-    /// The rest of the part is left: something was found in it, or the engine was lost.
-    pub fn leave(&mut self)
+    /// The rest of the part is left: something was found in it, which may be a loss of the engine.
+    pub fn leave(&mut self, is_loss: bool)
         ensures leaves { Leaves self.old self.new }
         ensures found { IfSome (lesson_of self.old) (λ lesson. self.new
-            ≡ part_over lesson (with_finding self.old)) }
+            ≡ part_over lesson (with_finding is_loss self.old)) }
     {
         if let Some(lesson) = self.lesson() {
-            self.note_finding();
+            self.note_finding(is_loss);
             self.end_part(lesson);
         }
     }
 
-    /// Something was found in an earlier part of the lesson. It counts as one that is found in this part.
-    pub fn note_finding(&mut self)
-        ensures { self.new ≡ with_finding self.old }
+    /// Something was found in an earlier part of the lesson, which may be a loss of the engine. It counts as one that is
+    /// found in this part.
+    pub fn note_finding(&mut self, is_loss: bool)
+        ensures { self.new ≡ with_finding is_loss self.old }
     {
         self.findings = self.findings.saturating_add(1).min(MOST_FINDINGS);
+        if is_loss {
+            self.losses = self.losses.saturating_add(1).min(MOST_LOSSES);
+        }
     }
 
     /// The lesson in which the course is, if it isn't over.
@@ -374,17 +384,19 @@ impl Course {
     }
 
     /// The next part, or the next lesson: after the last part, after the one that found the size of scenes, and after
-    /// too many findings.
+    /// too many findings or losses.
     fn end_part(&mut self, lesson: Lesson)
         requires { IsRunning self.old }
         ensures exact { self.new ≡ part_over lesson self.old }
         ensures goes_on { GoesOn self.old self.new }
     {
         let is_found = lesson == Lesson::Start && self.scene_size.is_some();
-        if self.place.part + 1 < lesson.parts() && !is_found && self.findings < MOST_FINDINGS {
+        let is_enough = self.findings >= MOST_FINDINGS || self.losses >= MOST_LOSSES;
+        if self.place.part + 1 < lesson.parts() && !is_found && !is_enough {
             self.place = self.place.next_part();
         } else {
             self.findings = 0;
+            self.losses = 0;
             self.place = self.place.next_lesson();
         }
     }

@@ -79,10 +79,13 @@ pub const LESSONS: [Lesson; ALL] = [
 ];
 
 /// What a lesson of scenes asks: the scene, and the points of its moves and of its corner. Then the points of its moves
-/// after a pass, after that is taken back, after the act is, after the act again, after a move elsewhere, after that is
-/// taken back and the act too. Then all moves are taken back and made again, and their points are asked on a board that
-/// was cleared.
-static SCENE: [Stretch; 26] = [
+/// after a pass was taken back at once; after a pass, after that is taken back, after the act is, after the act again;
+/// after a move elsewhere was taken back at once; after such a move, after that is taken back and the act too. Then all
+/// moves are taken back and made again, and their points are asked on a board that was cleared.
+///
+/// A probe is taken back itself, and an `undo` after it may fail. So what is taken back at once shows an engine that
+/// doesn't take it back.
+static SCENE: [Stretch; 32] = [
     Stretch::Size,
     Stretch::Taken,
     Stretch::Komi,
@@ -91,12 +94,18 @@ static SCENE: [Stretch; 26] = [
     Stretch::Own,
     Stretch::Corner,
     Stretch::Pass,
+    Stretch::Undo,
+    Stretch::Own,
+    Stretch::Pass,
     Stretch::Own,
     Stretch::Undo,
     Stretch::Own,
     Stretch::Undo,
     Stretch::Own,
     Stretch::Act,
+    Stretch::Own,
+    Stretch::Elsewhere,
+    Stretch::Undo,
     Stretch::Own,
     Stretch::Elsewhere,
     Stretch::Own,
@@ -112,7 +121,7 @@ static SCENE: [Stretch; 26] = [
 ];
 
 /// The same where the act is refused: it is no move, so one `undo` takes back what came after it.
-static REFUSED: [Stretch; 23] = [
+static REFUSED: [Stretch; 29] = [
     Stretch::Size,
     Stretch::Taken,
     Stretch::Komi,
@@ -121,10 +130,16 @@ static REFUSED: [Stretch; 23] = [
     Stretch::Own,
     Stretch::Corner,
     Stretch::Pass,
+    Stretch::Undo,
+    Stretch::Own,
+    Stretch::Pass,
     Stretch::Own,
     Stretch::Undo,
     Stretch::Own,
     Stretch::Act,
+    Stretch::Own,
+    Stretch::Elsewhere,
+    Stretch::Undo,
     Stretch::Own,
     Stretch::Elsewhere,
     Stretch::Own,
@@ -138,12 +153,15 @@ static REFUSED: [Stretch; 23] = [
     Stretch::Own,
 ];
 
-static START: [Stretch; 19] = [
+static START: [Stretch; 22] = [
     Stretch::Size,
     Stretch::Taken,
     Stretch::Komi,
     Stretch::Clear,
     Stretch::Edges,
+    Stretch::Genmoves(1),
+    Stretch::Undo,
+    Stretch::Own,
     Stretch::Genmoves(1),
     Stretch::Own,
     Stretch::Undo,
@@ -241,16 +259,17 @@ static KOMI: [Stretch; 31] = [
     Stretch::Score,
 ];
 
-static DRAWN: [Stretch; 6] = [
+static DRAWN: [Stretch; 7] = [
     Stretch::Size,
     Stretch::Taken,
     Stretch::Komi,
     Stretch::Clear,
     Stretch::Probed(1500),
     Stretch::Back(40),
+    Stretch::Probed(60),
 ];
 
-static RECORD: [Stretch; 22] = [
+static RECORD: [Stretch; 23] = [
     Stretch::Size,
     Stretch::Taken,
     Stretch::Komi,
@@ -261,6 +280,7 @@ static RECORD: [Stretch; 22] = [
     Stretch::Back(300),
     Stretch::Probed(60),
     Stretch::Back(20),
+    Stretch::Probed(60),
     Stretch::Clear,
     Stretch::Passes(1010),
     Stretch::Moves,

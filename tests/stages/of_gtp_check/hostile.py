@@ -6,7 +6,7 @@ lesson of its own moves it is asked `genmove b` after `clear_board`, and then `g
 before is answered. After something was found the engine is started again, and the next part begins: another size.
 
 The lesson of the start is over once a size was taken. Before that, and in the other lesson, a check goes on to the end of
-`--restarts 3`, with four starts. Where an engine gives no right answer, it has three.
+`--restarts 3`, with four starts. Where an engine gives no right answer, or is lost three times in a lesson, it has three.
 """
 import tempfile
 from pathlib import Path
@@ -47,13 +47,14 @@ SECOND = {"old_id": NO_ID, "twice": NO_ID, "replies_without_end": NO_ID}
 POLITE = """move_exits move_half move_without_its_end move_twice move_closes_its_input move_sleeps_closed no_move no_vertex two_vertices
     empty_move off_the_board always_A1 resigns other_stones quits quit_sleeps quit_stops quit_closes quit_junk
     quit_newlines quit_late quit_never odd""".split()
-# What they do at their move: the command, what is wrong, how many commands each start has, on 5x5, 9x9, 1x1 and 2x2
+# What they do at their move: the command, what is wrong, how many commands each start has, on 5x5, 9x9, 1x1 and 2x2. A lesson is over
+# after three losses.
 MOVES = {
-    "move_exits": ("9 genmove b", ENDED + "exit status 0", (9, 9, 9, 9)),
-    "move_half": ("9 genmove b", WITHIN + "exit status 0", (9, 9, 9, 9)),
-    "move_without_its_end": ("9 genmove b", WITHIN + "exit status 0", (9, 9, 9, 9)),
+    "move_exits": ("9 genmove b", ENDED + "exit status 0", (9, 9, 9)),
+    "move_half": ("9 genmove b", WITHIN + "exit status 0", (9, 9, 9)),
+    "move_without_its_end": ("9 genmove b", WITHIN + "exit status 0", (9, 9, 9)),
     "move_twice": ("10 genmove w", NO_ID, (10, 10, 10, 10)),
-    "move_sleeps_closed": ("9 genmove b", ENDED + "signal 9", (9, 9, 9, 9)),
+    "move_sleeps_closed": ("9 genmove b", ENDED + "signal 9", (9, 9, 9)),
     "no_move": ("9 genmove b", "no move: the genmove failed", (9, 9, 9, 9)),
     "no_vertex": ("9 genmove b", NO_VERTEX, (9, 9, 9, 9)),
     "two_vertices": ("9 genmove b", NO_VERTEX, (9, 9, 9, 9)),
@@ -86,10 +87,10 @@ def rows():
     yield "undo_exits", START, "undo_exits", ("10 undo", ENDED + "exit status 0", 1, 10)
     yield "play_half", START, "play_half", ("9 play b E5", WITHIN + "exit status 0", 1, 9)
     for kind, (line, fault, counts) in MOVES.items():
-        yield f"{kind}, at its move", OWN, kind, (line, fault, 4, sum(counts))
+        yield f"{kind}, at its move", OWN, kind, (line, fault, len(counts), sum(counts))
     # No answer comes: the program waits, and `timeout` ends the engine. Its status is 124 then.
     yield "silent, under timeout", (*START[:-1],), "silent", (NAME, ENDED + "exit status 124", 3, 15)
-    # It refuses the name, and each size from 5 on, which an engine may: 5 commands and 21 sizes.
+    # It refuses the name, and each size from 5 on, which an engine may: 5 commands and 21 sizes. So no pass is earned.
     yield "refuses", ("--only", "start", "--restarts", "3"), "refuses", (None, None, 1, 26)
 
 
@@ -110,7 +111,7 @@ def faults(row):
     others = {(it.command.split()[1], it.fault.replace(*late)) for it in report.complaints}
     got = (result.status, first, others, report.starts, report.commands, report.count, result.errors)
     complaints = 0 if line is None else starts
-    wanted = (min(complaints, 1), line, {(line.split()[1], fault)} if line else set(), starts, commands, complaints, "")
+    wanted = (1 if complaints else 4, line, {(line.split()[1], fault)} if line else set(), starts, commands, complaints, "")
     if got != wanted or started != starts:
         return f"wanted {wanted}, got {got}, {started} processes:\n{result.output[:3000]}"
     return None
@@ -153,6 +154,20 @@ check: 5 commands, 1 start, 1 complaint
 """
     same = (result.status, AHEAD.sub("", result.output), result.errors) == (1, wanted, "")
     return None if same else result
+
+
+def refusing(kind):
+    """What is odd about a whole check of an engine that refuses each size: nothing is found, and no pass is earned. The commands are five
+    of its start, and one for each part of a lesson."""
+    parts = dict(start=21, sizes=25, ko=6 * 16, captures=8 * 16, suicide=5 * 16, joining=4 * 16, handicaps=25 * 12, komi=16, drawn=11,
+                 record=3, genmoves=9, games=5, restarts=5)  # fmt: skip
+    unasked = "".join(f"check: {lesson}: no play and no genmove was asked on any board of it\n" for lesson in parts)
+    sizes = " ".join(map(str, [*range(5, 26), *range(1, 5)]))
+    wanted = f"{unasked}check: it refuses the sizes {sizes}\ncheck: {5 + sum(parts.values())} commands, 1 start, 0 complaints\n"
+    with tempfile.TemporaryDirectory() as folder:
+        result = checked((), command(kind, folder), folder=folder)
+    output = result.output.partition("\n")[2]
+    return None if (result.status, output, result.errors) == (4, wanted, "") else result
 
 
 def is_waiting(folder):

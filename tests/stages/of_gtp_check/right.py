@@ -23,6 +23,7 @@ DRESSES = {
     "without_handicaps": ("--only", "handicaps", "--only", "games"),
     "without_scores": ("--only", "komi", "--only", "games"),
     "three_sizes": (*FEW, "--only", "handicaps", "--only", "ko"),
+    "one_size": (),
     "short_history": (*FEW, "--only", "record"),
     "resigning": ("--only", "start", "--only", "genmoves", "--only", "games"),
     "late_end": ("--only", "restarts"),
@@ -36,6 +37,7 @@ LACKS = {
     "short_history": ["check: it takes back at most 20 moves in a row"],
     # the sizes from 5 on until one is taken, and each size from 1 to 25; in the order in which they are refused first
     "three_sizes": ["check: it refuses the sizes 5 6 7 8 1 2 3 4 10 11 12 14 15 16 17 18 20 21 22 23 24 25"],
+    "one_size": ["check: it refuses the sizes 5 6 1 2 3 4 8 9 10 11 12 13 14 15 16 17 18 19 20 21 22 23 24 25"],
 }
 
 

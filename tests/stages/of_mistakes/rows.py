@@ -263,10 +263,14 @@ def checked(name, errors, *options):
 CHECKER = [
     checked("no engine", "gtp_check: no command of an engine\n"),
     checked("an engine of spaces", "gtp_check: no command of an engine\n", "  "),
-    checked("an engine without quotes", ("error: ", "'started'", "--help"), "touch", "started"),
+    checked("an engine without quotes", ("error: ", "'started'", "--help", "An engine's command is one argument: put it in quotes\n"),
+            "touch", "started"),
+    checked("an engine's option without quotes", ("error: ", "'--policy'", "An engine's command is one argument: put it in quotes\n"),
+            "gtp_engine", "--policy", "random"),
     checked("a lesson that there is not", ("error: ", "'kos'", "--only", "start, sizes, ko, captures"), "--only", "kos", "touch started"),
     checked("a lesson to skip that there is not", ("error: ", "'kos'", "--skip"), "--skip", "kos", "touch started"),
     checked("no lesson", ("error: ", "--only", "--help"), "touch started", "--only"),
+    checked("no lesson is left", "gtp_check: --only, --skip and --quick leave no lesson to ask\n", "--only", "ko", "--skip", "ko", "touch started"),
     checked("a size below 5", ("error: ", "'4'", "--size", "5..=25"), "--size", "4", "touch started"),
     checked("a size above 25", ("error: ", "'26'", "--size", "5..=25"), "--size", "26", "touch started"),
     checked("a rule that there is not", ("error: ", "'japanese'", "--ko", "simple, positional"), "--ko", "japanese", "touch started"),
@@ -276,7 +280,7 @@ CHECKER = [
     checked("an option of the match program", ("error: ", "--black", "--help"), "--black", "touch started"),
     checked("an engine that is not there", 'gtp_check: not started: no such file: "./engin"\n', "./engin"),
     printed("the list of lessons has each once", "start ", " restarts ", run=("gtp_check", "--list")),
-    printed("the help has statuses", "0 nothing was found 1 something was found", "put timeout before", run=("gtp_check", "--help")),
+    printed("the help has statuses", "0 nothing was found, and moves were asked in each lesson 1 something was found", "patience before", run=("gtp_check", "--help")),
     Case("nobody reads the list", "", 3, run=("gtp_check", "--list"), is_read=False, errors="gtp_check: write fault\n", why=None),
 ]
 

@@ -1,8 +1,11 @@
--- What is written where the words ask for the list of lessons.
-use Rattle.std.specs.Prelude.{ℕ}
-use Rattle.cli.specs.Requests.{Outputs, Shows, Writers, outputs}
-use Rattle.cli.specs.Status.{own_failure}
+-- What is written where the words ask for the list of lessons, and where `clap` returns no options.
+use Rattle.std.specs.Prelude.{◌≡◌, ℕ, Result, String}
+use Rattle.std.specs.declared.alloc.AllocError.{AllocError}
+use Rattle.clap.specs.declared.error.kind.ErrorKind.{ErrorKind}
+use Rattle.cli.specs.Requests.{Answers, Outputs, Shows, Writers, outputs}
+use Rattle.cli.specs.Status.{own_failure, usage_failure}
 use Rattle.cli.specs.declared.failure.Failure.TheVariants.{OutOfMemory}
+use Rattle.gtp_check_app.specs.Checks.{IsHinted}
 use Rattle.gtp_check_app.specs.Listing.{list_lines}
 use Rattle.gtp_check_app.specs.Status.{ReportsFailure, program_name}
 
@@ -12,3 +15,12 @@ pub data Lists {O E : Type 0} (known : Writers O E) (before : Outputs O E) : ℕ
       → Lists known before status after
   refused : {reported : E} → ReportsFailure known.errors OutOfMemory before.errors reported
       → Lists known before own_failure (outputs before.output reported)
+
+-- An error of this kind was answered, and after a mistake the hint follows where it is due.
+pub record IsAnswered {A O E : Type 0} (known : Writers O E) (kind : ErrorKind) (text : Result (String A) AllocError)
+    (before : Outputs O E) (status : ℕ) (after : Outputs O E) : Type 0 where
+  pub between : Outputs O E
+  pub answers : Answers known program_name kind text before status between
+  pub output : after.output ≡ between.output
+  pub hinted : status ≡ usage_failure → IsHinted known.errors kind between.errors after.errors
+  pub no_hint : (status ≡ usage_failure → ⊥) → after.errors ≡ between.errors

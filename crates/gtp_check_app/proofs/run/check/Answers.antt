@@ -29,7 +29,7 @@ returns-in-Err g c =
 
 pub returns-in_ok-write_text-in-Ok : goal.returns-in_ok-write_text-in-Ok
 returns-in_ok-write_text-in-Ok g c =
-    rw (c.status_of.ensures, c.complaints-complaints.ensures)
+    rw c.status-status.ensures
     (is_over (rw c.new-check.ensures.first at c.in-Ok.ensures.over) c.clear.ensures
     (rw c.starts-starts.ensures at c.in_default.ensures.none) c.end.ensures.closed
     c.in_ok-lines-in-Ok.ensures.text (rw c.as_slice.ensures.value at c.in_ok-write_text-in-Ok.ensures.whole))

@@ -7,12 +7,12 @@ pub returns-in-Err-clause-ran : goal.returns-in-Err-clause-ran
 returns-in-Err-clause-ran g c =
     clap_ran g.S.Process.Process g.O.WriteOnce g.E.WriteOnce _ c.args.progress (g.S.Starter.asked c.args.starter.now)
     c.args.output.now
-    c.args.errors.now c.kind.result _ (rw (sym c.kind.ensures) at c.in-Err.ensures.fault) _ _ c.answer_error.ensures
+    c.args.errors.now c.kind.result _ (rw (sym c.kind.ensures) at c.in-Err.ensures.fault) _ _ c.answer.ensures
 
 pub returns-in-Err-clause-status : goal.returns-in-Err-clause-status
 returns-in-Err-clause-status g c =
     answered_status g.S.Process.Process g.O.WriteOnce g.E.WriteOnce c.args.progress
-    (g.S.Starter.asked c.args.starter.now) c.args.output.now c.args.errors.now _ _ _ _ c.answer_error.ensures
+    (g.S.Starter.asked c.args.starter.now) c.args.output.now c.args.errors.now _ _ _ _ c.answer.ensures.answers
 
 pub returns-then-options-clause-ran : goal.returns-then-options-clause-ran
 returns-then-options-clause-ran g c =

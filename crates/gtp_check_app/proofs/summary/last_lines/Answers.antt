@@ -1,6 +1,6 @@
 use Rattle.std.proofs.Common.{◌∙◌, ◌++◌, ℕ, List, [], ◌∷◌, ap, codes}
 use Rattle.gtp_check_questions.specs.declared.lessons.Lesson.{Lesson}
-use Rattle.gtp_check_app.specs.Summary.{boardless_line, counts_line, hidden_lines, lack_lines, lessons_line}
+use Rattle.gtp_check_app.specs.Summary.{counts_line, hidden_lines, lack_lines, lessons_line, unplayed_lines}
 use Rattle.gtp_check_app.specs.Summary.{missed_lines}
 use Rattle.gtp_check_app.specs.Summary.{refused_line, undos_line}
 use Rattle.gtp_check_app.proofs.Joining.{one_more}
@@ -22,13 +22,19 @@ returns c =
     (c.in_ok-add_lessons.ensures ∙ ap (λ (l : List Lesson). c.add_hidden.new.text.items
     ++ lessons_line (codes "not asked, as the options say:") l) c.deref.ensures.0) in
     let three = one_more [] _ _ missed (hidden ∷ left_out ∷ []) two c.in_ok-add_missed.ensures in
-    let boards = boardless_line c.args.plan.now notes ending in
-    let boarded = one_more [] _ _ boards (hidden ∷ left_out ∷ missed ∷ []) three c.in_ok-add_boardless.ensures in
-    let four = one_more [] _ _ lacks (hidden ∷ left_out ∷ missed ∷ boards ∷ []) boarded c.in_ok-add_lacks.ensures in
-    let back = one_more [] _ _ undos (hidden ∷ left_out ∷ missed ∷ boards ∷ lacks ∷ []) four
+    let lessons = c.args.plan.now.lessons.items in
+    let unplayed = unplayed_lines lessons ending.missed.now notes.asked.items in
+    let played = one_more [] _ _ unplayed (hidden ∷ left_out ∷ missed ∷ []) three
+    (c.in_ok-add_unplayed.ensures
+    ∙ ap (λ (l : List Lesson). c.add_missed.new.text.items
+    ++ unplayed_lines l ending.missed.now c.deref-3.result.now) c.deref-2.ensures.0
+    ∙ ap (λ (l : List Lesson). c.add_missed.new.text.items
+    ++ unplayed_lines lessons ending.missed.now l) c.deref-3.ensures.0) in
+    let four = one_more [] _ _ lacks (hidden ∷ left_out ∷ missed ∷ unplayed ∷ []) played c.in_ok-add_lacks.ensures in
+    let back = one_more [] _ _ undos (hidden ∷ left_out ∷ missed ∷ unplayed ∷ lacks ∷ []) four
     c.in_ok-add_most_undos.ensures in
-    let five = one_more [] _ _ refused (hidden ∷ left_out ∷ missed ∷ boards ∷ lacks ∷ undos ∷ []) back
+    let five = one_more [] _ _ refused (hidden ∷ left_out ∷ missed ∷ unplayed ∷ lacks ∷ undos ∷ []) back
     (c.in_ok-add_refused.ensures ∙ ap (λ (sizes : List ℕ). c.add_most_undos.new.text.items ++ refused_line sizes)
-    c.deref-2.ensures.0) in
-    one_more [] _ _ counts (hidden ∷ left_out ∷ missed ∷ boards ∷ lacks ∷ undos ∷ refused ∷ []) five
+    c.deref-4.ensures.0) in
+    one_more [] _ _ counts (hidden ∷ left_out ∷ missed ∷ unplayed ∷ lacks ∷ undos ∷ refused ∷ []) five
     c.in_ok-add_counts.ensures

@@ -1,7 +1,9 @@
 //! The words of the command line, and the plan.
 use crate::asserts::{assert_equal, assert_true_for};
+use cli::failure::PlanError;
 use go_base::Size;
 use go_board::KoRule;
+use gtp_check_app::failure::Mistake;
 use gtp_check_app::options::read_options;
 use gtp_check_app::plan::plan_of;
 use gtp_check_questions::Lesson;
@@ -47,6 +49,36 @@ fn options_have_defaults_and_lessons_are_chosen_in_their_order(
     assert_equal(&rt, plan.lessons.as_slice(), [Lesson::Ko].as_slice());
     assert_equal(&rt, plan.left_out.len(), 12);
     assert_equal(&rt, plan.scene_size, Size::new(9));
+    Ok(())
+}
+
+/// Words that come to no plan, and why.
+static NO_PLANS: [([&str; 4], Mistake); 4] = [
+    (["gtp_check", "  ", "--seed", "1"], Mistake::NoCommand),
+    (
+        ["gtp_check", " ", "--skip=ko", "--only=ko"],
+        Mistake::NoCommand,
+    ),
+    (
+        ["gtp_check", "engine", "--skip=ko", "--only=ko"],
+        Mistake::NoLesson,
+    ),
+    (
+        ["gtp_check", "engine", "--quick", "--only=komi"],
+        Mistake::NoLesson,
+    ),
+];
+
+#[test]
+fn a_plan_has_a_command_and_a_lesson(rt: HostRuntime) -> Result<(), Fail> {
+    for (words, mistake) in &NO_PLANS {
+        let options = read_options(rt.alloc(), words.as_slice())?;
+        let why = match plan_of(rt.alloc(), &options) {
+            Err(PlanError::BadWords(why)) => Some(why),
+            _ => None,
+        };
+        assert_equal(&rt, why, Some(*mistake));
+    }
     Ok(())
 }
 

@@ -1,5 +1,6 @@
 //! The first and the last lines, and the list of lessons.
 use crate::asserts::assert_equal;
+use go_base::{Colour, Move};
 use gtp_check_app::listing::list_text;
 use gtp_check_app::notes::Notes;
 use gtp_check_app::options::read_options;
@@ -26,11 +27,14 @@ fn a_check_has_a_first_line_and_last_lines_and_a_lesson_has_a_line(
     notes.most_undos = Some(400);
     let _ = notes.refused.try_push(1);
     let _ = notes.refused.try_push(25);
-    notes.count(Lesson::Genmoves, &CheckCommand::Name);
     for lesson in LESSONS {
-        if lesson != Lesson::Genmoves && lesson != Lesson::Suicide {
-            notes.count(lesson, &CheckCommand::Match(Command::ClearBoard));
-        }
+        let command = match lesson {
+            Lesson::Genmoves => CheckCommand::Name,
+            Lesson::Suicide => CheckCommand::Match(Command::ClearBoard),
+            Lesson::Ko => CheckCommand::Match(Command::Play(Move::default())),
+            _ => CheckCommand::Match(Command::Genmove(Colour::White)),
+        };
+        notes.count(lesson, &command);
     }
     let ending = Ending {
         over: &Over::NoMoreStarts,
@@ -43,11 +47,12 @@ fn a_check_has_a_first_line_and_last_lines_and_a_lesson_has_a_line(
     let expected = "check: ko: more complaints, of kinds that were shown three times: 4
 check: not asked, as the options say: komi
 check: not asked, or not to their end, since no start was left: games restarts
-check: not asked on any board: suicide genmoves
+check: suicide: no play and no genmove was asked on any board of it
+check: genmoves: no play and no genmove was asked on any board of it
 check: it lacks undo; nothing was asked that needs it
 check: it takes back at most 400 moves in a row
 check: it refuses the sizes 1 25
-check: 12 commands, 2 starts, 0 complaints
+check: 13 commands, 2 starts, 0 complaints
 ";
     assert_equal(&rt, str::from_utf8(last.as_slice())?, expected);
     let list = list_text(rt.alloc())?;

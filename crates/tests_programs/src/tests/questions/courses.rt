@@ -172,17 +172,34 @@ fn nothing_is_found_of_our_engine_with_all_sizes_or_one_or_without_undo(rt: Host
     }
 }
 
+/// What is found in a lesson until the next one begins: of each whether it is a loss of the engine.
+static ENOUGH: [&[bool]; 4] = [
+    &[
+        false, false, false, false, false, false, false, false, false, false,
+    ],
+    &[true, true, true],
+    &[false, true, false, true, false, true],
+    &[
+        true, false, false, false, false, false, false, false, false, true,
+    ],
+];
+
 #[test]
-fn a_part_is_left_after_a_finding_and_a_lesson_after_ten(rt: HostRuntime) {
-    let mut lessons = Lessons::new();
-    let _ = lessons.try_push(Lesson::Handicaps);
-    let _ = lessons.try_push(Lesson::Komi);
-    let mut course = Course::new(lessons, None, 1);
-    for part in 0..10 {
-        assert_equal(&rt, course.lesson(), Some(Lesson::Handicaps));
-        assert_equal(&rt, course.place().part, part);
-        course.leave();
+fn a_part_is_left_after_a_finding_and_a_lesson_after_ten_or_three_losses(rt: HostRuntime) {
+    for findings in &ENOUGH {
+        let mut lessons = Lessons::new();
+        let _ = lessons.try_push(Lesson::Handicaps);
+        let _ = lessons.try_push(Lesson::Komi);
+        let mut course = Course::new(lessons, None, 1);
+        for (part, is_loss) in findings.iter().enumerate() {
+            assert_equal_for(&rt, *findings, course.lesson(), Some(Lesson::Handicaps));
+            assert_equal_for(&rt, *findings, course.place().part as usize, part);
+            course.leave(*is_loss);
+        }
+        assert_equal_for(&rt, *findings, course.lesson(), Some(Lesson::Komi));
+        assert_equal_for(&rt, *findings, course.place().part, 0);
+        course.leave(true);
+        course.leave(true);
+        assert_equal_for(&rt, *findings, course.lesson(), Some(Lesson::Komi));
     }
-    assert_equal(&rt, course.lesson(), Some(Lesson::Komi));
-    assert_equal(&rt, course.place().part, 0);
 }

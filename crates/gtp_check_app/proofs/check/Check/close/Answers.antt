@@ -11,6 +11,6 @@ returns-clause-closes g c =
       ended = c.end.ensures.ended;
       is = rw (c.answered-answered.ensures, said.0, said.1, said.2) refl;
       course = c.note_finding.new.course;
-      notes = rw c.purpose.ensures at c.note_finding.ensures;
+      notes = rw (c.purpose.ensures, c.is_loss.ensures) at c.note_finding.ensures;
       leads = rw (c.lost.ensures, c.take.ensures.after) refl;
     }

@@ -1,0 +1,36 @@
+//! The status of a check that is over.
+ghost use Rattle.std.specs.Prelude.{◌≡◌};
+ghost use Rattle.std.specs.List.{list_all};
+ghost use Rattle.gtp_check_app.specs.Plans.{is_among};
+ghost use Rattle.gtp_check_app.specs.Status.{is_earned, status_of};
+
+use crate::plan::is_among;
+use gtp_check_questions::Lesson;
+
+/// The status of a check with so many complaints: 1 where there are any. Else 0 where a pass is earned, and 4 where it
+/// isn't.
+pub fn status_of(complaints: u32, is_earned: bool) -> u8
+    ensures { result ≡ status_of complaints is_earned }
+{
+    if complaints > 0 {
+        1
+    } else if is_earned {
+        0
+    } else {
+        4
+    }
+}
+
+/// Whether a pass is earned: none of these lessons is missed, and in each a move was asked.
+pub fn is_earned(lessons: &[Lesson], missed: &[Lesson], asked: &[Lesson]) -> bool
+    ensures { result ≡ is_earned lessons.now missed.now asked.now }
+{
+    missed.is_empty() && are_among(lessons, asked)
+}
+
+/// Whether each of these lessons is among those.
+fn are_among(lessons: &[Lesson], those: &[Lesson]) -> bool
+    ensures { result ≡ list_all (is_among those.now) lessons.now }
+{
+    lessons.iter().all(|lesson| is_among(those, *lesson))
+}
