@@ -100,12 +100,12 @@ def checks_of_engines():
               f'check: "", version "", seed 1, simple ko\n{asked}check: start: no play and no genmove was asked on any board of it\n'
               f"check: it refuses the sizes {sizes}\ncheck: 26 commands, 1 start, 0 complaints\n", "",
               ["gtp_check", "--only", "start", f"{HOSTILE} refuses"])  # fmt: skip
-    # It ends at once, three times.
+    # It ends at once, three times, and a lesson is over after three losses.
     found = "".join(f'# {number} start: "1 name": its output ended, exit status 1\n1 name\n# it wrote: ""\n'
                     "# right: an engine answers each command, and reads on until quit\n\n" for number in (1, 2, 3))  # fmt: skip
     yield Run("a check in which something is found", 1,
               f"check: an engine without a name, version unknown, seed 1, simple ko\n{found}{asked}"
-              "check: not asked, or not to their end, after three starts without a right answer: start\n"
+              "check: start: no play and no genmove was asked on any board of it\n"
               "check: 3 commands, 3 starts, 3 complaints\n", "",
               ["gtp_check", "--only", "start", "--singly", f"{HOSTILE} exits"])  # fmt: skip
 
