@@ -25,8 +25,8 @@ Each complaint is a block of lines: the conversation since the engine was
 started, as it was sent, and what was wrong. The other lines begin with #,
 which is a comment, so a block can be pasted into the engine as it is.
 The last line is: check: N commands, M starts, K complaints
-An engine that doesn't answer is waited for; patience before its command ends
-it.
+An engine that doesn't answer is waited for. With patience before its command
+it is ended where an answer takes too long.
 
 Status:
   0  nothing was found, and moves were asked in each lesson
