@@ -102,6 +102,10 @@ class NotStarted(Checks):
         """not started: a program that is gone after its first start."""
         self.nothing(hostile.gone(self.room()))
 
+    def test_right_and_gone(self):
+        """not started: a right program that is gone after its first start, so that no pass is earned."""
+        self.nothing(hostile.gone_after_its_first_start(self.room()))
+
 
 @checks.table(terminal.CHECKS, lambda it: f"a terminal as standard error: {it}", lambda it: terminal.CHECKS[it]())
 class Terminal(Checks):

@@ -45,7 +45,8 @@ IsClosedWhere known false process = IsEnded known process
 abbrev pub IsClosed : {P : Type 0} → Ghosts P → State P → Type 0
 IsClosed known last = IsClosedWhere known (length last.check.exam.unanswered == 0) (process_of last.engine)
 
--- the lessons that were to be asked and were not, or not to their end, where the course is in this one
+-- The lessons that were to be asked and were not, or not to their end, where the course is in this one. One that was
+-- left after many findings or losses is none of these.
 abbrev pub missed_from : Plan → ℕ → List Lesson
 missed_from plan lesson = drop (min lesson (length plan.lessons.items)) plan.lessons.items
 
@@ -79,8 +80,8 @@ pub record IsFirstFailure (why : Over) (starts : ℕ) (start : Unstarted) : Type
 module _ {P O E : Type 0} (known : Ghosts P) (outs : WriterGhosts O) (errs : WriterGhosts E) (plan : Plan)
     (progress : Bool) (asked : Attempts P) (out : O) (errors : E) where
   -- A check was held to its end, and the line of its progress is cleared. The last lines went out, and the status says
-  -- whether something was found, and whether a pass is earned. Or the engine wasn't started at the first try: that is reported on standard error, and
-  -- the status is that of a mistake.
+  -- whether something was found, and whether a pass is earned. Or the engine wasn't started at the first try: that is
+  -- reported on standard error, and the status is that of a mistake.
   pub data IsHeld : ℕ → Attempts P → O → E → Type 0 where
     is_over : {why : Over} {last : State P} {has : Attempts P} {between written : O} {seen sees : E} {text : List ℕ}
         → TurnsAreOver known plan outs errs progress (before_all plan) asked out errors why last has between seen
@@ -141,7 +142,7 @@ pub record AsksWrongly {E : Type 0} (errs : WriterGhosts E) (words : List Text) 
   pub mistake : HasNoPlan options (BadWords what)
   pub reported : ReportsMistake errs what before after
 
--- A hint is written where there is a word too many, as most such words belong to the engine's command.
+-- A hint is written on a word or an option that there isn't, as most of these belong to the engine's command.
 pub record IsHinted {E : Type 0} (errs : WriterGhosts E) (kind : ErrorKind) (before after : E) : Type 0 where
   pub hint : kind ≡ UnknownArgument → IsWritten errs hint_line before after
   pub no_hint : (kind ≡ UnknownArgument → ⊥) → after ≡ before

@@ -81,7 +81,7 @@ pub record IsPass {P : Type 0} (plan : Plan) (last : State P) : Type 0 where
   pub moves : All (λ lesson. is_among last.notes.asked.items lesson ≡ true) plan.lessons.items
 
 -- What a status says of a check that is over so: 1 that something was found, 0 that the engine has passed, and 4 that
--- neither is so. And a move is noted as asked in a lesson only where one was asked in it.
+-- nothing was found and it hasn't passed. And a move is noted as asked in a lesson only where one was asked in it.
 pub record APassIsEarned {P : Type 0} (known : Ghosts P) : Type 0 where
   pub found : (plan : Plan) (last : State P) → (status_in plan last ≡ something_found) ↔ (0 < last.tally.complaints)
   pub passed : (plan : Plan) (last : State P) → (status_in plan last ≡ done) ↔ IsPass plan last

@@ -31,7 +31,7 @@ status_of complaints earned =
 abbrev pub program_name : List ℕ
 program_name = codes "gtp_check"
 
--- what follows on a word too many
+-- what follows on a word or an option that there isn't
 abbrev pub hint_line : List ℕ
 hint_line = codes "An engine's command is one argument: put it in quotes\n"
 

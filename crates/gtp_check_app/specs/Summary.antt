@@ -82,7 +82,7 @@ missed_lines (NotStarted unstarted) missed =
     unstarted_line unstarted ++ lessons_line (codes "not asked, or not to their end, for that:") missed
 
 -- The lesson was to be asked and isn't missed, but no move was asked in it: the sizes of its boards were refused, or
--- what came before the first move was answered wrongly on each.
+-- something was found in each part, or often enough, before its first move.
 abbrev pub is_unplayed : List Lesson → List Lesson → List Lesson → Lesson → Bool
 is_unplayed lessons missed asked lesson =
     is_among lessons lesson && (not (is_among missed lesson) && not (is_among asked lesson))

@@ -70,11 +70,11 @@ pub fn run<A: AsStr, O: WriteOnce, E: WriteOnce, S: Starter>(
     }
 }
 
-/// What follows on a word too many.
+/// What follows on a word or an option that there isn't.
 const HINT: &[u8] = b"An engine's command is one argument: put it in quotes\n";
 
-/// Answers what `clap` returns in place of options, and returns the status. A hint follows on a word too many, since
-/// most such words belong to the engine's command.
+/// Answers what `clap` returns in place of options, and returns the status. A hint follows on a word or an option
+/// that there isn't, since most of these belong to the engine's command.
 fn answer<O: WriteOnce, E: WriteOnce>(
     kind: ErrorKind,
     text: Result<String, AllocError>,
@@ -91,7 +91,7 @@ fn answer<O: WriteOnce, E: WriteOnce>(
     status
 }
 
-/// Writes the hint where there is a word too many.
+/// Writes the hint where there is such a word.
 fn hint<E: WriteOnce>(kind: ErrorKind, errors: &mut E)
     ensures hint { kind ≡ UnknownArgument → IsWritten E.WriteOnce hint_line errors.old errors.new }
     ensures no_hint { (kind ≡ UnknownArgument → ⊥) → errors.new ≡ errors.old }

@@ -83,8 +83,7 @@ pub const LESSONS: [Lesson; ALL] = [
 /// after a move elsewhere was taken back at once; after such a move, after that is taken back and the act too. Then all
 /// moves are taken back and made again, and their points are asked on a board that was cleared.
 ///
-/// A probe is taken back itself, and an `undo` after it may fail. So what is taken back at once shows an engine that
-/// doesn't take it back.
+/// A probe is taken back itself, and an `undo` after it may fail. So only a move that is taken back at once tests `undo`.
 static SCENE: [Stretch; 32] = [
     Stretch::Size,
     Stretch::Taken,

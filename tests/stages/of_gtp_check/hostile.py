@@ -156,6 +156,19 @@ check: 5 commands, 1 start, 1 complaint
     return None if same else result
 
 
+def gone_after_its_first_start(folder):
+    """What is odd about the check of a right program that is there once: nothing is found, and a lesson isn't asked to its end."""
+    once = folder / "right_once"
+    once.write_text(f'#!/bin/sh\nrm "$0"\nexec {TOP}/bin/gtp_engine\n')
+    once.chmod(0o755)
+    result = checked(("--only", "start"), once, folder=folder)
+    last = result.output.splitlines()[-3:]
+    wanted = [f'check: the engine was not started: no such file: "{str(once)[:80]}"',
+              "check: not asked, or not to their end, for that: start"]  # fmt: skip
+    same = (result.status, last[:2], result.errors) == (4, wanted, "") and last[2].endswith(", 1 start, 0 complaints")
+    return None if same else result
+
+
 def refusing(kind):
     """What is odd about a whole check of an engine that refuses each size: nothing is found, and no pass is earned. The commands are five
     of its start, and one for each part of a lesson."""

@@ -29,7 +29,7 @@ fn a_check_has_a_first_line_and_last_lines_and_a_lesson_has_a_line(
     let _ = notes.refused.try_push(25);
     for lesson in LESSONS {
         let command = match lesson {
-            Lesson::Genmoves => CheckCommand::Name,
+            Lesson::Genmoves | Lesson::Komi | Lesson::Games => CheckCommand::Name,
             Lesson::Suicide => CheckCommand::Match(Command::ClearBoard),
             Lesson::Ko => CheckCommand::Match(Command::Play(Move::default())),
             _ => CheckCommand::Match(Command::Genmove(Colour::White)),
