@@ -34,7 +34,7 @@ SUBJECTS = {
 OTHERS = {
     ("start",): (
         # what every probe takes back
-        "nothing_is_taken_back two_moves_are_taken_back empty_record_is_undone genmoves_stay refused_play_is_undone",
+        "nothing_is_taken_back empty_record_is_undone genmoves_stay refused_play_is_undone",
         "chosen_move_is_not_made byte_order_mark greeting first_read_is_lost first_genmove_is_of_19 undo_needs_a_genmove",
         # a new start right after a ko, and a probe of its point; an `undo` before any move after a new start
         "old_ko_stays old_moves_are_undone game_is_resumed_at_its_first_move",
@@ -45,7 +45,9 @@ OTHERS = {
         "ids_are_bytes",
         # each point of a board, one after the other, and moves of the engine's own on it
         "every_second_stone_is_taken nothing_below_is_taken chain_joins_itself taken_stones_are_bytes undo_plays_in_turns",
-        "chosen_point_stays_taken undo_gives_no_room_back marks_are_bytes log_of_4096_lines chains_of_361",
+        "chosen_point_stays_taken undo_gives_no_room_back marks_are_bytes log_of_4096_lines chains_of_361 two_moves_are_taken_back",
+        # two passes on 1x1, and the first `undo` after them
+        "last_pass_stays",
         "komi_of_zero_is_unread regions_are_filled_by_recursion result_comes_after_two_passes",
         # on 1x1 the middle is no move, and there is nothing to draw from
         "first_move_is_the_middle last_draw_is_played chosen_pass_is_a_point",
@@ -89,8 +91,6 @@ OTHERS = {
     ),
     ("record",): (
         "two_passes_end_the_game",
-        # twelve moves taken back in a row, passes too
-        "eight_moves_are_kept last_pass_stays",
     ),
     ("restarts",): (
         "ko_is_compared_by_is",
@@ -120,6 +120,7 @@ SHOWN = {name: lessons for rows in (OTHERS, CHANCE) for lessons, names in rows.i
 
 NOT_SENT = "no command is written in that form"
 NOT_ASKED = "this command isn't asked"
+KEPT_IN_PART = "an engine may keep a part of the history alone, which undos in a row use up"
 # bugs that the course doesn't notice, and why
 UNNOTICED = {
     "blank_line_in_a_reply": NOT_ASKED,
@@ -155,7 +156,10 @@ UNNOTICED = {
     "known_by_its_beginning": "any answer to `known_command` is right",
     "refused_size_clears_the_board": "it takes each size that is asked",
     "two_passes_end_the_choice": "no `genmove` is asked after two passes",
-    "moves_taken_back_fill_a_list": "an engine may keep a part of the history alone, which undos in a row use up",
+    "moves_taken_back_fill_a_list": KEPT_IN_PART,
+    "undo_once": KEPT_IN_PART,
+    "eight_moves_are_kept": KEPT_IN_PART,
+    "moves_are_a_ring": "no `undo` is asked right after the 1,024th move",
     "ko_forgotten_at_a_suicide": "no ko is open where a suicide is asked",
 }
 
@@ -166,6 +170,7 @@ WAITING |= {"replies_are_held"}
 # What they answer hangs on how the commands are cut, or on what earlier processes have left: pasted into one more process their
 # conversation may have right answers. Those that wait have answered more commands than the conversation has.
 ANEW = {*WAITING, "reads_of_sixty_four", "trial_is_over"}
+ANEW |= {"note_after_a_crash"}
 ANEW |= {"old_game_is_a_book", "old_game_comes_back", "old_board_comes_back_at_undo", "old_moves_are_undone", "old_ko_stays"}
 ANEW |= {"eleventh_start_fails", "id_of_the_last_line_of_a_read", "last_line_of_a_read_is_first"}
 ANEW |= {"game_is_resumed_at_its_first_move", "old_colour_stays", "book_has_no_sizes"}
