@@ -8,7 +8,7 @@ Engines that misbehave (tests/engines/hostile/engine) end as was worked out by h
 for is on it, and the output is the same. At last no process may be left.
 
 With --all each wrong engine is tried, and the whole course where nothing may be noticed: some ten minutes. With --seeds N the whole
-course is asked of right engines with the seeds 0 to N - 1, and nothing else is tried. Each seed is some 230,000 commands.
+course is asked of right engines with the seeds 0 to N - 1, and nothing else is tried. Each seed is some 240,000 commands.
 """
 import re
 import sys
