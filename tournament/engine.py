@@ -47,7 +47,7 @@ def answer(command, *words):  # the text of the reply; an error is a failure
         boards = [{point: "b" for point in stones}]
         return " ".join(stones)
     elif command in ("play", "genmove"):
-        colour = words[0][0].lower()
+        colour = {"b": "b", "black": "b", "w": "w", "white": "w"}[words[0].lower()]
         vertex = choose(colour) if command == "genmove" else words[1].upper()
         board = boards[-1] if vertex == "PASS" else after(colour, vertex)
         if board is None:
@@ -70,11 +70,13 @@ def reply(words):  # the status and the text of the reply
     except Exception as problem:
         return "?", problem
 
-signal.signal(signal.SIGPIPE, signal.SIG_DFL)  # it ends quietly where nobody reads what it writes
+for number in (signal.SIGPIPE, signal.SIGINT):
+    signal.signal(number, signal.SIG_DFL)  # it ends quietly where nobody reads what it writes, and at Ctrl-C
 answer("boardsize", "19")
 random.seed(sys.argv[-1])
-for line in sys.stdin:
-    words = line.split("#")[0].split()
+for line in sys.stdin.buffer:
+    text = bytes(c for c in line.split(b"#")[0] if c == 9 or 31 < c != 127)  # without comment and control characters
+    words = text.decode("latin-1").split()
     number = words.pop(0) if words and words[0].isdigit() else ""
     if words:
         status, text = reply(words)

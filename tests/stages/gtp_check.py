@@ -1,14 +1,18 @@
 #!/usr/bin/env python3
 """Checks right and wrong engines by `gtp_check`.
 
-Right engines are never blamed: ours with each policy, both plain references, and ours in other dresses (tests/engines/right/dressed),
-which are as right. Wrong engines (tests/engines/wrong) are noticed by the lessons that show their bugs, and each complaint is pasted
-into one more process of the wrong engine and of the right one. of_gtp_check/table.py says what shows each bug, and what isn't noticed.
-Engines that misbehave (tests/engines/hostile/engine) end as was worked out by hand. Where standard error is a terminal, what is waited
-for is on it, and the output is the same. At last no process may be left.
+Right engines are never blamed: ours with each policy, both plain references, ours in other dresses (tests/engines/right/dressed), which
+are as right, and those that have what the standard leaves to engines (tests/engines/right/free). Who goes beyond that is noticed
+(tests/engines/wrong/beyond). The sample engine has no traceback where it is ended.
+
+Wrong engines (tests/engines/wrong) are noticed by the lessons that show their bugs, and each complaint is pasted into one more process of
+the wrong engine and of the right one. of_gtp_check/table.py says what shows each bug, and what isn't noticed. Engines that misbehave
+(tests/engines/hostile/engine) end as was worked out by hand. Where standard error is a terminal, what is waited for is on it, and the
+output is the same. At last no process may be left.
 
 With --all each wrong engine is tried, and the whole course where nothing may be noticed: some ten minutes. With --seeds N the whole
-course is asked of right engines with the seeds 0 to N - 1, and nothing else is tried. Each seed is some 240,000 commands.
+course is asked of right engines with the seeds 0 to N - 1, and of those with a freedom what it is about; nothing else is tried. Of ours
+each seed is some 240,000 commands.
 """
 import re
 import sys
@@ -44,6 +48,29 @@ class Checks(checks.Case):
 @checks.table(list(right.rows()), lambda it: f"nothing is found: {it[0]}", right.faults)
 class Right(Checks):
     """Right engines: nothing may be found."""
+
+
+@checks.table(right.free_rows(range(1, 4)), lambda it: f"a freedom: {it[0]}, seed {it[1]}", right.free)
+class Free(Checks):
+    """Engines that have a freedom: nothing may be found."""
+
+
+@checks.table(list(right.GO_BEYOND), lambda it: f"beyond a freedom: {it}", right.beyond)
+class Beyond(Checks):
+    """Engines that go beyond a freedom: something is found."""
+
+
+class Sample(Checks):
+    """The engine to start from, tournament/engine.py, has no traceback where it is ended, or isn't read."""
+
+    def test_sample_is_ended(self):
+        """the sample engine is quiet where it is ended in the middle of games."""
+        self.nothing(right.ended_in_the_middle())
+
+    def test_sample_is_unread(self):
+        """the sample engine is quiet where nobody reads what it writes."""
+        for kept in (1, 100, 1000):
+            self.check(f"after {kept} bytes the sample engine isn't read: it is quiet", None, right.unread(kept))
 
 
 # ---- the same bytes
@@ -144,6 +171,11 @@ class Drawn(checks.Case):
     @classmethod
     def tearDownClass(cls):
         print(f"{cls.commands} commands")
+
+
+@checks.table(right.free_rows(range(OPTIONS.seeds)), lambda it: f"a freedom: {it[0]}, with seed {it[1]}", right.free)
+class FreeDrawn(Checks):
+    """Engines that have a freedom, with many seeds."""
 
 
 class Left(checks.Case):

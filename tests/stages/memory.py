@@ -94,20 +94,21 @@ def conversation():
 def checks_of_engines():
     """Checks of two engines."""
     asked = "check: not asked, as the options say: sizes ko captures suicide joining handicaps komi drawn record genmoves games restarts\n"
-    # It refuses its name and each size: 5 questions, and the sizes 5 to 25.
+    # It refuses its name and each size: 5 questions, the sizes 5 to 25, and 5 again.
     sizes = " ".join(map(str, range(5, 26)))
     yield Run("a check in which nothing is found and no move is asked", 4,
               f'check: "", version "", seed 1, simple ko\n{asked}check: start: no play and no genmove was asked on any board of it\n'
-              f"check: it refuses the sizes {sizes}\ncheck: 26 commands, 1 start, 0 complaints\n", "",
+              f"check: it refuses the sizes {sizes}\ncheck: 27 commands, 1 start, 0 complaints\n", "",
               ["gtp_check", "--only", "start", f"{HOSTILE} refuses"])  # fmt: skip
     # It ends at once, three times, and a lesson is over after three losses.
-    found = "".join(f'# {number} start: "1 name": its output ended, exit status 1\n1 name\n# it wrote: ""\n'
+    found = "".join(f'# {number} komi: "1 name": its output ended, exit status 1\n1 name\n# it wrote: ""\n'
                     "# right: an engine answers each command, and reads on until quit\n\n" for number in (1, 2, 3))  # fmt: skip
+    others = "check: not asked, as the options say: start sizes ko captures suicide joining handicaps drawn record genmoves games restarts\n"
     yield Run("a check in which something is found", 1,
-              f"check: an engine without a name, version unknown, seed 1, simple ko\n{found}{asked}"
-              "check: start: no play and no genmove was asked on any board of it\n"
+              f"check: an engine without a name, version unknown, seed 1, simple ko\n{found}{others}"
+              "check: komi: no play and no genmove was asked on any board of it\n"
               "check: 3 commands, 3 starts, 3 complaints\n", "",
-              ["gtp_check", "--only", "start", "--singly", f"{HOSTILE} exits"])  # fmt: skip
+              ["gtp_check", "--only", "komi", "--singly", f"{HOSTILE} exits"])  # fmt: skip
 
 
 def mistakes(*rows):

@@ -261,6 +261,29 @@ class Waiting(checks.Case):
         self.same((124, "game 1: W+6.5 moves 2 restarts 0 0\n"), self.waited(2, f"@ runs {PASSES}", "@ quit_never"))
 
 
+class Ended(checks.Case):
+    """An engine whose output ended has 200 milliseconds to end by itself, and one that is ended for what it wrote has none."""
+
+    def seconds(self, kind, started):
+        """How long a match takes in which Black goes down so often."""
+        notes = Notes(self.room())
+        words = (f"@ {kind}", f"@ runs {FIRST}", "--restarts", str(started - 1))
+        begin = time.monotonic()
+        came = played(notes, *words)
+        seconds = time.monotonic() - begin
+        wanted = f"game 1: abandoned black moves 0 restarts {started - 1} 0\n"
+        self.check(f"{kind}: it goes down {started} times", (1, wanted, started + 1, []), came)
+        return seconds
+
+    def test_wrote(self):
+        """what writes no reply and reads on is ended at once."""
+        self.check("41 engines that write no reply take less than so much each", True, self.seconds("junk", 41) < 41 * 0.2)
+
+    def test_closed(self):
+        """what closes its output and lives on is ended a little later."""
+        self.check("6 engines that close their output take at least so much each", True, self.seconds("closes_its_output", 6) >= 6 * 0.2)
+
+
 class ManyGames(checks.Case):
     """Many games: nothing is left, and nothing grows. Each engine notes what the controller takes when it is started."""
 

@@ -18,7 +18,7 @@ Where a row says WAITS, the program must not end. The engine notes what it is se
 more may be sent or written for a second.
 
 Each match is played once more with --why, whose lines the field why of its row has. Where time decides what is written, other
-fields have what else is right (hastens, closes, follows).
+fields have what else is right (hastens, follows).
 """
 import shlex
 import sys

@@ -1,8 +1,8 @@
 #!/usr/bin/env python3
 """Tries tournament/patience, which stands between a controller and an engine, and ends the engine where an answer is late.
 
-Every number of seconds here is far from the limit that it is held against. An engine writes the numbers of its processes into a file, and
-in the end none of them may be there.
+Every number of seconds here is far from the limit that it is held against, but for the time of a command, of which the best of some tries
+counts. An engine writes the numbers of its processes into a file, and in the end none of them may be there.
 """
 import os
 import signal
@@ -32,6 +32,18 @@ for line in sys.stdin:
         break
 """
 LATE = "patience: no answer in time to "
+
+
+def seconds_a_command(words, count=2000):
+    """How many seconds a command takes, of so many that are asked one after the other."""
+    with started(words, stdin=subprocess.PIPE) as engine:
+        asked, answers = engine.stdin.fileno(), engine.stdout.fileno()
+        began = None
+        for number in range(count + 1):
+            os.write(asked, b"1 name\n")
+            os.read(answers, 4096)
+            began = began or time.monotonic()  # the first command waits for the start
+        return (time.monotonic() - began) / count
 
 
 def through(*words, text="", **how):
@@ -71,7 +83,8 @@ class Passing(checks.Case):
 
     def test_mistakes(self):
         """a mistake in the words is told, with status 2."""
-        for words in ([], ["5"], ["0", "cat"], ["soon", "cat"], ["--start", "5"], ["--start", "x", "5", "cat"]):
+        numbers = (["0", "cat"], ["-1", "cat"], ["nan", "cat"], ["inf", "cat"], ["--start", "0", "5", "cat"], ["--start", "-1", "5", "cat"])
+        for words in ([], ["5"], ["soon", "cat"], ["--start", "5"], ["--start", "x", "5", "cat"], *numbers):
             came = through(*words)
             self.check(f"{words}", (2, 1), (came.status, came.errors.count("patience: write patience [--start SECONDS]")))
 
@@ -93,6 +106,52 @@ class Passing(checks.Case):
         came = through("--start", LONG, "1", *self.engine(), text="wait2 a\nname\nwait60 b\n")
         self.same((124, f"{LATE}'wait60 b'\n"), (came.status, came.errors))
 
+    def test_the_first_answer_is_late_too(self):
+        """--start is a limit."""
+        came = through("--start", "1", LONG, *self.engine(), text="wait60 a\n")
+        self.same((124, f"{LATE}'wait60 a'\n"), (came.status, came.errors))
+
+    def test_a_greeting(self):
+        """what an engine writes before it is asked is no answer: --start is still that of the first one."""
+        greeting = 'printf "Hello\n\n"; read x; sleep 2; printf "=\n\n"; read x; sleep 60'
+        with started([PATIENCE, "--start", LONG, "1", "sh", "-c", greeting], stdin=subprocess.PIPE) as between:
+            hello = between.stdout.read(7)
+            output, errors = between.communicate(b"name\nversion\n")
+        self.same((b"Hello\n\n", b"=\n\n", f"{LATE}'version'\n".encode(), 124), (hello, output, errors, between.returncode))
+
+    def test_pieces(self):
+        """a command that comes in pieces is one, and is late once its line has ended."""
+        with started([PATIENCE, "1", *self.engine()], stdin=subprocess.PIPE) as between:
+            for piece in (b"na", b"me\nwai", b"t60 x"):
+                os.write(between.stdin.fileno(), piece)
+                time.sleep(0.1)
+            answer = between.stdout.read(8)
+            output, errors = between.communicate(b"\n")
+        self.same((b"= name\n\n", b"", f"{LATE}'wait60 x'\n".encode()), (answer, output, errors))
+
+    def test_an_engine_that_reads_no_more(self):
+        """a command that an engine doesn't take, since it closed its input, has no answer in time."""
+        closing = "exec 0<&-; printf 'Hello\\n\\n'; sleep 60"
+        with started([PATIENCE, "1", "sh", "-c", closing], stdin=subprocess.PIPE) as between:
+            hello = between.stdout.read(7)
+            output, errors = between.communicate(b"name\n", timeout=20)
+        self.same((b"Hello\n\n", b"", f"{LATE}'name'\n".encode(), 124), (hello, output, errors, between.returncode))
+
+    def test_an_engine_that_writes_no_more(self):
+        """where an engine closes its output and goes on, the caller has the end of the output at once."""
+        with started([PATIENCE, LONG, "sh", "-c", "exec 1>&-; sleep 90"], stdin=subprocess.PIPE) as between:
+            between.stdin.write(b"name\n")
+            between.stdin.flush()
+            output = between.stdout.read()
+            self.same((b"", None), (output, between.poll()))
+
+    def test_the_time_of_a_command(self):
+        """it takes less than 100 microseconds a command."""
+        need("gtp_engine")
+        engine = [TOP / "bin/gtp_engine"]
+        tries = (seconds_a_command([PATIENCE, LONG, *engine]) - seconds_a_command(engine) for _ in range(20))
+        self.assertTrue(any(it < 100e-6 for it in tries), "it takes more")
+
     def test_the_time_of_an_answer(self):
         """the time of an answer begins when the one before it has ended, and what asks nothing isn't waited for."""
         came = through("2", *self.engine(), text="wait1.2 a\nwait1.2 b\nwait1.2 c\n# wait\n\n \t\x01\nquit\n")
@@ -110,7 +169,7 @@ class Ending(checks.Case):
             time.sleep(0.05)
 
     def hard(self):
-        """An engine that ignores TERM and holds its output by two children, one of them in a session of its own; and the file of numbers."""
+        """An engine that ignores TERM and holds its output by two children, one in a session of its own; and the file of numbers."""
         names = self.room() / "numbers"
         text = f"""trap '' TERM HUP INT
 setsid sh -c 'echo $$ >> {names}; trap "" TERM; sleep 90; sleep 90' &
@@ -130,25 +189,46 @@ read x; read x; sleep 90; sleep 90"""
     def test_a_child_holds_the_output(self):
         """an engine that ended has ended, also where a child of it holds its output."""
         names = self.room() / "numbers"
-        came = through(LONG, "sh", "-c", f"sh -c 'echo $$ > {names}; sleep 90; sleep 90' & while [ ! -s {names} ]; do sleep 0.05; done; exit 7")
+        child = f"sh -c 'echo $$ > {names}; sleep 90; sleep 90' &"
+        came = through(LONG, "sh", "-c", f"{child} while [ ! -s {names} ]; do sleep 0.05; done; exit 7")
         self.same((7, []), (came.status, self.left(names)))
 
     def killed(self, number, whom):
-        """What is left where one of the two processes gets this signal in the middle of a game."""
+        """What is left where one of the two processes, or the engine, gets this signal in the middle of a game."""
         engine, names = self.hard()
-        with started([PATIENCE, LONG, *engine], stdin=subprocess.PIPE) as between:
+        not_ignored = lambda: signal.signal(signal.SIGINT, signal.SIG_DFL)  # noqa: E731  a shell may have it ignored
+        with started([PATIENCE, LONG, *engine], stdin=subprocess.PIPE, preexec_fn=not_ignored) as between:
             between.stdin.write(b"name\n")
             between.stdin.flush()
             assert between.stdout.read(3) == b"=\n\n"
             keeper = int(Path(f"/proc/{between.pid}/task/{between.pid}/children").read_text().split()[0])
-            os.kill({"it": between.pid, "guard": keeper}[whom], number)
-            return self.left(names)
+            engine = int(Path(f"/proc/{keeper}/task/{keeper}/children").read_text().split()[0])
+            os.kill({"it": between.pid, "guard": keeper, "engine": engine}[whom], number)
+            left = self.left(names)
+            return (left, between.stderr.read().decode(), between.wait())
 
     def test_killed(self):
-        """nothing is left where one of its two processes is ended, by KILL or by TERM."""
-        for what, number, whom in (("it by KILL", signal.SIGKILL, "it"), ("it by TERM", signal.SIGTERM, "it"),
-                                   ("its guard by KILL", signal.SIGKILL, "guard")):  # fmt: skip
-            self.check(what, [], self.killed(number, whom))
+        """nothing is left, and nothing is said, where one of its two processes is ended, or the engine."""
+        for what, number, whom, status in (
+            ("it by KILL", signal.SIGKILL, "it", -signal.SIGKILL),
+            ("it by TERM", signal.SIGTERM, "it", -signal.SIGTERM),
+            ("it by HUP", signal.SIGHUP, "it", -signal.SIGHUP),
+            ("it by INT, as by Ctrl-C", signal.SIGINT, "it", 128 + signal.SIGINT),
+            ("its guard by KILL", signal.SIGKILL, "guard", 128 + signal.SIGKILL),
+            ("its engine by KILL", signal.SIGKILL, "engine", 128 + signal.SIGKILL),
+        ):
+            self.check(f"ended: {what}", ([], "", status), self.killed(number, whom))
+
+    def test_killed_while_it_starts(self):
+        """nothing is left where it is killed at any moment of its start."""
+        for wait in range(0, 100, 5):  # thousandths of a second
+            names = self.room() / "numbers"
+            names.write_text("")
+            with started([PATIENCE, LONG, "sh", "-c", f"echo $$ >> {names}; sleep 90; sleep 90"], stdin=subprocess.PIPE) as between:
+                time.sleep(wait / 1000)
+                between.kill()
+                between.communicate(timeout=10)  # standard error ends once no process has it
+                self.same([], self.left(names))
 
 
 class Itself(checks.Case):

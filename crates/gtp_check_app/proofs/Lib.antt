@@ -1,15 +1,10 @@
 mod CommandLine
 mod CommandWords
-mod Conversations
-mod Games
 mod Gathering
-mod Joining
 mod LessonLoops
 mod Passing
 mod Progressing
 mod Running
 mod Settling
 mod Shortening
-mod Talks
-mod Trials
 mod Turning

@@ -14,14 +14,14 @@ use Rattle.gtp_check_judge.specs.declared.asking.CheckCommand.TheVariants.{Known
 use Rattle.gtp_check_questions.specs.Lessons.{all_lessons, number_of}
 use Rattle.gtp_check_questions.specs.declared.lessons.Lesson.{Lesson}
 use Rattle.cli.specs.Status.{done}
-use Rattle.gtp_check_app.specs.declared.notes.Notes.{Notes}
+use Rattle.gtp_check_talks.specs.declared.notes.Notes.{Notes}
 use Rattle.gtp_check_app.specs.declared.plan.Plan.{Plan}
 use Rattle.gtp_check_app.specs.Checks.{missed_from, status_in}
 use Rattle.gtp_check_app.specs.Laws.{AsksForMove, IsPass}
-use Rattle.gtp_check_app.specs.Notes.{counted, nothing_noted, with_lesson}
-use Rattle.gtp_check_app.specs.Plans.{is_among}
+use Rattle.gtp_check_talks.specs.Notes.{counted, nothing_noted, with_lesson}
+use Rattle.gtp_check_talks.specs.Among.{is_among}
 use Rattle.gtp_check_app.specs.Status.{is_earned, not_earned, something_found}
-use Rattle.gtp_check_app.specs.Tally.{one_more, with_more}
+use Rattle.gtp_check_talks.specs.Counts.{one_more, with_more}
 use Rattle.gtp_check_app.specs.Turns.{State}
 
 -- ---- the status, by the complaints and whether a pass is earned

@@ -6,24 +6,26 @@ use Rattle.byte_streams.specs.Writing.{LinesGoOut, line_out, no_line}
 use Rattle.gtp_process.specs.declared.starter.Process.{Ghosts}
 use Rattle.gtp_process.specs.Starts.{Attempts, Text, program_line}
 use Rattle.gtp_check_judge.specs.Check.{Check}
-use Rattle.gtp_check_app.specs.declared.complaint.Complaint.{Complaint}
-use Rattle.gtp_check_app.specs.declared.engine.Fault.{Fault}
+use Rattle.gtp_check_texts.specs.declared.complaint.Complaint.{Complaint}
+use Rattle.gtp_check_texts.specs.declared.fault.Fault.{Fault}
 use Rattle.cli.specs.declared.failure.Failure.{Failure}
-use Rattle.gtp_check_app.specs.declared.flat.Shortening.{Shortening}
+use Rattle.gtp_check_shortening.specs.declared.flat.Shortening.{Shortening}
 use Rattle.gtp_check_judge.specs.declared.asking.CheckCommand.{CheckCommand}
-use Rattle.gtp_check_app.specs.declared.notes.Notes.{Notes}
+use Rattle.gtp_check_talks.specs.declared.notes.Notes.{Notes}
 use Rattle.gtp_check_app.specs.declared.plan.Plan.{Plan}
-use Rattle.gtp_check_app.specs.declared.talk.Purpose.{Purpose}
+use Rattle.gtp_check_shortening.specs.declared.talk.Purpose.{Purpose}
 use Rattle.gtp_check_app.specs.declared.tally.Tally.{Tally}
-use Rattle.gtp_check_app.specs.Complaints.{complaint_lines}
-use Rattle.gtp_check_app.specs.Dialogues.{IsTrial, Wrong, right, unstarted, wrong, wrong_purpose, wrong_talk}
+use Rattle.gtp_check_texts.specs.Complaints.{complaint_lines}
+use Rattle.gtp_check_talks.specs.Dialogues.{IsTrial, Wrong, right, unstarted, wrong, wrong_purpose, wrong_talk}
 use Rattle.gtp_check_app.specs.Progress.{IsShown, cleared, clearing, looking, looking_line}
-use Rattle.gtp_check_app.specs.Shortening.{shortened, shortenings}
+use Rattle.gtp_check_shortening.specs.Shortening.{shortened, shortenings}
 use Rattle.gtp_check_app.specs.Tally.{found, is_shown}
 use Rattle.gtp_check_app.specs.Turns.{Closes, Complains, IsComplaint, Shortens, State, found_in, hidden}
 use Rattle.gtp_check_app.specs.Turns.{complaint_broke as turn_complaint_broke, first_line_broke}
 use Rattle.gtp_check_app.specs.Turns.{no_memory_for_first_line}
-use Rattle.gtp_check_app.specs.Turns.{TriesShorter, missed, no_memory_to_complain, none_left, process_of, shortened_so}
+use Rattle.gtp_check_app.specs.Turns.{IsShortened, Reduces, TriesOne, TriesShorter, missed, no_memory_to_complain}
+use Rattle.gtp_check_app.specs.Turns.{none_left, process_of, shortened_so}
+use Rattle.gtp_check_shortening.specs.Reduction.{Reduction}
 use Rattle.gtp_check_app.specs.Turns.{shown, waiting}
 use Rattle.gtp_check_app.specs.private.Steps.{ComplaintGoesOut, ComplaintStops, FirstGoesOut, FirstStops, StopsAfter}
 use Rattle.gtp_check_app.specs.private.Steps.{complaint_broke, complaint_refused, first_broke, first_refused}
@@ -65,13 +67,13 @@ module _ {P : Type 0} (known : Ghosts P) (plan : Plan) (before mid : State P) (h
 
   pub complained : (answer : Bool) → answer ≡ is_shown mid.tally purpose.lesson fault → answer ≡ true
       → {shorter : Option Wrong} {after : State P} {has : Attempts P}
-      → Shortens known plan wrong shortenings (record mid { tally = tally }) had shorter after has
+      → IsShortened known plan wrong (record mid { tally = tally }) had shorter after has
       → (complaint : Complaint)
       → IsComplaint plan.rule after.tally.complaints purpose.lesson (unwrap_or shorter wrong) complaint
       → Complains known plan before had (Some fault) after has (complaint_lines complaint ∷ [])
   complained answer is so {shorter = shorter} {after = after} {has = has} shortens complaint about =
       shown wrong complaint closes (sym (ap (λ (p : Purpose). is_shown mid.tally p.lesson fault) same) ∙ sym is ∙ so)
-      (subst (λ (start : State P). Shortens known plan wrong shortenings start had shorter after has)
+      (subst (λ (start : State P). IsShortened known plan wrong start had shorter after has)
       found_now shortens)
       (subst (λ (p : Purpose).
       IsComplaint plan.rule after.tally.complaints p.lesson (unwrap_or shorter wrong) complaint) same about)
@@ -130,30 +132,58 @@ trial_down known line purpose commands old had first (unstarted reason tries) do
 trial_down known line purpose commands old had first (right process ending tries converses asks left) down = refl
 trial_down known line purpose commands old had first (wrong process ending fault tries ends asks left) down = refl
 
-tries_down : {P : Type 0} (known : Ghosts P) (plan : Plan) (found : Wrong) (how : Shortening) (before : State P)
-    (had : Attempts P) → {result : Option Wrong} {after : State P} {has : Attempts P}
-    → TriesShorter known plan found how before had result after has
+one_down : {P : Type 0} (known : Ghosts P) (plan : Plan) (about : Wrong) (commands : List CheckCommand)
+    (before : State P) (had : Attempts P) → {result : Option Wrong} {after : State P} {has : Attempts P}
+    → TriesOne known plan about commands before had result after has
     → before.check.exam.up ≡ false → after.check.exam.up ≡ false
-tries_down known plan found how before had (TriesShorter.left_out not) down = down
-tries_down known plan found how before had (TriesShorter.right may tried) down =
-    trial_down known (program_line plan.words.items) (wrong_purpose found) (shortened how (wrong_talk found))
-    before.check had before.notes tried.trial down
-tries_down known plan found how before had (TriesShorter.other may tried differs) down =
-    trial_down known (program_line plan.words.items) (wrong_purpose found) (shortened how (wrong_talk found))
-    before.check had before.notes tried.trial down
-tries_down known plan found how before had (TriesShorter.alike may tried same) down =
-    trial_down known (program_line plan.words.items) (wrong_purpose found) (shortened how (wrong_talk found))
-    before.check had before.notes tried.trial down
+one_down known plan about commands before had (TriesOne.no_start never) down = down
+one_down known plan about commands before had (TriesOne.right may tried) down =
+    trial_down known (program_line plan.words.items) (wrong_purpose about) commands before.check had before.notes
+    tried.trial down
+one_down known plan about commands before had (TriesOne.other may tried differs) down =
+    trial_down known (program_line plan.words.items) (wrong_purpose about) commands before.check had before.notes
+    tried.trial down
+one_down known plan about commands before had (TriesOne.alike may tried same) down =
+    trial_down known (program_line plan.words.items) (wrong_purpose about) commands before.check had before.notes
+    tried.trial down
+
+tries_down : {P : Type 0} (known : Ghosts P) (plan : Plan) (about : Wrong) (how : Shortening) (before : State P)
+    (had : Attempts P) → {result : Option Wrong} {after : State P} {has : Attempts P}
+    → TriesShorter known plan about how before had result after has
+    → before.check.exam.up ≡ false → after.check.exam.up ≡ false
+tries_down known plan about how before had (TriesShorter.left_out not) down = down
+tries_down known plan about how before had (TriesShorter.tries may one) down =
+    one_down known plan about (shortened how (wrong_talk about)) before had one down
 
 shortens_down : {P : Type 0} (known : Ghosts P) (plan : Plan) (found : Wrong) (all : List Shortening)
     → {before : State P} {had : Attempts P} {result : Option Wrong} {after : State P} {has : Attempts P}
     → Shortens known plan found all before had result after has
     → before.check.exam.up ≡ false → after.check.exam.up ≡ false
 shortens_down known plan found [] none_left down = down
-shortens_down known plan found (how ∷ later) (missed {before = before} {had = had} tries more) down =
-    shortens_down known plan found later more (tries_down known plan found how before had tries down)
-shortens_down known plan found (how ∷ later) (shortened_so {before = before} {had = had} tries) down =
-    tries_down known plan found how before had tries down
+shortens_down known plan found (how ∷ later) (missed {before = before} {had = had} one more) down =
+    shortens_down known plan found later more (tries_down known plan found how before had one down)
+shortens_down known plan found (how ∷ later) (shortened_so {before = before} {had = had} one) down =
+    tries_down known plan found how before had one down
+
+reduces_down : {P : Type 0} (known : Ghosts P) (plan : Plan) (about : Wrong) (first : Reduction) (before : State P)
+    (had : Attempts P) → {last : Reduction} {best : Option Wrong} {after : State P} {has : Attempts P}
+    → Reduces known plan about first before had last best after has
+    → before.check.exam.up ≡ false → after.check.exam.up ≡ false
+reduces_down known plan about first before had Reduces.begins down = down
+reduces_down known plan about first before had
+    (Reduces.failed {mid = mid} {between = between} commands so_far is one) down =
+    one_down known plan about commands mid between one (reduces_down known plan about first before had so_far down)
+reduces_down known plan about first before had
+    (Reduces.succeeded {mid = mid} {between = between} commands so_far is one) down =
+    one_down known plan about commands mid between one (reduces_down known plan about first before had so_far down)
+
+shortened_down : {P : Type 0} (known : Ghosts P) (plan : Plan) (about : Wrong) (before : State P) (had : Attempts P)
+    (result : Option Wrong) (after : State P) (has : Attempts P)
+    → IsShortened known plan about before had result after has
+    → before.check.exam.up ≡ false → after.check.exam.up ≡ false
+shortened_down known plan about before had result after has so down =
+    reduces_down known plan about _ so.mid so.between so.reduced.reduces
+    (shortens_down known plan about shortenings so.shortens down)
 
 pub complains_down : {P : Type 0} (known : Ghosts P) (plan : Plan) (before : State P) (had : Attempts P) (fault : Fault)
     → {after : State P} {has : Attempts P} {said : List (List ℕ)} (which : Option Fault) → which ≡ Some fault
@@ -163,5 +193,5 @@ complains_down known plan before had fault which is (Complains.hidden {mid = mid
     ap {A = State _} (λ now. now.check.exam.up) closes.leads
 complains_down known plan before had fault which is
     (Complains.shown {fault = one} {mid = mid} about complaint closes so shortens which_one) =
-    shortens_down known plan about shortenings shortens
+    shortened_down known plan about _ _ _ _ _ shortens
     (ap {A = State _} (λ now. now.check.exam.up) closes.leads)

@@ -1,5 +1,5 @@
 -- The starts that are asked for while shorter conversations are tried.
-use Rattle.std.proofs.Common.{◌≡◌, ◌∙◌, sym, subst, Option, None, Some, Err, Ok, [], ◌∷◌, ◌++◌, append_assoc}
+use Rattle.std.proofs.Common.{◌≡◌, ◌∙◌, refl, sym, subst, Option, None, Some, Err, Ok, [], ◌∷◌, ◌++◌, append_assoc}
 use Rattle.std.proofs.Common.{ℕ, ◌+◌, ◌<◌, ◌≤◌, length, take, drop, get_or}
 use Rattle.std.proofs.lemmas.List.{append-nil, at_drop_more, take-append-drop, take_all, take_more}
 use Rattle.std.specs.Prelude.{List}
@@ -8,15 +8,17 @@ use Rattle.gtp_process.specs.declared.starter.StartFault.TheVariants as start_fa
 use Rattle.gtp_process.specs.Starts.{Attempts, Text, program_line}
 use Rattle.gtp_check_judge.specs.Check.{Check}
 use Rattle.gtp_check_judge.specs.declared.asking.CheckCommand.{CheckCommand}
-use Rattle.gtp_check_app.specs.declared.flat.Shortening.{Shortening}
-use Rattle.gtp_check_app.specs.declared.notes.Notes.{Notes}
+use Rattle.gtp_check_shortening.specs.declared.flat.Shortening.{Shortening}
+use Rattle.gtp_check_talks.specs.declared.notes.Notes.{Notes}
 use Rattle.gtp_check_app.specs.declared.plan.Plan.{Plan}
-use Rattle.gtp_check_app.specs.Dialogues.{AsksForMore, IsTrial, Wrong, none, one_more, right, unstarted, wrong}
-use Rattle.gtp_check_app.specs.Dialogues.{wrong_purpose, wrong_talk}
-use Rattle.gtp_check_app.specs.declared.talk.Purpose.{Purpose}
-use Rattle.gtp_check_app.specs.declared.talk.Said.{Said}
-use Rattle.gtp_check_app.specs.Shortening.{games_in, shortened}
-use Rattle.gtp_check_app.specs.Turns.{MayTry, Shortens, State, TriesShorter, few_commands, missed, none_left}
+use Rattle.gtp_check_talks.specs.Dialogues.{AsksForMore, IsTrial, Wrong, none, one_more, right, unstarted, wrong}
+use Rattle.gtp_check_talks.specs.Dialogues.{wrong_purpose, wrong_talk}
+use Rattle.gtp_check_shortening.specs.declared.talk.Purpose.{Purpose}
+use Rattle.gtp_check_shortening.specs.declared.talk.Said.{Said}
+use Rattle.gtp_check_shortening.specs.Shortening.{shortened, shortenings}
+use Rattle.gtp_check_app.specs.Turns.{IsShortened, Reduces, Shortens, State, TriesOne, TriesShorter, missed}
+use Rattle.gtp_check_app.specs.Turns.{none_left, or_else}
+use Rattle.gtp_check_shortening.specs.Reduction.{Reduction}
 use Rattle.gtp_check_app.specs.Turns.{shortened_so}
 
 -- programs were asked for, and then others
@@ -38,31 +40,39 @@ trial_asks known line purpose commands old had first (right process ending tries
 trial_asks known line purpose commands old had first (wrong process ending fault tries ends asks left) =
     one_more (Ok process) none tries
 
+pub one_asks : {P : Type 0} (known : Ghosts P) (plan : Plan) (found : Wrong) (commands : List CheckCommand)
+    (before : State P) (had : Attempts P) → {result : Option Wrong} {after : State P} {has : Attempts P}
+    → TriesOne known plan found commands before had result after has
+    → AsksForMore (program_line plan.words.items) had has
+one_asks known plan found commands before had (TriesOne.no_start never) = none
+one_asks known plan found commands before had (TriesOne.right may tried) =
+    trial_asks known (program_line plan.words.items) (wrong_purpose found) commands before.check had before.notes
+    tried.trial
+one_asks known plan found commands before had (TriesOne.other may tried differs) =
+    trial_asks known (program_line plan.words.items) (wrong_purpose found) commands before.check had before.notes
+    tried.trial
+one_asks known plan found commands before had (TriesOne.alike may tried same) =
+    trial_asks known (program_line plan.words.items) (wrong_purpose found) commands before.check had before.notes
+    tried.trial
+
 pub tries_asks : {P : Type 0} (known : Ghosts P) (plan : Plan) (found : Wrong) (how : Shortening) (before : State P)
     (had : Attempts P) → {result : Option Wrong} {after : State P} {has : Attempts P}
     → TriesShorter known plan found how before had result after has
     → AsksForMore (program_line plan.words.items) had has
 tries_asks known plan found how before had (TriesShorter.left_out not) = none
-tries_asks known plan found how before had (TriesShorter.right may tried) =
-    trial_asks known (program_line plan.words.items) (wrong_purpose found) (shortened how (wrong_talk found))
-    before.check had before.notes tried.trial
-tries_asks known plan found how before had (TriesShorter.other may tried differs) =
-    trial_asks known (program_line plan.words.items) (wrong_purpose found) (shortened how (wrong_talk found))
-    before.check had before.notes tried.trial
-tries_asks known plan found how before had (TriesShorter.alike may tried same) =
-    trial_asks known (program_line plan.words.items) (wrong_purpose found) (shortened how (wrong_talk found))
-    before.check had before.notes tried.trial
+tries_asks known plan found how before had (TriesShorter.tries may one) =
+    one_asks known plan found (shortened how (wrong_talk found)) before had one
 
 -- and so do several
 pub shortens_asks : {P : Type 0} (known : Ghosts P) (plan : Plan) (found : Wrong) (all : List Shortening)
     → {before : State P} {had : Attempts P} {result : Option Wrong} {after : State P} {has : Attempts P}
     → Shortens known plan found all before had result after has → AsksForMore (program_line plan.words.items) had has
 shortens_asks known plan found [] none_left = none
-shortens_asks known plan found (how ∷ later) (missed {before = before} {had = had} {between = between} tries more) =
-    then_more (program_line plan.words.items) had between (tries_asks known plan found how before had tries)
+shortens_asks known plan found (how ∷ later) (missed {before = before} {had = had} {between = between} one more) =
+    then_more (program_line plan.words.items) had between (tries_asks known plan found how before had one)
     (shortens_asks known plan found later more)
-shortens_asks known plan found (how ∷ later) (shortened_so {before = before} {had = had} tries) =
-    tries_asks known plan found how before had tries
+shortens_asks known plan found (how ∷ later) (shortened_so {before = before} {had = had} one) =
+    tries_asks known plan found how before had one
 
 -- these shorter conversations were tried, and none ended like the one that was found
 pub data Missed {P : Type 0} (known : Ghosts P) (plan : Plan) (found : Wrong) (first : State P) (asked : Attempts P)
@@ -81,9 +91,9 @@ pub missed_then : {P : Type 0} (known : Ghosts P) (plan : Plan) (found : Wrong) 
     → Shortens known plan found later mid between result after has
     → Shortens known plan found (all ++ later) first asked result after has
 missed_then known plan found first asked Missed.nothing later rest = rest
-missed_then known plan found first asked (Missed.more {all = all} {how = how} one tries) later rest =
+missed_then known plan found first asked (Missed.more {all = all} {how = how} one tried) later rest =
     rw (append_assoc all (how ∷ []) later)
-    (missed_then known plan found first asked one (how ∷ later) (missed tries rest))
+    (missed_then known plan found first asked one (how ∷ later) (missed tried rest))
 
 -- programs were asked for in them
 pub missed_asks : {P : Type 0} (known : Ghosts P) (plan : Plan) (found : Wrong) (first : State P) (asked : Attempts P)
@@ -91,24 +101,9 @@ pub missed_asks : {P : Type 0} (known : Ghosts P) (plan : Plan) (found : Wrong) 
     → Missed known plan found first asked all mid between
     → AsksForMore (program_line plan.words.items) asked between
 missed_asks known plan found first asked Missed.nothing = none
-missed_asks known plan found first asked (Missed.more {how = how} {mid = mid} {between = between} one tries) =
+missed_asks known plan found first asked (Missed.more {how = how} {mid = mid} {between = between} one tried) =
     then_more (program_line plan.words.items) asked between (missed_asks known plan found first asked one)
-    (tries_asks known plan found how mid between tries)
-
--- a shorter conversation may be tried
-pub may_try : {P : Type 0} (known : Ghosts P) (plan : Plan) (found : Wrong) (how : Shortening) (before : State P)
-    (talk : List Said) (commands : List CheckCommand) (games : ℕ) → talk ≡ wrong_talk found
-    → commands ≡ shortened how talk → games ≡ games_in talk → few_commands < length talk → how.more_than < games
-    → length commands < length talk
-    → (before.check.starts < before.check.most_starts) × (0 < before.tally.starts_left)
-    → MayTry known plan found how before
-may_try known plan found how before talk commands games talk-is commands-is games-is long many shorter starts = record {
-  long = rw talk-is at long;
-  games = rw (games-is, talk-is) at many;
-  shorter = rw (commands-is, talk-is) at shorter;
-  few = starts.0;
-  left = starts.1;
-}
+    (tries_asks known plan found how mid between tried)
 
 -- one of them is found after the others
 pub found_here : {P : Type 0} (known : Ghosts P) (plan : Plan) (found : Wrong) (first : State P) (asked : Attempts P)
@@ -119,13 +114,13 @@ pub found_here : {P : Type 0} (known : Ghosts P) (plan : Plan) (found : Wrong) (
     → Shortens known plan found all first asked (Some tried) after has
 found_here {P} known plan found first asked all index other mid between within none_before {tried = tried}
     {after = after}
-    {has = has} tries =
+    {has = has} attempt =
     let parts : take index all ++ get_or all index other ∷ drop (index + 1) all ≡ all =
     sym (at_drop_more (λ (rest : List Shortening). take index all ++ rest) all index other within)
     ∙ take-append-drop index all in
     subst (λ (list : List Shortening). Shortens known plan found list first asked (Some tried) after has) parts
     (missed_then known plan found first asked none_before (get_or all index other ∷ drop (index + 1) all)
-    (shortened_so tries))
+    (shortened_so attempt))
 
 -- one more is missed
 pub one_missed : {P : Type 0} (known : Ghosts P) (plan : Plan) (found : Wrong) (first : State P) (asked : Attempts P)
@@ -135,9 +130,9 @@ pub one_missed : {P : Type 0} (known : Ghosts P) (plan : Plan) (found : Wrong) (
     → TriesShorter known plan found (get_or all index other) mid between None after has
     → Missed known plan found first asked (take (index + 1) all) after has
 one_missed {P} known plan found first asked all index other mid between within none_before {after = after} {has = has}
-    tries =
+    attempt =
     subst (λ (list : List Shortening). Missed known plan found first asked list after has)
-    (sym (take_more all index other within)) (Missed.more none_before tries)
+    (sym (take_more all index other within)) (Missed.more none_before attempt)
 
 -- all are missed
 pub all_missed : {P : Type 0} (known : Ghosts P) (plan : Plan) (found : Wrong) (first : State P) (asked : Attempts P)
@@ -148,3 +143,34 @@ all_missed {P} known plan found first asked all index mid between past none_befo
     let whole : take index all ++ [] ≡ all = append-nil (take index all) ∙ take_all index all past in
     subst (λ (list : List Shortening). Shortens known plan found list first asked None mid between) whole
     (missed_then known plan found first asked none_before [] none_left)
+
+-- ---- delta debugging
+
+-- what is reduced asks for programs
+pub reduces_asks : {P : Type 0} (known : Ghosts P) (plan : Plan) (found : Wrong) (first : Reduction) (before : State P)
+    (had : Attempts P) → {last : Reduction} {best : Option Wrong} {after : State P} {has : Attempts P}
+    → Reduces known plan found first before had last best after has
+    → AsksForMore (program_line plan.words.items) had has
+reduces_asks known plan found first before had Reduces.begins = none
+reduces_asks known plan found first before had
+    (Reduces.failed {mid = mid} {between = between} commands so_far is one) =
+    then_more (program_line plan.words.items) had between (reduces_asks known plan found first before had so_far)
+    (one_asks known plan found commands mid between one)
+reduces_asks known plan found first before had
+    (Reduces.succeeded {mid = mid} {between = between} commands so_far is one) =
+    then_more (program_line plan.words.items) had between (reduces_asks known plan found first before had so_far)
+    (one_asks known plan found commands mid between one)
+
+-- and so does what is made shorter in both ways
+pub shortened_asks : {P : Type 0} (known : Ghosts P) (plan : Plan) (found : Wrong) (before : State P) (had : Attempts P)
+    (result : Option Wrong) (after : State P) (has : Attempts P)
+    → IsShortened known plan found before had result after has → AsksForMore (program_line plan.words.items) had has
+shortened_asks known plan found before had result after has so =
+    then_more (program_line plan.words.items) had so.between
+    (shortens_asks known plan found shortenings so.shortens)
+    (reduces_asks known plan found _ so.mid so.between so.reduced.reduces)
+
+-- the one, or else nothing, is the one
+pub or_else-none : (one : Option Wrong) → one ≡ or_else one None
+or_else-none None = refl
+or_else-none (Some one) = refl

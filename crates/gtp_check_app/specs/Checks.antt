@@ -26,7 +26,7 @@ use Rattle.gtp_check_app.specs.declared.summary.Ending.{Ending}
 use Rattle.gtp_check_app.specs.declared.summary.Over.{Over}
 use Rattle.gtp_check_app.specs.declared.summary.Over.TheVariants as over
 use Rattle.gtp_check_app.specs.declared.tally.Tally.{Tally}
-use Rattle.gtp_check_app.specs.Listing.{list_lines}
+use Rattle.gtp_check_texts.specs.Listing.{list_lines}
 use Rattle.gtp_check_app.specs.Options.{AsksFor, AsksForText, HasFault}
 use Rattle.gtp_check_app.specs.Plans.{HasNoPlan, IsPlanOf}
 use Rattle.gtp_check_app.specs.Progress.{IsShown, cleared}

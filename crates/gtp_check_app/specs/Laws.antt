@@ -1,4 +1,4 @@
--- What is complained of is wrong, what a right engine writes is never complained of, and a pass is earned. (Own.)
+-- A pass is earned. (Own.)
 use Rattle.std.specs.Prelude.{◌≡◌, ◌≤◌, ◌<◌, ◌↔◌, ◌⊎◌, ℕ, true, All, List, ◌++◌, length, Option, Some, Result}
 use Rattle.std.specs.Io.KnownBytes.{Appends}
 use Rattle.go_base.specs.declared.colours.Colour.{Colour}
@@ -20,51 +20,15 @@ use Rattle.gtp_check_judge.specs.Laws.{Exchange, IsJustified, Talks}
 use Rattle.gtp_check_questions.specs.Lessons.{number_of}
 use Rattle.gtp_check_questions.specs.declared.lessons.Lesson.{Lesson}
 use Rattle.cli.specs.Status.{done}
-use Rattle.gtp_check_app.specs.declared.engine.Fault.TheVariants.{Wrote}
-use Rattle.gtp_check_app.specs.declared.notes.Notes.{Notes}
+use Rattle.gtp_check_texts.specs.declared.fault.Fault.TheVariants.{Wrote}
+use Rattle.gtp_check_talks.specs.declared.notes.Notes.{Notes}
 use Rattle.gtp_check_app.specs.declared.plan.Plan.{Plan}
 use Rattle.gtp_check_app.specs.Checks.{status_in}
-use Rattle.gtp_check_app.specs.Dialogues.{Dialogue, EndsWrong, begun_with}
-use Rattle.gtp_check_app.specs.Notes.{counted, nothing_noted}
-use Rattle.gtp_check_app.specs.Plans.{is_among}
+use Rattle.gtp_check_talks.specs.Dialogues.{Dialogue, EndsWrong, begun_with}
+use Rattle.gtp_check_talks.specs.Notes.{counted, nothing_noted}
+use Rattle.gtp_check_talks.specs.Among.{is_among}
 use Rattle.gtp_check_app.specs.Status.{not_earned, something_found}
 use Rattle.gtp_check_app.specs.Turns.{State}
-
--- What was found in what an engine wrote. What it was asked and what was heard are a talk in which all answers were
--- right; then what was heard is a wrong answer, of this kind, and the finding is justified. What was heard is a front
--- of what the process gave since its start.
-pub record IsWronglyWritten {P : Type 0} (known : Ghosts P) (rule : KoRule) (process : P) (kind : Kind)
-    (after : Dialogue P) : Type 0 where
-  pub came : List ℕ
-  pub said : List Exchange
-  pub old : Exam
-  pub new : Exam
-  pub bytes : List ℕ
-  pub used : ℕ
-  pub read : Option (Result Reply ReplyFault)
-  pub finding : Finding
-  pub talks : Talks rule after.sent came said old
-  pub hears : Hears old bytes used read (Some finding) new
-  pub is : kind ≡ finding.kind
-  pub justified : IsJustified rule said old read finding
-  pub gave : Appends (known.given process) (known.given after.process) (came ++ bytes)
-
--- Whatever the engine is, what is found in what it wrote is justified.
-abbrev pub ComplaintsAreJustified : {P : Type 0} → Ghosts P → Type 0
-ComplaintsAreJustified {P} known = (rule : KoRule) (process : P) (first : Notes) (kind : Kind) (new : Exam)
-    (after : Dialogue P) → EndsWrong known (begun rule true) (begun_with process first) (Wrote kind) new after
-    → IsWronglyWritten known rule process kind after
-
--- A right engine under this ko rule, whatever it chose among what its policy may, was given just the bytes that were
--- asked. What the process gave since its start is known, and is a front of what the right engine wrote. Then nothing
--- was found in it.
-abbrev pub NoRightEngineIsComplainedOf : {P Q : Type 0} → Ghosts P → May Q → Type 0
-NoRightEngineIsComplainedOf {P} {Q} known may = (rule : KoRule) (policy : Q) (engine : Engine Q) (out later : List ℕ)
-    (process : P) (first : Notes) (kind : Kind) (new : Exam) (after : Dialogue P) (before gave : List ℕ)
-    → EndsWrong known (begun rule true) (begun_with process first) (Wrote kind) new after
-    → known.given process ≡ Some before → known.given after.process ≡ Some (before ++ gave)
-    → Engages may (fresh_under rule policy) after.sent engine out → out ≡ gave ++ later
-    → ⊥
 
 -- ---- a pass
 

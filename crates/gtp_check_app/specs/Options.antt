@@ -37,7 +37,7 @@ abbrev pub program : App
 program = with_rule (program_named (codes "gtp_check")) (word_rule (codes "CMD"))
 
 -- `[--size N] [--ko simple|positional] [--seed N] [--quick] [--only LESSON].. [--skip LESSON]..`, and
--- `[--list] [--singly] [--restarts N]`
+-- `[--list] [--singly] [--restarts N] [--trials N]`
 abbrev pub options : KeptNames → List Rule
 options names =
     maybe_number_rule (codes "size") (pos 5) (pos 25)
@@ -49,6 +49,7 @@ options names =
     ∷ flag_rule (codes "list")
     ∷ flag_rule (codes "singly")
     ∷ number_rule (codes "restarts") (pos 0) (pos 1000) (codes "200")
+    ∷ number_rule (codes "trials") (pos 0) (pos 1000) (codes "60")
     ∷ []
 
 -- the engine's command, and all options in the order of the help
@@ -81,6 +82,7 @@ pub record Ask (rows : List Row) (options : Options) : Type 0 where
   pub list : HasFlag (codes "list") rows options.list
   pub singly : HasFlag (codes "singly") rows options.singly
   pub restarts : HasNumber (codes "restarts") rows options.restarts
+  pub trials : HasNumber (codes "trials") rows options.trials
 
 -- the words of a command line have no mistake, and ask for these options
 pub record AsksFor (words : List Text) (options : Options) : Type 0 where

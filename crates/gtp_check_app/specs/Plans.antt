@@ -16,6 +16,7 @@ use Rattle.gtp_check_app.specs.declared.failure.Mistake.{Mistake}
 use Rattle.gtp_check_app.specs.declared.failure.Mistake.TheVariants.{NoCommand, NoLesson}
 use Rattle.cli.specs.declared.failure.PlanError.{PlanError}
 use Rattle.cli.specs.declared.failure.PlanError.TheVariants.{BadArgument, BadWords, OutOfMemory}
+use Rattle.gtp_check_talks.specs.Among.{is_among}
 use Rattle.gtp_check_app.specs.declared.options.Options.{Options}
 use Rattle.gtp_check_app.specs.declared.plan.Plan.{Plan}
 
@@ -46,10 +47,6 @@ is_quick Genmoves = false
 is_quick Games = false
 is_quick Restarts = false
 
--- the lesson is among these
-abbrev pub is_among : List Lesson → Lesson → Bool
-is_among lessons lesson = list_any (λ one. number_of one == number_of lesson) lessons
-
 -- The options ask for the lesson: it is one of those of `--only`, where there are any, none of `--skip`, and under
 -- `--quick` one of those.
 abbrev pub is_chosen : Options → Lesson → Bool
@@ -71,6 +68,7 @@ pub record IsPlanOf (options : Options) (plan : Plan) : Type 0 where
   pub left_out : plan.left_out.items ≡ filter (λ lesson. not (is_chosen options lesson)) all_lessons
   pub singly : plan.singly ≡ options.singly
   pub restarts : plan.restarts ≡ options.restarts
+  pub trials : plan.trials ≡ options.trials
 
 -- Why the options come to no plan: the command has no word; or it has, and no lesson is left; or memory was refused.
 -- That an argument isn't UTF-8 is none of theirs.

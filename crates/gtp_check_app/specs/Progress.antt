@@ -12,8 +12,8 @@ use Rattle.gtp_check_judge.specs.declared.exam.Exam.{Exam}
 use Rattle.gtp_check_judge.specs.Check.{Check}
 use Rattle.gtp_check_questions.specs.Lessons.{name_of, number_of}
 use Rattle.gtp_check_questions.specs.declared.lessons.Lesson.{Lesson}
-use Rattle.gtp_check_app.specs.declared.talk.Said.{Said}
-use Rattle.gtp_check_app.specs.Dialogues.{Dialogue}
+use Rattle.gtp_check_shortening.specs.declared.talk.Said.{Said}
+use Rattle.gtp_check_talks.specs.Dialogues.{Dialogue}
 use Rattle.gtp_check_app.specs.Summary.{plural}
 
 -- ---- a line

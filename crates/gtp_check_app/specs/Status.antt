@@ -5,7 +5,7 @@ use Rattle.cli.specs.Failures.{IsReported, ReportsFailure as NamedReportsFailure
 use Rattle.cli.specs.Status.{done, own_failure, usage_failure}
 use Rattle.cli.specs.declared.failure.Failure.{Failure}
 use Rattle.gtp_check_questions.specs.declared.lessons.Lesson.{Lesson}
-use Rattle.gtp_check_app.specs.Plans.{is_among}
+use Rattle.gtp_check_talks.specs.Among.{is_among}
 use Rattle.gtp_check_app.specs.declared.failure.Mistake.{Mistake}
 use Rattle.gtp_check_app.specs.declared.failure.Mistake.TheVariants.{NoCommand, NoLesson}
 use Rattle.byte_streams.specs.declared.calls.WriteOnce.{Ghosts}

@@ -13,8 +13,8 @@ use Rattle.gtp_check_questions.specs.Lessons.{all_lessons, name_of, number_of}
 use Rattle.gtp_check_questions.specs.declared.lessons.Lesson.{Lesson}
 use Rattle.gtp_process.specs.Shown.{quoted, unstarted_text}
 use Rattle.gtp_process.specs.declared.causes.Unstarted.{Unstarted}
-use Rattle.gtp_check_app.specs.Plans.{is_among}
-use Rattle.gtp_check_app.specs.declared.notes.Notes.{Notes}
+use Rattle.gtp_check_talks.specs.Among.{is_among}
+use Rattle.gtp_check_talks.specs.declared.notes.Notes.{Notes}
 use Rattle.gtp_check_app.specs.declared.plan.Plan.{Plan}
 use Rattle.gtp_check_app.specs.declared.summary.Ending.{Ending}
 use Rattle.gtp_check_app.specs.declared.summary.Over.{Over}

@@ -4,17 +4,10 @@ use Rattle.std.specs.Prelude.{replicate}
 use Rattle.std.specs.Prelude.{List, [], ◌∷◌, ◌++◌, length, Option, None, Some, slice_index, slice_set}
 use Rattle.gtp_check_questions.specs.Lessons.{number_of}
 use Rattle.gtp_check_questions.specs.declared.lessons.Lesson.{Lesson}
-use Rattle.gtp_check_app.specs.contracts.engine.FaultPartialEq.TheImpl as equality
-use Rattle.gtp_check_app.specs.declared.engine.Fault.{Fault}
+use Rattle.gtp_check_texts.specs.contracts.fault.FaultPartialEq.TheImpl as equality
+use Rattle.gtp_check_texts.specs.declared.fault.Fault.{Fault}
+use Rattle.gtp_check_talks.specs.Counts.{one_more, with_more}
 use Rattle.gtp_check_app.specs.declared.tally.Tally.{Tally}
-
--- one more of a count, which ends at the greatest number of 32 bits
-abbrev pub one_more : ℕ → ℕ
-one_more count = min (count + 1) (2 ^ 32 - 1)
-
--- a list with an element more, where it has room for it
-abbrev pub with_more : {A : Type 0} → ℕ → List A → A → List A
-with_more room list element = if nat_lt (length list) room then list ++ element ∷ [] else list
 
 -- Of one kind in one lesson so many complaints are shown.
 abbrev pub most_shown_alike : ℕ

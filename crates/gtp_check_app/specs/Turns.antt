@@ -1,5 +1,5 @@
 -- A check, turn by turn: what the engine is asked, when it is started and ended, and what is written. (Own.)
-use Rattle.std.specs.Prelude.{min, ◌^◌, ◌-◌}
+use Rattle.std.specs.Prelude.{max, nat_lt, count_by, if◌then◌else◌}
 use Rattle.std.specs.Prelude.{IsTrue, ◌↔◌, ◌≡◌, ◌⊎◌, ℕ, ◌+◌, ◌<◌, ◌≤◌, Bool, true, false, not, ◌&&◌, ◌||◌, List, []}
 use Rattle.std.specs.Prelude.{◌∷◌, ◌++◌, length}
 use Rattle.std.specs.Prelude.{Option, None, Some, IfSome, is_some, option_map, unwrap_or, Ok, Err}
@@ -25,33 +25,39 @@ use Rattle.gtp_check_questions.specs.declared.actions.Action.{Action}
 use Rattle.gtp_check_questions.specs.declared.actions.Action.TheVariants.{Ask, Done, Kill, Restart, Skip, Start}
 use Rattle.gtp_check_questions.specs.declared.lessons.Lesson.{Lesson}
 use Rattle.gtp_check_questions.specs.declared.lessons.Lesson.TheVariants as lesson
+use Rattle.gtp_check_questions.specs.declared.suicides.Suicide.TheVariants.{Forbidden}
 use Rattle.gtp_check_questions.specs.Asking.{IsTurn, Renews, lesson_of}
 use Rattle.gtp_check_questions.specs.Course.{Course, GoesTo, Leaves, begun, part_over, with_finding}
 use Rattle.gtp_check_questions.specs.Course.{IsOver as CourseIsOver}
 use Rattle.gtp_check_app.specs.declared.check.Check.{Check as Going}
-use Rattle.gtp_check_app.specs.declared.complaint.Complaint.{Complaint}
-use Rattle.gtp_check_app.specs.declared.engine.Engine.{Engine}
-use Rattle.gtp_check_app.specs.declared.engine.Fault.{Fault}
+use Rattle.gtp_check_texts.specs.declared.complaint.Complaint.{Complaint}
+use Rattle.gtp_check_talks.specs.declared.engine.Engine.{Engine}
+use Rattle.gtp_check_texts.specs.declared.fault.Fault.{Fault}
 use Rattle.cli.specs.declared.failure.Failure.{Failure}
 use Rattle.cli.specs.declared.failure.Failure.TheVariants.{OutOfMemory, TooManyTurns, Write}
-use Rattle.gtp_check_app.specs.declared.engine.Fault.TheVariants.{CutOff, Wrote}
-use Rattle.gtp_check_app.specs.declared.flat.Shortening.{Shortening}
-use Rattle.gtp_check_app.specs.declared.notes.Notes.{Notes}
+use Rattle.gtp_check_texts.specs.declared.fault.Fault.TheVariants.{CutOff, Wrote}
+use Rattle.gtp_check_shortening.specs.declared.flat.Shortening.{Shortening}
+use Rattle.gtp_check_talks.specs.declared.notes.Notes.{Notes}
 use Rattle.gtp_check_app.specs.declared.plan.Plan.{Plan}
 use Rattle.gtp_check_app.specs.declared.summary.Over.{Over}
 use Rattle.gtp_check_app.specs.declared.summary.Over.TheVariants as over
-use Rattle.gtp_check_app.specs.declared.talk.Purpose.{Purpose}
+use Rattle.gtp_check_shortening.specs.declared.talk.Purpose.{Purpose}
 use Rattle.gtp_check_app.specs.declared.tally.Tally.{Tally}
-use Rattle.gtp_check_app.specs.Complaints.{complaint_lines}
-use Rattle.gtp_check_app.specs.Dialogues.{AsksForMore, EndsLike, IsAsked, IsExchanged, IsTrial, Wrong, begun_with}
-use Rattle.gtp_check_app.specs.Dialogues.{dialogue, is_same_lesson, is_same_purpose, wrong_purpose, wrong_talk}
-use Rattle.gtp_check_app.specs.Dialogues.{wrong_with}
-use Rattle.gtp_check_app.specs.Notes.{nothing_noted}
-use Rattle.gtp_check_app.specs.Notes.{started as noted_start}
+use Rattle.gtp_check_texts.specs.Complaints.{complaint_lines}
+use Rattle.gtp_check_talks.specs.Dialogues.{AsksForMore, EndsLike, IsAsked, IsExchanged, IsTrial, Wrong, begun_with}
+use Rattle.gtp_check_talks.specs.Dialogues.{dialogue, wrong_purpose, wrong_talk}
+use Rattle.gtp_check_shortening.specs.Purposes.{is_same_lesson, is_same_purpose}
+use Rattle.gtp_check_talks.specs.Dialogues.{wrong_with}
+use Rattle.gtp_check_talks.specs.Notes.{nothing_noted}
+use Rattle.gtp_check_talks.specs.Notes.{started as noted_start}
 use Rattle.gtp_check_app.specs.Progress.{IsShown, before_read, cleared, clearing, looking, looking_line}
-use Rattle.gtp_check_app.specs.Shortening.{games_in, shortened, shortenings}
+use Rattle.gtp_check_shortening.specs.Shortening.{commands_of, games_in, shortened, shortenings}
+use Rattle.gtp_check_shortening.specs.Reduction.{Reduction, after_failure, after_success, next}
+use Rattle.gtp_check_shortening.specs.Reduction.{begun as begun_reduction}
+use Rattle.gtp_check_shortening.specs.declared.limits.Limits.{Limits}
 use Rattle.gtp_check_app.specs.Summary.{first_line}
-use Rattle.gtp_check_app.specs.Superko.{IsPositional}
+use Rattle.gtp_check_shortening.specs.Played.{played}
+use Rattle.gtp_check_shortening.specs.Superko.{IsPositional, game_before}
 use Rattle.gtp_check_app.specs.Tally.{found, is_shown, nothing_found, started_again, without_start}
 
 -- how many turns a check has at most; no check within the limits has this number
@@ -64,11 +70,33 @@ most_fruitless = 3
 
 -- a conversation of so many commands isn't shortened
 abbrev pub few_commands : ℕ
-few_commands = 20
+few_commands = 12
 
--- how often an engine is started that is found right: less than this (both together within 32 bits)
-abbrev pub ordinary_starts : ℕ
-ordinary_starts = 32
+-- so many commands may be asked in trials of a conversation, however short its lesson was
+abbrev pub least_tried : ℕ
+least_tried = 1000
+
+-- how many commands of the conversation were asked in the lesson in which it ended
+abbrev pub lesson_commands : Wrong → ℕ
+lesson_commands wrong = count_by (λ said. is_same_lesson (wrong_purpose wrong) said.purpose) (wrong_talk wrong)
+
+-- How much may be tried: so many trials as the plan has, where there are more commands than are few; and in all of
+-- them together as many commands as this conversation has in the lesson, or a thousand.
+abbrev pub limits_of : Plan → Wrong → Limits
+limits_of plan wrong = record {
+  trials = if nat_lt few_commands (length (wrong_talk wrong)) then plan.trials else 0;
+  commands = max least_tried (lesson_commands wrong);
+}
+
+-- the one, if there is one, or else the other
+abbrev pub or_else : Option Wrong → Option Wrong → Option Wrong
+or_else None other = other
+or_else (Some one) other = Some one
+
+-- How often engines are started at most: more often than by the course, after each of a thousand findings, and for a
+-- thousand trials of each.
+abbrev pub most_starts : ℕ
+most_starts = 2000000
 
 -- ---- between two turns
 
@@ -96,8 +124,8 @@ without_engine before = record before { check = after_loss before.check; engine 
 -- before the first turn
 abbrev pub before_all : {P : Type 0} → Plan → State P
 before_all plan = record {
-  check = opening plan.rule (min (plan.restarts + ordinary_starts) (2 ^ 32 - 1));
-  course = begun plan.lessons.items plan.scene_size plan.seed;
+  check = opening plan.rule most_starts;
+  course = begun plan.lessons.items plan.scene_size plan.seed Forbidden;
   engine = None;
   tally = nothing_found plan.restarts;
   notes = nothing_noted;
@@ -194,7 +222,7 @@ waiting plan now = waiting_for plan now now.engine
 pub record IsExplained (rule : KoRule) (wrong : Wrong) : Type 0 where
   pub simple : rule ≡ Simple
   pub refused : wrong.fault ≡ Wrote Refused
-  pub positional : IsPositional (wrong_talk wrong)
+  pub positional : IsPositional (played (wrong_talk wrong))
 
 -- A complaint with this number is of this lesson and of a conversation that ended so, with an engine of this ko rule.
 pub record IsComplaint (rule : KoRule) (number : ℕ) (lesson : Lesson) (wrong : Wrong) (complaint : Complaint)
@@ -208,6 +236,7 @@ pub record IsComplaint (rule : KoRule) (number : ℕ) (lesson : Lesson) (wrong :
   pub wrote : complaint.wrote.now ≡ wrong.wrote
   pub ending : complaint.ending ≡ wrong.ending
   pub hint : IsTrue complaint.is_positional ↔ IsExplained rule wrong
+  pub game : option_map (λ one. one.now) complaint.game ≡ game_before rule (played (wrong_talk wrong))
 
 -- It was found in the lesson of that command.
 abbrev pub found_in : {P : Type 0} → State P → Wrong → Fault → State P
@@ -240,42 +269,43 @@ module _ {P : Type 0} (known : Ghosts P) where
 module _ {P : Type 0} (known : Ghosts P) (plan : Plan) where
   -- ---- a shorter conversation
 
-  -- A shorter conversation may be tried: the whole one has more commands than are few, and more games than this one is
-  -- for; this one has fewer commands than it; and a start is left.
-  pub record MayTry (found : Wrong) (how : Shortening) (before : State P) : Type 0 where
+  -- These commands were asked of another engine, for what the command was asked that was answered wrongly.
+  pub record IsTried (found : Wrong) (commands : List CheckCommand) (before : State P) (had : Attempts P)
+      (result : Option Wrong) (after : State P) (has : Attempts P) : Type 0 where
+    pub trial : IsTrial known (program_line plan.words.items) (wrong_purpose found) commands
+        before.check had before.notes result after.check has after.notes
+    pub leads : after ≡ record before { check = after.check; notes = after.notes }
+
+  -- They were tried in place of the conversation that was found: no start was left; or they ended otherwise, or like
+  -- it.
+  pub data TriesOne (found : Wrong) (commands : List CheckCommand) (before : State P) (had : Attempts P)
+      : Option Wrong → State P → Attempts P → Type 0 where
+    no_start : (before.check.starts < before.check.most_starts → ⊥) → TriesOne found commands before had None before had
+    right : {after : State P} {has : Attempts P} → before.check.starts < before.check.most_starts
+        → IsTried found commands before had None after has
+        → TriesOne found commands before had None after has
+    other : {tried : Wrong} {after : State P} {has : Attempts P} → before.check.starts < before.check.most_starts
+        → IsTried found commands before had (Some tried) after has → (EndsLike tried found → ⊥)
+        → TriesOne found commands before had None after has
+    alike : {tried : Wrong} {after : State P} {has : Attempts P} → before.check.starts < before.check.most_starts
+        → IsTried found commands before had (Some tried) after has → EndsLike tried found
+        → TriesOne found commands before had (Some tried) after has
+
+  -- A conversation is shortened so where trials are made, it has more commands than are few, and more games than this
+  -- is for, and what is left of it has fewer commands than it.
+  pub record IsFor (found : Wrong) (how : Shortening) : Type 0 where
+    pub trials : 0 < plan.trials
     pub long : few_commands < length (wrong_talk found)
     pub games : how.more_than < games_in (wrong_talk found)
     pub shorter : length (shortened how (wrong_talk found)) < length (wrong_talk found)
-    pub few : before.check.starts < before.check.most_starts
-    pub left : 0 < before.tally.starts_left
 
-  -- It was tried on another engine, for what the command was asked that was answered wrongly. That takes one of the
-  -- starts that are left.
-  pub record IsTried (found : Wrong) (how : Shortening) (before : State P) (had : Attempts P) (result : Option Wrong)
-      (after : State P) (has : Attempts P) : Type 0 where
-    pub trial : IsTrial known (program_line plan.words.items) (wrong_purpose found) (shortened how (wrong_talk found))
-        before.check had before.notes result after.check has after.notes
-    pub leads : after ≡ record before {
-      check = after.check;
-      tally = without_start before.tally;
-      notes = after.notes;
-    }
-
-  -- One shorter conversation: it may not be tried; or it was, and ended otherwise, or like the one that was found.
+  -- One shorter conversation was tried, where it may be.
   pub data TriesShorter (found : Wrong) (how : Shortening) (before : State P) (had : Attempts P)
       : Option Wrong → State P → Attempts P → Type 0 where
-    left_out : (MayTry found how before → ⊥) → TriesShorter found how before had None before had
-    right : {after : State P} {has : Attempts P} → MayTry found how before
-        → IsTried found how before had None after has
-        → TriesShorter found how before had None after has
-    other : {tried : Wrong} {after : State P} {has : Attempts P} → MayTry found how before
-        → IsTried found how before had (Some tried) after has
-        → (EndsLike tried found → ⊥)
-        → TriesShorter found how before had None after has
-    alike : {tried : Wrong} {after : State P} {has : Attempts P} → MayTry found how before
-        → IsTried found how before had (Some tried) after has
-        → EndsLike tried found
-        → TriesShorter found how before had (Some tried) after has
+    left_out : (IsFor found how → ⊥) → TriesShorter found how before had None before had
+    tries : {result : Option Wrong} {after : State P} {has : Attempts P} → IsFor found how
+        → TriesOne found (shortened how (wrong_talk found)) before had result after has
+        → TriesShorter found how before had result after has
 
   -- These shorter conversations were tried in their order, up to the first that ended like the one that was found.
   pub data Shortens (found : Wrong)
@@ -288,6 +318,41 @@ module _ {P : Type 0} (known : Ghosts P) (plan : Plan) where
     shortened_so : {how : Shortening} {later : List Shortening} {before after : State P} {had has : Attempts P}
         {tried : Wrong} → TriesShorter found how before had (Some tried) after has
         → Shortens found (how ∷ later) before had (Some tried) after has
+
+  -- ---- delta debugging
+
+  -- From a reduction on, conversations were tried as it says, each in place of the one that was found. The shortest that
+  -- ended like it, if one did, and the reduction then.
+  pub data Reduces (found : Wrong) (first : Reduction) (before : State P) (had : Attempts P)
+      : Reduction → Option Wrong → State P → Attempts P → Type 0 where
+    begins : Reduces found first before had first None before had
+    failed : {now : Reduction} {best : Option Wrong} {mid after : State P} {between has : Attempts P}
+        (commands : List CheckCommand) → Reduces found first before had now best mid between
+        → next now ≡ Some commands → TriesOne found commands mid between None after has
+        → Reduces found first before had (after_failure (length commands) now) best after has
+    succeeded : {now : Reduction} {best : Option Wrong} {mid after : State P} {between has : Attempts P} {tried : Wrong}
+        (commands : List CheckCommand) → Reduces found first before had now best mid between
+        → next now ≡ Some commands → TriesOne found commands mid between (Some tried) after has
+        → Reduces found first before had (after_success tried.answered (length commands) now) (Some tried) after has
+
+  -- It was reduced until nothing was left to try.
+  pub record IsReduced (found : Wrong) (first : Reduction) (before : State P) (had : Attempts P) (best : Option Wrong)
+      (after : State P) (has : Attempts P) : Type 0 where
+    pub last : Reduction
+    pub reduces : Reduces found first before had last best after has
+    pub over : next last ≡ None
+
+  -- It was made shorter: to its last games, as far as one of these ends alike, and then by leaving out parts.
+  pub record IsShortened (found : Wrong) (before : State P) (had : Attempts P) (result : Option Wrong)
+      (after : State P) (has : Attempts P) : Type 0 where
+    pub mid : State P
+    pub between : Attempts P
+    pub games : Option Wrong
+    pub best : Option Wrong
+    pub shortens : Shortens found shortenings before had games mid between
+    pub reduced : IsReduced found (begun_reduction (commands_of (wrong_talk (unwrap_or games found)))
+        (limits_of plan (unwrap_or games found))) mid between best after has
+    pub is : result ≡ or_else best games
 
   -- ---- a complaint
 
@@ -302,7 +367,7 @@ module _ {P : Type 0} (known : Ghosts P) (plan : Plan) where
     shown : {fault : Fault} {mid after : State P} {has : Attempts P} {shorter : Option Wrong} (wrong : Wrong)
         (complaint : Complaint) → Closes known fault before wrong mid
         → is_shown mid.tally (wrong_purpose wrong).lesson fault ≡ true
-        → Shortens wrong shortenings (found_in mid wrong fault) had shorter after has
+        → IsShortened wrong (found_in mid wrong fault) had shorter after has
         → IsComplaint plan.rule after.tally.complaints (wrong_purpose wrong).lesson (unwrap_or shorter wrong) complaint
         → Complains before had (Some fault) after has (complaint_lines complaint ∷ [])
 
@@ -408,10 +473,10 @@ module _ {P : Type 0} (known : Ghosts P) (plan : Plan) where
           → BreaksAt outs line out written
           → IsShown errs progress (waiting plan heard.mid ++ cleared ∷ []) errors sees
           → StopsIn before had out errors (process_of mid.engine) had written sees Write
-      complaint_broke : {mid next after : State P} {has : Attempts P} {then written : O} {sees : E}
+      complaint_broke : {mid next after : State P} {has : Attempts P} {line_out written : O} {sees : E}
           {fault : Option Fault} {line : List (List ℕ)} {text : List ℕ} → (heard : Exchanges before fault mid)
-          → WritesFirst mid (is_some fault) next line → LinesGoOut outs line out then
-          → Complains next had fault after has (text ∷ []) → BreaksAt outs text then written
+          → WritesFirst mid (is_some fault) next line → LinesGoOut outs line out line_out
+          → Complains next had fault after has (text ∷ []) → BreaksAt outs text line_out written
           → IsShown errs progress (waiting plan heard.mid ++ (clearing line ++ looking (text ∷ []))) errors sees
           → StopsIn before had out errors None has written sees Write
       no_memory_to_start : {mid : State P} {course : Course} {has : Attempts P} → Asks plan.singly before mid

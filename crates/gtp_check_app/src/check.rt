@@ -11,21 +11,22 @@ ghost use Rattle.gtp_check_app.specs.Turns.{MayStart, TurnsAreOver, before_all, 
 ghost use Rattle.gtp_check_app.specs.Turns.{purpose_in, state_of, without_engine};
 ghost use Rattle.gtp_check_app.specs.private.Steps.{Begins, EndsTurn, FirstGoesOut, FirstStops, Gathers};
 ghost use Rattle.gtp_check_app.specs.private.Steps.{IsPaired, IsRefused, Settles, StopsAfter};
-ghost use Rattle.gtp_check_app.specs.declared.engine.TheConstants.{LINES_ROOM};
+ghost use Rattle.gtp_check_talks.specs.declared.engine.TheConstants.{LINES_ROOM};
 
 use crate::closing::{close, end_now, quit};
-use crate::engine::{Engine, Fault, Room};
-use crate::notes::Notes;
 use crate::plan::Plan;
 use crate::progress::clear;
 use crate::status::{is_earned, status_of};
 use crate::summary::{Ending, Over, first_line, last_lines};
-use crate::talk::Purpose;
 use crate::tally::Tally;
 use byte_streams::{WriteOnce, write_text};
 use cli::failure::Failure;
 use gtp_check_judge::{CheckCommand, Examiner};
-use gtp_check_questions::{Action, Course, Lesson, Lessons};
+use gtp_check_questions::{Action, Course, Lesson, Lessons, Suicide};
+use gtp_check_shortening::talk::Purpose;
+use gtp_check_talks::engine::{Engine, Room};
+use gtp_check_talks::notes::Notes;
+use gtp_check_texts::fault::Fault;
 use gtp_process::{Process, StartFault, Starter, Unstarted};
 use std::alloc::{AllocError, Global};
 
@@ -35,8 +36,9 @@ const MOST_TURNS: u64 = 1_000_000_000_000;
 /// How many steps of the course are taken in one turn at most.
 const MOST_STEPS: u32 = 64;
 
-/// How often an engine is started that is found right: less than this.
-const ORDINARY_STARTS: u32 = 32;
+/// How often engines are started at most: more often than by the course, after each of a thousand findings, and for a
+/// thousand trials of each.
+const MOST_STARTS: u32 = 2_000_000;
 
 /// After so many starts in a row without a right answer the check is over.
 const MOST_FRUITLESS: u32 = 3;
@@ -82,8 +84,13 @@ impl<S: Starter> Check<S> {
     {
         Check {
             alloc,
-            examiner: Examiner::new(plan.rule, plan.restarts.saturating_add(ORDINARY_STARTS)),
-            course: Course::new(copied(&plan.lessons), plan.scene_size, plan.seed),
+            examiner: Examiner::new(plan.rule, MOST_STARTS),
+            course: Course::new(
+                copied(&plan.lessons),
+                plan.scene_size,
+                plan.seed,
+                Suicide::Forbidden,
+            ),
             engine: None,
             notes: Notes::new(),
             tally: Tally::new(plan.restarts),

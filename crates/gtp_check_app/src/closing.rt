@@ -4,7 +4,7 @@ ghost use Rattle.gtp_process.specs.Quitting.{QuitsIfAny};
 ghost use Rattle.gtp_check_app.specs.Checks.{IsClosedWhere};
 ghost use Rattle.gtp_check_app.specs.Turns.{process_of};
 
-use crate::engine::{Engine, Room};
+use gtp_check_talks::engine::{Engine, Room};
 use gtp_process::{Process, quit_and_end};
 
 /// An engine, if there is one, is sent `quit` and ended.

@@ -1,36 +1,48 @@
 //! Something is wrong with the engine: it is ended, and a complaint is written.
-ghost use Rattle.std.specs.Prelude.{◌≡◌, ◌<◌, ◌⊎◌, [], ◌∷◌, true, false, None, IfErr, IfOk, IfSome, IsSome, OnOk};
-ghost use Rattle.std.specs.Prelude.{option_map};
+ghost use Rattle.std.specs.Prelude.{◌≡◌, ◌<◌, ◌≤◌, ◌⊎◌, [], ◌∷◌, true, false, None, IfErr, IfOk, IfSome, IsSome, OnOk};
+ghost use Rattle.std.specs.Prelude.{length};
+ghost use Rattle.std.specs.Prelude.{count_by, option_map};
 ghost use Rattle.byte_streams.specs.Writing.{BreaksAt, GoesOut};
 ghost use Rattle.gtp_process.specs.Starts.{program_line};
-ghost use Rattle.gtp_check_app.specs.Complaints.{complaint_lines};
-ghost use Rattle.gtp_check_app.specs.Dialogues.{AsksForMore, is_same_lesson, is_same_purpose, wrong_of};
+ghost use Rattle.gtp_check_texts.specs.Complaints.{complaint_lines};
+ghost use Rattle.gtp_check_talks.specs.Dialogues.{AsksForMore, wrong_of, wrong_talk};
+ghost use Rattle.gtp_check_shortening.specs.Purposes.{is_same_lesson, is_same_purpose};
 ghost use Rattle.gtp_check_app.specs.Progress.{IsShown, cleared};
-ghost use Rattle.gtp_check_app.specs.Shortening.{shortenings};
-ghost use Rattle.gtp_check_app.specs.Turns.{Closes, HasNoted, IsComplaint, Shortens, TriesShorter, is_loss};
+ghost use Rattle.gtp_check_shortening.specs.Shortening.{commands_of, games_in, shortenings};
+ghost use Rattle.gtp_check_app.specs.Turns.{Closes, HasNoted, IsComplaint, IsReduced, IsShortened, Shortens};
+ghost use Rattle.gtp_check_app.specs.Turns.{TriesOne, TriesShorter, few_commands, is_loss, limits_of};
+ghost use Rattle.gtp_check_shortening.specs.Played.{played};
+ghost use Rattle.gtp_check_shortening.specs.Reduction.{begun as begun_reduction};
+ghost use Rattle.gtp_check_shortening.specs.Superko.{game_before};
 ghost use Rattle.gtp_check_app.specs.Turns.{state_of};
 ghost use Rattle.gtp_check_app.specs.private.Steps.{ComplaintGoesOut, ComplaintStops};
-ghost use Rattle.gtp_check_app.specs.declared.complaint.Complaint.{Complaint};
+ghost use Rattle.gtp_check_texts.specs.declared.complaint.Complaint.{Complaint};
 ghost use Rattle.cli.specs.declared.failure.Failure.TheVariants as failure;
 
 use crate::check::{Check, purpose_in};
-use crate::complaint::{Complaint, complaint_text};
-use crate::engine::Fault;
-use crate::flat::{Shortening, games_in, shortened, shortenings};
 use crate::plan::Plan;
 use crate::progress::{clear, show_looking};
-use crate::superko::is_positional;
-use crate::talk::Purpose;
-use crate::trial::{Tried, try_commands};
 use byte_streams::{WriteOnce, write_text};
 use cli::failure::Failure;
-use go_board::KoRule;
-use gtp_check_judge::Kind;
+use go_board::{Game, KoRule};
+use gtp_check_judge::{CheckCommand, Kind};
 use gtp_check_questions::{Course, Lesson};
+use gtp_check_shortening::flat::{Shortening, commands_of, games_in, shortened, shortenings};
+use gtp_check_shortening::played::played;
+use gtp_check_shortening::superko::{game_before, is_positional};
+use gtp_check_shortening::talk::{Purpose, Said};
+use gtp_check_shortening::{Limits, Reduction};
+use gtp_check_talks::trial::{Tried, try_commands};
+use gtp_check_texts::complaint::{Complaint, complaint_text};
+use gtp_check_texts::fault::Fault;
 use gtp_process::{Process, Starter};
+use std::alloc::{AllocError, Global};
 
 /// A conversation of so many commands isn't shortened.
-const FEW_COMMANDS: usize = 20;
+const FEW_COMMANDS: usize = 12;
+
+/// So many commands may be asked in trials of a conversation, however short its lesson was.
+const LEAST_TRIED: usize = 1000;
 
 impl<S: Starter> Check<S> {
     /// Something is wrong with the engine, which is ended. The complaint is written, unless its like was shown often
@@ -115,15 +127,41 @@ impl<S: Starter> Check<S> {
             × (output.new ≡ output.old) × (errors.new ≡ errors.old))) }
         ensures same { state_of self.new ≡ state_of self.old }
     {
-        let complaint = complaint_of(self.tally.complaints, lesson, found, plan.rule);
+        let done = done_in(self.alloc, found, plan.rule)?;
+        let complaint = complaint_of(self.tally.complaints, lesson, found, plan.rule, &done);
         let text = complaint_text(self.alloc, &complaint)?;
         clear(progress, errors);
         write_text(output, text.as_slice())?;
         Ok(())
     }
 
-    /// A shorter conversation with the same end, if one is found: they are tried one after the other.
+    /// A shorter conversation with the same end, if one is found: the last games of this one, and then what is left of
+    /// that where parts are left out.
     fn shorter(
+        &mut self,
+        found: &Tried,
+        plan: &Plan<'_>,
+        starter: &mut S,
+    ) -> Result<Option<Tried>, Failure>
+        ensures shortens { IfOk result (λ shorter. IsShortened S.Process.Process plan.now
+            (wrong_of found.now) (state_of self.old) (S.asked starter.old)
+            (option_map wrong_of shorter) (state_of self.new) (S.asked starter.new)) }
+        ensures refused { IfErr result (λ why. (why ≡ failure.OutOfMemory)
+            × AsksForMore (program_line plan.now.words.items)
+            (S.asked starter.old) (S.asked starter.new)) }
+        ensures engine { self.new.engine ≡ self.old.engine }
+    {
+        match self.last_games(found, plan, starter)? {
+            None => self.reduced(found, found, plan, starter),
+            Some(games) => match self.reduced(found, &games, plan, starter)? {
+                None => Ok(Some(games)),
+                Some(best) => Ok(Some(best)),
+            },
+        }
+    }
+
+    /// The last games of a conversation, where they have the same end: they are tried one after the other.
+    fn last_games(
         &mut self,
         found: &Tried,
         plan: &Plan<'_>,
@@ -146,7 +184,7 @@ impl<S: Starter> Check<S> {
         Ok(None)
     }
 
-    /// One shorter conversation is tried on a new engine, where it may be. It is returned where it has the same end.
+    /// One shorter conversation is tried, where it may be. It is returned where it has the same end.
     fn try_shorter(
         &mut self,
         found: &Tried,
@@ -163,20 +201,77 @@ impl<S: Starter> Check<S> {
         ensures engine { self.new.engine ≡ self.old.engine }
     {
         let talk = found.conversation();
-        if talk.len() <= FEW_COMMANDS || games_in(talk) <= shortening.more_than {
+        if !may_shorten(plan.trials, talk, shortening) {
             return Ok(None);
         }
         let commands = shortened(self.alloc, talk, shortening)?;
-        if commands.len() >= talk.len() || !self.has_start() {
+        if commands.len() >= talk.len() {
             return Ok(None);
         }
-        self.tally.take_start();
+        self.try_one(found, commands.as_slice(), plan, starter)
+    }
+
+    /// What is left of a conversation where parts are left out, and that has the same end as the one that was found. The
+    /// shortest that was tried, if any has.
+    fn reduced(
+        &mut self,
+        found: &Tried,
+        longer: &Tried,
+        plan: &Plan<'_>,
+        starter: &mut S,
+    ) -> Result<Option<Tried>, Failure>
+        ensures reduced { IfOk result (λ best. IsReduced S.Process.Process plan.now
+            (wrong_of found.now) (begun_reduction (commands_of (wrong_talk (wrong_of longer.now)))
+            (limits_of plan.now (wrong_of longer.now))) (state_of self.old) (S.asked starter.old)
+            (option_map wrong_of best) (state_of self.new) (S.asked starter.new)) }
+        ensures refused { IfErr result (λ why. (why ≡ failure.OutOfMemory)
+            × AsksForMore (program_line plan.now.words.items)
+            (S.asked starter.old) (S.asked starter.new)) }
+        ensures engine { self.new.engine ≡ self.old.engine }
+    {
+        let commands = commands_of(self.alloc, longer.conversation())?;
+        let limits = limits_of(plan, longer);
+        let mut reduction = Reduction::new(self.alloc, commands.as_slice(), limits)?;
+        let mut best = None;
+        while let Some(commands) = reduction.next(self.alloc)? {
+            let asked = commands.len();
+            match self.try_one(found, commands.as_slice(), plan, starter)? {
+                None => reduction.failed(asked),
+                Some(tried) => {
+                    reduction.succeeded(tried.answered, asked);
+                    best = Some(tried);
+                }
+            }
+        }
+        Ok(best)
+    }
+
+    /// These commands are asked of a new engine, where a start is left. What is wrong then is returned where it is the same
+    /// as what was found.
+    fn try_one(
+        &mut self,
+        found: &Tried,
+        commands: &[CheckCommand],
+        plan: &Plan<'_>,
+        starter: &mut S,
+    ) -> Result<Option<Tried>, Failure>
+        ensures tries { IfOk result (λ tried. TriesOne S.Process.Process plan.now
+            (wrong_of found.now) commands.now (state_of self.old) (S.asked starter.old)
+            (option_map wrong_of tried) (state_of self.new) (S.asked starter.new)) }
+        ensures refused { IfErr result (λ why. (why ≡ failure.OutOfMemory)
+            × AsksForMore (program_line plan.now.words.items)
+            (S.asked starter.old) (S.asked starter.new)) }
+        ensures engine { self.new.engine ≡ self.old.engine }
+    {
+        if !self.examiner.may_start() {
+            return Ok(None);
+        }
         let tried = try_commands(
             self.alloc,
             starter,
             plan.words.as_slice(),
             &mut self.examiner,
-            commands.as_slice(),
+            commands,
             found.purpose(),
             &mut self.room,
             &mut self.notes,
@@ -190,21 +285,73 @@ impl<S: Starter> Check<S> {
             Ok(None)
         }
     }
+}
 
-    /// Whether a start is left for a trial.
-    fn has_start(&self) -> bool
-        ensures yes { result ≡ true → (self.now.examiner.starts < self.now.examiner.most_starts)
-            × (0 < self.now.tally.starts_left) }
-        ensures no { result ≡ false → self.now.examiner.starts < self.now.examiner.most_starts
-            → 0 < self.now.tally.starts_left → ⊥ }
-    {
-        self.examiner.may_start() && self.tally.starts_left > 0
+/// Whether a conversation may be shortened so: trials are made, it has more commands than are few, and more games than
+/// this is for.
+fn may_shorten(trials: u32, talk: &[Said], shortening: Shortening) -> bool
+    ensures yes { result ≡ true → (0 < trials) × (few_commands < length talk.now)
+        × (shortening.more_than < games_in talk.now) }
+    ensures no { result ≡ false → (trials ≡ 0) ⊎ ((length talk.now ≤ few_commands)
+        ⊎ (games_in talk.now ≤ shortening.more_than)) }
+{
+    trials > 0 && talk.len() > FEW_COMMANDS && games_in(talk) > shortening.more_than
+}
+
+/// How much may be tried of a conversation.
+fn limits_of(plan: &Plan<'_>, longer: &Tried) -> Limits
+    ensures { result ≡ limits_of plan.now (wrong_of longer.now) }
+{
+    let talk = longer.conversation();
+    let purpose = longer.purpose();
+    let trials = if talk.len() > FEW_COMMANDS {
+        plan.trials
+    } else {
+        0
+    };
+    Limits {
+        trials,
+        commands: lesson_commands(talk, purpose).max(LEAST_TRIED),
     }
+}
+
+/// How many of these commands were asked in the lesson of this purpose.
+fn lesson_commands(talk: &[Said], purpose: Purpose) -> usize
+    ensures { result ≡ count_by (λ said. is_same_lesson purpose said.purpose) talk.now }
+{
+    talk.iter()
+        .filter(|said| purpose.is_same_lesson(said.purpose))
+        .count()
+}
+
+/// What was done in a conversation up to the command that was answered wrongly, and the game of a right engine before it.
+#[derive(Drop)]
+struct Done {
+    talk: Vec<Said>,
+    game: Option<Game>,
+}
+
+/// What was done in a conversation, under this ko rule.
+fn done_in(alloc: Global, found: &Tried, rule: KoRule) -> Result<Done, AllocError>
+    ensures talk { IfOk result (λ done. done.talk.items ≡ played (wrong_talk (wrong_of found.now))) }
+    ensures game { IfOk result (λ done. done.game ≡ game_before rule done.talk.items) }
+{
+    let talk = played(alloc, found.conversation())?;
+    let game = game_before(talk.as_slice(), rule);
+    Ok(Done { talk, game })
 }
 
 /// The complaint of this number about a conversation that ended with something wrong in a lesson. Only where a right
 /// engine is under simple ko positional ko can explain a refusal.
-fn complaint_of(number: u32, lesson: Lesson, found: &Tried, rule: KoRule) -> Complaint<'_>
+fn complaint_of<'t>(
+    number: u32,
+    lesson: Lesson,
+    found: &'t Tried,
+    rule: KoRule,
+    done: &'t Done,
+) -> Complaint<'t>
+    requires talk { done.now.talk.items ≡ played (wrong_talk (wrong_of found.now)) }
+    requires game { done.now.game ≡ game_before rule done.now.talk.items }
     ensures { IsComplaint rule number lesson (wrong_of found.now) result }
 {
     Complaint {
@@ -218,7 +365,8 @@ fn complaint_of(number: u32, lesson: Lesson, found: &Tried, rule: KoRule) -> Com
         ending: found.said.ending,
         is_positional: rule == KoRule::Simple
             && found.fault == Fault::Wrote(Kind::Refused)
-            && is_positional(found.conversation()),
+            && is_positional(done.talk.as_slice()),
+        game: done.game.as_ref(),
     }
 }
 

@@ -5,28 +5,15 @@
 //! system's processes.
 #![tactic(auto)]
 
-mod answers;
 mod check;
 mod closing;
 mod complaining;
-pub mod complaint;
-pub mod engine;
 pub mod failure;
-pub mod flat;
-mod held;
-mod kinds;
 pub mod laws;
-pub mod listing;
-pub mod notes;
 pub mod options;
 pub mod plan;
 pub mod progress;
-mod rules;
 pub mod run;
 mod status;
 pub mod summary;
-pub mod superko;
-pub mod talk;
 pub mod tally;
-mod texts;
-mod trial;

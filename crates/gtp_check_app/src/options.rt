@@ -63,10 +63,12 @@ pub struct Options<'a> {
     pub singly: bool,
     /// How often the engine is started after something was found, 0 to 1,000.
     pub restarts: u32,
+    /// How many shorter conversations are tried in place of a long one, 0 to 1,000.
+    pub trials: u32,
 }
 
 /// The options, in the order of the help.
-static OPTIONS: [OptionRow<'static>; 9] = [
+static OPTIONS: [OptionRow<'static>; 10] = [
     OptionRow {
         name: "size",
         takes: Takes::MaybeNumber("N", 5, 25),
@@ -149,6 +151,12 @@ static OPTIONS: [OptionRow<'static>; 9] = [
         help: "Starts after something was found,\n\
             0 to 1000",
     },
+    OptionRow {
+        name: "trials",
+        takes: Takes::Number("N", 0, 1000, "60"),
+        help: "Shorter conversations that are tried in place of a\n\
+            long one, 0 to 1000; with 0 each is shown whole",
+    },
 ];
 
 /// Reads the words of a command line, of which the first is the program's name. The error is a mistake in the words, a
@@ -177,6 +185,7 @@ fn options_of<'a>(matches: &ArgMatches<'a>) -> Options<'a>
         list: flag_at(matches, "list"),
         singly: flag_at(matches, "singly"),
         restarts: number_at(matches, "restarts"),
+        trials: number_at(matches, "trials"),
     }
 }
 

@@ -1,7 +1,8 @@
 //! From the options of a run to what is checked.
 ghost use Rattle.std.specs.Prelude.{◌≡◌, IfOk, IfErr, filter, not};
 ghost use Rattle.gtp_check_questions.specs.Lessons.{all_lessons};
-ghost use Rattle.gtp_check_app.specs.Plans.{HasNoPlan, IsCommand, IsPlanOf, IsSceneSize, is_among, is_chosen, is_quick};
+ghost use Rattle.gtp_check_talks.specs.Among.{is_among};
+ghost use Rattle.gtp_check_app.specs.Plans.{HasNoPlan, IsCommand, IsPlanOf, IsSceneSize, is_chosen, is_quick};
 
 use crate::failure::Mistake;
 use crate::options::{Options, add_if};
@@ -9,6 +10,7 @@ use cli::failure::PlanError;
 use go_base::Size;
 use go_board::KoRule;
 use gtp_check_questions::{LESSONS, Lesson, Lessons};
+use gtp_check_talks::among::is_among;
 use std::alloc::{AllocError, Global};
 
 /// What is checked, and how.
@@ -30,6 +32,8 @@ pub struct Plan<'a> {
     pub singly: bool,
     /// How often the engine is started after something was found.
     pub restarts: u32,
+    /// How many trials may make a conversation shorter.
+    pub trials: u32,
 }
 
 /// The plan of the options.
@@ -58,6 +62,7 @@ pub fn plan_of<'a>(alloc: Global, options: &Options<'a>) -> Result<Plan<'a>, Pla
         left_out: left_out(options),
         singly: options.singly,
         restarts: options.restarts,
+        trials: options.trials,
     })
 }
 
@@ -97,13 +102,6 @@ fn is_chosen(options: &Options<'_>, lesson: Lesson) -> bool
     (options.only.is_empty() || is_among(&options.only, lesson))
         && !is_among(&options.skip, lesson)
         && (!options.quick || is_quick(lesson))
-}
-
-/// Whether a lesson is among these.
-pub fn is_among(lessons: &[Lesson], lesson: Lesson) -> bool
-    ensures { result ≡ is_among lessons.now lesson }
-{
-    lessons.iter().any(|one| one.number() == lesson.number())
 }
 
 /// Whether a lesson is one of those of `--quick`: all up to the scenes.

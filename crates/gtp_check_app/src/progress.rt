@@ -1,24 +1,24 @@
 //! What is written of a check's progress on a terminal, in place of the line before.
 ghost use Rattle.std.specs.Prelude.{◌≡◌, ◌++◌, [], ◌∷◌, take};
-ghost use Rattle.gtp_check_app.specs.Dialogues.{dialogue};
-ghost use Rattle.gtp_check_app.specs.Notes.{nothing_noted};
+ghost use Rattle.gtp_check_talks.specs.Dialogues.{dialogue};
+ghost use Rattle.gtp_check_talks.specs.Notes.{nothing_noted};
 ghost use Rattle.gtp_check_app.specs.Progress.{IsShown, cleared, in_place, is_read_next, line_at, line_start};
 ghost use Rattle.gtp_check_app.specs.Progress.{looking_line};
 ghost use Rattle.gtp_check_app.specs.Progress.{most_columns, place_among, waiting_text};
-ghost use Rattle.gtp_check_app.specs.Texts.{joined};
+ghost use Rattle.gtp_check_texts.specs.Texts.{joined};
 ghost use Rattle.gtp_check_app.specs.Turns.{state_of, waiting};
 
 use crate::check::Check;
-use crate::complaint::without_newline;
-use crate::engine::Engine;
 use crate::plan::Plan;
 use crate::summary::plural;
-use crate::talk::{Said, said_at};
 use arrayvec::ArrayVec;
 use byte_streams::{WriteOnce, write_or_break};
 use go_base::{push, write_int};
 use gtp_check_judge::Examiner;
 use gtp_check_questions::{Lesson, Lessons};
+use gtp_check_shortening::talk::{Said, said_at};
+use gtp_check_talks::engine::Engine;
+use gtp_check_texts::complaint::without_newline;
 use gtp_process::{Process, Starter};
 
 /// How many columns of a line are written at most.

@@ -12,7 +12,6 @@ ghost use Rattle.gtp_check_app.specs.private.Answering.{IsAnswered, Lists};
 
 use crate::check::Check;
 use crate::failure::NAME;
-use crate::listing::list_text;
 use crate::options::read_options;
 use crate::plan::{Plan, plan_of};
 use crate::progress::clear;
@@ -23,6 +22,7 @@ use clap::error::ErrorKind;
 use cli::failure::Failure;
 use cli::requests::{answer_error, show};
 use go_base::push;
+use gtp_check_texts::listing::list_text;
 use gtp_process::{Starter, Unstarted, push_unstarted};
 use std::alloc::{AllocError, Global};
 use std::convert::AsStr;

@@ -1,11 +1,11 @@
 //! The status of a check that is over.
 ghost use Rattle.std.specs.Prelude.{◌≡◌};
 ghost use Rattle.std.specs.List.{list_all};
-ghost use Rattle.gtp_check_app.specs.Plans.{is_among};
+ghost use Rattle.gtp_check_talks.specs.Among.{is_among};
 ghost use Rattle.gtp_check_app.specs.Status.{is_earned, status_of};
 
-use crate::plan::is_among;
 use gtp_check_questions::Lesson;
+use gtp_check_talks::among::is_among;
 
 /// The status of a check with so many complaints: 1 where there are any. Else 0 where a pass is earned, and 4 where it
 /// isn't.

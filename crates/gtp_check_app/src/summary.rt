@@ -9,14 +9,15 @@ ghost use Rattle.gtp_check_app.specs.Summary.{lack_line, lack_lines, last_lines,
 ghost use Rattle.gtp_check_app.specs.Summary.{refused_line, shown_or, sizes_line, spaced_name, spaced_size};
 ghost use Rattle.gtp_check_app.specs.Summary.{undos_line, unstarted_line};
 
-use crate::notes::{Beginning, Notes};
 use crate::options::add_if;
-use crate::plan::{Plan, is_among};
-use crate::texts::add_all;
+use crate::plan::Plan;
 use arrayvec::ArrayVec;
 use go_base::{push, write_int};
 use go_board::KoRule;
 use gtp_check_questions::{LESSONS, Lesson, Lessons};
+use gtp_check_talks::among::is_among;
+use gtp_check_talks::notes::{Beginning, Notes};
+use gtp_check_texts::texts::add_all;
 use gtp_process::{Unstarted, push_quoted, push_unstarted};
 use std::alloc::{AllocError, Global};
 

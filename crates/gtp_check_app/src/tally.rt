@@ -3,9 +3,9 @@ ghost use Rattle.std.specs.Prelude.{◌≡◌, ◌-◌, ◌<◌, ◌||◌, nat_l
 ghost use Rattle.gtp_check_app.specs.Tally.{alike, found, started_again, in_lesson, is_shown, nothing_found};
 ghost use Rattle.gtp_check_app.specs.Tally.{with_hidden};
 
-use crate::engine::Fault;
 use arrayvec::ArrayVec;
 use gtp_check_questions::Lesson;
+use gtp_check_texts::fault::Fault;
 
 /// Of one kind in one lesson so many complaints are shown.
 const MOST_SHOWN_ALIKE: usize = 3;
@@ -108,17 +108,5 @@ impl Tally {
             self.starts_left = self.starts_left.saturating_sub(1);
             self.is_after_fault = false;
         }
-    }
-
-    /// Takes one of the starts that are left, if there is one.
-    pub fn take_start(&mut self) -> bool
-        ensures took { result ≡ nat_lt 0 self.old.starts_left }
-        ensures left { self.new ≡ record self.old { starts_left = self.old.starts_left - 1 } }
-    {
-        if self.starts_left == 0 {
-            return false;
-        }
-        self.starts_left -= 1;
-        true
     }
 }

@@ -5,3 +5,4 @@ pub mod Statuses
 pub mod Numbers
 pub mod Choices
 pub mod Judged
+pub mod Komis

@@ -2,3 +2,4 @@
 pub mod Plays
 pub mod Lines
 pub mod Handicaps
+pub mod Komis

@@ -12,3 +12,4 @@ pub mod Refusals
 pub mod Lasts
 pub mod Enough
 pub mod Undos
+pub mod Opinions

@@ -2,3 +2,4 @@
 pub mod EmptyBoard
 pub mod ReadBack
 pub mod Texts
+pub mod Even

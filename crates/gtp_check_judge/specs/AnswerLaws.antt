@@ -1,9 +1,9 @@
--- Laws of single answers: which text is a score, and what is reported as refused.
-use Rattle.std.specs.Prelude.{◌≡◌, ℕ, ℤ, pos, neg_ℤ, ◌↔◌, false, List, [], ◌∷◌, ◌++◌, Option, None, Some, Result, Ok}
-use Rattle.std.specs.Prelude.{codes}
-use Rattle.go_base.specs.Komi.{SpellsKomi, no_sign}
+-- Laws of single answers: which text is a score, which komi may be refused, and what is reported as refused.
+use Rattle.std.specs.Prelude.{◌≡◌, ℕ, ◌+◌, ◌-◌, ◌*◌, ◌^◌, ◌<◌, ◌≤◌, ◌⊎◌, ℤ, pos, ◌↔◌, true, false, List, [], ◌∷◌, ◌++◌}
+use Rattle.std.specs.Prelude.{length, codes, Option, None, Some, Result, Ok}
+use Rattle.std.specs.Str.Parse.{AllDigits, digits_value}
 use Rattle.go_board.specs.declared.rules.KoRule.{KoRule}
-use Rattle.gtp_wire.specs.declared.commands.Command.TheVariants.{Boardsize, Undo}
+use Rattle.gtp_wire.specs.declared.commands.Command.TheVariants.{Boardsize, Komi, Undo}
 use Rattle.gtp_wire.specs.declared.replies.Reply.{Reply}
 use Rattle.gtp_wire.specs.declared.replies.ReplyFault.{ReplyFault}
 use Rattle.gtp_wire.specs.Words.{reply_words}
@@ -11,33 +11,77 @@ use Rattle.gtp_check_judge.specs.declared.asking.CheckCommand.TheVariants.{Match
 use Rattle.gtp_check_judge.specs.declared.unanswered.Asked.{Asked}
 use Rattle.gtp_check_judge.specs.declared.exam.Exam.{Exam}
 use Rattle.gtp_check_judge.specs.declared.exam.Finding.{Finding}
-use Rattle.gtp_check_judge.specs.Scores.{score_of_text}
+use Rattle.gtp_check_judge.specs.declared.scores.Score.{Score}
+use Rattle.gtp_check_judge.specs.declared.scores.SaidScore.{SaidScore}
+use Rattle.gtp_check_judge.specs.declared.scores.SaidScore.TheVariants.{Number, Long}
+use Rattle.gtp_check_judge.specs.Scores.{negative, are_only_zeros, score_of_text}
 use Rattle.gtp_check_judge.specs.Judging.{oldest}
 use Rattle.gtp_check_judge.specs.Exam.{refused_what}
-use Rattle.gtp_check_judge.specs.declared.dues.Due.TheVariants.{MayUndo}
+use Rattle.gtp_check_judge.specs.declared.dues.Due.{Due}
+use Rattle.gtp_check_judge.specs.declared.dues.Due.TheVariants.{Succeeds, MayUndo}
 use Rattle.gtp_check_judge.specs.declared.judging.Refusal.{Refusal}
 use Rattle.gtp_check_judge.specs.declared.judging.Refusal.TheVariants as refusal
-use Rattle.gtp_check_judge.specs.Laws.{Exchange, Talks}
+use Rattle.go_base.specs.Size.{IsSize}
+use Rattle.gtp_session.specs.CommandAnswers.{after_command}
+use Rattle.gtp_check_judge.specs.Komis.{HasToBeTaken}
+use Rattle.gtp_check_judge.specs.RightEngine.{RightEngine}
+use Rattle.gtp_check_judge.specs.Dues.{IsDue}
+use Rattle.gtp_check_judge.specs.Laws.{Exchange, Talks, IsAsked, IsRight}
 
 -- ---- scores
 
--- The text is a decimal number of points without a sign, as a komi is spelled.
-pub record SpellsPoints (half_points : ℤ) (text : List ℕ) : Type 0 where
-  pub spells : SpellsKomi half_points text
-  pub unsigned : spells.sign ≡ no_sign
+-- The score of these digits before the point and those after it. Where there are at most nine before it, leading zeros
+-- counted, and at most six after it, it is their number in millionths of a point, and what one of the last of them is.
+-- Else it is a long one.
+pub data IsScoreOf (whole decimals : List ℕ) : SaidScore → Type 0 where
+  short : (score : Score) → length whole ≤ 9 → length decimals ≤ 6 → score.unit ≡ 10 ^ (6 - length decimals)
+      → score.millionths ≡ pos (1000000 * digits_value 10 whole + score.unit * digits_value 10 decimals)
+      → IsScoreOf whole decimals (Number score)
+  long : 9 < length whole ⊎ 6 < length decimals → IsScoreOf whole decimals Long
 
--- The word is a score in half points, positive where Black leads: `B+` and points, `W+` and points, or a zero. The
--- letters are capitals.
-pub data NamesScore : ℤ → List ℕ → Type 0 where
-  black : (lead : ℤ) (points : List ℕ) → SpellsPoints lead points → NamesScore lead (codes "B+" ++ points)
-  white : (lead : ℤ) (points : List ℕ) → SpellsPoints lead points → NamesScore (neg_ℤ lead) (codes "W+" ++ points)
-  even : (zero : List ℕ) → SpellsPoints (pos 0) zero → NamesScore (pos 0) zero
+-- what follows the digits before the point: nothing, or a point and these digits
+pub data FollowsDigits : List ℕ → List ℕ → Type 0 where
+  nothing : FollowsDigits [] []
+  point : (decimals : List ℕ) → FollowsDigits (codes "." ++ decimals) decimals
+
+-- The text is a decimal number of points without a sign: digits, and a point and digits or none; at least one digit in
+-- all.
+pub record SpellsPoints (said : SaidScore) (text : List ℕ) : Type 0 where
+  pub whole : List ℕ
+  pub rest : List ℕ
+  pub decimals : List ℕ
+  pub shape : text ≡ whole ++ rest
+  pub follows : FollowsDigits rest decimals
+  pub digits_before : AllDigits 10 whole
+  pub digits_after : AllDigits 10 decimals
+  pub some_digit : 0 < length whole + length decimals
+  pub value : IsScoreOf whole decimals said
+
+-- The word is a score: `B+` and points, `W+` and points, by which White leads, or a zero. The letters are capitals.
+pub data NamesScore : SaidScore → List ℕ → Type 0 where
+  black : (said : SaidScore) (points : List ℕ) → SpellsPoints said points → NamesScore said (codes "B+" ++ points)
+  white : (said : SaidScore) (points : List ℕ) → SpellsPoints said points
+      → NamesScore (negative said) (codes "W+" ++ points)
+  zero : (said : SaidScore) (text : List ℕ) → SpellsPoints said text → are_only_zeros text ≡ true
+      → NamesScore said text
 
 -- A text is read as a score exactly where it is one word that is that score. So any other text is none.
 abbrev pub ScoresAreRead : Type 0
-ScoresAreRead = (text : List ℕ) (half_points : ℤ)
-    → (score_of_text text ≡ Some half_points)
-    ↔ ((word : List ℕ) × (reply_words text ≡ word ∷ []) × NamesScore half_points word)
+ScoresAreRead = (text : List ℕ) (said : SaidScore)
+    → (score_of_text text ≡ Some said)
+    ↔ ((word : List ℕ) × (reply_words text ≡ word ∷ []) × NamesScore said word)
+
+-- ---- komi
+
+-- The success of a komi is due where every engine has to take it. Of any other each reply is right, be it a success or
+-- a failure, and whatever its text: a right engine's komi is then the one that was asked.
+pub record SomeKomisMayBeRefused : Type 0 where
+  pub taken : (engine : RightEngine) (komi : ℤ) (due : Due) → HasToBeTaken komi
+      → IsDue engine (Match (Komi komi)) due → due ≡ Succeeds
+  pub free : (before : RightEngine) (entry : Asked) (reply : Reply) (komi : ℤ) → ¬ HasToBeTaken komi
+      → IsSize before.game.size → IsAsked before entry → entry.command ≡ Match (Komi komi)
+      → reply.id ≡ Some entry.id
+      → IsRight before entry reply (record before { game = after_command before.game (Komi komi) })
 
 -- ---- refusals
 

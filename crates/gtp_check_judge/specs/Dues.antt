@@ -1,6 +1,6 @@
 -- What is due to a command: what every right engine answers to it, by the rules of the game, and by the moves that were
 -- taken back.
-use Rattle.std.specs.Prelude.{◌≡◌, ℕ, ◌≤◌, ◌<◌, Bool, true, false, [], length}
+use Rattle.std.specs.Prelude.{◌≡◌, ℕ, ℤ, ◌≤◌, ◌<◌, Bool, true, false, [], length, if◌then◌else◌}
 use Rattle.go_base.specs.Int.{most_int}
 use Rattle.go_base.specs.Size.{IsSize}
 use Rattle.go_base.specs.Komi.{IsKomi}
@@ -12,7 +12,6 @@ use Rattle.gtp_wire.specs.declared.commands.Command.{Command}
 use Rattle.gtp_wire.specs.declared.commands.Command.TheVariants.{Boardsize, Komi, ClearBoard, FixedHandicap, Play}
 use Rattle.gtp_wire.specs.declared.commands.Command.TheVariants.{Genmove, Undo, Quit}
 use Rattle.gtp_session.specs.CommandAnswers.{after_command}
-use Rattle.go_board.specs.Area.{score}
 use Rattle.gtp_check_judge.specs.declared.asking.CheckCommand.{CheckCommand}
 use Rattle.gtp_check_judge.specs.declared.asking.CheckCommand.TheVariants.{Match, FinalScore, Name, Version}
 use Rattle.gtp_check_judge.specs.declared.asking.CheckCommand.TheVariants.{KnownCommand}
@@ -20,6 +19,7 @@ use Rattle.gtp_check_judge.specs.declared.dues.Due.{Due}
 use Rattle.gtp_check_judge.specs.declared.dues.Due.TheVariants.{Succeeds, Fails, Places, Resizes, Scores, AnyReply}
 use Rattle.gtp_check_judge.specs.declared.dues.Due.TheVariants.{Chooses, MayUndo}
 use Rattle.gtp_check_judge.specs.declared.dues.Cause.TheVariants.{BadMove, BadHandicap, NoMoves}
+use Rattle.gtp_check_judge.specs.Komis.{is_exact_komi}
 use Rattle.gtp_check_judge.specs.RightEngine.{RightEngine}
 
 -- What may be asked in a game. (What an engine answers is the table of its commands; what a check asks is our own.) A
@@ -60,7 +60,7 @@ HandicapDue game stones (Fails (BadMove fault)) = ⊥
 HandicapDue game stones (Fails NoMoves) = ⊥
 HandicapDue game stones Succeeds = ⊥
 HandicapDue game stones (Resizes size) = ⊥
-HandicapDue game stones (Scores score) = ⊥
+HandicapDue game stones (Scores size komi) = ⊥
 HandicapDue game stones AnyReply = ⊥
 HandicapDue game stones (Chooses colour) = ⊥
 HandicapDue game stones MayUndo = ⊥
@@ -73,7 +73,7 @@ PlayDue game move (Fails (BadHandicap fault)) = ⊥
 PlayDue game move (Fails NoMoves) = ⊥
 PlayDue game move (Places size count) = ⊥
 PlayDue game move (Resizes size) = ⊥
-PlayDue game move (Scores score) = ⊥
+PlayDue game move (Scores size komi) = ⊥
 PlayDue game move AnyReply = ⊥
 PlayDue game move (Chooses colour) = ⊥
 PlayDue game move MayUndo = ⊥
@@ -88,14 +88,18 @@ UndoDue engine (Fails (BadMove fault)) = ⊥
 UndoDue engine (Fails (BadHandicap fault)) = ⊥
 UndoDue engine (Places size count) = ⊥
 UndoDue engine (Resizes size) = ⊥
-UndoDue engine (Scores score) = ⊥
+UndoDue engine (Scores size komi) = ⊥
 UndoDue engine AnyReply = ⊥
 UndoDue engine (Chooses colour) = ⊥
+
+-- a `komi`: a success where every engine has to take it, and else any reply
+abbrev pub komi_due : ℤ → Due
+komi_due komi = if is_exact_komi komi then Succeeds else AnyReply
 
 -- What is due to a command of a match. A `boardsize` may be refused: an engine plays the sizes that it likes.
 abbrev pub IsDueTo : RightEngine → Command → Due → Type 0
 IsDueTo engine (Boardsize size) due = (due ≡ Resizes size) × IsSize size
-IsDueTo engine (Komi komi) due = (due ≡ Succeeds) × IsKomi komi
+IsDueTo engine (Komi komi) due = (due ≡ komi_due komi) × IsKomi komi
 IsDueTo engine ClearBoard due = due ≡ Succeeds
 IsDueTo engine (FixedHandicap stones) due = HandicapDue engine.game stones due
 IsDueTo engine (Play move) due = PlayDue engine.game move due
@@ -103,12 +107,12 @@ IsDueTo engine (Genmove colour) due = (due ≡ Chooses colour) × HasRoom engine
 IsDueTo engine Undo due = UndoDue engine due
 IsDueTo engine Quit due = ⊥
 
--- What is due to a command. To a `final_score` the score of the board, on which no stone is, or a failure; to `name`,
--- `version` and `known_command` a reply, whatever it says.
+-- What is due to a command. To a `final_score` a score of the board, on which no stone is, with this komi, or a
+-- failure; to `name`, `version` and `known_command` a reply, whatever it says.
 abbrev pub IsDue : RightEngine → CheckCommand → Due → Type 0
 IsDue engine (Match command) due = IsDueTo engine command due
 IsDue engine FinalScore due =
-    (due ≡ Scores (score engine.game)) × IsFresh engine.game × IsKomi engine.game.komi
+    (due ≡ Scores engine.game.size engine.game.komi) × IsFresh engine.game × IsKomi engine.game.komi
 IsDue engine Name due = due ≡ AnyReply
 IsDue engine Version due = due ≡ AnyReply
 IsDue engine (KnownCommand known) due = due ≡ AnyReply
@@ -122,14 +126,15 @@ after_check game Version = game
 after_check game (KnownCommand known) = game
 
 -- The game of a right engine once it has answered so. What a `genmove` adds, and whether a `boardsize` or an `undo` is
--- refused, isn't known before.
+-- refused, isn't known before. Its komi is the last that was asked, also where any reply is due: what an engine makes
+-- of that komi nobody asks.
 abbrev pub after_due : GameRecord → CheckCommand → Due → GameRecord
 after_due game command Succeeds = after_check game command
 after_due game command (Places size count) = after_check game command
 after_due game command (Fails cause) = game
 after_due game command (Resizes size) = game
-after_due game command (Scores score) = game
-after_due game command AnyReply = game
+after_due game command (Scores size komi) = game
+after_due game command AnyReply = after_check game command
 after_due game command (Chooses colour) = game
 after_due game command MayUndo = game
 
@@ -154,12 +159,17 @@ undone_due undone command Succeeds = undone_once undone command
 undone_due undone command (Places size count) = undone
 undone_due undone command (Fails cause) = undone
 undone_due undone command (Resizes size) = undone
-undone_due undone command (Scores score) = undone
+undone_due undone command (Scores size komi) = undone
 undone_due undone command AnyReply = undone
 undone_due undone command (Chooses colour) = undone
 undone_due undone command MayUndo = undone
 
--- a right engine once it has answered so
+-- A right engine once it has answered so. What it thinks of an empty board isn't known before a `final_score` is
+-- answered.
 abbrev pub engine_after : RightEngine → CheckCommand → Due → RightEngine
 engine_after engine command due =
-    record { game = after_due engine.game command due; undone = undone_due engine.undone command due }
+    record {
+      game = after_due engine.game command due;
+      undone = undone_due engine.undone command due;
+      opinion = engine.opinion;
+    }

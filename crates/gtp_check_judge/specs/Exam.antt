@@ -1,5 +1,5 @@
 -- What the examiner keeps of an engine, and its steps.
-use Rattle.std.specs.Prelude.{◌≡◌, ◌||◌, ℕ, ◌+◌, ◌<◌, ◌≤◌, Bool, true, false, List, [], ◌∷◌, ◌++◌, length, drop}
+use Rattle.std.specs.Prelude.{◌≡◌, ℕ, ◌+◌, ◌<◌, ◌≤◌, Bool, true, false, List, [], ◌∷◌, ◌++◌, length, drop}
 use Rattle.std.specs.Prelude.{Option, None, Some, IfSome, Result, Ok, Err}
 use Rattle.go_base.specs.Int.{most_int}
 use Rattle.go_board.specs.Game.{GameRecord, HasRoom, IsLegal, with_move, without_last, fresh_game_under}
@@ -17,14 +17,15 @@ use Rattle.gtp_check_judge.specs.declared.dues.Due.TheVariants.{Succeeds, Fails,
 use Rattle.gtp_check_judge.specs.declared.dues.Due.TheVariants.{Chooses, MayUndo}
 use Rattle.gtp_check_judge.specs.declared.judging.Judgement.{Judgement}
 use Rattle.gtp_check_judge.specs.declared.judging.Refusal.{Refusal}
-use Rattle.gtp_check_judge.specs.declared.judging.Judgement.TheVariants.{Right, Plays, Resized, Undone, Wrong}
+use Rattle.gtp_check_judge.specs.declared.judging.Judgement.TheVariants.{Right, Plays, Resized, Undone, Opines, Wrong}
 use Rattle.gtp_check_judge.specs.declared.judging.Kind.{Kind}
 use Rattle.gtp_check_judge.specs.declared.judging.Kind.TheVariants.{WrongId, Unasked, NoStatus, Overlong}
 use Rattle.gtp_check_judge.specs.declared.unanswered.Asked.{Asked}
 use Rattle.gtp_check_judge.specs.declared.exam.Exam.{Exam}
 use Rattle.gtp_check_judge.specs.declared.exam.Finding.{Finding}
+use Rattle.gtp_check_judge.specs.declared.opinions.Opinion.TheVariants.{Unheard}
 use Rattle.gtp_check_judge.specs.declared.setups.Board.TheVariants.{Unknown, Sized, Cleared}
-use Rattle.gtp_check_judge.specs.Setups.{is_clear_board, is_komi, is_final_score, needs_board, board_after}
+use Rattle.gtp_check_judge.specs.Setups.{is_clear_board, komi_after, is_final_score, needs_board, board_after}
 use Rattle.gtp_check_judge.specs.declared.skills.Skill.TheVariants.{Has}
 use Rattle.gtp_check_judge.specs.Skills.{needed_skill, none_asked, said_of, learned}
 use Rattle.gtp_check_judge.specs.RightEngine.{RightEngine}
@@ -39,6 +40,7 @@ abbrev pub begun : KoRule → Bool → Exam
 begun rule up = record {
   game = fresh_game_under rule;
   undone = false;
+  opinion = Unheard;
   up = up;
   sent = 0;
   unanswered = [];
@@ -50,7 +52,7 @@ begun rule up = record {
 
 -- the right engine of the exam: one that has answered all that was asked
 abbrev pub engine_of : Exam → RightEngine
-engine_of exam = record { game = exam.game; undone = exam.undone }
+engine_of exam = record { game = exam.game; undone = exam.undone; opinion = exam.opinion }
 
 -- the engine was found wrong, or lost
 abbrev pub downed : Exam → Exam
@@ -71,7 +73,7 @@ pub record Asks (old : Exam) (command : CheckCommand) (new : Exam) : Type 0 wher
     sent = old.sent + 1;
     unanswered = old.unanswered ++ record { id = old.sent + 1; command = command; due = due } ∷ [];
     board = board_after old.board (is_clear_board command);
-    komi_set = old.komi_set || is_komi command;
+    komi_set = komi_after old.komi_set command;
   }
 
 -- ---- bytes
@@ -86,10 +88,11 @@ finding_of asked Right = None
 finding_of asked (Plays colour v) = None
 finding_of asked (Resized size) = None
 finding_of asked Undone = None
+finding_of asked (Opines opinion) = None
 finding_of asked (Wrong kind) = Some (record { asked = Some asked; kind = kind })
 
--- A right answer is taken off, with the move or the empty board that it made, or the move that it took back. After a
--- wrong one the engine is down.
+-- A right answer is taken off, with the move or the empty board that it made, the move that it took back, or what it
+-- says of the board. After a wrong one the engine is down.
 abbrev pub after_judged : Exam → Judgement → Exam
 after_judged exam Right = record exam { unanswered = drop 1 exam.unanswered }
 after_judged exam (Plays colour v) =
@@ -102,6 +105,7 @@ after_judged exam (Resized size) =
     }
 after_judged exam Undone =
     record exam { unanswered = drop 1 exam.unanswered; game = without_last exam.game; undone = true }
+after_judged exam (Opines opinion) = record exam { unanswered = drop 1 exam.unanswered; opinion = opinion }
 after_judged exam (Wrong kind) = downed exam
 
 -- the same exam, with what is known of the engine once it has answered this command so
@@ -113,7 +117,7 @@ abbrev pub IdLeaves : Exam → Asked → Reply → Bool → Option Finding → E
 IdLeaves exam asked reply false finding new =
     (finding ≡ Some (record { asked = Some asked; kind = WrongId })) × (new ≡ downed exam)
 IdLeaves exam asked reply true finding new =
-    (got : Judgement) × Judged exam.game asked.due reply got × (finding ≡ finding_of asked got)
+    (got : Judgement) × Judged exam.game exam.opinion asked.due reply got × (finding ≡ finding_of asked got)
     × (new ≡ after_judged (with_learned exam asked.command reply) got)
 
 -- a reply, where this is the oldest command, if any
@@ -169,6 +173,7 @@ MayApply game Right = Unit {0}
 MayApply game (Plays colour v) = IsLegal game colour v × HasRoom game
 MayApply game (Resized size) = Unit {0}
 MayApply game Undone = 0 < length game.moves
+MayApply game (Opines opinion) = Unit {0}
 MayApply game (Wrong kind) = Unit {0}
 
 -- What is due may be judged: a handicap is one that its size allows; there is room for a choice, and a move where an
@@ -178,7 +183,7 @@ MayBeTaken game (Chooses colour) = HasRoom game
 MayBeTaken game MayUndo = 0 < length game.moves
 MayBeTaken game (Places size stones) = MayBeJudged (Places size stones)
 MayBeTaken game (Resizes size) = Unit {0}
-MayBeTaken game (Scores score) = Unit {0}
+MayBeTaken game (Scores size komi) = Unit {0}
 MayBeTaken game AnyReply = Unit {0}
 MayBeTaken game Succeeds = Unit {0}
 MayBeTaken game (Fails cause) = Unit {0}
@@ -199,8 +204,8 @@ MayAllBeTaken game [] = Unit {0}
 MayAllBeTaken game (asked ∷ later) = MayBeTaken game asked.due × MayAllBeTaken game later
 
 -- At most eight commands are unanswered, and one whose answer is awaited only alone: a `genmove`, with room in the
--- record for its move, a `boardsize`, or an `undo` that may fail. Their ids are the last numbers that were given, each
--- an int. What is due to each may be judged.
+-- record for its move, a `boardsize`, an `undo` that may fail, or a `final_score`. Their ids are the last numbers that
+-- were given, each an int. What is due to each may be judged.
 pub record AreOrderly (game : GameRecord) (sent : ℕ) (unanswered : List Asked) : Type 0 where
   pub few : length unanswered ≤ most_unanswered
   pub alone : awaits unanswered ≡ true → length unanswered ≡ 1
@@ -214,9 +219,9 @@ abbrev pub IsOrderly : Exam → Type 0
 IsOrderly exam = AreOrderly exam.game exam.sent exam.unanswered
 
 -- A command may be asked: the engine is up, fewer than eight commands are unanswered and none of them is a `genmove`, a
--- `boardsize` or an `undo` that may fail, and one of these only where none is; there is an int for its id; the board
--- and komi are known on which what is due hangs; the engine has the command, where it may be without it; and it may be
--- asked in the game.
+-- `boardsize`, an `undo` that may fail or a `final_score`, and one of these only where none is; there is an int for its
+-- id; the board and komi are known on which what is due hangs; the engine has the command, where it may be without it;
+-- and it may be asked in the game.
 pub record HasRoomFor (exam : Exam) (command : CheckCommand) : Type 0 where
   pub up : exam.up ≡ true
   pub few : length exam.unanswered < most_unanswered

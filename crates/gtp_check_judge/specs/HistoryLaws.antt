@@ -20,7 +20,8 @@ use Rattle.gtp_check_judge.specs.declared.skills.Skill.TheVariants.{Has, Lacks}
 use Rattle.gtp_check_judge.specs.declared.skills.Skills.{Skills}
 use Rattle.gtp_check_judge.specs.declared.unanswered.Asked.{Asked}
 use Rattle.gtp_check_judge.specs.declared.exam.Exam.{Exam}
-use Rattle.gtp_check_judge.specs.declared.dues.Due.TheVariants.{Resizes, Chooses, MayUndo}
+use Rattle.gtp_check_judge.specs.declared.dues.Due.TheVariants.{Resizes, Chooses, MayUndo, Scores}
+use Rattle.gtp_check_judge.specs.Komis.{HasToBeTaken}
 use Rattle.gtp_check_judge.specs.RightEngine.{RightEngine}
 use Rattle.gtp_check_judge.specs.Exam.{engine_of, HasRoomFor}
 use Rattle.gtp_check_judge.specs.Laws.{MayFailToUndo, Exchange, Talks, commands_of}
@@ -133,11 +134,21 @@ abbrev pub BoardsAreWhatWasSaid : Type 0
 BoardsAreWhatWasSaid = (rule : KoRule) (sent came : List ℕ) (said : List Exchange) (exam : Exam)
     → Talks rule sent came said exam → IsSaidOfBoard said exam.unanswered exam.board
 
--- Wherever a `final_score` may be asked, a `komi` was asked since the engine's start.
+-- The last `komi` among the commands is this one: none is after it.
+pub record IsLastKomi (komi : ℤ) (list : List Asked) : Type 0 where
+  pub earlier : List Asked
+  pub entry : Asked
+  pub later : List Asked
+  pub all : list ≡ earlier ++ entry ∷ later
+  pub asks : entry.command ≡ Match (Komi komi)
+  pub none_later : (other : ℤ) → ¬ SomeAsked (λ command. command ≡ Match (Komi other)) later
+
+-- Wherever a `final_score` may be asked, a `komi` was asked since the engine's start, and the last of them is one that
+-- every engine has to take.
 abbrev pub KomisAreSet : Type 0
 KomisAreSet = (rule : KoRule) (sent came : List ℕ) (said : List Exchange) (exam : Exam)
     → Talks rule sent came said exam → HasRoomFor exam FinalScore
-    → (komi : ℤ) × SomeAsked (λ command. command ≡ Match (Komi komi)) (commands_of said ++ exam.unanswered)
+    → (komi : ℤ) × HasToBeTaken komi × IsLastKomi komi (commands_of said ++ exam.unanswered)
 
 -- ---- numbers
 
@@ -154,31 +165,34 @@ CommandsAreNumbered = (rule : KoRule) (sent came : List ℕ) (said : List Exchan
 
 -- ---- what is asked alone
 
--- What the command does to the game is the engine's to say: its choice, or whether it refuses a size, or an `undo` once
--- one has succeeded since the last move.
+-- What the command does to the engine is the engine's to say: its choice, whether it refuses a size, or an `undo` once
+-- one has succeeded since the last move, or what it thinks of the board.
 pub data ChangesFreely (engine : RightEngine) : CheckCommand → Type 0 where
   genmoves : (colour : Colour) → ChangesFreely engine (Match (Genmove colour))
   sizes : (size : ℕ) → ChangesFreely engine (Match (Boardsize size))
   undos : MayFailToUndo engine → ChangesFreely engine (Match Undo)
+  scores : ChangesFreely engine FinalScore
 
 -- the same of a command that was asked, by what is due to it
 pub data IsAwaited (entry : Asked) : Type 0 where
   choices : (colour : Colour) → entry.due ≡ Chooses colour → IsAwaited entry
   sizes : (size : ℕ) → entry.due ≡ Resizes size → IsAwaited entry
   undos : entry.due ≡ MayUndo → IsAwaited entry
+  scores : (size : ℕ) (komi : ℤ) → entry.due ≡ Scores size komi → IsAwaited entry
 
 -- one of the commands is of that kind
 abbrev pub SomeAwaited : List Asked → Type 0
 SomeAwaited [] = ⊥
 SomeAwaited (entry ∷ later) = IsAwaited entry ⊎ SomeAwaited later
 
--- a `genmove` or a `boardsize`
+-- a `genmove`, a `boardsize` or a `final_score`
 pub data IsOwnToSay : CheckCommand → Type 0 where
   genmoves : (colour : Colour) → IsOwnToSay (Match (Genmove colour))
   sizes : (size : ℕ) → IsOwnToSay (Match (Boardsize size))
+  scores : IsOwnToSay FinalScore
 
 -- Such a command is asked only where nothing is unanswered, and nothing is asked before its answer. In a talk none of
--- those that are unanswered then is a `genmove` or a `boardsize`.
+-- those that are unanswered then is a `genmove`, a `boardsize` or a `final_score`.
 pub record SomeAreAskedAlone : Type 0 where
   pub first : (exam : Exam) (command : CheckCommand) → ChangesFreely (engine_of exam) command
       → HasRoomFor exam command → exam.unanswered ≡ []
@@ -188,8 +202,8 @@ pub record SomeAreAskedAlone : Type 0 where
 
 -- ---- what may always be asked
 
--- The engine is up, owes fewer than eight answers, and none of them to a `genmove`, a `boardsize` or an `undo` that may
--- fail; and there are ids left.
+-- The engine is up, owes fewer than eight answers, and none of them to a `genmove`, a `boardsize`, an `undo` that may
+-- fail or a `final_score`; and there are ids left.
 pub record IsReady (exam : Exam) : Type 0 where
   pub up : exam.up ≡ true
   pub few : length exam.unanswered < 8
@@ -209,9 +223,10 @@ abbrev pub ReadyEnginesMayBeAsked : Type 0
 ReadyEnginesMayBeAsked = (exam : Exam) → IsReady exam → TheseMayBeAsked exam
 
 -- And these may be asked of such an engine whose board is known. A `fixed_handicap`, an `undo` and a `final_score`
--- where its last answer says that it knows them; a `play` and a `genmove` where the record has room. A `genmove`, and
--- an `undo` that may fail, only where the engine owes nothing; and no `genmove` after two passes. A `final_score` also
--- needs a `komi` that was asked, and that nothing was played or placed. The number of stones is an int.
+-- where its last answer says that it knows them; a `play` and a `genmove` where the record has room. A `genmove`, an
+-- `undo` that may fail and a `final_score` only where the engine owes nothing; and no `genmove` after two passes. A
+-- `final_score` also needs that the last `komi` is one that every engine has to take, and that nothing was played or
+-- placed. The number of stones is an int.
 pub record TheseMayBeAskedToo (said : List Exchange) (exam : Exam) : Type 0 where
   pub handicaps : (stones : ℕ) → stones ≤ 2147483647 → IsKnown said known.FixedHandicap
       → HasRoomFor exam (Match (FixedHandicap stones))
@@ -220,8 +235,8 @@ pub record TheseMayBeAskedToo (said : List Exchange) (exam : Exam) : Type 0 wher
       → HasRoomFor exam (Match (Genmove colour))
   pub undos : IsKnown said known.Undo → (MayFailToUndo (engine_of exam) → exam.unanswered ≡ [])
       → HasRoomFor exam (Match Undo)
-  pub scores : (komi : ℤ) → IsKnown said known.FinalScore
-      → SomeAsked (λ command. command ≡ Match (Komi komi)) (commands_of said ++ exam.unanswered)
+  pub scores : (komi : ℤ) → IsKnown said known.FinalScore → exam.unanswered ≡ [] → HasToBeTaken komi
+      → IsLastKomi komi (commands_of said ++ exam.unanswered)
       → exam.game.moves ≡ [] → exam.game.handicap ≡ 0 → HasRoomFor exam FinalScore
 
 abbrev pub KnownEnginesMayBeAsked : Type 0

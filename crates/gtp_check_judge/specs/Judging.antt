@@ -1,5 +1,6 @@
 -- Whether a reply is what is due.
-use Rattle.std.specs.Prelude.{◌≡◌, ◌≢◌, ℕ, ℤ, ◌==◌, ◌&&◌, Bool, true, false, List, [], ◌∷◌, Option, None, Some}
+use Rattle.std.specs.Prelude.{◌≡◌, ℕ, ℤ, ◌==◌, ◌&&◌, Bool, true, false, List, [], ◌∷◌, Option, None, Some}
+use Rattle.std.specs.Prelude.{if◌then◌else◌}
 use Rattle.std.specs.List.{list_any}
 use Rattle.go_base.specs.Handicap.{AllowsHandicap, handicap_points}
 use Rattle.go_base.specs.declared.colours.Colour.{Colour}
@@ -22,14 +23,18 @@ use Rattle.gtp_check_judge.specs.declared.dues.Due.TheVariants.{Chooses, MayUndo
 use Rattle.gtp_check_judge.specs.declared.dues.Cause.{Cause}
 use Rattle.gtp_check_judge.specs.declared.unanswered.Asked.{Asked}
 use Rattle.gtp_check_judge.specs.declared.judging.Judgement.{Judgement}
-use Rattle.gtp_check_judge.specs.declared.judging.Judgement.TheVariants.{Right, Plays, Resized, Undone, Wrong}
+use Rattle.gtp_check_judge.specs.declared.judging.Judgement.TheVariants.{Right, Plays, Resized, Undone, Opines, Wrong}
 use Rattle.gtp_check_judge.specs.declared.judging.Refusal.{Refusal}
 use Rattle.gtp_check_judge.specs.declared.judging.Refusal.TheVariants as refusal
 use Rattle.gtp_check_judge.specs.declared.judging.Kind.TheVariants.{Refused, Took, OtherPoints, NoMove, NoVertex}
 use Rattle.gtp_check_judge.specs.declared.judging.Kind.TheVariants.{Unlawful, NoScore, OtherScore, WrongId, Unasked}
 use Rattle.gtp_check_judge.specs.declared.judging.Kind.TheVariants.{NoStatus, Overlong}
 use Rattle.gtp_wire.specs.ReplyWords.{choice_of_text, names_points}
+use Rattle.gtp_check_judge.specs.declared.scores.SaidScore.{SaidScore}
+use Rattle.gtp_check_judge.specs.declared.opinions.View.{View}
+use Rattle.gtp_check_judge.specs.declared.opinions.Opinion.{Opinion}
 use Rattle.gtp_check_judge.specs.Scores.{score_of_text}
+use Rattle.gtp_check_judge.specs.Opinions.{view_of, agrees, opinion_with}
 use Rattle.gtp_check_judge.specs.RightEngine.{RightEngine}
 
 -- ---- what is unanswered
@@ -46,16 +51,16 @@ abbrev pub oldest : List Asked → Option Asked
 oldest [] = None
 oldest (asked ∷ later) = Some asked
 
--- What a right engine does isn't known before its answer: its choice, or a size or an `undo` that it may refuse. So
--- nothing is asked before that answer.
+-- What a right engine does isn't known before its answer: its choice, a size or an `undo` that it may refuse, or what
+-- it thinks of the board. So nothing is asked before that answer.
 abbrev pub is_open : Due → Bool
 is_open (Chooses colour) = true
 is_open (Resizes size) = true
 is_open MayUndo = true
+is_open (Scores size komi) = true
 is_open Succeeds = false
 is_open (Fails cause) = false
 is_open (Places size stones) = false
-is_open (Scores score) = false
 is_open AnyReply = false
 
 -- one whose answer has to be awaited is among them
@@ -80,7 +85,7 @@ leaves_open engine command.Quit = false
 
 abbrev pub is_awaited : RightEngine → CheckCommand → Bool
 is_awaited engine (Match command) = leaves_open engine command
-is_awaited engine FinalScore = false
+is_awaited engine FinalScore = true
 is_awaited engine Name = false
 is_awaited engine Version = false
 is_awaited engine (KnownCommand known) = false
@@ -125,6 +130,7 @@ abbrev pub VertexJudged : GameRecord → Colour → Vertex → Judgement → Typ
 VertexJudged game colour v Right = ⊥
 VertexJudged game colour v (Resized size) = ⊥
 VertexJudged game colour v Undone = ⊥
+VertexJudged game colour v (Opines opinion) = ⊥
 VertexJudged game colour v (Plays by at) = (by ≡ colour) × (at ≡ v) × IsLegal game colour v
 VertexJudged game colour v (Wrong (Unlawful fault)) = RefusesVertex game colour v fault
 VertexJudged game colour v (Wrong Refused) = ⊥
@@ -150,49 +156,39 @@ abbrev pub ChoiceJudged : GameRecord → Colour → Bool → Option Choice → J
 ChoiceJudged game colour false said got = got ≡ Wrong NoMove
 ChoiceJudged game colour true said got = SaidJudged game colour said got
 
--- a score that was said: the one that is due, or another
-abbrev pub NumberJudged : ℤ → ℤ → Judgement → Type 0
-NumberJudged score said Right = said ≡ score
-NumberJudged score said (Wrong OtherScore) = said ≢ score
-NumberJudged score said (Plays colour v) = ⊥
-NumberJudged score said (Resized size) = ⊥
-NumberJudged score said Undone = ⊥
-NumberJudged score said (Wrong Refused) = ⊥
-NumberJudged score said (Wrong (Took cause)) = ⊥
-NumberJudged score said (Wrong OtherPoints) = ⊥
-NumberJudged score said (Wrong NoMove) = ⊥
-NumberJudged score said (Wrong NoVertex) = ⊥
-NumberJudged score said (Wrong (Unlawful fault)) = ⊥
-NumberJudged score said (Wrong NoScore) = ⊥
-NumberJudged score said (Wrong WrongId) = ⊥
-NumberJudged score said (Wrong Unasked) = ⊥
-NumberJudged score said (Wrong NoStatus) = ⊥
-NumberJudged score said (Wrong Overlong) = ⊥
+-- What was said of a board, where it is compared at all: it agrees with the opinion so far, and changes that, or it
+-- doesn't.
+abbrev pub view_judged : Opinion → Option View → Judgement
+view_judged opinion None = Right
+view_judged opinion (Some new) = if agrees opinion new then Opines (opinion_with opinion new) else Wrong OtherScore
 
--- what was said by a `final_score` that succeeded: no score, or this one
-abbrev pub SaidScoreJudged : ℤ → Option ℤ → Judgement → Type 0
-SaidScoreJudged score None got = got ≡ Wrong NoScore
-SaidScoreJudged score (Some said) got = NumberJudged score said got
+-- what was said by a `final_score` that succeeded on a board of this size with this komi: no score, or this one
+abbrev pub said_score_judged : Opinion → ℕ → ℤ → Option SaidScore → Judgement
+said_score_judged opinion size komi None = Wrong NoScore
+said_score_judged opinion size komi (Some said) = view_judged opinion (view_of size komi said)
 
 -- a reply to a `final_score`: it failed, which is right, or succeeded and said this
-abbrev pub ScoreJudged : ℤ → Bool → Option ℤ → Judgement → Type 0
-ScoreJudged score false said got = got ≡ Right
-ScoreJudged score true said got = SaidScoreJudged score said got
+abbrev pub score_judged : Opinion → ℕ → ℤ → Bool → Option SaidScore → Judgement
+score_judged opinion size komi false said = Right
+score_judged opinion size komi true said = said_score_judged opinion size komi said
 
 -- the words are the points of the handicap, each once, in any order
 abbrev pub are_points : ℕ → ℕ → Reply → Bool
 are_points size stones reply = names_points (handicap_points size stones) (reply_words reply.text.items)
 
--- A reply, to a command to which this is due. The game is that of a right engine.
-abbrev pub Judged : GameRecord → Due → Reply → Judgement → Type 0
-Judged game Succeeds reply got = got ≡ success_judged reply.ok
-Judged game (Fails cause) reply got = got ≡ failure_judged cause reply.ok
-Judged game (Places size stones) reply got = got ≡ points_judged (reply.ok && are_points size stones reply) reply.ok
-Judged game (Resizes size) reply got = got ≡ size_judged size reply.ok
-Judged game (Scores score) reply got = ScoreJudged score reply.ok (score_of_text reply.text.items) got
-Judged game AnyReply reply got = got ≡ Right
-Judged game MayUndo reply got = got ≡ undo_judged reply.ok
-Judged game (Chooses colour) reply got = ChoiceJudged game colour reply.ok (choice_of_text reply.text.items) got
+-- A reply, to a command to which this is due. The game and the opinion are those of a right engine.
+abbrev pub Judged : GameRecord → Opinion → Due → Reply → Judgement → Type 0
+Judged game opinion Succeeds reply got = got ≡ success_judged reply.ok
+Judged game opinion (Fails cause) reply got = got ≡ failure_judged cause reply.ok
+Judged game opinion (Places size stones) reply got =
+    got ≡ points_judged (reply.ok && are_points size stones reply) reply.ok
+Judged game opinion (Resizes size) reply got = got ≡ size_judged size reply.ok
+Judged game opinion (Scores size komi) reply got =
+    got ≡ score_judged opinion size komi reply.ok (score_of_text reply.text.items)
+Judged game opinion AnyReply reply got = got ≡ Right
+Judged game opinion MayUndo reply got = got ≡ undo_judged reply.ok
+Judged game opinion (Chooses colour) reply got =
+    ChoiceJudged game colour reply.ok (choice_of_text reply.text.items) got
 
 -- a handicap that is due is one that its size allows
 abbrev pub MayBeJudged : Due → Type 0
@@ -200,7 +196,7 @@ MayBeJudged (Places size stones) = AllowsHandicap size stones
 MayBeJudged Succeeds = Unit {0}
 MayBeJudged (Fails cause) = Unit {0}
 MayBeJudged (Resizes size) = Unit {0}
-MayBeJudged (Scores score) = Unit {0}
+MayBeJudged (Scores size komi) = Unit {0}
 MayBeJudged AnyReply = Unit {0}
 MayBeJudged MayUndo = Unit {0}
 MayBeJudged (Chooses colour) = Unit {0}
@@ -214,6 +210,6 @@ refused_by MayUndo true = None
 refused_by Succeeds ok = None
 refused_by (Fails cause) ok = None
 refused_by (Places size stones) ok = None
-refused_by (Scores score) ok = None
+refused_by (Scores size komi) ok = None
 refused_by AnyReply ok = None
 refused_by (Chooses colour) ok = None

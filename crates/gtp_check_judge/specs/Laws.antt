@@ -1,5 +1,6 @@
 -- Laws of the examiner: what holds of every talk between it and one engine, whatever that is.
-use Rattle.std.specs.Prelude.{◌≡◌, ◌≢◌, ℕ, ℤ, neg_ℤ, Bool, true, false, List, [], ◌∷◌, ◌++◌, take, Option, None, Some}
+use Rattle.std.specs.Prelude.{◌≡◌, ◌≢◌, ℕ, pos, ◌+ℤ◌, ◌*ℤ◌, max, Bool, true, false, List, [], ◌∷◌, ◌++◌, take, Option}
+use Rattle.std.specs.Prelude.{None, Some}
 use Rattle.std.specs.Prelude.{IfSome, Result, Ok, Err, ◌+◌, ◌<◌, ◌⊎◌, length}
 use Rattle.go_base.specs.Size.{IsSize}
 use Rattle.go_base.specs.Handicap.{handicap_points}
@@ -21,14 +22,19 @@ use Rattle.gtp_wire.specs.declared.replies.Reply.{Reply}
 use Rattle.gtp_wire.specs.declared.replies.ReplyFault.{ReplyFault}
 use Rattle.gtp_wire.specs.declared.replies.ReplyFault.TheVariants as fault
 use Rattle.gtp_check_judge.specs.Asking.{written_check, line_of_check, IsCheckWritable, IsCheckInLimits}
+use Rattle.gtp_check_judge.specs.declared.scores.Score.{Score}
+use Rattle.gtp_check_judge.specs.declared.scores.SaidScore.{SaidScore}
+use Rattle.gtp_check_judge.specs.declared.scores.SaidScore.TheVariants.{Number}
+use Rattle.gtp_check_judge.specs.declared.opinions.View.{View}
+use Rattle.gtp_check_judge.specs.declared.opinions.Opinion.TheVariants.{Twice}
 use Rattle.gtp_check_judge.specs.Scores.{score_of_text}
-use Rattle.go_board.specs.Area.{score}
+use Rattle.gtp_check_judge.specs.Opinions.{agrees_with, distance}
 use Rattle.gtp_wire.specs.Words.{reply_words}
 use Rattle.gtp_session.specs.Policy.{May, IsLawful}
 use Rattle.gtp_session.specs.Commands.{answer, asked}
+use Rattle.gtp_session.specs.CommandAnswers.{after_command}
 use Rattle.gtp_session.specs.Engine.{Engine, Engages, fresh_under}
 use Rattle.gtp_check_judge.specs.declared.unanswered.Asked.{Asked}
-use Rattle.gtp_check_judge.specs.declared.dues.Due.{Due}
 use Rattle.gtp_check_judge.specs.declared.dues.Cause.TheVariants.{BadMove}
 use Rattle.gtp_check_judge.specs.declared.dues.Due.TheVariants.{Succeeds, Fails, Places, Scores, Chooses}
 use Rattle.gtp_check_judge.specs.declared.judging.Kind.{Kind}
@@ -42,7 +48,8 @@ use Rattle.go_board.specs.Refusals.{RefusesVertex}
 use Rattle.gtp_check_judge.specs.declared.exam.Exam.{Exam}
 use Rattle.gtp_check_judge.specs.declared.exam.Finding.{Finding}
 use Rattle.gtp_wire.specs.ReplyWords.{choice_of_text, names_points}
-use Rattle.gtp_check_judge.specs.RightEngine.{RightEngine, fresh_engine, undone_after}
+use Rattle.gtp_check_judge.specs.Komis.{is_exact_komi}
+use Rattle.gtp_check_judge.specs.RightEngine.{RightEngine, fresh_engine, undone_after, view_in, opinion_after}
 use Rattle.gtp_check_judge.specs.Dues.{IsDue, engine_after}
 use Rattle.gtp_check_judge.specs.Judging.{oldest}
 use Rattle.gtp_check_judge.specs.Exam.{begun, engine_of, Asks, Hears, HasRoomFor, IsOrderly}
@@ -68,15 +75,20 @@ SaysTo game (Play move) choice ok text = Unit {0}
 SaysTo game Undo choice ok text = Unit {0}
 SaysTo game Quit choice ok text = Unit {0}
 
--- The same of each command: the text of a `final_score` is the score of the game; of a `name`, a `version` and a
--- `known_command` it is any.
-abbrev pub Says : GameRecord → CheckCommand → Choice → Bool → List ℕ → Type 0
-Says game (Match command) choice ok text = SaysTo game command choice ok text
-Says game FinalScore choice true text = score_of_text text ≡ Some (score game)
-Says game FinalScore choice false text = Unit {0}
-Says game Name choice ok text = Unit {0}
-Says game Version choice ok text = Unit {0}
-Says game (KnownCommand known) choice ok text = Unit {0}
+-- What a `final_score` has to say: a score. Of an empty board it agrees with the opinion that the engine said twice.
+abbrev pub SaysScore : RightEngine → Option SaidScore → Type 0
+SaysScore engine None = ⊥
+SaysScore engine (Some said) = agrees_with engine.opinion (view_in engine.game said) ≡ true
+
+-- The same of each command: the text of a `final_score` is such a score; of a `name`, a `version` and a `known_command`
+-- it is any.
+abbrev pub Says : RightEngine → CheckCommand → Choice → Bool → List ℕ → Type 0
+Says engine (Match command) choice ok text = SaysTo engine.game command choice ok text
+Says engine FinalScore choice true text = SaysScore engine (score_of_text text)
+Says engine FinalScore choice false text = Unit {0}
+Says engine Name choice ok text = Unit {0}
+Says engine Version choice ok text = Unit {0}
+Says engine (KnownCommand known) choice ok text = Unit {0}
 
 -- The reply is an answer by the table to the command, and leaves this engine after: it has the command's id, and for
 -- some choice, which is lawful where a policy is asked for one, it has the status that the table answers in the game
@@ -86,10 +98,11 @@ pub record IsByTable (before : RightEngine) (entry : Asked) (reply : Reply) (aft
   pub choice : Choice
   pub lawful : IfSome (asked before.game (line_of_asked entry)) (λ colour. IsLawful before.game colour choice)
   pub status : reply.ok ≡ (answer before.game (line_of_asked entry) choice).ok
-  pub says : Says before.game entry.command choice reply.ok reply.text.items
+  pub says : Says before entry.command choice reply.ok reply.text.items
   pub leaves : after ≡ record {
     game = (answer before.game (line_of_asked entry) choice).game;
     undone = undone_after before.undone entry.command reply;
+    opinion = opinion_after before entry.command reply;
   }
 
 -- an `undo` has succeeded since the last move, and there is a move
@@ -98,12 +111,12 @@ pub record MayFailToUndo (engine : RightEngine) : Type 0 where
   pub moves : 0 < length engine.game.moves
 
 -- A right engine may refuse the command, though the table's engine doesn't: a `boardsize`, since it may take fewer
--- sizes than 1 to 25; an `undo` once one has succeeded since the last move, since it may keep no more of the history;
--- and `final_score`, `name`, `version` and `known_command`, which it may be without.
+-- sizes than 1 to 25; a `komi` that may be no float; an `undo` once one has succeeded since the last move, since it may
+-- keep no more of the history; and `final_score`, `name`, `version` and `known_command`, which it may be without.
 abbrev pub MayRefuseTo : RightEngine → Command → Type 0
 MayRefuseTo engine (Boardsize size) = Unit {0}
 MayRefuseTo engine Undo = MayFailToUndo engine
-MayRefuseTo engine (Komi komi) = ⊥
+MayRefuseTo engine (Komi komi) = is_exact_komi komi ≡ false
 MayRefuseTo engine ClearBoard = ⊥
 MayRefuseTo engine (FixedHandicap stones) = ⊥
 MayRefuseTo engine (Play move) = ⊥
@@ -117,12 +130,27 @@ MayRefuse engine Name = Unit {0}
 MayRefuse engine Version = Unit {0}
 MayRefuse engine (KnownCommand known) = Unit {0}
 
+-- The engine once it has refused such a command: as it was. Its komi is the last that was asked, whatever came of it.
+abbrev pub after_refusal : RightEngine → CheckCommand → RightEngine
+after_refusal engine (Match (Komi komi)) = record engine { game = after_command engine.game (Komi komi) }
+after_refusal engine (Match (Boardsize size)) = engine
+after_refusal engine (Match ClearBoard) = engine
+after_refusal engine (Match (FixedHandicap stones)) = engine
+after_refusal engine (Match (Play move)) = engine
+after_refusal engine (Match (Genmove colour)) = engine
+after_refusal engine (Match Undo) = engine
+after_refusal engine (Match Quit) = engine
+after_refusal engine FinalScore = engine
+after_refusal engine Name = engine
+after_refusal engine Version = engine
+after_refusal engine (KnownCommand known) = engine
+
 -- The reply refuses such a command: it has the command's id, it is a failure, and the engine stays as it is.
 pub record IsRefusal (before : RightEngine) (entry : Asked) (reply : Reply) (after : RightEngine) : Type 0 where
   pub may : MayRefuse before entry.command
   pub id : reply.id ≡ Some entry.id
   pub status : reply.ok ≡ false
-  pub leaves : after ≡ before
+  pub leaves : after ≡ after_refusal before entry.command
 
 -- The reply is a right answer of the one engine to the command, and leaves the other: an answer by the table, or the
 -- refusal of a command that may be refused.
@@ -201,11 +229,22 @@ NoRightAnswer before (Some entry) None = ⊥
 NoRightAnswer before None (Some read) = Unit {0}
 NoRightAnswer before None None = ⊥
 
+-- The text is a score of an empty board of a size of which the engine said a score twice. The two differ by more than
+-- their komis do, and one of the last digit that is written, the coarser of the two.
+pub record DiffersFromOpinion (before : RightEngine) (text : List ℕ) : Type 0 where
+  pub old : View
+  pub stands : before.opinion ≡ Twice old
+  pub size : old.size ≡ before.game.size
+  pub score : Score
+  pub said : score_of_text text ≡ Some (Number score)
+  pub far : max old.unit score.unit
+      < distance old.lead (score.millionths +ℤ (pos 500000 *ℤ before.game.komi))
+
 -- What a kind says of a reply to a command that was asked of the engine before. Every right answer is a success, since
 -- it may not be refused, and this one failed; every right answer is a failure, for this cause, and this one
 -- succeeded; the words aren't the points that are due; a `genmove` failed; or it succeeded, and said nothing that is
--- a choice, or a vertex that is refused for this cause; a `final_score` said what is no score, or another than that
--- of the game; or the id is missing or another.
+-- a choice, or a vertex that is refused for this cause; a `final_score` said what is no score, or one that differs from
+-- what the engine said twice by more than the komis do; or the id is missing or another.
 abbrev pub KindIsTrue : RightEngine → Asked → Reply → Kind → Type 0
 KindIsTrue before entry reply Refused =
     (reply.ok ≡ false) × ((choice : Choice) → (answer before.game (line_of_asked entry) choice).ok ≡ true)
@@ -225,10 +264,11 @@ KindIsTrue before entry reply (Unlawful fault) =
     (reply.ok ≡ true) × ((colour : Colour) × (vertex : Vertex) × (entry.due ≡ Chooses colour)
     × (choice_of_text reply.text.items ≡ Some (choice.Play vertex)) × RefusesVertex before.game colour vertex fault)
 KindIsTrue before entry reply NoScore =
-    (reply.ok ≡ true) × (entry.due ≡ Scores (score before.game)) × (score_of_text reply.text.items ≡ None)
+    (reply.ok ≡ true) × (entry.due ≡ Scores before.game.size before.game.komi)
+    × (score_of_text reply.text.items ≡ None)
 KindIsTrue before entry reply OtherScore =
-    (reply.ok ≡ true) × (entry.due ≡ Scores (score before.game))
-    × ((said : ℤ) × (score_of_text reply.text.items ≡ Some said) × (said ≢ score before.game))
+    (reply.ok ≡ true) × (entry.due ≡ Scores before.game.size before.game.komi)
+    × DiffersFromOpinion before reply.text.items
 KindIsTrue before entry reply WrongId = reply.id ≢ Some entry.id
 KindIsTrue before entry reply Unasked = ⊥
 KindIsTrue before entry reply NoStatus = ⊥
@@ -269,17 +309,10 @@ FindingsAreJustified = (rule : KoRule) (sent came : List ℕ) (said : List Excha
     → Talks rule sent came said old → Hears old bytes used read (Some finding) new
     → IsJustified rule said old read finding
 
--- ---- a score
-
--- What is due to a `final_score` is the score by komi alone: White leads by it.
-abbrev pub ScoresAreKomiAlone : Type 0
-ScoresAreKomiAlone = (engine : RightEngine) (due : Due)
-    → IsDue engine FinalScore due → due ≡ Scores (neg_ℤ engine.game.komi)
-
 -- ---- the engine that right answers leave
 
 -- The answers that were heard leave one game, and say of one engine whether an `undo` has succeeded since its last
--- move: no other engine is left by the same answers.
+-- move, and what it thinks of an empty board: no other engine is left by the same answers.
 abbrev pub RightAnswersLeaveOneGame : Type 0
 RightAnswersLeaveOneGame = (rule : KoRule) (sent came : List ℕ) (said : List Exchange) (exam : Exam)
     (one other : RightEngine) → Talks rule sent came said exam
@@ -346,7 +379,7 @@ commands_of (exchange ∷ later) = exchange.entry ∷ commands_of later
 
 -- Whatever the engine is, if all that it wrote are right answers to the commands that it was asked, and what was heard
 -- and is heard now are a front of that, nothing is found. So an engine that refuses sizes, one that takes back just one
--- move, one of other texts, and one without `final_score` aren't blamed.
+-- move, one of other texts, one that estimates scores, and one without `final_score` aren't blamed.
 abbrev pub WhoAnswersRightlyIsNotBlamed : Type 0
 WhoAnswersRightlyIsNotBlamed = (rule : KoRule) (out sent came : List ℕ) (said : List Exchange) (old new : Exam)
     (bytes later : List ℕ) (used : ℕ) (read : Option (Result Reply ReplyFault)) (finding : Option Finding)

@@ -1,7 +1,9 @@
 pub mod Scores
+pub mod Komis
 pub mod Asking
 pub mod Setups
 pub mod Skills
+pub mod Opinions
 pub mod RightEngine
 pub mod Dues
 pub mod Judging
@@ -12,4 +14,5 @@ pub mod StepLaws
 pub mod AnswerLaws
 pub mod HistoryLaws
 pub mod UndoLaws
+pub mod ScoreLaws
 pub mod ConversationLaws

@@ -1,6 +1,7 @@
 -- What is known of an engine's board and komi since it was started. (The standard says neither of which size and with
 -- which komi an engine begins, nor what is on its board after a `boardsize`.) So what hangs on the board is asked only
--- once a size was taken and the board cleared after it, and a score only once a `komi` was asked too.
+-- once a size was taken and the board cleared after it, and a score only where the last `komi` that was asked is one
+-- that every engine has to take.
 use Rattle.std.specs.Prelude.{Bool, true, false}
 use Rattle.gtp_wire.specs.declared.commands.Command.{Command}
 use Rattle.gtp_wire.specs.declared.commands.Command.TheVariants.{Boardsize, Komi, ClearBoard, FixedHandicap, Play}
@@ -10,6 +11,7 @@ use Rattle.gtp_check_judge.specs.declared.asking.CheckCommand.TheVariants.{Match
 use Rattle.gtp_check_judge.specs.declared.asking.CheckCommand.TheVariants.{KnownCommand}
 use Rattle.gtp_check_judge.specs.declared.setups.Board.{Board}
 use Rattle.gtp_check_judge.specs.declared.setups.Board.TheVariants.{Unknown, Sized, Cleared}
+use Rattle.gtp_check_judge.specs.Komis.{is_exact_komi}
 
 abbrev pub is_clear_board : CheckCommand → Bool
 is_clear_board (Match ClearBoard) = true
@@ -25,19 +27,21 @@ is_clear_board Name = false
 is_clear_board Version = false
 is_clear_board (KnownCommand known) = false
 
-abbrev pub is_komi : CheckCommand → Bool
-is_komi (Match (Komi komi)) = true
-is_komi (Match ClearBoard) = false
-is_komi (Match (Boardsize size)) = false
-is_komi (Match (FixedHandicap stones)) = false
-is_komi (Match (Play move)) = false
-is_komi (Match (Genmove colour)) = false
-is_komi (Match Undo) = false
-is_komi (Match Quit) = false
-is_komi FinalScore = false
-is_komi Name = false
-is_komi Version = false
-is_komi (KnownCommand known) = false
+-- whether the last komi that was asked is exact, once a command was asked, where it was before: by a `komi` it hangs on
+-- that one, and by other commands it stays
+abbrev pub komi_after : Bool → CheckCommand → Bool
+komi_after is_set (Match (Komi komi)) = is_exact_komi komi
+komi_after is_set (Match ClearBoard) = is_set
+komi_after is_set (Match (Boardsize size)) = is_set
+komi_after is_set (Match (FixedHandicap stones)) = is_set
+komi_after is_set (Match (Play move)) = is_set
+komi_after is_set (Match (Genmove colour)) = is_set
+komi_after is_set (Match Undo) = is_set
+komi_after is_set (Match Quit) = is_set
+komi_after is_set FinalScore = is_set
+komi_after is_set Name = is_set
+komi_after is_set Version = is_set
+komi_after is_set (KnownCommand known) = is_set
 
 abbrev pub is_final_score : CheckCommand → Bool
 is_final_score FinalScore = true

@@ -4,11 +4,13 @@ ghost use Rattle.go_board.specs.Game.{HasRoom};
 ghost use Rattle.gtp_wire.specs.declared.commands.Command.TheVariants as command;
 ghost use Rattle.gtp_check_judge.specs.declared.asking.CheckCommand.TheVariants.{Match};
 ghost use Rattle.gtp_check_judge.specs.Dues.{MayBeAsked, MayBeSaid, IsDue, IsDueTo, PlayDue, HandicapDue, UndoDue};
-ghost use Rattle.gtp_check_judge.specs.Dues.{after_due, undone_once, undone_due};
+ghost use Rattle.gtp_check_judge.specs.Dues.{after_due, komi_due, undone_once, undone_due};
 ghost use Rattle.gtp_check_judge.specs.Judging.{is_open, undo_may_fail, leaves_open, is_awaited};
 
 use crate::asking::CheckCommand;
-use go_base::{Colour, Move, Size};
+use crate::komis::is_exact_komi;
+use crate::opinions::Opinion;
+use go_base::{Colour, Komi, Move, Size};
 use go_board::{Game, HandicapFault, MOST_MOVES, PlayFault};
 use gtp_wire::Command;
 
@@ -34,8 +36,9 @@ pub enum Due {
     Places(Size, u32),
     /// A success, by which the board has this size; or a failure, by which nothing changes.
     Resizes(Size),
-    /// A success that is this score in half points, positive where Black leads, in any spelling; or a failure.
-    Scores(i32),
+    /// A success that is a score of an empty board of this size with this komi, or a failure. It agrees with what the
+    /// engine said twice.
+    Scores(Size, Komi),
     /// A success or a failure, of any text.
     AnyReply,
     /// A success that is `resign`, or a vertex that is legal for this colour.
@@ -78,28 +81,34 @@ pub(crate) fn is_open(due: &Due) -> bool
     ensures { result ≡ is_open due.now }
 {
     match due {
-        Due::Chooses(_) | Due::Resizes(_) | Due::MayUndo => true,
-        Due::Succeeds | Due::Fails(_) | Due::Places(..) | Due::Scores(_) | Due::AnyReply => false,
+        Due::Chooses(_) | Due::Resizes(_) | Due::MayUndo | Due::Scores(..) => true,
+        Due::Succeeds | Due::Fails(_) | Due::Places(..) | Due::AnyReply => false,
     }
 }
 
-/// Whether the answer to a command has to be awaited: that to a `genmove`, a `boardsize`, or an `undo` that may fail.
-/// The game and whether an `undo` has succeeded since the last move are a right engine's.
-pub(crate) fn is_awaited(game: &Game, undone: bool, command: &CheckCommand) -> bool
-    ensures { result ≡ is_awaited (record { game = game.now; undone = undone }) command.now }
+/// Whether the answer to a command has to be awaited: that to a `genmove`, a `boardsize`, an `undo` that may fail, or a
+/// `final_score`. The game, whether an `undo` has succeeded since the last move, and the opinion are a right engine's.
+/// The opinion is for the contract alone.
+pub(crate) fn is_awaited(
+    game: &Game,
+    undone: bool,
+    opinion: &Opinion,
+    command: &CheckCommand,
+) -> bool
+    ensures { result ≡ is_awaited
+        (record { game = game.now; undone = undone; opinion = opinion.now }) command.now }
 {
     match command {
-        CheckCommand::Match(command) => leaves_open(game, undone, command),
-        CheckCommand::FinalScore
-        | CheckCommand::Name
-        | CheckCommand::Version
-        | CheckCommand::KnownCommand(_) => false,
+        CheckCommand::Match(command) => leaves_open(game, undone, opinion, command),
+        CheckCommand::FinalScore => true,
+        CheckCommand::Name | CheckCommand::Version | CheckCommand::KnownCommand(_) => false,
     }
 }
 
 /// The same of a command of a match.
-fn leaves_open(game: &Game, undone: bool, command: &Command) -> bool
-    ensures { result ≡ leaves_open (record { game = game.now; undone = undone }) command.now }
+fn leaves_open(game: &Game, undone: bool, _opinion: &Opinion, command: &Command) -> bool
+    ensures { result ≡ leaves_open
+        (record { game = game.now; undone = undone; opinion = _opinion.now }) command.now }
 {
     match command {
         Command::Genmove(_) | Command::Boardsize(_) => true,
@@ -123,18 +132,24 @@ fn undo_may_fail(moves: &[Move], undone: bool) -> bool
 }
 
 /// What is due to a command in this game, which becomes the one that a right engine has then, where an `undo` has
-/// succeeded since the last move or hasn't.
-pub(crate) fn due_to(game: &mut Game, undone: bool, command: &CheckCommand) -> Due
+/// succeeded since the last move or hasn't. The opinion is for the contract alone.
+pub(crate) fn due_to(
+    game: &mut Game,
+    undone: bool,
+    opinion: &Opinion,
+    command: &CheckCommand,
+) -> Due
     requires { MayBeAsked game.old command.now }
-    ensures due { IsDue (record { game = game.old; undone = undone }) command.now result }
+    ensures due { IsDue
+        (record { game = game.old; undone = undone; opinion = opinion.now }) command.now result }
     ensures game { game.new ≡ after_due game.old command.now result }
 {
     match command {
-        CheckCommand::Match(command) => command_due(game, undone, command),
+        CheckCommand::Match(command) => command_due(game, undone, opinion, command),
         CheckCommand::FinalScore => {
             // Its contract says that komi is in its limits.
             let _ = game.komi().half_points();
-            Due::Scores(game.score())
+            Due::Scores(game.size(), game.komi())
         }
         CheckCommand::Name | CheckCommand::Version | CheckCommand::KnownCommand(_) => Due::AnyReply,
     }
@@ -149,7 +164,7 @@ pub(crate) fn undone_due(undone: bool, command: &CheckCommand, due: &Due) -> boo
         Due::Fails(_)
         | Due::Places(..)
         | Due::Resizes(_)
-        | Due::Scores(_)
+        | Due::Scores(..)
         | Due::AnyReply
         | Due::Chooses(_)
         | Due::MayUndo => undone,
@@ -168,9 +183,10 @@ fn undone_once(undone: bool, command: &CheckCommand) -> bool
 }
 
 /// What is due to a command of a match.
-fn command_due(game: &mut Game, undone: bool, command: &Command) -> Due
+fn command_due(game: &mut Game, undone: bool, opinion: &Opinion, command: &Command) -> Due
     requires { MayBeSaid game.old command.now }
-    ensures due { IsDueTo (record { game = game.old; undone = undone }) command.now result }
+    ensures due { IsDueTo
+        (record { game = game.old; undone = undone; opinion = opinion.now }) command.now result }
     ensures game { game.new ≡ after_due game.old (Match command.now) result }
 {
     match command {
@@ -183,7 +199,7 @@ fn command_due(game: &mut Game, undone: bool, command: &Command) -> Due
             // Its contract says that komi is in its limits.
             let _ = komi.half_points();
             game.set_komi(*komi);
-            Due::Succeeds
+            komi_due(*komi)
         }
         Command::ClearBoard => {
             game.clear();
@@ -192,8 +208,19 @@ fn command_due(game: &mut Game, undone: bool, command: &Command) -> Due
         Command::FixedHandicap(stones) => handicap_due(game, *stones),
         Command::Play(made) => play_due(game, *made),
         Command::Genmove(colour) => Due::Chooses(*colour),
-        Command::Undo => undo_due(game, undone),
+        Command::Undo => undo_due(game, undone, opinion),
         Command::Quit => Due::Succeeds,
+    }
+}
+
+/// What is due to a `komi`: a success where every engine has to take it, and else any reply.
+fn komi_due(komi: Komi) -> Due
+    ensures { result ≡ komi_due komi }
+{
+    if is_exact_komi(komi) {
+        Due::Succeeds
+    } else {
+        Due::AnyReply
     }
 }
 
@@ -222,8 +249,9 @@ fn play_due(game: &mut Game, made: Move) -> Due
 }
 
 /// What is due to an `undo`.
-fn undo_due(game: &mut Game, undone: bool) -> Due
-    ensures due { UndoDue (record { game = game.old; undone = undone }) result }
+fn undo_due(game: &mut Game, undone: bool, _opinion: &Opinion) -> Due
+    ensures due { UndoDue
+        (record { game = game.old; undone = undone; opinion = _opinion.now }) result }
     ensures game { game.new ≡ after_due game.old (Match command.Undo) result }
 {
     if undo_may_fail(game.moves(), undone) {

@@ -1,5 +1,6 @@
 //! What the examiner keeps of an engine, and its steps.
-ghost use Rattle.std.specs.Prelude.{◌≡◌, ◌<◌, ◌≤◌, true, false, [], length, drop, option_map, Some, None};
+ghost use Rattle.std.specs.Prelude.{◌≡◌, ◌<◌, ◌≤◌, true, false, [], ◌∷◌, ◌++◌, length, drop, option_map, Some};
+ghost use Rattle.std.specs.Prelude.{None};
 ghost use Rattle.go_base.specs.Int.{most_int};
 ghost use Rattle.gtp_wire.specs.Replies.{with_reply};
 ghost use Rattle.gtp_wire.specs.Commands.{IsWritable, IsInLimits};
@@ -7,7 +8,7 @@ ghost use Rattle.gtp_check_judge.specs.Asking.{written_check, IsCheckWritable, I
 ghost use Rattle.go_base.specs.Vertex.{IsVertex};
 ghost use Rattle.gtp_check_judge.specs.declared.setups.Board.TheVariants.{Cleared};
 ghost use Rattle.gtp_check_judge.specs.Setups.{needs_board, is_final_score};
-ghost use Rattle.gtp_check_judge.specs.Dues.{MayBeAsked, MayBeSaid};
+ghost use Rattle.gtp_check_judge.specs.Dues.{MayBeAsked, MayBeSaid, IsDue};
 ghost use Rattle.gtp_check_judge.specs.Judging.{most_unanswered, oldest, awaits, is_awaited};
 ghost use Rattle.gtp_check_judge.specs.Exam.{begun, engine_of, downed, kind_of, Asks, Hears, ReplyLeaves};
 ghost use Rattle.gtp_check_judge.specs.Exam.{after_judged};
@@ -15,10 +16,11 @@ ghost use Rattle.gtp_check_judge.specs.Exam.{with_learned, finding_of, MayReply,
 ghost use Rattle.gtp_check_judge.specs.Exam.{refused_what};
 
 use crate::asking::{CheckCommand, write_check};
-use crate::dues::{due_to, is_awaited, may_be_asked, undone_due};
+use crate::dues::{Due, due_to, is_awaited, may_be_asked, undone_due};
 use crate::judging::{Judgement, Kind, Refusal, has_id, judge, refused_by};
+use crate::opinions::Opinion;
 use crate::setups::{
-    Board, board_after, is_clear_board, is_cleared, is_final_score, is_komi, needs_board,
+    Board, board_after, is_clear_board, is_cleared, is_final_score, komi_after, needs_board,
 };
 use crate::skills::{Skills, has_needed, learned, none_asked};
 use crate::unanswered::{Asked, MOST_UNANSWERED, Unanswered};
@@ -38,6 +40,15 @@ pub struct Finding {
     pub kind: Kind,
 }
 
+/// A command that is asked.
+#[derive(Drop)]
+pub struct Asking {
+    /// The bytes of its line.
+    pub text: CommandText,
+    /// What is due to it.
+    pub due: Due,
+}
+
 /// What was heard in bytes of an engine.
 #[derive(Clone, Copy, Debug, PartialEq, Eq)]
 pub struct Heard {
@@ -53,14 +64,16 @@ pub struct Heard {
     pub refused: Option<Refusal>,
 }
 
-/// The game of a right engine, whether the engine is up, how many commands it was asked since it was started, those
-/// that it hasn't answered, and the reader of its replies.
+/// The game of a right engine, what it thinks of an empty board, whether the engine is up, how many commands it was
+/// asked since it was started, those that it hasn't answered, and the reader of its replies.
 #[derive(Drop)]
 pub struct Exam {
     /// The game of a right engine that has answered all that was asked.
     pub game: Game,
     /// Whether an `undo` of that engine has succeeded since its last move: the next one may fail.
     pub undone: bool,
+    /// What that engine thinks of an empty board, as its scores said.
+    pub opinion: Opinion,
     /// Whether the engine was started, and neither lost since nor found wrong.
     pub up: bool,
     /// How many commands it was asked since. The last of them has this number as its id.
@@ -71,7 +84,7 @@ pub struct Exam {
     pub reader: ReplyReader,
     /// What is known of its board.
     pub board: Board,
-    /// Whether it was asked to set komi since it was started.
+    /// Whether a komi was asked since it was started, and the last of them is one that every engine has to take.
     pub komi_set: bool,
     /// What it said of the commands that it may be without.
     pub skills: Skills,
@@ -85,6 +98,7 @@ impl Exam {
         Exam {
             game: Game::fresh(rule),
             undone: false,
+            opinion: Opinion::Unheard,
             up,
             sent: 0,
             unanswered: Unanswered::new(),
@@ -136,26 +150,32 @@ impl Exam {
             return true;
         }
         self.unanswered.len() < MOST_UNANSWERED
-            && !is_awaited(&self.game, self.undone, command)
+            && !is_awaited(&self.game, self.undone, &self.opinion, command)
             && !self.unanswered.awaits()
     }
 
-    /// The engine is asked a command. Returns the bytes of its line.
-    pub fn ask(&mut self, command: CheckCommand) -> CommandText
+    /// The engine is asked a command. Returns the bytes of its line, and what is due to it.
+    pub fn ask(&mut self, command: CheckCommand) -> Asking
         requires may { MayBeAsked self.old.game command }
         requires few { self.old.sent < most_int }
         requires room { length self.old.unanswered < most_unanswered }
         ensures asks { Asks self.old command self.new }
-        ensures text { result.items ≡ written_check self.new.sent command }
+        ensures text { result.text.items ≡ written_check self.new.sent command }
+        ensures is_due { IsDue (engine_of self.old) command result.due }
+        ensures due { self.new.unanswered ≡ self.old.unanswered
+            ++ record { id = self.new.sent; command = command; due = result.due } ∷ [] }
     {
         in_limits(&self.game, &command);
         self.sent += 1;
-        let due = due_to(&mut self.game, self.undone, &command);
+        let due = due_to(&mut self.game, self.undone, &self.opinion, &command);
         self.undone = undone_due(self.undone, &command, &due);
         self.unanswered.push(self.sent, command, due);
         self.board = board_after(self.board, is_clear_board(&command));
-        self.komi_set = self.komi_set || is_komi(&command);
-        write_check(self.sent, &command)
+        self.komi_set = komi_after(self.komi_set, &command);
+        Asking {
+            text: write_check(self.sent, &command),
+            due,
+        }
     }
 
     /// Bytes of the engine, which is up, are heard. A whole reply is written in place of the one handed in.
@@ -217,7 +237,7 @@ impl Exam {
                 kind: Kind::WrongId,
             });
         }
-        let judged = judge(&self.game, asked.due, reply);
+        let judged = judge(&self.game, &self.opinion, asked.due, reply);
         self.apply(asked, reply, judged)
     }
 
@@ -246,6 +266,10 @@ impl Exam {
                 // There is a move.
                 let _ = self.game.undo();
                 self.undone = true;
+                self.taken_off()
+            }
+            Judgement::Opines(opinion) => {
+                self.opinion = opinion;
                 self.taken_off()
             }
             Judgement::Wrong(kind) => {

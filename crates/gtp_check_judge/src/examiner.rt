@@ -1,14 +1,15 @@
 //! The examiner of one engine.
-ghost use Rattle.std.specs.Prelude.{◌≡◌, ◌<◌, ◌≤◌, true, false, length, option_map, None};
+ghost use Rattle.std.specs.Prelude.{◌≡◌, ◌<◌, ◌≤◌, true, false, [], ◌∷◌, ◌++◌, length, option_map, None};
 ghost use Rattle.gtp_wire.specs.Replies.{with_reply};
 ghost use Rattle.gtp_check_judge.specs.Asking.{written_check};
 
 use crate::asking::CheckCommand;
-use crate::exam::{Exam, Heard};
+use crate::exam::{Asking, Exam, Heard};
+use crate::opinions::Opinion;
 use crate::setups::Board;
 use crate::skills::Skills;
 use go_board::{Game, KoRule};
-use gtp_wire::{CommandText, Reply};
+use gtp_wire::Reply;
 use std::marker::Model;
 
 /// The examiner of one engine: what a right engine has to answer to what was asked since the engine was started, and
@@ -34,7 +35,8 @@ impl Model for Examiner {
 
 impl Examiner {
     ghost use Rattle.gtp_check_judge.specs.Check.{opening, started, with_exam, after_loss};
-    ghost use Rattle.gtp_check_judge.specs.Exam.{Asks, Hears, HearsDown, HasRoomFor, IsOrderly};
+    ghost use Rattle.gtp_check_judge.specs.Dues.{IsDue};
+    ghost use Rattle.gtp_check_judge.specs.Exam.{engine_of, Asks, Hears, HearsDown, HasRoomFor, IsOrderly};
     ghost use Rattle.gtp_check_judge.specs.Exam.{answered_by, refused_what};
     ghost use Rattle.gtp_check_judge.specs.Judging.{oldest};
 
@@ -68,13 +70,13 @@ impl Examiner {
 
     /// Whether the engine may be asked this command now.
     ///
-    /// It may where it is up, fewer than eight commands are unanswered and none of them is a `genmove`, a `boardsize`
-    /// or an `undo` that may fail; one of these only where none is; a `play` or a `genmove` only where the record has
-    /// room, and no `genmove` after two passes; a `final_score` only where no move was made and no handicap placed; no
-    /// `quit`.
-    /// What hangs on the board is asked only once a size was taken and a `clear_board` asked after it, and a score
-    /// only once a `komi` was asked too. `fixed_handicap`, `undo` and `final_score` are asked only once the engine
-    /// has answered whether it knows them, and not where it said `false`.
+    /// It may where it is up, fewer than eight commands are unanswered and none of them is a `genmove`, a `boardsize`,
+    /// an `undo` that may fail or a `final_score`; one of these only where none is; a `play` or a `genmove` only where
+    /// the record has room, and no `genmove` after two passes; a `final_score` only where no move was made and no
+    /// handicap placed; no `quit`. What hangs on the board is asked only once a size was taken and a `clear_board`
+    /// asked after it, and a score only where the last `komi` that was asked is at most 16,777,216 half points either
+    /// way. `fixed_handicap`, `undo` and `final_score` are asked only once the engine has answered whether it knows
+    /// them, and not where it said `false`.
     pub fn has_room(&self, command: &CheckCommand) -> bool
         ensures may { result ≡ true → HasRoomFor self.now.exam command.now }
         ensures only { HasRoomFor self.now.exam command.now → result ≡ true }
@@ -82,12 +84,16 @@ impl Examiner {
         self.exam.has_room(command)
     }
 
-    /// The engine is asked a command. Returns the bytes of its line, with the next id.
-    pub fn ask(&mut self, command: CheckCommand) -> CommandText
+    /// The engine is asked a command. Returns the bytes of its line, with the next id, and what is due to it: what
+    /// every right engine answers then.
+    pub fn ask(&mut self, command: CheckCommand) -> Asking
         requires { HasRoomFor self.old.exam command }
         ensures asks { Asks self.old.exam command self.new.exam }
         ensures starts { self.new ≡ with_exam self.old self.new.exam }
-        ensures text { result.items ≡ written_check self.new.exam.sent command }
+        ensures text { result.text.items ≡ written_check self.new.exam.sent command }
+        ensures is_due { IsDue (engine_of self.old.exam) command result.due }
+        ensures due { self.new.exam.unanswered ≡ self.old.exam.unanswered
+            ++ record { id = self.new.exam.sent; command = command; due = result.due } ∷ [] }
     {
         self.exam.ask(command)
     }
@@ -97,8 +103,8 @@ impl Examiner {
     ///
     /// After a finding the engine counts as down. Of one that is down all bytes are used and nothing changes.
     ///
-    /// A reply is judged by what is due to the oldest unanswered command. A score is compared as a number: `W+6.50` is
-    /// `W+6.5`.
+    /// A reply is judged by what is due to the oldest unanswered command. A score is an opinion: it is compared, as a
+    /// number, only with one of the same size that the engine said twice in a row.
     pub fn heard(&mut self, bytes: &[u8], reply: &mut Reply) -> Heard
         ensures within { result.used ≤ length bytes.now }
         // of a piece that isn't empty one byte at least is used
@@ -151,6 +157,13 @@ impl Examiner {
         ensures { result ≡ self.now.exam.undone }
     {
         self.exam.undone
+    }
+
+    /// What the engine thinks of an empty board, as its scores said.
+    pub fn opinion(&self) -> Opinion
+        ensures { result ≡ self.now.exam.opinion }
+    {
+        self.exam.opinion
     }
 
     /// Whether an engine was started, and was neither lost since nor found wrong.

@@ -4,13 +4,14 @@ ghost use Rattle.go_base.specs.Handicap.{AllowsHandicap, handicap_points};
 ghost use Rattle.gtp_wire.specs.Words.{reply_words};
 ghost use Rattle.gtp_wire.specs.ReplyWords.{choice_of_text, names_points};
 ghost use Rattle.gtp_check_judge.specs.Scores.{score_of_text};
-ghost use Rattle.gtp_check_judge.specs.Judging.{Judged, ChoiceJudged, SaidJudged, VertexJudged, ScoreJudged};
-ghost use Rattle.gtp_check_judge.specs.Judging.{SaidScoreJudged, NumberJudged, MayBeJudged, has_id, success_judged};
+ghost use Rattle.gtp_check_judge.specs.Judging.{Judged, ChoiceJudged, SaidJudged, VertexJudged, score_judged};
+ghost use Rattle.gtp_check_judge.specs.Judging.{view_judged, MayBeJudged, has_id, success_judged};
 ghost use Rattle.gtp_check_judge.specs.Judging.{failure_judged, size_judged, undo_judged, points_judged, refused_by};
 
 use crate::dues::{Cause, Due};
+use crate::opinions::{Opinion, View, agrees, opinion_with, view_of};
 use crate::scores::read_score;
-use go_base::{Choice, Colour, Size, Vertex, handicap};
+use go_base::{Choice, Colour, Komi, Size, Vertex, handicap};
 use go_board::{Game, PlayFault};
 use gtp_wire::{Reply, names_points, read_choice};
 
@@ -31,7 +32,7 @@ pub enum Kind {
     Unlawful(PlayFault),
     /// It answered a `final_score` by a success that is no score.
     NoScore,
-    /// It answered a `final_score` by another score.
+    /// It answered a `final_score` by a score that differs from one that it said twice by more than the komis do.
     OtherScore,
     /// Its reply has no id, or not that of the oldest unanswered command.
     WrongId,
@@ -63,6 +64,8 @@ pub enum Judgement {
     Resized(Size),
     /// A right answer to an `undo`, by which the last move is taken back.
     Undone,
+    /// A right answer to a `final_score`, by which the engine thinks this of an empty board.
+    Opines(Opinion),
     /// A wrong one.
     Wrong(Kind),
 }
@@ -77,10 +80,10 @@ pub(crate) fn has_id(id: Option<u32>, wanted: u32) -> bool
     }
 }
 
-/// What a reply is to a command to which this is due. The game is a right engine's.
-pub(crate) fn judge(game: &Game, due: Due, reply: &Reply) -> Judgement
+/// What a reply is to a command to which this is due. The game and the opinion are a right engine's.
+pub(crate) fn judge(game: &Game, opinion: &Opinion, due: Due, reply: &Reply) -> Judgement
     requires { MayBeJudged due }
-    ensures { Judged game.now due reply.now result }
+    ensures { Judged game.now opinion.now due reply.now result }
 {
     match due {
         Due::Succeeds => success_judged(reply.ok),
@@ -90,7 +93,7 @@ pub(crate) fn judge(game: &Game, due: Due, reply: &Reply) -> Judgement
             reply.ok,
         ),
         Due::Resizes(size) => size_judged(size, reply.ok),
-        Due::Scores(score) => score_judged(score, reply),
+        Due::Scores(size, komi) => score_judged(opinion, size, komi, reply),
         Due::AnyReply => Judgement::Right,
         Due::Chooses(colour) => choice_judged(game, colour, reply),
         Due::MayUndo => undo_judged(reply.ok),
@@ -129,7 +132,7 @@ pub(crate) fn refused_by(due: Due, ok: bool) -> Option<Refusal>
         Due::Succeeds
         | Due::Fails(_)
         | Due::Places(..)
-        | Due::Scores(_)
+        | Due::Scores(..)
         | Due::AnyReply
         | Due::Chooses(_) => None,
     }
@@ -183,34 +186,33 @@ fn are_points(size: Size, stones: u32, reply: &Reply) -> bool
     }
 }
 
-/// A reply to a `final_score` on a board with this score.
-fn score_judged(score: i32, reply: &Reply) -> Judgement
-    ensures { ScoreJudged score reply.now.ok (score_of_text reply.now.text.items) result }
+/// A reply to a `final_score` on a board of this size with this komi.
+fn score_judged(opinion: &Opinion, size: Size, komi: Komi, reply: &Reply) -> Judgement
+    ensures { result
+        ≡ score_judged opinion.now size komi reply.now.ok (score_of_text reply.now.text.items) }
 {
     if !reply.ok {
         return Judgement::Right;
     }
-    said_score_judged(score, read_score(&reply.text))
-}
-
-/// What was said by a `final_score` that succeeded.
-fn said_score_judged(score: i32, said: Option<i32>) -> Judgement
-    ensures { SaidScoreJudged score said result }
-{
-    match said {
+    match read_score(&reply.text) {
         None => Judgement::Wrong(Kind::NoScore),
-        Some(said) => number_judged(score, said),
+        Some(said) => view_judged(opinion, &view_of(size, komi, said)),
     }
 }
 
-/// A score that was said.
-fn number_judged(score: i32, said: i32) -> Judgement
-    ensures { NumberJudged score said result }
+/// What was said of a board, where it is compared at all.
+fn view_judged(opinion: &Opinion, new: &Option<View>) -> Judgement
+    ensures { result ≡ view_judged opinion.now new.now }
 {
-    if said == score {
-        Judgement::Right
-    } else {
-        Judgement::Wrong(Kind::OtherScore)
+    match new {
+        None => Judgement::Right,
+        Some(new) => {
+            if agrees(opinion, new) {
+                Judgement::Opines(opinion_with(opinion, new))
+            } else {
+                Judgement::Wrong(Kind::OtherScore)
+            }
+        }
     }
 }
 

@@ -2,7 +2,7 @@
 ghost use Rattle.gtp_check_judge.specs.Laws.{SilenceSaysAllIsRight, FindingsAreJustified, RightAnswersHaveNoFinding};
 ghost use Rattle.gtp_check_judge.specs.Laws.{RightAnswersLeaveOneGame, AskedCommandsAreLines};
 ghost use Rattle.gtp_check_judge.specs.Laws.{PlaysAreLegalOrProbes};
-ghost use Rattle.gtp_check_judge.specs.Laws.{ScoresAreKomiAlone, WhoAnswersRightlyIsNotBlamed, NoRightEngineIsBlamed};
+ghost use Rattle.gtp_check_judge.specs.Laws.{WhoAnswersRightlyIsNotBlamed, NoRightEngineIsBlamed};
 ghost use Rattle.gtp_check_judge.specs.Laws.{WhatIsReadIsAnswerOrFound};
 ghost use Rattle.gtp_check_judge.specs.Check.{EveryCheckIsBounded, UpIsBetween};
 ghost use Rattle.gtp_check_judge.specs.HistoryLaws.{SkillsAreWhatWasSaid, WhatIsAskedIsKnown, BoardsAreWhatWasSaid};
@@ -11,8 +11,9 @@ ghost use Rattle.gtp_check_judge.specs.HistoryLaws.{SomeAreAskedAlone};
 ghost use Rattle.gtp_check_judge.specs.HistoryLaws.{ReadyEnginesMayBeAsked, KnownEnginesMayBeAsked};
 ghost use Rattle.gtp_check_judge.specs.ConversationLaws.{EachStartBeginsAnew, ConversationsShowFindings};
 ghost use Rattle.gtp_check_judge.specs.ConversationLaws.{NoRightEngineWroteIt};
-ghost use Rattle.gtp_check_judge.specs.AnswerLaws.{ScoresAreRead, RefusalsAreReported};
+ghost use Rattle.gtp_check_judge.specs.AnswerLaws.{ScoresAreRead, SomeKomisMayBeRefused, RefusalsAreReported};
 ghost use Rattle.gtp_check_judge.specs.UndoLaws.{UndoneIsWhatWasSaid, FirstUndosHaveToSucceed};
+ghost use Rattle.gtp_check_judge.specs.ScoreLaws.{ScoresAreOfEmptyBoards, ScoresDifferAsKomis};
 ghost use Rattle.gtp_check_judge.specs.StepLaws.{NoneAfterTheEnd, HandicapsArePlacedOrProbes, RightAnswersAreReported};
 
 use gtp_session::policy::Policy;
@@ -47,7 +48,8 @@ pub fn right_answers_have_no_finding()
     ensures { RightAnswersHaveNoFinding }
 {}
 
-/// Right answers leave one game, and no other, and they say whether an `undo` may fail then.
+/// Right answers leave one game, and no other, and they say whether an `undo` may fail then, and what the engine thinks
+/// of an empty board.
 pub fn right_answers_leave_one_game()
     ensures { RightAnswersLeaveOneGame }
 {}
@@ -75,9 +77,15 @@ pub fn boards_are_known()
     ensures { BoardsAreKnown }
 {}
 
-/// A `final_score` may be asked only once a `komi` was asked since the engine's start.
+/// A `final_score` may be asked only once a `komi` was asked since the engine's start, and where the last of them is
+/// one that every engine has to take: at most 16,777,216 half points either way.
 pub fn komis_are_set()
     ensures { KomisAreSet }
+{}
+
+/// A komi of at most 16,777,216 half points either way has to be taken. To any other each reply is right.
+pub fn some_komis_may_be_refused()
+    ensures { SomeKomisMayBeRefused }
 {}
 
 /// The commands that an engine is asked are numbered 1, 2, 3 and so on. So their number is bounded too.
@@ -85,21 +93,21 @@ pub fn commands_are_numbered()
     ensures { CommandsAreNumbered }
 {}
 
-/// A `genmove`, a `boardsize` and an `undo` that may fail are asked alone: only where nothing is unanswered, and
-/// nothing before their answer.
+/// A `genmove`, a `boardsize`, an `undo` that may fail and a `final_score` are asked alone: only where nothing is
+/// unanswered, and nothing before their answer.
 pub fn some_are_asked_alone()
     ensures { SomeAreAskedAlone }
 {}
 
-/// Of an engine that is up, owes fewer than eight answers and none to a `genmove`, a `boardsize` or an `undo` that may
-/// fail, a `komi`, a `clear_board`, a `name`, a `version` and a `known_command` may be asked, as long as there are ids;
-/// and a `boardsize` where it owes nothing.
+/// Of an engine that is up, owes fewer than eight answers and none to a `genmove`, a `boardsize`, an `undo` that may
+/// fail or a `final_score`, a `komi`, a `clear_board`, a `name`, a `version` and a `known_command` may be asked, as
+/// long as there are ids; and a `boardsize` where it owes nothing.
 pub fn ready_engines_may_be_asked()
     ensures { ReadyEnginesMayBeAsked }
 {}
 
 /// Where the board of such an engine is known, also what hangs on it may be asked: a `fixed_handicap`, an `undo` and a
-/// `final_score` where it is known to know them, a score where a `komi` was asked.
+/// `final_score` where it is known to know them, a score where the last `komi` is one that every engine has to take.
 pub fn known_engines_may_be_asked()
     ensures { KnownEnginesMayBeAsked }
 {}
@@ -120,13 +128,20 @@ pub fn plays_are_legal_or_probes()
     ensures { PlaysAreLegalOrProbes }
 {}
 
-/// The score that is asked for is that of komi alone.
-pub fn scores_are_komi_alone()
-    ensures { ScoresAreKomiAlone }
+/// A score is asked only of a board without a stone. What is due is a score of its size and komi.
+pub fn scores_are_of_empty_boards()
+    ensures { ScoresAreOfEmptyBoards }
 {}
 
-/// A text is read as a score exactly where it is one word: `B+` or `W+` and a number of points without a sign, or a
-/// zero.
+/// Where an engine said the score of an empty board twice in a row, a score of a board of that size is found wrong
+/// exactly where the two differ by more than the komis do and one of the last digit that is written. No other score is
+/// compared.
+pub fn scores_differ_as_komis()
+    ensures { ScoresDifferAsKomis }
+{}
+
+/// A text is read as a score exactly where it is one word: `B+` or `W+` and a number of points without a sign, with any
+/// digits, or a zero.
 pub fn scores_are_read()
     ensures { ScoresAreRead }
 {}

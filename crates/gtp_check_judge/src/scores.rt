@@ -1,15 +1,44 @@
 //! What is answered to a `final_score`.
-ghost use Rattle.std.specs.Prelude.{◌≡◌, IfSome};
-ghost use Rattle.go_base.specs.Komi.{IsKomi};
-ghost use Rattle.gtp_check_judge.specs.Scores.{points_of, lead_of, negated, even_of, score_of_word, score_of_text};
+ghost use Rattle.std.specs.Prelude.{◌≡◌, ◌≤◌, IfSome, IsTrue, length};
+ghost use Rattle.std.specs.Char.{is_ascii_digit};
+ghost use Rattle.std.specs.List.{list_all};
+ghost use Rattle.std.specs.Option.{option_copied};
+ghost use Rattle.std.specs.Str.Parse.{AllDigits, digits_value};
+ghost use Rattle.go_base.specs.Komi.{decimals_of};
+ghost use Rattle.gtp_check_judge.specs.Scores.{points_of, lead_of, negative, negated, zero_of, score_of_word};
+ghost use Rattle.gtp_check_judge.specs.Scores.{score_of_text, score_of_digits, unit_of, are_only_zeros, IsInReach};
 
-use go_base::Komi;
+use go_base::{read_int, split_digits};
 use gtp_wire::first_word;
 
-/// The score that the text is, in half points, positive where Black leads: one word, `B+` or `W+` and points, or a
-/// zero.
-pub(crate) fn read_score(text: &[u8]) -> Option<i32>
-    ensures { result ≡ score_of_text text.now }
+/// The most digits before the point of a score that is compared.
+const MOST_BEFORE: usize = 9;
+
+/// The most digits after the point of a score that is compared.
+const MOST_AFTER: usize = 6;
+
+/// A score.
+#[derive(Clone, Copy, Debug, PartialEq, Eq)]
+pub struct Score {
+    /// It in millionths of a point, positive where Black leads.
+    pub millionths: i64,
+    /// What one of the last digit that was written is, in millionths of a point.
+    pub unit: u64,
+}
+
+/// What a text that is a score says.
+#[derive(Clone, Copy, Debug, PartialEq, Eq)]
+pub enum SaidScore {
+    /// This number.
+    Number(Score),
+    /// A number of more digits than are compared: more than nine before the point, or more than six after it.
+    Long,
+}
+
+/// The score that the text is: one word, `B+` or `W+` and points, or a zero.
+pub(crate) fn read_score(text: &[u8]) -> Option<SaidScore>
+    ensures value { result ≡ score_of_text text.now }
+    ensures limits { IfSome result IsInReach }
 {
     let (word, rest) = first_word(text)?;
     if first_word(rest).is_some() {
@@ -19,20 +48,22 @@ pub(crate) fn read_score(text: &[u8]) -> Option<i32>
 }
 
 /// The score that a word is.
-fn read_word(word: &[u8]) -> Option<i32>
-    ensures { result ≡ score_of_word word.now }
+fn read_word(word: &[u8]) -> Option<SaidScore>
+    ensures value { result ≡ score_of_word word.now }
+    ensures limits { IfSome result IsInReach }
 {
     match word {
         [b'B', rest @ ..] => read_lead(rest),
         [b'W', rest @ ..] => negated(read_lead(rest)),
-        _ => even_of(read_points(word)),
+        [] => None,
+        [..] => read_zero(word),
     }
 }
 
 /// The points after a letter and a plus.
-fn read_lead(rest: &[u8]) -> Option<i32>
+fn read_lead(rest: &[u8]) -> Option<SaidScore>
     ensures value { result ≡ lead_of rest.now }
-    ensures limits { IfSome result IsKomi }
+    ensures limits { IfSome result IsInReach }
 {
     match rest {
         [b'+', points @ ..] => read_points(points),
@@ -40,45 +71,123 @@ fn read_lead(rest: &[u8]) -> Option<i32>
     }
 }
 
-/// The half points of a number that has no sign before it.
-fn read_points(text: &[u8]) -> Option<i32>
+/// White leads by these points.
+fn negated(lead: Option<SaidScore>) -> Option<SaidScore>
+    requires { IfSome lead IsInReach }
+    ensures value { result ≡ negated lead }
+    ensures limits { IfSome result IsInReach }
+{
+    match lead {
+        None => None,
+        Some(said) => Some(negative(said)),
+    }
+}
+
+/// The same of a score.
+fn negative(said: SaidScore) -> SaidScore
+    requires { IsInReach said }
+    ensures value { result ≡ negative said }
+    ensures limits { IsInReach result }
+{
+    match said {
+        SaidScore::Long => SaidScore::Long,
+        SaidScore::Number(score) => SaidScore::Number(Score {
+            millionths: -score.millionths,
+            unit: score.unit,
+        }),
+    }
+}
+
+/// Without a letter only a zero is named.
+fn read_zero(text: &[u8]) -> Option<SaidScore>
+    ensures value { result ≡ zero_of text.now }
+    ensures limits { IfSome result IsInReach }
+{
+    if are_only_zeros(text) {
+        read_points(text)
+    } else {
+        None
+    }
+}
+
+/// Whether a text has no digit but zeros.
+fn are_only_zeros(text: &[u8]) -> bool
+    ensures { result ≡ are_only_zeros text.now }
+{
+    text.iter().all(|byte| *byte == b'0' || *byte == b'.')
+}
+
+/// The score of a text that has no sign: digits, and then nothing, or a point and digits.
+fn read_points(text: &[u8]) -> Option<SaidScore>
     ensures value { result ≡ points_of text.now }
-    ensures limits { IfSome result IsKomi }
+    ensures limits { IfSome result IsInReach }
 {
-    match text {
-        [] | [b'+', ..] | [b'-', ..] => None,
-        _ => half_points(Komi::read(text)),
+    let (whole, rest) = split_digits(text);
+    let decimals = read_decimals(rest)?;
+    if !are_digits(decimals) || whole.len() + decimals.len() == 0 {
+        return None;
     }
+    Some(score_of_digits(whole, decimals))
 }
 
-/// A komi in half points.
-fn half_points(komi: Option<Komi>) -> Option<i32>
-    ensures value { result ≡ komi }
-    ensures limits { IfSome result IsKomi }
+/// What follows the point.
+fn read_decimals(rest: &[u8]) -> Option<&[u8]>
+    ensures { option_copied result ≡ decimals_of rest.now }
 {
-    match komi {
-        None => None,
-        Some(komi) => Some(komi.half_points()),
-    }
-}
-
-/// White leads by these half points.
-fn negated(lead: Option<i32>) -> Option<i32>
-    requires { IfSome lead IsKomi }
-    ensures { result ≡ negated lead }
-{
-    match lead {
-        None => None,
-        Some(lead) => Some(-lead),
-    }
-}
-
-/// Without a letter only an even score is named.
-fn even_of(lead: Option<i32>) -> Option<i32>
-    ensures { result ≡ even_of lead }
-{
-    match lead {
-        Some(0) => Some(0),
+    match rest {
+        [] => Some(rest),
+        [b'.', decimals @ ..] => Some(decimals),
         _ => None,
+    }
+}
+
+/// Whether each byte of a text is a digit.
+fn are_digits(text: &[u8]) -> bool
+    ensures { result ≡ list_all is_ascii_digit text.now }
+{
+    text.iter().all(|byte| byte.is_ascii_digit())
+}
+
+/// The score of the digits before the point and those after it.
+fn score_of_digits(whole: &[u8], decimals: &[u8]) -> SaidScore
+    requires before { AllDigits 10 whole.now }
+    requires after { AllDigits 10 decimals.now }
+    ensures value { result ≡ score_of_digits whole.now decimals.now }
+    ensures limits { IsInReach result }
+{
+    if whole.len() > MOST_BEFORE || decimals.len() > MOST_AFTER {
+        return SaidScore::Long;
+    }
+    let unit = unit_of(decimals.len());
+    let millionths = 1_000_000 * number_of(whole) + unit * number_of(decimals);
+    SaidScore::Number(Score {
+        millionths: millionths as i64,
+        unit,
+    })
+}
+
+/// The number of at most nine digits, which may be none.
+fn number_of(digits: &[u8]) -> u64
+    requires digits { AllDigits 10 digits.now }
+    requires few { length digits.now ≤ 9 }
+    ensures value { result ≡ digits_value 10 digits.now }
+    ensures limit { result ≤ 999999999 }
+{
+    u64::from(read_int(digits).unwrap_or(0))
+}
+
+/// What one of the last of so many digits after the point is, in millionths of a point.
+fn unit_of(digits: usize) -> u64
+    ensures value { result ≡ unit_of digits }
+    ensures few { result ≤ 1000000 }
+{
+    match digits {
+        0 => 1_000_000,
+        1 => 100_000,
+        2 => 10_000,
+        3 => 1_000,
+        4 => 100,
+        5 => 10,
+        _ => 1,
     }
 }

@@ -1,10 +1,11 @@
 //! What is known of an engine's board and komi since it was started.
 ghost use Rattle.std.specs.Prelude.{◌≡◌, true};
 ghost use Rattle.gtp_check_judge.specs.declared.setups.Board.TheVariants.{Cleared};
-ghost use Rattle.gtp_check_judge.specs.Setups.{is_clear_board, is_komi, is_final_score, needs_board, is_board_of};
+ghost use Rattle.gtp_check_judge.specs.Setups.{is_clear_board, komi_after, is_final_score, needs_board, is_board_of};
 ghost use Rattle.gtp_check_judge.specs.Setups.{board_after};
 
 use crate::asking::CheckCommand;
+use crate::komis::is_exact_komi;
 use gtp_wire::Command;
 
 /// What is known of the engine's board.
@@ -28,13 +29,14 @@ pub(crate) fn is_clear_board(command: &CheckCommand) -> bool
     }
 }
 
-/// Whether a command is a `komi`.
-pub(crate) fn is_komi(command: &CheckCommand) -> bool
-    ensures { result ≡ is_komi command.now }
+/// Whether the last komi that was asked is one that every engine has to take, once this command was asked, where it
+/// was so before or wasn't.
+pub(crate) fn komi_after(is_set: bool, command: &CheckCommand) -> bool
+    ensures { result ≡ komi_after is_set command.now }
 {
     match command {
-        CheckCommand::Match(Command::Komi(_)) => true,
-        _ => false,
+        CheckCommand::Match(Command::Komi(komi)) => is_exact_komi(*komi),
+        _ => is_set,
     }
 }
 

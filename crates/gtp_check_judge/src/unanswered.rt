@@ -103,8 +103,8 @@ impl Unanswered {
         }
     }
 
-    /// Whether one whose answer has to be awaited is among them: a `genmove`, a `boardsize`, or an `undo` that may
-    /// fail.
+    /// Whether one whose answer has to be awaited is among them: a `genmove`, a `boardsize`, an `undo` that may fail,
+    /// or a `final_score`.
     pub fn awaits(&self) -> bool
         ensures { result ≡ awaits self.now }
     {

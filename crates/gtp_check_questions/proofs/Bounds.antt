@@ -8,6 +8,7 @@ use Rattle.gtp_check_questions.specs.declared.openings.Opening.{Opening}
 use Rattle.gtp_check_questions.specs.declared.openings.Opening.TheVariants as opening
 use Rattle.gtp_check_questions.specs.Course.{Course, GoesOn, GoesTo, IsIn, Leaves, progress}
 use Rattle.gtp_check_questions.specs.Laws.{Walks, counted, starts}
+use Rattle.gtp_check_questions.specs.declared.suicides.Suicide.{Suicide}
 use Rattle.gtp_check_questions.specs.Openings.{opened}
 use Rattle.gtp_check_questions.specs.Places.{half}
 use Rattle.std.proofs.Common.{Bool, true, false}
@@ -58,7 +59,7 @@ step lessons asked started old new exam Kill held goes =
     let h : Holds lessons (1 + asked) started new = goes_on lessons asked started old new held goes.1 in
     record { same = h.same; few = omega (arith, h.few) }
 step lessons asked started old new exam (Ask command) held goes =
-    let h : Holds lessons (1 + asked) started new = goes_on lessons asked started old new held goes.1 in
+    let h : Holds lessons (1 + asked) started new = goes_on lessons asked started old new held goes.2 in
     record { same = h.same; few = omega (arith, h.few) }
 step lessons asked started old new exam Wait held goes =
     let h : Holds lessons asked started new = stays lessons asked started old new held goes.1 in
@@ -76,27 +77,28 @@ left lessons asked started old new held (inl over) = stays lessons asked started
 left lessons asked started old new held (inr on) =
     weaker lessons asked started new (goes_on lessons asked started old new held on)
 
-holds : (lessons : List Lesson) (scene_size : Option ℕ) (seed asked started : ℕ) (course : Course)
-    → Walks lessons scene_size seed asked started course → Holds lessons asked started course
-holds lessons scene_size seed asked started course Walks.begins = record { same = refl; few = omega arith }
-holds lessons scene_size seed asked started course
+holds : (lessons : List Lesson) (scene_size : Option ℕ) (seed : ℕ) (suicide : Suicide) (asked started : ℕ)
+    (course : Course) → Walks lessons scene_size seed suicide asked started course
+    → Holds lessons asked started course
+holds lessons scene_size seed suicide asked started course Walks.begins = record { same = refl; few = omega arith }
+holds lessons scene_size seed suicide asked started course
     (Walks.goes {asked = a} {started = s} {old = old} exam action walk goes) =
-    step lessons a s old course exam action (holds lessons scene_size seed a s old walk) goes
-holds lessons scene_size seed asked started course (Walks.leaves {old = old} walks leaves) =
-    left lessons asked started old course (holds lessons scene_size seed asked started old walks) leaves
-holds lessons scene_size seed asked started course (Walks.finds {old = old} is_loss walks) =
-    let held = holds lessons scene_size seed asked started old walks in
+    step lessons a s old course exam action (holds lessons scene_size seed suicide a s old walk) goes
+holds lessons scene_size seed suicide asked started course (Walks.leaves {old = old} walks leaves) =
+    left lessons asked started old course (holds lessons scene_size seed suicide asked started old walks) leaves
+holds lessons scene_size seed suicide asked started course (Walks.finds {old = old} is_loss walks) =
+    let held = holds lessons scene_size seed suicide asked started old walks in
     record { same = held.same; few = held.few }
 
 few_half : (is : Bool) → half is ≤ 1
 few_half true = omega arith
 few_half false = omega arith
 
-pub bounded : (lessons : List Lesson) (scene_size : Option ℕ) (seed asked started : ℕ) (course : Course)
-    → Walks lessons scene_size seed asked started course → IsIn course.lessons course.place
+pub bounded : (lessons : List Lesson) (scene_size : Option ℕ) (seed : ℕ) (suicide : Suicide) (asked started : ℕ)
+    (course : Course) → Walks lessons scene_size seed suicide asked started course → IsIn course.lessons course.place
     → asked ≤ 57600000 * (length lessons + 1) + 5 * (started + 1)
-bounded lessons scene_size seed asked started course walks inside =
-    let held : Holds lessons asked started course = holds lessons scene_size seed asked started course walks in
+bounded lessons scene_size seed suicide asked started course walks inside =
+    let held : Holds lessons asked started course = holds lessons scene_size seed suicide asked started course walks in
     let within : course.place.lesson ≤ length lessons =
     subst (λ (l : List Lesson). course.place.lesson ≤ length l) held.same inside.lesson in
     let opened_few : opened course.opening ≤ 5 = few_opened course.opening in

@@ -99,11 +99,11 @@ joining_short = search rules
 
 pub each_board : EachClearedBoardIsProbed
 each_board = record {
-  ko = λ part board is. probes_after 29 Ko board (short_board ko_scenes part board ko_short is) refl refl refl;
+  ko = λ part board is. probes_after 30 Ko board (short_board ko_scenes part board ko_short is) refl refl refl;
   captures = λ part board is.
-      probes_after 29 Captures board (short_board captures_scenes part board captures_short is) refl refl refl;
+      probes_after 31 Captures board (short_board captures_scenes part board captures_short is) refl refl refl;
   suicide = λ part board is.
-      probes_after 26 Suicide board (short_board suicide_scenes part board suicide_short is) refl refl refl;
+      probes_after 28 Suicide board (short_board suicide_scenes part board suicide_short is) refl refl refl;
   joining = λ part board is.
-      probes_after 29 Joining board (short_board joining_scenes part board joining_short is) refl refl refl;
+      probes_after 31 Joining board (short_board joining_scenes part board joining_short is) refl refl refl;
 }

@@ -5,3 +5,6 @@ pub mod OneQuestion
 pub mod Beginnings
 pub mod ExactKomis
 pub mod ClearedBoard
+pub mod NoSuicide
+pub mod SoughtSizes
+pub mod AnsweredKos

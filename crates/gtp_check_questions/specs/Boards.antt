@@ -1,6 +1,6 @@
 -- What each part of a lesson is asked on.
 use Rattle.std.specs.Prelude.{◌≡◌, ℕ, ◌+◌, ◌/◌, ◌%◌, nat_le, ◌&&◌, if◌then◌else◌, ℤ, pos, negsuc}
-use Rattle.std.specs.Prelude.{List, [], ◌∷◌, slice_index_or}
+use Rattle.std.specs.Prelude.{List, [], ◌∷◌, slice_index_or, Option, None, Some, is_none}
 use Rattle.go_base.specs.Size.{most_size}
 use Rattle.gtp_check_questions.specs.declared.lessons.Lesson.{Lesson}
 use Rattle.gtp_check_questions.specs.declared.lessons.Lesson.TheVariants.{Start, Sizes, Ko, Captures, Suicide, Joining}
@@ -8,7 +8,7 @@ use Rattle.gtp_check_questions.specs.declared.lessons.Lesson.TheVariants.{Handic
 use Rattle.gtp_check_questions.specs.declared.lessons.Lesson.TheVariants.{Games}
 use Rattle.gtp_check_questions.specs.declared.lessons.Lesson.TheVariants.{Restarts}
 use Rattle.gtp_check_questions.specs.declared.boards.Board.{Board}
-use Rattle.gtp_check_questions.specs.Scenes.{way_of, ways, scene_of}
+use Rattle.gtp_check_questions.specs.Scenes.{gaps_of, way_of, ways, scene_of}
 
 -- The sizes of the drawn games, of the long records, of those with moves of the engine's own, and of the games in one
 -- process. After them comes the size of scenes, which the engine takes.
@@ -44,15 +44,23 @@ lines_of Restarts part scene_size = slice_index_or game_sizes part scene_size
 abbrev pub size_or : ℕ → ℕ → ℕ
 size_or lines other_size = if nat_le 1 lines && nat_le lines most_size then lines else other_size
 
--- Komis in half points: 6.5, 0, -3.5, 7.5, 0.5, -0.5, 1000.5 and -7; -8388608, 1000000, 100.5 and -1234.5; 8388607.5,
+-- Komis in half points: 6.5, 0, -3.5, 7.5, 0.5, -0.5, 999.5 and -7; -8388608, 1000000, 100.5 and -735.5; 8388607.5,
 -- -8388607.5, 100000.5 and -32768.5. Each is at most 2^24 half points either way, so a float of 32 bits represents it.
+-- Ten are from -1000 to 1000 points: by these scores are compared.
 abbrev pub komis : List ℤ
 komis =
-    pos 13 ∷ pos 0 ∷ negsuc 6 ∷ pos 15 ∷ pos 1 ∷ negsuc 0 ∷ pos 2001 ∷ negsuc 13 ∷ negsuc 16777215 ∷ pos 2000000 ∷
-    pos 201 ∷ negsuc 2468 ∷ pos 16777215 ∷ negsuc 16777214 ∷ pos 200001 ∷ negsuc 65536 ∷ []
+    pos 13 ∷ pos 0 ∷ negsuc 6 ∷ pos 15 ∷ pos 1 ∷ negsuc 0 ∷ pos 1999 ∷ negsuc 13 ∷ negsuc 16777215 ∷ pos 2000000 ∷
+    pos 201 ∷ negsuc 1470 ∷ pos 16777215 ∷ negsuc 16777214 ∷ pos 200001 ∷ negsuc 65536 ∷ []
 
 abbrev pub komi_of : ℕ → ℤ
 komi_of number = slice_index_or komis (number % 16) (pos 13)
+
+-- komis that no float of 32 bits represents: 8388608.5, -999999999.5, -8388608.5 and 999999999.5
+abbrev pub inexact_komis : List ℤ
+inexact_komis = pos 16777217 ∷ negsuc 1999999998 ∷ negsuc 16777216 ∷ pos 1999999999 ∷ []
+
+abbrev pub inexact_komi_of : ℕ → ℤ
+inexact_komi_of part = slice_index_or inexact_komis (part % 4) (pos 16777217)
 
 -- how many handicap stones a part asks for: each number from 0 to 11 on each size, and elsewhere 2, 3 or 4
 abbrev pub stones_of : Lesson → ℕ → ℕ
@@ -70,12 +78,20 @@ stones_of Genmoves part = 2 + part % 3
 stones_of Games part = 2 + part % 3
 stones_of Restarts part = 2 + part % 3
 
--- what a part is asked on
-pub record IsBoard (lesson : Lesson) (part scene_size : ℕ) (board : Board) : Type 0 where
-  pub size : board.size ≡ size_or (lines_of lesson part scene_size) scene_size
-  pub other_size : board.other_size ≡ scene_size
+-- the size of the boards of scenes: the one that is known, or the smallest
+abbrev pub scene_size_or_least : Option ℕ → ℕ
+scene_size_or_least None = 5
+scene_size_or_least (Some size) = size
+
+-- what a part is asked on, where this size of scenes is known, if any
+pub record IsBoard (lesson : Lesson) (part : ℕ) (known : Option ℕ) (board : Board) : Type 0 where
+  pub size : board.size ≡ size_or (lines_of lesson part (scene_size_or_least known)) (scene_size_or_least known)
+  pub other_size : board.other_size ≡ scene_size_or_least known
+  pub is_sought : board.is_sought ≡ is_none known
   pub komi : board.komi ≡ komi_of part
   pub other_komi : board.other_komi ≡ komi_of (part + 2)
+  pub inexact_komi : board.inexact_komi ≡ inexact_komi_of part
   pub stones : board.stones ≡ stones_of lesson part
   pub scene : board.scene.now ≡ scene_of lesson part
+  pub gaps : board.gaps ≡ gaps_of part
   pub way : board.way ≡ way_of (part % ways)

@@ -1,12 +1,19 @@
 -- A course: its lessons, where it is in them, and what a call of it is.
-use Rattle.std.specs.Prelude.{◌≡◌, ℕ, ◌+◌, ◌<◌, ◌≤◌, min, nat_lt, ◌⊎◌, Bool, true, false, not, ◌&&◌, if◌then◌else◌}
-use Rattle.std.specs.Prelude.{List, [], length, slice_get, Option, None, Some, is_some}
-use Rattle.go_base.specs.Size.{most_size}
+use Rattle.std.specs.Prelude.{◌≡◌, ℕ, ◌+◌, ◌<◌, ◌≤◌, min, nat_lt, ◌⊎◌, Bool, true, false, ◌&&◌, if◌then◌else◌}
+use Rattle.std.specs.Prelude.{List, [], length, slice_get, Option, None}
+use Rattle.go_board.specs.Game.{GameRecord}
+use Rattle.go_board.specs.Refusals.{RefusesVertex}
+use Rattle.go_board.specs.declared.faults.PlayFault.TheVariants.{Suicide as SuicideFault}
+use Rattle.gtp_wire.specs.declared.commands.Command.TheVariants as command
+use Rattle.gtp_check_judge.specs.declared.asking.CheckCommand.{CheckCommand}
+use Rattle.gtp_check_judge.specs.declared.asking.CheckCommand.TheVariants.{Match, FinalScore, Name, Version}
+use Rattle.gtp_check_judge.specs.declared.asking.CheckCommand.TheVariants.{KnownCommand}
 use Rattle.gtp_check_judge.specs.declared.exam.Exam.{Exam}
 use Rattle.gtp_check_judge.specs.Exam.{HasRoomFor}
 use Rattle.gtp_check_questions.specs.declared.lessons.Lesson.{Lesson}
-use Rattle.gtp_check_questions.specs.declared.lessons.Lesson.TheVariants as lesson
 use Rattle.gtp_check_questions.specs.declared.places.Place.{Place}
+use Rattle.gtp_check_questions.specs.declared.suicides.Suicide.{Suicide}
+use Rattle.gtp_check_questions.specs.declared.suicides.Suicide.TheVariants.{Unasked}
 use Rattle.gtp_check_questions.specs.declared.openings.Opening.{Opening}
 use Rattle.gtp_check_questions.specs.declared.openings.Opening.TheVariants as opening
 use Rattle.gtp_check_questions.specs.declared.actions.Action.{Action}
@@ -19,7 +26,7 @@ use Rattle.gtp_check_questions.specs.Lessons.{parts_of, stretches_of}
 
 -- The lessons of a course, where it is in them, and what of its opening the engine was asked since it was started. How
 -- much was found in its lesson so far, and how often the engine was lost in it; the size of the boards of scenes, once
--- it is known; and the seed of what is drawn.
+-- it is known; the seed of what is drawn; and whether suicide is asked.
 pub record Course : Type 0 where
   pub lessons : List Lesson
   pub place : Place
@@ -28,10 +35,11 @@ pub record Course : Type 0 where
   pub losses : ℕ
   pub scene_size : Option ℕ
   pub seed : ℕ
+  pub suicide : Suicide
 
 -- before the first start
-abbrev pub begun : List Lesson → Option ℕ → ℕ → Course
-begun lessons scene_size seed = record {
+abbrev pub begun : List Lesson → Option ℕ → ℕ → Suicide → Course
+begun lessons scene_size seed suicide = record {
   lessons = lessons;
   place = first_place;
   opening = opening.Name;
@@ -39,6 +47,7 @@ begun lessons scene_size seed = record {
   losses = 0;
   scene_size = scene_size;
   seed = seed;
+  suicide = suicide;
 }
 
 -- the place is one of the course, or the course is over
@@ -70,38 +79,10 @@ with_finding is_loss course = record course {
   losses = if is_loss then min (course.losses + 1) most_losses else course.losses;
 }
 
--- The start finds the size of scenes, and is over then.
-abbrev pub finds_size : Lesson → Bool
-finds_size lesson.Start = true
-finds_size lesson.Sizes = false
-finds_size lesson.Ko = false
-finds_size lesson.Captures = false
-finds_size lesson.Suicide = false
-finds_size lesson.Joining = false
-finds_size lesson.Handicaps = false
-finds_size lesson.Komi = false
-finds_size lesson.Drawn = false
-finds_size lesson.Record = false
-finds_size lesson.Genmoves = false
-finds_size lesson.Games = false
-finds_size lesson.Restarts = false
-
--- the size that a part of the start asks for: each from 5 on; other lessons have the smallest
-abbrev pub sought_size : Lesson → ℕ → ℕ
-sought_size lesson part = if finds_size lesson then min (5 + part) most_size else 5
-
-abbrev pub size_in : Lesson → Option ℕ → ℕ → ℕ
-size_in lesson None part = sought_size lesson part
-size_in lesson (Some size) part = size
-
--- the size of the boards of scenes: the one that is known, or the one that is asked for
-abbrev pub scene_size_of : Lesson → Course → ℕ
-scene_size_of lesson course = size_in lesson course.scene_size course.place.part
-
 -- whether another part of the lesson comes
 abbrev pub has_next_part : Lesson → Course → Bool
 has_next_part lesson course =
-    nat_lt (course.place.part + 1) (parts_of lesson) && not (finds_size lesson && is_some course.scene_size)
+    nat_lt (course.place.part + 1) (parts_of lesson)
     && (nat_lt course.findings most_findings && nat_lt course.losses most_losses)
 
 -- The part is over: its lesson's next one comes, or the next lesson, in which nothing was found yet.
@@ -128,21 +109,46 @@ step_over lesson course =
 abbrev pub progress : Course → ℕ
 progress course = number course.place + opened course.opening
 
--- the same lessons, further on
+-- the same lessons, with the same suicide, further on
 pub record GoesOn (old new : Course) : Type 0 where
   pub lessons : new.lessons ≡ old.lessons
+  pub suicide : new.suicide ≡ old.suicide
   pub further : progress old < progress new
+
+-- ---- suicide
+
+-- a `play` that the rules refuse as suicide in this game: its stone's chain would have no liberty
+abbrev pub IsSuicide : GameRecord → CheckCommand → Type 0
+IsSuicide game (Match (command.Play move)) = RefusesVertex game move.colour move.vertex SuicideFault
+IsSuicide game (Match (command.Boardsize size)) = ⊥
+IsSuicide game (Match (command.Komi komi)) = ⊥
+IsSuicide game (Match command.ClearBoard) = ⊥
+IsSuicide game (Match (command.FixedHandicap stones)) = ⊥
+IsSuicide game (Match (command.Genmove colour)) = ⊥
+IsSuicide game (Match command.Undo) = ⊥
+IsSuicide game (Match command.Quit) = ⊥
+IsSuicide game FinalScore = ⊥
+IsSuicide game Name = ⊥
+IsSuicide game Version = ⊥
+IsSuicide game (KnownCommand known) = ⊥
+
+-- A command is left out in this game: it is suicide, and that isn't asked. (Rule sets differ in whether it is legal.)
+pub record IsLeftOut (suicide : Suicide) (game : GameRecord) (command : CheckCommand) : Type 0 where
+  pub unasked : suicide ≡ Unasked
+  pub is : IsSuicide game command
 
 -- ---- a call
 
--- What is to be done next, where the exam of the engine is this one. A command that is asked is one that may be asked.
+-- What is to be done next, where the exam of the engine is this one. A command that is asked is one that may be asked,
+-- and isn't left out.
 -- The engine is waited for only while it owes an answer. What is done goes on with the course; only a start begins the
 -- opening again, and waiting changes nothing.
 abbrev pub GoesTo : Course → Exam → Action → Course → Type 0
 GoesTo old exam Start new = (exam.up ≡ false) × (new ≡ record old { opening = opening.Name })
 GoesTo old exam Restart new = (exam.unanswered ≡ []) × GoesOn old new
 GoesTo old exam Kill new = (exam.unanswered ≡ []) × GoesOn old new
-GoesTo old exam (Ask command) new = HasRoomFor exam command × GoesOn old new
+GoesTo old exam (Ask command) new =
+    HasRoomFor exam command × ¬ IsLeftOut old.suicide exam.game command × GoesOn old new
 GoesTo old exam Wait new = (0 < length exam.unanswered) × (new ≡ old)
 GoesTo old exam Skip new = GoesOn old new
 GoesTo old exam Done new = IsOver old × (new ≡ old)

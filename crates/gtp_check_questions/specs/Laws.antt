@@ -1,30 +1,38 @@
 -- What holds of every course.
-use Rattle.std.specs.Prelude.{Bool, ◌≡◌, ℕ, ◌+◌, ◌*◌, ◌^◌, ◌<◌, ◌≤◌, ℤ, pos, neg_ℤ, ◌≤ℤ◌, List, length, slice_get}
-use Rattle.std.specs.Prelude.{Option, Some}
+use Rattle.std.specs.Prelude.{Bool, true, ◌≡◌, ℕ, ◌+◌, ◌*◌, ◌^◌, ◌%◌, ◌<◌, ◌≤◌, ℤ, pos, negsuc, neg_ℤ, ◌≤ℤ◌}
+use Rattle.std.specs.Prelude.{List, length, slice_get, Option, Some}
+use Rattle.go_base.specs.Colour.{other}
+use Rattle.go_base.specs.Size.{most_size}
 use Rattle.go_base.specs.declared.colours.Colour.{Colour}
+use Rattle.go_base.specs.declared.moves.Move.{Move}
 use Rattle.go_board.specs.Game.{GameRecord}
+use Rattle.go_board.specs.Refusals.{RefusesVertex}
+use Rattle.go_board.specs.declared.faults.PlayFault.TheVariants.{Suicide as SuicideFault}
 use Rattle.gtp_wire.specs.declared.commands.Command.TheVariants as command
 use Rattle.gtp_check_judge.specs.declared.asking.CheckCommand.{CheckCommand}
-use Rattle.gtp_check_judge.specs.declared.asking.CheckCommand.TheVariants.{KnownCommand}
+use Rattle.gtp_check_judge.specs.declared.asking.CheckCommand.TheVariants.{KnownCommand, Match}
 use Rattle.gtp_check_judge.specs.declared.asking.Known.{Known}
 use Rattle.gtp_check_judge.specs.declared.exam.Exam.{Exam}
 use Rattle.gtp_check_questions.specs.declared.actions.Action.{Action}
 use Rattle.gtp_check_questions.specs.declared.actions.Action.TheVariants.{Start, Restart, Kill, Ask, Wait, Skip, Done}
 use Rattle.gtp_check_questions.specs.declared.actions.Question.{Question}
+use Rattle.gtp_check_questions.specs.declared.actions.Question.TheVariants.{Found}
 use Rattle.gtp_check_questions.specs.declared.boards.Board.{Board}
 use Rattle.gtp_check_questions.specs.declared.draws.Draws.{Draws}
 use Rattle.gtp_check_questions.specs.declared.lessons.Lesson.{Lesson}
-use Rattle.gtp_check_questions.specs.declared.lessons.Lesson.TheVariants.{Ko, Captures, Suicide, Joining}
+use Rattle.gtp_check_questions.specs.declared.lessons.Lesson.TheVariants as lesson
 use Rattle.gtp_check_questions.specs.declared.openings.Opening.{Opening}
 use Rattle.gtp_check_questions.specs.declared.openings.Opening.TheVariants as opening
 use Rattle.gtp_check_questions.specs.declared.stretches.Stretch.{Stretch}
+use Rattle.gtp_check_questions.specs.declared.suicides.Suicide.{Suicide}
+use Rattle.gtp_check_questions.specs.declared.suicides.Suicide.TheVariants.{Unasked}
 use Rattle.gtp_check_questions.specs.Asking.{IsStep}
-use Rattle.gtp_check_questions.specs.Boards.{komi_of}
+use Rattle.gtp_check_questions.specs.Boards.{inexact_komi_of, komi_of}
 use Rattle.gtp_check_questions.specs.Course.{Course, GoesTo, IsIn, Leaves, begun, with_finding}
 use Rattle.gtp_check_questions.specs.Lessons.{parts_of, stretches_of}
 use Rattle.gtp_check_questions.specs.Openings.{opening_next}
-use Rattle.gtp_check_questions.specs.Questions.{IsQuestion, asks, probes}
-use Rattle.gtp_check_questions.specs.Scenes.{scene_of, scenes_of, turned, turned_act, ways}
+use Rattle.gtp_check_questions.specs.Questions.{IsQuestion, asks, last_of, probes}
+use Rattle.gtp_check_questions.specs.Scenes.{scene_of, scenes_of, turned, turned_act, turned_colour, ways}
 use Rattle.gtp_check_questions.specs.Stretches.{steps_of}
 
 -- ---- a course is bounded
@@ -51,31 +59,43 @@ starts Done = 0
 -- The calls on a course of these lessons: how many of them asked a command, asked nothing or ended an engine, how many
 -- starts there were, and the course after them. Whatever the engine has answered, each call of `next` goes on. A part
 -- may be left at any time, and something may be found in an earlier one.
-pub data Walks (lessons : List Lesson) (scene_size : Option ℕ) (seed : ℕ) : ℕ → ℕ → Course → Type 0 where
-  begins : Walks lessons scene_size seed 0 0 (begun lessons scene_size seed)
+pub data Walks (lessons : List Lesson) (scene_size : Option ℕ) (seed : ℕ) (suicide : Suicide)
+    : ℕ → ℕ → Course → Type 0 where
+  begins : Walks lessons scene_size seed suicide 0 0 (begun lessons scene_size seed suicide)
   goes : {asked started : ℕ} {old new : Course} (exam : Exam) (action : Action)
-      → Walks lessons scene_size seed asked started old → GoesTo old exam action new
-      → Walks lessons scene_size seed (counted action + asked) (starts action + started) new
-  leaves : {asked started : ℕ} {old new : Course} → Walks lessons scene_size seed asked started old → Leaves old new
-      → Walks lessons scene_size seed asked started new
-  finds : {asked started : ℕ} {old : Course} (is_loss : Bool) → Walks lessons scene_size seed asked started old
-      → Walks lessons scene_size seed asked started (with_finding is_loss old)
+      → Walks lessons scene_size seed suicide asked started old → GoesTo old exam action new
+      → Walks lessons scene_size seed suicide (counted action + asked) (starts action + started) new
+  leaves : {asked started : ℕ} {old new : Course}
+      → Walks lessons scene_size seed suicide asked started old → Leaves old new
+      → Walks lessons scene_size seed suicide asked started new
+  finds : {asked started : ℕ} {old : Course} (is_loss : Bool) → Walks lessons scene_size seed suicide asked started old
+      → Walks lessons scene_size seed suicide asked started (with_finding is_loss old)
 
 -- No more commands are asked, steps passed over and engines ended, all together, than the lessons have steps at most,
 -- and five after each start.
 abbrev pub EveryCourseIsBounded : Type 0
-EveryCourseIsBounded = (lessons : List Lesson) (scene_size : Option ℕ) (seed asked started : ℕ) (course : Course)
-    → Walks lessons scene_size seed asked started course → IsIn course.lessons course.place
+EveryCourseIsBounded = (lessons : List Lesson) (scene_size : Option ℕ) (seed : ℕ) (suicide : Suicide)
+    (asked started : ℕ) (course : Course) → Walks lessons scene_size seed suicide asked started course
+    → IsIn course.lessons course.place
     → asked ≤ 57600000 * (length lessons + 1) + 5 * (started + 1)
+
+-- ---- suicide
+
+-- Where suicide isn't asked, no `play` that is asked is one in the examiner's game, by the rules of that.
+abbrev pub NoSuicideIsAsked : Type 0
+NoSuicideIsAsked = (lessons : List Lesson) (scene_size : Option ℕ) (seed asked started : ℕ) (old new : Course)
+    (exam : Exam) (move : Move) → Walks lessons scene_size seed Unasked asked started old
+    → GoesTo old exam (Ask (Match (command.Play move))) new
+    → ¬ RefusesVertex exam.game move.colour move.vertex SuicideFault
 
 -- ---- each scene is asked
 
 -- The lessons of scenes have as many parts as they have scenes in sixteen ways.
 pub record EachSceneIsAsked : Type 0 where
-  pub ko : parts_of Ko ≡ ways * length (scenes_of Ko)
-  pub captures : parts_of Captures ≡ ways * length (scenes_of Captures)
-  pub suicide : parts_of Suicide ≡ ways * length (scenes_of Suicide)
-  pub joining : parts_of Joining ≡ ways * length (scenes_of Joining)
+  pub ko : parts_of lesson.Ko ≡ ways * length (scenes_of lesson.Ko)
+  pub captures : parts_of lesson.Captures ≡ ways * length (scenes_of lesson.Captures)
+  pub suicide : parts_of lesson.Suicide ≡ ways * length (scenes_of lesson.Suicide)
+  pub joining : parts_of lesson.Joining ≡ ways * length (scenes_of lesson.Joining)
 
 -- ---- each step asks one question
 
@@ -89,7 +109,8 @@ EachStepAsksOneQuestion = (lesson : Lesson) (course : Course) (game : GameRecord
 -- The step of this number of a stretch asks this, whatever is drawn, and whatever the game is.
 pub record AsksAt (stretch : Stretch) (board : Board) (step : ℕ) (question : Question) : Type 0 where
   pub within : step < steps_of stretch
-  pub is : (draws : Draws) (game : GameRecord) → IsQuestion stretch step board draws game question
+  pub is : (draws : Draws) (game : GameRecord)
+      → IsQuestion stretch (record { number = step; draws = draws }) board game question
 
 -- The stretch asks the moves of the board's scene, in their order.
 abbrev pub PlaysEachMove : Stretch → Board → Type 0
@@ -122,10 +143,52 @@ ProbesEachClearedBoard lesson =
 
 -- In each part of a lesson of scenes the points of the scene's moves are asked once the board was cleared.
 pub record EachClearedBoardIsProbed : Type 0 where
-  pub ko : ProbesEachClearedBoard Ko
-  pub captures : ProbesEachClearedBoard Captures
-  pub suicide : ProbesEachClearedBoard Suicide
-  pub joining : ProbesEachClearedBoard Joining
+  pub ko : ProbesEachClearedBoard lesson.Ko
+  pub captures : ProbesEachClearedBoard lesson.Captures
+  pub suicide : ProbesEachClearedBoard lesson.Suicide
+  pub joining : ProbesEachClearedBoard lesson.Joining
+
+-- ---- the size of scenes is sought
+
+-- The first stretch of the lesson asks for this size, and then looks whether it was taken.
+pub record SeeksSize (lesson : Lesson) (board : Board) (size : ℕ) : Type 0 where
+  pub first : Stretch
+  pub has_first : slice_get (stretches_of lesson) 0 ≡ Some first
+  pub step : ℕ
+  pub asks_size : AsksAt first board step (asks (command.Boardsize size))
+  pub looks : AsksAt first board (step + 1) (Found size)
+
+abbrev pub SeeksEachSize : Lesson → Type 0
+SeeksEachSize lesson =
+    (board : Board) (size : ℕ) → board.is_sought ≡ true → 5 ≤ size → size ≤ most_size → SeeksSize lesson board size
+
+-- Each lesson whose boards have the size of scenes asks for each from 5 to 25 first, while none is known.
+pub record EachSizeIsSought : Type 0 where
+  pub start : SeeksEachSize lesson.Start
+  pub ko : SeeksEachSize lesson.Ko
+  pub captures : SeeksEachSize lesson.Captures
+  pub suicide : SeeksEachSize lesson.Suicide
+  pub joining : SeeksEachSize lesson.Joining
+  pub komi : SeeksEachSize lesson.Komi
+
+-- ---- each ko is answered
+
+-- A stretch of the lesson asks this act alone, and the next one asks for a move of the other colour.
+pub record AsksForAnswer (lesson : Lesson) (board : Board) (act : Colour × ℕ × ℕ) : Type 0 where
+  pub number : ℕ
+  pub acts : Stretch
+  pub has_acts : slice_get (stretches_of lesson) number ≡ Some acts
+  pub alone : steps_of acts ≡ 1
+  pub plays : AsksAt acts board 0 (asks (command.Play (turned_act board.way act board.size)))
+  pub chooses : Stretch
+  pub has_chooses : slice_get (stretches_of lesson) (number + 1) ≡ Some chooses
+  pub answers : AsksAt chooses board 0 (asks (command.Genmove (other (turned_colour board.way act.0))))
+
+-- In each part of the lesson of kos a move of the other colour is asked for right after the act, which is the last
+-- move of the scene.
+abbrev pub EachKoIsAnswered : Type 0
+EachKoIsAnswered = (board : Board) (act : Colour × ℕ × ℕ) → last_of board.scene.now ≡ Some act
+    → AsksForAnswer lesson.Ko board act
 
 -- ---- each command that an engine may lack is asked for
 
@@ -154,6 +217,18 @@ pub record HasExactFloat (half_points : ℤ) : Type 0 where
   pub low : neg_ℤ (pos (2 ^ 24)) ≤ℤ half_points
   pub high : half_points ≤ℤ pos (2 ^ 24)
 
--- A float of 32 bits represents each komi that is asked.
-abbrev pub EachKomiIsExact : Type 0
-EachKomiIsExact = (number : ℕ) → HasExactFloat (komi_of number)
+abbrev pub magnitude : ℤ → ℕ
+magnitude (pos number) = number
+magnitude (negsuc number) = number + 1
+
+-- It is odd, and has more than 2^24 half points either way. So it has more than 24 binary digits, of which the last
+-- is a 1, and no float of 32 bits represents it.
+pub record HasNoFloat (half_points : ℤ) : Type 0 where
+  pub odd : magnitude half_points % 2 ≡ 1
+  pub beyond : 2 ^ 24 < magnitude half_points
+
+-- A float of 32 bits represents each komi that is asked, but for those of the stretch that asks for others: it
+-- represents none of these.
+pub record EachKomiIsExact : Type 0 where
+  pub exact : (number : ℕ) → HasExactFloat (komi_of number)
+  pub others : (part : ℕ) → HasNoFloat (inexact_komi_of part)

@@ -47,10 +47,10 @@ number_of Genmoves = 10
 number_of Games = 11
 number_of Restarts = 12
 
--- the parts: each size from 5 until one is taken; each size; each scene in its sixteen ways; each size with each number
--- of handicap stones up to 11; and so on
+-- the parts: one of the start; each size; each scene in its sixteen ways; each size with each number of handicap stones
+-- up to 11; and so on
 abbrev pub parts_of : Lesson → ℕ
-parts_of Start = 21
+parts_of Start = 1
 parts_of Sizes = 25
 parts_of Ko = 96
 parts_of Captures = 128
@@ -66,96 +66,114 @@ parts_of Restarts = 5
 
 abbrev pub scene_stretches : List Stretch
 scene_stretches =
-    stretch.Size ∷ stretch.Taken ∷ stretch.Komi ∷ stretch.Clear ∷ stretch.Moves ∷ stretch.Own ∷ stretch.Corner ∷
-    stretch.Pass ∷ stretch.Undo ∷ stretch.Own ∷ stretch.Pass ∷ stretch.Own ∷ stretch.Undo ∷ stretch.Own ∷
-    stretch.Undo ∷ stretch.Own ∷ stretch.Act ∷ stretch.Own ∷ stretch.Elsewhere ∷ stretch.Undo ∷ stretch.Own ∷
-    stretch.Elsewhere ∷ stretch.Own ∷ stretch.Undo ∷ stretch.Own ∷ stretch.Undo ∷ stretch.Corner ∷ stretch.Act ∷
-    stretch.Emptied 12 ∷ stretch.Moves ∷ stretch.Clear ∷ stretch.Own ∷ []
+    stretch.Seek ∷ stretch.Size ∷ stretch.Taken ∷ stretch.Komi ∷ stretch.Clear ∷ stretch.Moves ∷ stretch.Own ∷
+    stretch.Corner ∷ stretch.Pass ∷ stretch.Undo ∷ stretch.Own ∷ stretch.Pass ∷ stretch.Own ∷ stretch.Undo ∷
+    stretch.Own ∷ stretch.Undo ∷ stretch.Own ∷ stretch.Act ∷ stretch.Own ∷ stretch.Elsewhere ∷ stretch.Undo ∷
+    stretch.Own ∷ stretch.Elsewhere ∷ stretch.Own ∷ stretch.Undo ∷ stretch.Own ∷ stretch.Undo ∷ stretch.Corner ∷
+    stretch.Act ∷ stretch.Back 2 ∷ stretch.AllBack 12 ∷ stretch.Moves ∷ stretch.Clear ∷ stretch.Own ∷ []
+
+-- the same, and more of how a ko ends and comes back; and a move of the engine's own where hardly one is legal
+abbrev pub ko_stretches : List Stretch
+ko_stretches =
+    stretch.Seek ∷ stretch.Size ∷ stretch.Taken ∷ stretch.Komi ∷ stretch.Clear ∷ stretch.Moves ∷ stretch.Own ∷
+    stretch.Corner ∷ stretch.Pass ∷ stretch.Undo ∷ stretch.Own ∷ stretch.Pass ∷ stretch.Own ∷ stretch.Undo ∷
+    stretch.Own ∷ stretch.Undo ∷ stretch.Act ∷ stretch.Own ∷ stretch.Elsewhere ∷ stretch.Undo ∷ stretch.Own ∷
+    stretch.Elsewhere ∷ stretch.Own ∷ stretch.ActorPass ∷ stretch.Own ∷ stretch.Back 3 ∷ stretch.Corner ∷
+    stretch.Act ∷ stretch.Back 2 ∷ stretch.AllBack 12 ∷ stretch.Moves ∷ stretch.Clear ∷ stretch.Own ∷ stretch.Moves ∷
+    stretch.Elsewhere ∷ stretch.ActorPass ∷ stretch.Undo ∷ stretch.Undo ∷ stretch.Own ∷ stretch.ActorPass ∷
+    stretch.Own ∷ stretch.Clear ∷ stretch.Moves ∷ stretch.Undo ∷ stretch.Sealed ∷ stretch.Act ∷ stretch.Answer ∷
+    stretch.Own ∷ []
 
 abbrev pub refused_stretches : List Stretch
 refused_stretches =
-    stretch.Size ∷ stretch.Taken ∷ stretch.Komi ∷ stretch.Clear ∷ stretch.Moves ∷ stretch.Own ∷ stretch.Corner ∷
-    stretch.Pass ∷ stretch.Undo ∷ stretch.Own ∷ stretch.Pass ∷ stretch.Own ∷ stretch.Undo ∷ stretch.Own ∷
-    stretch.Act ∷ stretch.Own ∷ stretch.Elsewhere ∷ stretch.Undo ∷ stretch.Own ∷ stretch.Elsewhere ∷ stretch.Own ∷
-    stretch.Undo ∷ stretch.Own ∷ stretch.Act ∷ stretch.Corner ∷ stretch.Emptied 12 ∷ stretch.Moves ∷
-    stretch.Clear ∷ stretch.Own ∷ []
+    stretch.Seek ∷ stretch.Size ∷ stretch.Taken ∷ stretch.Komi ∷ stretch.Clear ∷ stretch.Moves ∷ stretch.Own ∷
+    stretch.Corner ∷ stretch.Pass ∷ stretch.Undo ∷ stretch.Own ∷ stretch.Pass ∷ stretch.Own ∷ stretch.Undo ∷
+    stretch.Own ∷ stretch.Act ∷ stretch.Own ∷ stretch.Elsewhere ∷ stretch.Undo ∷ stretch.Own ∷ stretch.Elsewhere ∷
+    stretch.Own ∷ stretch.Undo ∷ stretch.Own ∷ stretch.Act ∷ stretch.Corner ∷ stretch.Back 2 ∷ stretch.AllBack 12 ∷
+    stretch.Moves ∷ stretch.Clear ∷ stretch.Own ∷ []
 
 abbrev pub start_stretches : List Stretch
 start_stretches =
-    stretch.Size ∷ stretch.Taken ∷ stretch.Komi ∷ stretch.Clear ∷ stretch.Edges ∷ stretch.Genmoves 1 ∷
-    stretch.Undo ∷ stretch.Own ∷ stretch.Genmoves 1 ∷ stretch.Own ∷ stretch.Undo ∷ stretch.Undo ∷
-    stretch.Genmoves 2 ∷ stretch.Clear ∷ stretch.Moves ∷
-    stretch.Restart ∷ stretch.Size ∷ stretch.Taken ∷ stretch.Komi ∷ stretch.Clear ∷ stretch.Undo ∷ stretch.Own ∷ []
+    stretch.Seek ∷ stretch.Size ∷ stretch.Taken ∷ stretch.Komi ∷ stretch.Clear ∷ stretch.Edges ∷ stretch.Genmoves 1 ∷
+    stretch.Undo ∷ stretch.Own ∷ stretch.Genmoves 1 ∷ stretch.Own ∷ stretch.Undo ∷ stretch.Undo ∷ stretch.Genmoves 2 ∷
+    stretch.Clear ∷ stretch.Moves ∷ stretch.Restart ∷ stretch.Size ∷ stretch.Taken ∷ stretch.Komi ∷ stretch.Clear ∷
+    stretch.Undo ∷ stretch.Own ∷ []
 
 abbrev pub sizes_stretches : List Stretch
 sizes_stretches =
     stretch.Size ∷ stretch.Taken ∷ stretch.Komi ∷ stretch.Clear ∷ stretch.Edges ∷ stretch.Undo ∷ stretch.Points ∷
-    stretch.Clear ∷ stretch.Filled ∷ stretch.Swept ∷ stretch.Edges ∷ stretch.Emptied 640 ∷ stretch.Edges ∷
-    stretch.Genmoves 2 ∷ stretch.Emptied 2 ∷ stretch.Edges ∷ []
+    stretch.Clear ∷ stretch.Filled ∷ stretch.Swept ∷ stretch.Edges ∷ stretch.AllBack 640 ∷ stretch.Back 3 ∷
+    stretch.Edges ∷ stretch.Clear ∷ stretch.Genmoves 2 ∷ stretch.Emptied 2 ∷ stretch.Edges ∷ []
 
 abbrev pub handicaps_stretches : List Stretch
 handicaps_stretches =
     stretch.Size ∷ stretch.Taken ∷ stretch.Komi ∷ stretch.Clear ∷ stretch.Stones 10 ∷ stretch.Handicap ∷
     stretch.Undo ∷ stretch.Stars ∷ stretch.Handicap ∷ stretch.Surround ∷ stretch.Stars ∷ stretch.Clear ∷
     stretch.Score ∷ stretch.Stars ∷ stretch.Drawn 1 ∷ stretch.Undo ∷ stretch.Stones 10 ∷ stretch.Handicap ∷
-    stretch.Genmoves 3 ∷ stretch.Emptied 3 ∷ stretch.Undo ∷ stretch.Handicap ∷ stretch.Clear ∷ stretch.Score ∷
-    stretch.Stars ∷ []
+    stretch.Genmoves 1 ∷ stretch.Undo ∷ stretch.Undo ∷ stretch.Handicap ∷ stretch.Genmoves 3 ∷ stretch.Clear ∷
+    stretch.Score ∷ stretch.Stars ∷ []
 
 abbrev pub komi_stretches : List Stretch
 komi_stretches =
-    stretch.Size ∷ stretch.Taken ∷ stretch.Komi ∷ stretch.Clear ∷ stretch.Score ∷ stretch.Drawn 3 ∷ stretch.Clear ∷
-    stretch.Score ∷ stretch.Drawn 3 ∷ stretch.OtherKomi ∷ stretch.Undo ∷ stretch.Clear ∷ stretch.Score ∷
-    stretch.Size ∷ stretch.Taken ∷ stretch.Clear ∷ stretch.Score ∷ stretch.Komi ∷ stretch.Score ∷ stretch.Moves ∷
-    stretch.Emptied 12 ∷ stretch.Undo ∷ stretch.Score ∷ stretch.Moves ∷ stretch.Clear ∷ stretch.Score ∷
-    stretch.Filled ∷ stretch.Swept ∷ stretch.Emptied 640 ∷ stretch.Undo ∷ stretch.Score ∷ []
+    stretch.Seek ∷ stretch.Size ∷ stretch.Taken ∷ stretch.Komi ∷ stretch.Clear ∷ stretch.Score ∷ stretch.Score ∷
+    stretch.Drawn 3 ∷ stretch.Clear ∷ stretch.Score ∷ stretch.Drawn 3 ∷ stretch.OtherKomi ∷ stretch.Undo ∷
+    stretch.Clear ∷ stretch.Score ∷ stretch.Size ∷ stretch.Taken ∷ stretch.Clear ∷ stretch.Score ∷ stretch.Komi ∷
+    stretch.Score ∷ stretch.Moves ∷ stretch.Emptied 12 ∷ stretch.Undo ∷ stretch.Score ∷ stretch.Moves ∷
+    stretch.Clear ∷ stretch.Score ∷ stretch.Filled ∷ stretch.Swept ∷ stretch.Undo ∷ stretch.AllBack 640 ∷
+    stretch.Score ∷ stretch.Clear ∷ stretch.Score ∷ stretch.Inexact ∷ stretch.Moves ∷ stretch.Inexact ∷ stretch.Own ∷
+    stretch.Clear ∷ stretch.Komi ∷ stretch.Score ∷ []
 
 abbrev pub drawn_stretches : List Stretch
 drawn_stretches =
-    stretch.Size ∷ stretch.Taken ∷ stretch.Komi ∷ stretch.Clear ∷ stretch.Probed 1500 ∷ stretch.Back 40 ∷
-    stretch.Probed 60 ∷ []
+    stretch.Seek ∷ stretch.Size ∷ stretch.Taken ∷ stretch.Komi ∷ stretch.Clear ∷ stretch.Probed 1500 ∷
+    stretch.Back 6 ∷ stretch.Probed 60 ∷ []
 
 abbrev pub record_stretches : List Stretch
 record_stretches =
-    stretch.Size ∷ stretch.Taken ∷ stretch.Komi ∷ stretch.Clear ∷ stretch.Drawn 1030 ∷ stretch.Back 12 ∷
-    stretch.Drawn 970 ∷ stretch.Back 300 ∷ stretch.Probed 60 ∷ stretch.Back 20 ∷ stretch.Probed 60 ∷ stretch.Clear ∷
-    stretch.Passes 1010 ∷ stretch.Moves ∷ stretch.Own ∷ stretch.Back 1020 ∷ stretch.Own ∷ stretch.Moves ∷ stretch.Waits 600 ∷
-    stretch.Emptied 400 ∷ stretch.Undo ∷ stretch.Own ∷ stretch.Score ∷ []
+    stretch.Seek ∷ stretch.Size ∷ stretch.Taken ∷ stretch.Komi ∷ stretch.Clear ∷ stretch.Drawn 1024 ∷ stretch.Undo ∷
+    stretch.Probed 36 ∷ stretch.Back 4 ∷ stretch.Drawn 955 ∷ stretch.Back 12 ∷ stretch.Probed 60 ∷ stretch.Clear ∷
+    stretch.Passes 1010 ∷ stretch.Moves ∷ stretch.Own ∷ stretch.Back 14 ∷ stretch.Own ∷ stretch.Clear ∷
+    stretch.Moves ∷ stretch.Waits 600 ∷ stretch.Back 8 ∷ stretch.Own ∷ stretch.Clear ∷ stretch.Undo ∷ stretch.Own ∷
+    stretch.Score ∷ stretch.Score ∷ stretch.OtherKomi ∷ stretch.Score ∷ []
 
 -- The board is filled for the choices of both colours, and again for the capture of all that fills it.
 abbrev pub genmoves_stretches : List Stretch
 genmoves_stretches =
-    stretch.Size ∷ stretch.Taken ∷ stretch.Komi ∷ stretch.Clear ∷ stretch.Genmoves 240 ∷ stretch.Size ∷
+    stretch.Seek ∷ stretch.Size ∷ stretch.Taken ∷ stretch.Komi ∷ stretch.Clear ∷ stretch.Genmoves 240 ∷ stretch.Size ∷
     stretch.Taken ∷ stretch.Clear ∷ stretch.Filled ∷ stretch.Chosen Black ∷ stretch.Undo ∷ stretch.Chosen White ∷
     stretch.Undo ∷ stretch.Chosen Black ∷ stretch.Undo ∷ stretch.Clear ∷ stretch.Gaps ∷ stretch.Chosen Black ∷
-    stretch.Clear ∷ stretch.Filled ∷ stretch.Swept ∷ stretch.Corner ∷ stretch.Undo ∷ stretch.Corner ∷
-    stretch.Clear ∷ stretch.Handicap ∷ stretch.Genmoves 20 ∷ []
+    stretch.Clear ∷ stretch.Filled ∷ stretch.Swept ∷ stretch.Corner ∷ stretch.Undo ∷ stretch.Corner ∷ stretch.Clear ∷
+    stretch.Handicap ∷ stretch.Genmoves 20 ∷ []
 
 abbrev pub games_stretches : List Stretch
 games_stretches =
-    stretch.Size ∷ stretch.Taken ∷ stretch.Komi ∷ stretch.Clear ∷ stretch.Genmoves 6 ∷ stretch.Probed 60 ∷
-    stretch.Clear ∷ stretch.OtherKomi ∷ stretch.Genmoves 6 ∷ stretch.Probed 60 ∷ stretch.Emptied 60 ∷ stretch.Undo ∷
-    stretch.Handicap ∷ stretch.Stars ∷ stretch.Probed 60 ∷ stretch.Emptied 60 ∷ stretch.Undo ∷ stretch.Stars ∷
-    stretch.Clear ∷ stretch.Handicap ∷ stretch.Stars ∷ stretch.Clear ∷ stretch.Probed 60 ∷ stretch.Emptied 60 ∷
-    stretch.Score ∷ stretch.Clear ∷ stretch.Score ∷ stretch.OtherSize ∷ stretch.OtherTaken ∷ stretch.Komi ∷
-    stretch.Clear ∷ stretch.Score ∷ stretch.Handicap ∷ stretch.Probed 60 ∷ stretch.Clear ∷ stretch.Score ∷
-    stretch.Size ∷ stretch.Clear ∷ stretch.Score ∷ stretch.Genmoves 6 ∷ stretch.Clear ∷ stretch.Score ∷ []
+    stretch.Seek ∷ stretch.Size ∷ stretch.Taken ∷ stretch.Komi ∷ stretch.Clear ∷ stretch.Genmoves 6 ∷
+    stretch.Probed 60 ∷ stretch.Clear ∷ stretch.OtherKomi ∷ stretch.Genmoves 6 ∷ stretch.Probed 9 ∷
+    stretch.Emptied 12 ∷ stretch.Undo ∷ stretch.Handicap ∷ stretch.Stars ∷ stretch.Probed 9 ∷ stretch.Emptied 6 ∷
+    stretch.Undo ∷ stretch.Stars ∷ stretch.Clear ∷ stretch.Handicap ∷ stretch.Stars ∷ stretch.Clear ∷
+    stretch.Probed 60 ∷ stretch.Clear ∷ stretch.Score ∷ stretch.Score ∷ stretch.Moves ∷ stretch.Handicap ∷
+    stretch.Own ∷ stretch.OtherSize ∷ stretch.Own ∷ stretch.OtherTaken ∷ stretch.Komi ∷ stretch.Clear ∷
+    stretch.Score ∷ stretch.Handicap ∷ stretch.Probed 60 ∷ stretch.Clear ∷ stretch.Score ∷ stretch.Size ∷
+    stretch.Clear ∷ stretch.Score ∷ stretch.Score ∷ stretch.OtherKomi ∷ stretch.Score ∷ stretch.Genmoves 6 ∷
+    stretch.Clear ∷ []
 
 -- an engine that is started again after its `quit`, and one that is started after another was ended without it
 abbrev pub restarts_stretches : List Stretch
 restarts_stretches =
-    stretch.Size ∷ stretch.Taken ∷ stretch.Komi ∷ stretch.Clear ∷ stretch.Handicap ∷ stretch.Drawn 60 ∷
+    stretch.Seek ∷ stretch.Size ∷ stretch.Taken ∷ stretch.Komi ∷ stretch.Clear ∷ stretch.Handicap ∷ stretch.Drawn 60 ∷
     stretch.Genmoves 2 ∷ stretch.Clear ∷ stretch.Handicap ∷ stretch.Stars ∷ stretch.Clear ∷ stretch.Filled ∷
     stretch.Chosen Black ∷ stretch.Restart ∷ stretch.Size ∷ stretch.Taken ∷ stretch.OtherKomi ∷ stretch.Clear ∷
     stretch.Score ∷ stretch.Undo ∷ stretch.Filled ∷ stretch.Chosen White ∷ stretch.Clear ∷ stretch.Handicap ∷
-    stretch.Drawn 60 ∷ stretch.Probed 60 ∷ stretch.Back 30 ∷ stretch.Genmoves 4 ∷ stretch.Clear ∷ stretch.Score ∷
-    stretch.Moves ∷ stretch.Own ∷ stretch.Emptied 12 ∷ stretch.Score ∷ stretch.Moves ∷ stretch.Kill ∷ stretch.Size ∷
-    stretch.Taken ∷ stretch.Komi ∷ stretch.Clear ∷ stretch.Undo ∷ stretch.Own ∷ stretch.Score ∷ []
+    stretch.Drawn 60 ∷ stretch.Probed 60 ∷ stretch.Back 5 ∷ stretch.Genmoves 4 ∷ stretch.Clear ∷ stretch.Score ∷
+    stretch.Komi ∷ stretch.Score ∷ stretch.Moves ∷ stretch.Own ∷ stretch.Emptied 12 ∷ stretch.Moves ∷ stretch.Kill ∷
+    stretch.Size ∷ stretch.Taken ∷ stretch.Komi ∷ stretch.Clear ∷ stretch.Undo ∷ stretch.Own ∷ stretch.Score ∷
+    stretch.Score ∷ stretch.OtherKomi ∷ stretch.Score ∷ []
 
 -- the stretches of each part, one after the other
 abbrev pub stretches_of : Lesson → List Stretch
 stretches_of Start = start_stretches
 stretches_of Sizes = sizes_stretches
-stretches_of Ko = scene_stretches
+stretches_of Ko = ko_stretches
 stretches_of Captures = scene_stretches
 stretches_of Suicide = refused_stretches
 stretches_of Joining = scene_stretches

@@ -1,10 +1,11 @@
 -- What a step of a lesson asks.
 use Rattle.std.specs.Prelude.{◌≡◌, ◌≢◌, ℕ, ◌+◌, ◌-◌, ◌*◌, ◌/◌, ◌%◌, ◌==◌, nat_le, nat_lt, ◌||◌, ◌&&◌, if◌then◌else◌}
-use Rattle.std.specs.Prelude.{Bool, ◌<◌, List, [], length, slice_get, Option, None, Some}
+use Rattle.std.specs.Prelude.{Bool, not, min, ◌<◌, List, [], length, slice_get, Option, None, Some}
 use Rattle.rand_pcg.specs.Lcg.{Lcg}
 use Rattle.go_base.specs.Colour.{other}
 use Rattle.go_base.specs.Handicap.{handicap_points}
 use Rattle.go_base.specs.Point.{IsOn, column_of, row_of}
+use Rattle.go_base.specs.Size.{most_size}
 use Rattle.go_base.specs.declared.colours.Colour.{Colour}
 use Rattle.go_base.specs.declared.colours.Colour.TheVariants.{Black, White}
 use Rattle.go_base.specs.declared.vertices.Vertex.{Vertex}
@@ -14,13 +15,15 @@ use Rattle.gtp_wire.specs.declared.commands.Command.{Command}
 use Rattle.gtp_wire.specs.declared.commands.Command.TheVariants as command
 use Rattle.gtp_check_judge.specs.declared.asking.CheckCommand.TheVariants.{Match, FinalScore}
 use Rattle.gtp_check_questions.specs.declared.actions.Question.{Question}
-use Rattle.gtp_check_questions.specs.declared.actions.Question.TheVariants.{Ask, Probe, Size, Restart, Kill, Nothing}
+use Rattle.gtp_check_questions.specs.declared.actions.Question.TheVariants.{Ask, Probe, Size, Found, Restart, Kill}
+use Rattle.gtp_check_questions.specs.declared.actions.Question.TheVariants.{Nothing}
 use Rattle.gtp_check_questions.specs.declared.boards.Board.{Board}
 use Rattle.gtp_check_questions.specs.declared.draws.Draws.{Draws}
+use Rattle.gtp_check_questions.specs.declared.scenes.Way.{Way}
 use Rattle.gtp_check_questions.specs.declared.stretches.Stretch.{Stretch}
 use Rattle.gtp_check_questions.specs.declared.stretches.Stretch.TheVariants as stretch
 use Rattle.gtp_check_questions.specs.Draws.{drawn_below, generator_of_step, past_words}
-use Rattle.gtp_check_questions.specs.Scenes.{Acts, crossing, turned, turned_act, turned_colour}
+use Rattle.gtp_check_questions.specs.Scenes.{Acts, crossing, is_first, turned, turned_act, turned_colour}
 
 -- a command of a match
 abbrev pub asks : Command → Question
@@ -53,6 +56,11 @@ abbrev pub pass_asked : Board → Option (Colour × ℕ × ℕ) → Question
 pass_asked board None = Nothing
 pass_asked board (Some act) = plays (other (turned_act board.way act board.size).colour) Pass
 
+-- a pass of the colour that acted
+abbrev pub actor_pass_asked : Board → Option (Colour × ℕ × ℕ) → Question
+actor_pass_asked board None = Nothing
+actor_pass_asked board (Some act) = plays (turned_act board.way act board.size).colour Pass
+
 -- a move of the other colour in the far corner
 abbrev pub elsewhere_asked : Board → Option (Colour × ℕ × ℕ) → Question
 elsewhere_asked board None = Nothing
@@ -63,6 +71,16 @@ elsewhere_asked board (Some act) =
 abbrev pub own_asked : Board → ℕ → Option (Colour × ℕ × ℕ) → Question
 own_asked board step None = Nothing
 own_asked board step (Some act) = probes (colour_of step) (turned board.way act.1 act.2 board.size)
+
+-- ---- the size of scenes
+
+-- Two steps for each size from 5 to 25, while no size of scenes is known: that size is asked for, and whether it was
+-- taken is seen.
+abbrev pub seek_asked : ℕ → Bool → Question
+seek_asked step is_sought =
+    if not is_sought then Nothing
+    else if step % 2 == 0 then asks (command.Boardsize (min (5 + step / 2) most_size))
+    else Found (min (5 + step / 2) most_size)
 
 -- ---- points
 
@@ -142,6 +160,10 @@ waits_asked board step act = if step % 2 == 0 then plays (colour_of (step / 2)) 
 abbrev pub emptied_asked : ℕ → Question
 emptied_asked moves = if nat_lt 0 moves then asks command.Undo else Nothing
 
+-- the same in the first of the sixteen ways alone
+abbrev pub all_back_asked : Way → ℕ → Question
+all_back_asked way moves = if is_first way then emptied_asked moves else Nothing
+
 -- ---- the engine's own moves
 
 -- By the number of moves it is Black's turn or White's. Of five steps the third asks for a move of the other colour,
@@ -185,6 +207,27 @@ swept_act step size =
     else if step == 1 then (Black, 1, 1)
     else if step == 2 then (Black, size, size)
     else (White, 1, size)
+
+-- ---- kos on a board that is filled
+
+-- The act's point, the gaps and the far corner stay empty.
+abbrev pub is_left_empty : Board → Colour × ℕ × ℕ → ℕ → ℕ → Bool
+is_left_empty board act column row =
+    column == act.1 && row == act.2 || column == board.gaps.first.0 && row == board.gaps.first.1
+    || column == board.gaps.second.0 && row == board.gaps.second.1 || column == board.size && row == board.size
+
+-- The colour that acts plays on all other points, row by row. Where a stone of the scene is, the move is refused.
+abbrev pub sealed_asked : ℕ → Board → Option (Colour × ℕ × ℕ) → Question
+sealed_asked step board None = Nothing
+sealed_asked step board (Some act) =
+    if nat_le board.size (step / board.size)
+    || is_left_empty board act (step % board.size + 1) (step / board.size + 1) then Nothing
+    else act_asked board (Some (act.0, step % board.size + 1, step / board.size + 1))
+
+-- a move of the engine's own, of the colour that didn't act
+abbrev pub answer_asked : Board → Option (Colour × ℕ × ℕ) → Question
+answer_asked board None = Nothing
+answer_asked board (Some act) = asks (command.Genmove (other (turned_act board.way act board.size).colour))
 
 -- ---- drawn moves
 
@@ -249,46 +292,59 @@ pub record IsProbe (game : GameRecord) (generator : Lcg) (question : Question) :
 
 -- ---- all stretches
 
--- What a step of a stretch asks on this board, where the game is this one, and what the step draws is by these words.
-abbrev pub IsQuestion : Stretch → ℕ → Board → Draws → GameRecord → Question → Type 0
-IsQuestion stretch.Size step board draws game question = question ≡ asks (command.Boardsize board.size)
-IsQuestion stretch.Taken step board draws game question = question ≡ Size board.size
-IsQuestion stretch.OtherSize step board draws game question = question ≡ asks (command.Boardsize board.other_size)
-IsQuestion stretch.OtherTaken step board draws game question = question ≡ Size board.other_size
-IsQuestion stretch.Komi step board draws game question = question ≡ asks (command.Komi board.komi)
-IsQuestion stretch.OtherKomi step board draws game question = question ≡ asks (command.Komi board.other_komi)
-IsQuestion stretch.Clear step board draws game question = question ≡ asks command.ClearBoard
-IsQuestion stretch.Moves step board draws game question = question ≡ act_asked board (slice_get board.scene.now step)
-IsQuestion stretch.Own step board draws game question =
-    question ≡ own_asked board step (slice_get board.scene.now (step / 2))
-IsQuestion stretch.Corner step board draws game question = question ≡ corner_asked board step
-IsQuestion stretch.Pass step board draws game question = question ≡ pass_asked board (last_of board.scene.now)
-IsQuestion stretch.Act step board draws game question = question ≡ act_asked board (last_of board.scene.now)
-IsQuestion stretch.Elsewhere step board draws game question = question ≡ elsewhere_asked board (last_of board.scene.now)
-IsQuestion stretch.Undo step board draws game question = question ≡ asks command.Undo
-IsQuestion stretch.Edges step board draws game question =
-    question ≡ probes (colour_of step) (edge_point step board.size)
-IsQuestion stretch.Handicap step board draws game question = question ≡ asks (command.FixedHandicap board.stones)
-IsQuestion (stretch.Stones stones) step board draws game question = question ≡ asks (command.FixedHandicap stones)
-IsQuestion stretch.Stars step board draws game question =
-    question ≡ star_asked step (slice_get (star_points game.size) (step / 2))
-IsQuestion stretch.Score step board draws game question = question ≡ Ask FinalScore
-IsQuestion stretch.Surround step board draws game question =
-    question ≡ surround_asked step (slice_get (star_points game.size) 0)
-IsQuestion stretch.Points step board draws game question = question ≡ points_asked step board.size
-IsQuestion (stretch.Passes steps) step board draws game question = question ≡ plays (colour_of step) Pass
-IsQuestion (stretch.Waits steps) step board draws game question =
-    question ≡ waits_asked board step (slice_get board.scene.now retaken)
-IsQuestion (stretch.Drawn steps) step board draws game question = IsDrawnMove game (generator_of_step draws) question
-IsQuestion (stretch.Probed steps) step board draws game question =
-    (step % 3 ≡ 0 → IsDrawnMove game (generator_of_step draws) question)
-    × (step % 3 ≢ 0 → IsProbe game (generator_of_step draws) question)
-IsQuestion (stretch.Back steps) step board draws game question = question ≡ asks command.Undo
-IsQuestion (stretch.Emptied steps) step board draws game question = question ≡ emptied_asked (length game.moves)
-IsQuestion (stretch.Genmoves steps) step board draws game question = question ≡ genmove_asked step (length game.moves)
-IsQuestion stretch.Filled step board draws game question = question ≡ act_asked board (filled_act step board.size)
-IsQuestion stretch.Gaps step board draws game question = question ≡ act_asked board (Some (gap_act step board.size))
-IsQuestion stretch.Swept step board draws game question = question ≡ act_asked board (Some (swept_act step board.size))
-IsQuestion (stretch.Chosen colour) step board draws game question = question ≡ choice_asked board colour
-IsQuestion stretch.Restart step board draws game question = question ≡ Restart
-IsQuestion stretch.Kill step board draws game question = question ≡ Kill
+-- a step of a stretch: its number, counted from 0, and the words that it draws
+pub record Step : Type 0 where
+  pub number : ℕ
+  pub draws : Draws
+
+-- What a step of a stretch asks on this board, where the game is this one.
+abbrev pub IsQuestion : Stretch → Step → Board → GameRecord → Question → Type 0
+IsQuestion stretch.Seek step board game question = question ≡ seek_asked step.number board.is_sought
+IsQuestion stretch.Size step board game question = question ≡ asks (command.Boardsize board.size)
+IsQuestion stretch.Taken step board game question = question ≡ Size board.size
+IsQuestion stretch.OtherSize step board game question = question ≡ asks (command.Boardsize board.other_size)
+IsQuestion stretch.OtherTaken step board game question = question ≡ Size board.other_size
+IsQuestion stretch.Komi step board game question = question ≡ asks (command.Komi board.komi)
+IsQuestion stretch.OtherKomi step board game question = question ≡ asks (command.Komi board.other_komi)
+IsQuestion stretch.Inexact step board game question = question ≡ asks (command.Komi board.inexact_komi)
+IsQuestion stretch.Clear step board game question = question ≡ asks command.ClearBoard
+IsQuestion stretch.Moves step board game question = question ≡ act_asked board (slice_get board.scene.now step.number)
+IsQuestion stretch.Own step board game question =
+    question ≡ own_asked board step.number (slice_get board.scene.now (step.number / 2))
+IsQuestion stretch.Corner step board game question = question ≡ corner_asked board step.number
+IsQuestion stretch.Pass step board game question = question ≡ pass_asked board (last_of board.scene.now)
+IsQuestion stretch.ActorPass step board game question = question ≡ actor_pass_asked board (last_of board.scene.now)
+IsQuestion stretch.Sealed step board game question =
+    question ≡ sealed_asked step.number board (last_of board.scene.now)
+IsQuestion stretch.Answer step board game question = question ≡ answer_asked board (last_of board.scene.now)
+IsQuestion stretch.Act step board game question = question ≡ act_asked board (last_of board.scene.now)
+IsQuestion stretch.Elsewhere step board game question = question ≡ elsewhere_asked board (last_of board.scene.now)
+IsQuestion stretch.Undo step board game question = question ≡ asks command.Undo
+IsQuestion stretch.Edges step board game question =
+    question ≡ probes (colour_of step.number) (edge_point step.number board.size)
+IsQuestion stretch.Handicap step board game question = question ≡ asks (command.FixedHandicap board.stones)
+IsQuestion (stretch.Stones stones) step board game question = question ≡ asks (command.FixedHandicap stones)
+IsQuestion stretch.Stars step board game question =
+    question ≡ star_asked step.number (slice_get (star_points game.size) (step.number / 2))
+IsQuestion stretch.Score step board game question = question ≡ Ask FinalScore
+IsQuestion stretch.Surround step board game question =
+    question ≡ surround_asked step.number (slice_get (star_points game.size) 0)
+IsQuestion stretch.Points step board game question = question ≡ points_asked step.number board.size
+IsQuestion (stretch.Passes steps) step board game question = question ≡ plays (colour_of step.number) Pass
+IsQuestion (stretch.Waits steps) step board game question =
+    question ≡ waits_asked board step.number (slice_get board.scene.now retaken)
+IsQuestion (stretch.Drawn steps) step board game question = IsDrawnMove game (generator_of_step step.draws) question
+IsQuestion (stretch.Probed steps) step board game question =
+    (step.number % 3 ≡ 0 → IsDrawnMove game (generator_of_step step.draws) question)
+    × (step.number % 3 ≢ 0 → IsProbe game (generator_of_step step.draws) question)
+IsQuestion (stretch.Back steps) step board game question = question ≡ asks command.Undo
+IsQuestion (stretch.Emptied steps) step board game question = question ≡ emptied_asked (length game.moves)
+IsQuestion (stretch.AllBack steps) step board game question =
+    question ≡ all_back_asked board.way (length game.moves)
+IsQuestion (stretch.Genmoves steps) step board game question = question ≡ genmove_asked step.number (length game.moves)
+IsQuestion stretch.Filled step board game question = question ≡ act_asked board (filled_act step.number board.size)
+IsQuestion stretch.Gaps step board game question = question ≡ act_asked board (Some (gap_act step.number board.size))
+IsQuestion stretch.Swept step board game question = question ≡ act_asked board (Some (swept_act step.number board.size))
+IsQuestion (stretch.Chosen colour) step board game question = question ≡ choice_asked board colour
+IsQuestion stretch.Restart step board game question = question ≡ Restart
+IsQuestion stretch.Kill step board game question = question ≡ Kill

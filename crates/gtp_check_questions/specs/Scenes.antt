@@ -1,6 +1,6 @@
 -- How a scene is turned. (The eight symmetries of a square board, and the two colours.)
-use Rattle.std.specs.Prelude.{ℕ, ◌+◌, ◌-◌, ◌/◌, ◌%◌, Bool, nat_le, ◌==◌, ◌&&◌, if◌then◌else◌}
-use Rattle.std.specs.Prelude.{List, [], ◌∷◌, Option, None, Some, slice_get}
+use Rattle.std.specs.Prelude.{ℕ, ◌+◌, ◌-◌, ◌/◌, ◌%◌, Bool, not, nat_le, ◌==◌, ◌&&◌, if◌then◌else◌}
+use Rattle.std.specs.Prelude.{List, [], ◌∷◌, Option, None, Some, slice_get, slice_index_or}
 use Rattle.go_base.specs.Point.{point}
 use Rattle.go_base.specs.Size.{most_size}
 use Rattle.go_base.specs.Colour.{other}
@@ -14,6 +14,7 @@ use Rattle.gtp_check_questions.specs.declared.lessons.Lesson.TheVariants.{Start,
 use Rattle.gtp_check_questions.specs.declared.lessons.Lesson.TheVariants.{Handicaps, Komi, Drawn, Record, Genmoves}
 use Rattle.gtp_check_questions.specs.declared.lessons.Lesson.TheVariants.{Games}
 use Rattle.gtp_check_questions.specs.declared.lessons.Lesson.TheVariants.{Restarts}
+use Rattle.gtp_check_questions.specs.declared.scenes.Gaps.{Gaps}
 use Rattle.gtp_check_questions.specs.declared.scenes.Way.{Way}
 
 -- the vertex where a column and a row cross; a pass where there is none
@@ -34,6 +35,10 @@ way_of number = record {
   across = number / 4 % 2 == 1;
   swapped = number / 8 % 2 == 1;
 }
+
+-- the first of the ways: the board isn't turned, and the colours don't change places
+abbrev pub is_first : Way → Bool
+is_first way = not way.sideways && not way.upside_down && not way.across && not way.swapped
 
 -- the vertex of a crossing that is turned so
 abbrev pub turned : Way → ℕ → ℕ → ℕ → Vertex
@@ -69,6 +74,16 @@ ko_scenes =
     ((Black, 1, 2) ∷ (White, 1, 1) ∷ (Black, 2, 2) ∷ (White, 1, 3) ∷ (White, 2, 3) ∷ (White, 3, 2) ∷
     (White, 3, 1) ∷ (Black, 2, 1) ∷ []) ∷
     []
+
+-- Two crossings beside each of the kos that stay empty where the colour that acts has all other points. On them the
+-- chains of the other colour have a liberty.
+abbrev pub one_gap : ℕ → ℕ → Gaps
+one_gap column row = record { first = (column, row); second = (column, row) }
+
+abbrev pub ko_gaps : List Gaps
+ko_gaps =
+    one_gap 1 3 ∷ one_gap 3 2 ∷ one_gap 2 2 ∷ record { first = (2, 4); second = (3, 1) } ∷ one_gap 4 2 ∷
+    one_gap 3 3 ∷ []
 
 -- captures: of one stone in the corner, at the edge and in the middle; of two, and of three around a corner; of two
 -- chains and of three at once; and of three stones by a stone that had no liberty before
@@ -135,3 +150,7 @@ acts_if (Some acts) = acts
 -- the scene of a part
 abbrev pub scene_of : Lesson → ℕ → Acts
 scene_of lesson part = acts_if (slice_get (scenes_of lesson) (part / ways))
+
+-- the gaps of a part
+abbrev pub gaps_of : ℕ → Gaps
+gaps_of part = slice_index_or ko_gaps (part / ways) (one_gap 1 3)

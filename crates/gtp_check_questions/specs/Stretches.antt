@@ -6,17 +6,20 @@ use Rattle.gtp_check_questions.specs.Places.{most_steps}
 
 -- how many steps it has
 abbrev pub steps_of : Stretch → ℕ
+steps_of stretch.Seek = 42
 steps_of stretch.Size = 1
 steps_of stretch.Taken = 1
 steps_of stretch.OtherSize = 1
 steps_of stretch.OtherTaken = 1
 steps_of stretch.Komi = 1
 steps_of stretch.OtherKomi = 1
+steps_of stretch.Inexact = 1
 steps_of stretch.Clear = 1
 steps_of stretch.Moves = 12
 steps_of stretch.Own = 24
 steps_of stretch.Corner = 72
 steps_of stretch.Pass = 1
+steps_of stretch.ActorPass = 1
 steps_of stretch.Act = 1
 steps_of stretch.Elsewhere = 1
 steps_of stretch.Undo = 1
@@ -33,8 +36,11 @@ steps_of (stretch.Drawn steps) = min steps most_steps
 steps_of (stretch.Probed steps) = min steps most_steps
 steps_of (stretch.Back steps) = min steps most_steps
 steps_of (stretch.Emptied steps) = min steps most_steps
+steps_of (stretch.AllBack steps) = min steps most_steps
 steps_of (stretch.Genmoves steps) = min steps most_steps
 steps_of stretch.Filled = 625
+steps_of stretch.Sealed = 625
+steps_of stretch.Answer = 1
 steps_of stretch.Swept = 4
 steps_of stretch.Gaps = 3
 steps_of (stretch.Chosen colour) = 1

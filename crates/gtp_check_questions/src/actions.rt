@@ -29,8 +29,10 @@ pub enum Question {
     Ask(CheckCommand),
     /// A move on any point. Where it is legal it is taken back.
     Probe(Move),
-    /// Whether the engine has taken the size that it was asked to take.
+    /// Whether the engine has taken the size that it was asked to take. Where it hasn't, the part is left.
     Size(Size),
+    /// Whether the engine has taken this size. Where it has, that is the size of scenes.
+    Found(Size),
     /// A new start of the engine, after its `quit`.
     Restart,
     /// A new start of the engine, without its `quit`.

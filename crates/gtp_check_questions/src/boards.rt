@@ -3,10 +3,11 @@ ghost use Rattle.std.specs.Prelude.{◌≡◌, ◌+◌, ◌<◌, slice_index_or}
 ghost use Rattle.go_base.specs.Komi.{IsKomi};
 ghost use Rattle.gtp_check_questions.specs.Places.{most_parts};
 ghost use Rattle.gtp_check_questions.specs.Boards.{IsBoard, lines_of, size_or, komi_of, stones_of};
-ghost use Rattle.gtp_check_questions.specs.Scenes.{scene_of};
+ghost use Rattle.gtp_check_questions.specs.Boards.{inexact_komi_of, scene_size_or_least};
+ghost use Rattle.gtp_check_questions.specs.Scenes.{gaps_of, scene_of};
 
 use crate::lessons::Lesson;
-use crate::scenes::{Scene, WAYS, Way};
+use crate::scenes::{Gaps, KO_GAPS, Scene, WAYS, Way};
 use go_base::{Komi, Size};
 
 /// The sizes of the drawn games, of those with moves of the engine's own, of the long records, and of the games in one
@@ -26,31 +27,62 @@ pub struct Board {
     pub size: Size,
     /// That of a later game.
     pub other_size: Size,
+    /// Whether no size of scenes is known.
+    pub is_sought: bool,
     /// Komi.
     pub komi: Komi,
     /// That of a later game.
     pub other_komi: Komi,
+    /// One that no float of 32 bits represents.
+    pub inexact_komi: Komi,
     /// How many handicap stones.
     pub stones: u32,
     /// The scene.
     pub scene: Scene,
+    /// What stays empty beside it, where it is a ko.
+    pub gaps: Gaps,
     /// How it is turned.
     pub way: Way,
 }
 
-/// What a part of a lesson is asked on, where scenes are on boards of this size.
-pub fn board_of(lesson: Lesson, part: u32, scene_size: Size) -> Board
+/// What a part of a lesson is asked on, where scenes are on boards of this size, if one is known. Else they are on the
+/// smallest.
+pub fn board_of(lesson: Lesson, part: u32, known: Option<Size>) -> Board
     requires { part < most_parts }
-    ensures { IsBoard lesson part scene_size result }
+    ensures { IsBoard lesson part known result }
 {
+    let scene_size = size_or_least(known);
     Board {
         size: size_or(lines_of(lesson, part, scene_size), scene_size),
         other_size: scene_size,
+        is_sought: known.is_none(),
         komi: komi_of(part),
         other_komi: komi_of(part + 2),
+        inexact_komi: inexact_komi_of(part),
         stones: stones_of(lesson, part),
         scene: scene_of(lesson, part),
+        gaps: gaps_of(part),
         way: Way::of(part % WAYS),
+    }
+}
+
+/// The size of the boards of scenes.
+fn size_or_least(known: Option<Size>) -> Size
+    ensures { result ≡ scene_size_or_least known }
+{
+    match known {
+        Some(size) => size,
+        None => least_size(),
+    }
+}
+
+/// The smallest size of the boards of scenes.
+fn least_size() -> Size
+    ensures { result ≡ 5 }
+{
+    match Size::new(5) {
+        Some(size) => size,
+        None => unreachable!(),
     }
 }
 
@@ -105,7 +137,8 @@ fn komi_of(number: u32) -> Komi
     }
 }
 
-/// The half points of the komi of this number. A float of 32 bits represents each of these komis.
+/// The half points of the komi of this number. A float of 32 bits represents each of these komis. Ten are from -1000 to
+/// 1000 points: by these scores are compared. The others are there to be taken, and read in scores.
 fn half_points_of(number: u32) -> i32
     ensures exact { result ≡ komi_of number }
     ensures komi { IsKomi result }
@@ -117,16 +150,32 @@ fn half_points_of(number: u32) -> i32
         3 => 15,
         4 => 1,
         5 => -1,
-        6 => 2001,
+        6 => 1999,
         7 => -14,
         8 => -16_777_216,
         9 => 2_000_000,
         10 => 201,
-        11 => -2469,
+        11 => -1471,
         12 => 16_777_215,
         13 => -16_777_215,
         14 => 200_001,
         _ => -65_537,
+    }
+}
+
+/// A komi that no float of 32 bits represents.
+fn inexact_komi_of(part: u32) -> Komi
+    ensures { result ≡ inexact_komi_of part }
+{
+    let half_points = match part % 4 {
+        0 => 16_777_217,
+        1 => -1_999_999_999,
+        2 => -16_777_217,
+        _ => 1_999_999_999,
+    };
+    match Komi::from_half_points(half_points) {
+        Some(komi) => komi,
+        None => unreachable!(),
     }
 }
 
@@ -147,5 +196,18 @@ fn scene_of(lesson: Lesson, part: u32) -> Scene
     match lesson.scenes().get((part / WAYS) as usize) {
         Some(scene) => *scene,
         None => &[],
+    }
+}
+
+/// What stays empty beside the ko of a part.
+fn gaps_of(part: u32) -> Gaps
+    ensures { result ≡ gaps_of part }
+{
+    match KO_GAPS.get((part / WAYS) as usize) {
+        Some(gaps) => *gaps,
+        None => Gaps {
+            first: (1, 3),
+            second: (1, 3),
+        },
     }
 }

@@ -1,5 +1,7 @@
 //! The course.
 ghost use Rattle.std.specs.Prelude.{◌≡◌, ◌<◌, ◌≤◌, ◌↔◌, true, false, slice_get, IsSome, IfSome};
+ghost use Rattle.go_board.specs.Game.{GameRecord, IsLegal};
+ghost use Rattle.gtp_check_questions.specs.Asking.{HasTaken};
 ghost use Rattle.gtp_check_questions.specs.declared.actions.Action.TheVariants.{Done, Skip, Start};
 ghost use Rattle.gtp_check_judge.specs.declared.asking.CheckCommand.TheVariants.{Name};
 
@@ -10,16 +12,12 @@ use crate::lessons::{Lesson, Lessons};
 use crate::openings::Opening;
 use crate::places::Place;
 use crate::stretches::Stretch;
+use crate::suicides::{Suicide, is_suicide};
 use go_base::{Move, Size};
 use go_board::Game;
 use gtp_check_judge::{Board as Known, CheckCommand, Examiner, Skill};
 use gtp_wire::Command;
 use std::marker::Model;
-
-/// The smallest size of a scene's board, and the greatest.
-const SCENE_SIZE: u32 = 5;
-
-const MOST_SIZE: u32 = 25;
 
 /// After so many findings in one lesson the next one begins.
 const MOST_FINDINGS: u32 = 10;
@@ -32,7 +30,8 @@ const UNDO: CheckCommand = CheckCommand::Match(Command::Undo);
 
 /// A course of questions, which are asked of one engine after each other.
 ///
-/// Which question comes next hangs on the lesson, the place in it, the size of scenes, the game and the seed alone.
+/// Which question comes next hangs on the lesson, the place in it, the size of scenes, the game, the seed and whether
+/// suicide is asked alone.
 #[derive(Drop)]
 pub struct Course {
     lessons: Lessons,
@@ -42,6 +41,7 @@ pub struct Course {
     losses: u32,
     scene_size: Option<Size>,
     seed: u32,
+    suicide: Suicide,
 }
 
 impl Model for Course {
@@ -57,6 +57,7 @@ impl Model for Course {
       losses = c.losses;
       scene_size = c.scene_size;
       seed = c.seed;
+      suicide = c.suicide;
     } };
 
     ghost invariant = { λ c. IsIn c.lessons.items c.place };
@@ -69,17 +70,17 @@ impl Course {
     ghost use Rattle.gtp_check_questions.specs.Boards.{IsBoard};
     ghost use Rattle.gtp_check_judge.specs.Exam.{HasRoomFor};
     ghost use Rattle.gtp_check_questions.specs.Asking.{IsStep, IsTurn, Renews, Kills, Opens, Poses, Probes, Sees};
-    ghost use Rattle.gtp_check_questions.specs.Asking.{draws_of, lesson_of};
+    ghost use Rattle.gtp_check_questions.specs.Asking.{Finds, Tries, call, draws_of, lesson_of};
     ghost use Rattle.gtp_check_questions.specs.Openings.{opened};
-    ghost use Rattle.gtp_check_questions.specs.Course.{scene_size_of, sought_size};
+    ghost use Rattle.gtp_check_questions.specs.Course.{IsLeftOut, IsSuicide};
     ghost use Rattle.gtp_check_questions.specs.Course.{begun, GoesTo, GoesOn, IsOver, IsRunning, Leaves};
     ghost use Rattle.gtp_check_questions.specs.Course.{step_over, part_over, with_finding};
 
     /// A course of these lessons, with this seed for what is drawn. Where a size is given, which is 5 at least, scenes
-    /// are asked on boards of that size. Else the start finds the smallest from 5 that the engine takes, and without a
-    /// start it is 5.
-    pub fn new(lessons: Lessons, scene_size: Option<Size>, seed: u32) -> Course
-        ensures { result ≡ begun lessons.items scene_size seed }
+    /// are asked on boards of that size. Else it is the smallest from 5 that the engine takes, which the first lesson
+    /// with scenes finds. No `play` that would be suicide is asked where that is `Unasked`.
+    pub fn new(lessons: Lessons, scene_size: Option<Size>, seed: u32, suicide: Suicide) -> Course
+        ensures { result ≡ begun lessons.items scene_size seed suicide }
     {
         Course {
             lessons,
@@ -89,6 +90,7 @@ impl Course {
             losses: 0,
             scene_size,
             seed,
+            suicide,
         }
     }
 
@@ -100,10 +102,11 @@ impl Course {
     /// and the step alone determine. A probe that is legal is asked only where the engine has `undo`, which is asked
     /// next. So each command may be asked of the examiner then.
     ///
-    /// A step is passed over only where it asks nothing, or where its command may not be asked although nothing is
-    /// unanswered; so is a legal probe of an engine without `undo`. A part is left where its size was refused. The
-    /// engine is ended and started again where a step says so, or where no more ids are left, and only once it owes no
-    /// answer. After ten findings in a lesson, or three losses of the engine, the next one begins.
+    /// A step is passed over only where it asks nothing, or where its command may not be asked although nothing
+    /// is unanswered, or is suicide, where that isn't asked; so is a legal probe of an engine without `undo`. A
+    /// part is left where its size was refused. The engine is ended and started again where a step says so, or
+    /// where no more ids are left, and only once it owes no answer. After ten findings in a lesson, or three
+    /// losses of the engine, the next one begins.
     pub fn next(&mut self, examiner: &Examiner) -> Action
         ensures goes { GoesTo self.old examiner.now.exam result self.new }
         ensures over { IsOver self.old → result ≡ Done }
@@ -135,6 +138,7 @@ impl Course {
             Question::Ask(command) => self.ask(command, lesson, examiner),
             Question::Probe(made) => self.probe(made, lesson, examiner),
             Question::Size(size) => self.note_size(size, lesson, examiner),
+            Question::Found(size) => self.note_found(size, lesson, examiner),
             Question::Restart => self.renew(lesson, examiner),
             Question::Kill => self.kill(lesson, examiner),
             Question::Nothing => self.skip(lesson),
@@ -212,34 +216,9 @@ impl Course {
 
     /// What this part is asked on.
     fn board(&self, lesson: Lesson) -> Board
-        ensures { IsBoard lesson self.now.place.part (scene_size_of lesson self.now) result }
+        ensures { IsBoard lesson self.now.place.part self.now.scene_size result }
     {
-        board_of(lesson, self.place.part, self.scene_size(lesson))
-    }
-
-    /// The size of the boards of scenes. The first parts find it, one after the other.
-    fn scene_size(&self, lesson: Lesson) -> Size
-        ensures { result ≡ scene_size_of lesson self.now }
-    {
-        match self.scene_size {
-            Some(size) => size,
-            None => self.sought_size(lesson),
-        }
-    }
-
-    /// The size that a part of the start asks for, one more in each. Other lessons have the smallest.
-    fn sought_size(&self, lesson: Lesson) -> Size
-        ensures { result ≡ sought_size lesson self.now.place.part }
-    {
-        let lines = if lesson == Lesson::Start {
-            (SCENE_SIZE + self.place.part).min(MOST_SIZE)
-        } else {
-            SCENE_SIZE
-        };
-        match Size::new(lines) {
-            Some(size) => size,
-            None => unreachable!(),
-        }
+        board_of(lesson, self.place.part, self.scene_size)
     }
 
     /// What this step draws: words of its own, by its number among all lessons.
@@ -266,8 +245,9 @@ impl Course {
     ) -> Action
         requires running { IsRunning self.old }
         requires later { opened self.old.opening < opened after }
+        requires no_move { (game : GameRecord) → ¬ IsSuicide game command }
         ensures goes { GoesTo self.old examiner.now.exam result self.new }
-        ensures opens { Opens lesson self.old examiner.now.exam command after result self.new }
+        ensures opens { Opens (call lesson self.old examiner.now.exam) command after result self.new }
     {
         if !examiner.has_room(&command) {
             return self.renew(lesson, examiner);
@@ -276,13 +256,25 @@ impl Course {
         Action::Ask(command)
     }
 
-    /// The engine is asked this, where it may be. Where it may not be in this game, the step is passed over.
+    /// Whether a command is suicide, which isn't asked.
+    fn leaves_out(&self, command: CheckCommand, examiner: &Examiner) -> bool
+        ensures is { result ≡ true → IsLeftOut self.now.suicide examiner.now.exam.game command }
+        ensures only { IsLeftOut self.now.suicide examiner.now.exam.game command → result ≡ true }
+    {
+        self.suicide == Suicide::Unasked && is_suicide(examiner.game(), command)
+    }
+
+    /// The engine is asked this, where it may be. Where it may not be in this game, or is left out, the step is passed
+    /// over.
     fn ask(&mut self, command: CheckCommand, lesson: Lesson, examiner: &Examiner) -> Action
         requires { IsRunning self.old }
         ensures goes { GoesTo self.old examiner.now.exam result self.new }
-        ensures poses { Poses lesson self.old examiner.now.exam command result self.new }
+        ensures poses { Poses (call lesson self.old examiner.now.exam) command result self.new }
     {
         if examiner.has_room(&command) {
+            if self.leaves_out(command, examiner) {
+                return self.skip(lesson);
+            }
             self.go_on(lesson);
             return Action::Ask(command);
         }
@@ -297,13 +289,24 @@ impl Course {
         requires running { IsRunning self.old }
         requires fresh { self.old.place.undoing ≡ false }
         ensures goes { GoesTo self.old examiner.now.exam result self.new }
-        ensures probes { Probes lesson self.old examiner.now.exam made result self.new }
+        ensures probes { Probes (call lesson self.old examiner.now.exam) made result self.new }
     {
-        let is_legal = examiner.game().legal(made.colour, made.vertex);
-        let command = CheckCommand::Match(Command::Play(made));
-        if !is_legal {
-            return self.ask(command, lesson, examiner);
+        if examiner.game().legal(made.colour, made.vertex) {
+            self.try_move(made, lesson, examiner)
+        } else {
+            self.ask(CheckCommand::Match(Command::Play(made)), lesson, examiner)
         }
+    }
+
+    /// The engine is asked a legal move, which is taken back next, if the engine can.
+    fn try_move(&mut self, made: Move, lesson: Lesson, examiner: &Examiner) -> Action
+        requires running { IsRunning self.old }
+        requires fresh { self.old.place.undoing ≡ false }
+        requires legal { IsLegal examiner.now.exam.game made.colour made.vertex }
+        ensures goes { GoesTo self.old examiner.now.exam result self.new }
+        ensures tries { Tries (call lesson self.old examiner.now.exam) made result self.new }
+    {
+        let command = CheckCommand::Match(Command::Play(made));
         if examiner.skills().undo == Skill::Has && examiner.has_room(&command) {
             self.place = self.place.undo();
             return Action::Ask(command);
@@ -319,13 +322,23 @@ impl Course {
         requires { IsRunning self.old }
         ensures skips { result ≡ Skip }
         ensures goes_on { GoesOn self.old self.new }
-        ensures sees { Sees lesson self.old examiner.now.exam size result self.new }
+        ensures sees { Sees (call lesson self.old examiner.now.exam) size result self.new }
     {
-        if examiner.board() == Known::Unknown || examiner.game().size() != size {
+        if !has_taken(size, examiner) {
             self.end_part(lesson);
             return Action::Skip;
         }
-        if lesson == Lesson::Start && self.scene_size.is_none() {
+        self.skip(lesson)
+    }
+
+    /// Whether the engine took a size is seen. Where it did, that is the size of scenes.
+    fn note_found(&mut self, size: Size, lesson: Lesson, examiner: &Examiner) -> Action
+        requires { IsRunning self.old }
+        ensures skips { result ≡ Skip }
+        ensures goes_on { GoesOn self.old self.new }
+        ensures finds { Finds (call lesson self.old examiner.now.exam) size result self.new }
+    {
+        if has_taken(size, examiner) {
             self.scene_size = Some(size);
         }
         self.skip(lesson)
@@ -383,16 +396,14 @@ impl Course {
         }
     }
 
-    /// The next part, or the next lesson: after the last part, after the one that found the size of scenes, and after
-    /// too many findings or losses.
+    /// The next part, or the next lesson: after the last part, and after too many findings or losses.
     fn end_part(&mut self, lesson: Lesson)
         requires { IsRunning self.old }
         ensures exact { self.new ≡ part_over lesson self.old }
         ensures goes_on { GoesOn self.old self.new }
     {
-        let is_found = lesson == Lesson::Start && self.scene_size.is_some();
         let is_enough = self.findings >= MOST_FINDINGS || self.losses >= MOST_LOSSES;
-        if self.place.part + 1 < lesson.parts() && !is_found && !is_enough {
+        if self.place.part + 1 < lesson.parts() && !is_enough {
             self.place = self.place.next_part();
         } else {
             self.findings = 0;
@@ -400,4 +411,12 @@ impl Course {
             self.place = self.place.next_lesson();
         }
     }
+}
+
+/// Whether the engine has taken this size.
+fn has_taken(size: Size, examiner: &Examiner) -> bool
+    ensures is { result ≡ true → HasTaken examiner.now.exam size }
+    ensures only { HasTaken examiner.now.exam size → result ≡ true }
+{
+    examiner.board() != Known::Unknown && examiner.game().size() == size
 }

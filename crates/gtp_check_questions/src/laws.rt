@@ -1,6 +1,7 @@
 //! Laws of the course. Each is the contract of a function that does nothing.
 ghost use Rattle.gtp_check_questions.specs.Laws.{EveryCourseIsBounded, EachSceneIsAsked, EachStepAsksOneQuestion};
 ghost use Rattle.gtp_check_questions.specs.Laws.{EachClearedBoardIsProbed, EachLackIsAskedFor, EachKomiIsExact};
+ghost use Rattle.gtp_check_questions.specs.Laws.{EachKoIsAnswered, EachSizeIsSought, NoSuicideIsAsked};
 
 /// Whatever is answered, and whenever a part is left: commands that are asked, steps that are passed over and engines
 /// that are ended are together at most 57,600,000 for each lesson and once more, and five after each start.
@@ -30,7 +31,23 @@ pub fn each_lack_is_asked_for()
     ensures { EachLackIsAskedFor }
 {}
 
-/// A float of 32 bits represents each komi that is asked: it has at most 2^24 half points either way.
+/// A float of 32 bits represents each komi that is asked: it has at most 2^24 half points either way. Only one
+/// stretch asks for others, of which it represents none.
 pub fn each_komi_is_exact()
     ensures { EachKomiIsExact }
+{}
+
+/// Where suicide isn't asked, no `play` that is asked is one in the examiner's game.
+pub fn no_suicide_is_asked()
+    ensures { NoSuicideIsAsked }
+{}
+
+/// Each lesson whose boards have the size of scenes asks for each size from 5 to 25 first, while none is known.
+pub fn each_size_is_sought()
+    ensures { EachSizeIsSought }
+{}
+
+/// In each part of the lesson of kos a move of the other colour is asked for right after the act.
+pub fn each_ko_is_answered()
+    ensures { EachKoIsAnswered }
 {}

@@ -1,5 +1,7 @@
 //! The opening: what an engine is asked after each start.
 ghost use Rattle.std.specs.Prelude.{◌≡◌, ◌<◌, IfSome};
+ghost use Rattle.go_board.specs.Game.{GameRecord};
+ghost use Rattle.gtp_check_questions.specs.Course.{IsSuicide};
 ghost use Rattle.gtp_check_questions.specs.Openings.{opened, opening_next};
 
 use gtp_check_judge::{CheckCommand, Known};
@@ -26,6 +28,7 @@ impl Opening {
     pub(crate) fn next(self) -> Option<(CheckCommand, Opening)>
         ensures next { result ≡ opening_next self }
         ensures further { IfSome result (λ next. opened self < opened next.1) }
+        ensures no_move { IfSome result (λ next. (game : GameRecord) → ¬ IsSuicide game next.0) }
     {
         match self {
             Opening::Name => Some((CheckCommand::Name, Opening::Version)),

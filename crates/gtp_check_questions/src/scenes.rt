@@ -1,6 +1,7 @@
 //! Scenes on a corner of five lines each way.
 ghost use Rattle.std.specs.Prelude.{◌≡◌};
-ghost use Rattle.gtp_check_questions.specs.Scenes.{crossing, mirrored, way_of, turned, turned_colour, turned_act};
+ghost use Rattle.gtp_check_questions.specs.Scenes.{crossing, is_first, mirrored, way_of, turned, turned_colour};
+ghost use Rattle.gtp_check_questions.specs.Scenes.{turned_act};
 
 use go_base::Colour::{self, Black, White};
 use go_base::{Move, Point, Size, Vertex};
@@ -66,6 +67,44 @@ pub static KO: [Scene; 6] = [
         (White, 3, 1),
         (Black, 2, 1),
     ],
+];
+
+/// Two crossings beside a ko, which may be one.
+#[derive(Clone, Copy, Debug, PartialEq, Eq)]
+pub struct Gaps {
+    /// The column and the row of one.
+    pub first: (u32, u32),
+    /// Those of the other.
+    pub second: (u32, u32),
+}
+
+/// What stays empty beside each of the kos, where the colour that acts has all other points: on these the chains of the
+/// other colour have a liberty, and a move of theirs would be suicide.
+pub static KO_GAPS: [Gaps; 6] = [
+    Gaps {
+        first: (1, 3),
+        second: (1, 3),
+    },
+    Gaps {
+        first: (3, 2),
+        second: (3, 2),
+    },
+    Gaps {
+        first: (2, 2),
+        second: (2, 2),
+    },
+    Gaps {
+        first: (2, 4),
+        second: (3, 1),
+    },
+    Gaps {
+        first: (4, 2),
+        second: (4, 2),
+    },
+    Gaps {
+        first: (3, 3),
+        second: (3, 3),
+    },
 ];
 
 /// Captures: one stone in the corner, at the edge and in the middle; two, and three around a corner; two chains and
@@ -222,6 +261,13 @@ impl Way {
             across: number / 4 % 2 == 1,
             swapped: number / 8 % 2 == 1,
         }
+    }
+
+    /// Whether it is the first: nothing is turned.
+    pub fn is_first(self) -> bool
+        ensures { result ≡ is_first self }
+    {
+        !self.sideways && !self.upside_down && !self.across && !self.swapped
     }
 
     /// The vertex of a crossing that is turned so on a board of this size; a pass where the board has no such crossing.

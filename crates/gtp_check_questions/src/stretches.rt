@@ -3,7 +3,7 @@ ghost use Rattle.std.specs.Prelude.{◌≡◌, ◌≢◌, ◌<◌, ◌≤◌, �
 ghost use Rattle.gtp_wire.specs.declared.commands.Command.TheVariants as command;
 ghost use Rattle.gtp_check_questions.specs.Questions.{asks, plays, probes, colour_of, act_asked, last_of, pass_asked};
 ghost use Rattle.gtp_check_questions.specs.Questions.{elsewhere_asked, own_asked, corner_asked, edge_point};
-ghost use Rattle.gtp_check_questions.specs.Questions.{surround_asked, genmove_asked, choice_asked};
+ghost use Rattle.gtp_check_questions.specs.Questions.{surround_asked, genmove_asked, choice_asked, seek_asked};
 ghost use Rattle.gtp_check_questions.specs.Questions.{is_gap, filled_act, gap_act, swept_act};
 ghost use Rattle.gtp_check_questions.specs.Questions.{star_points, star_asked, IsQuestion};
 ghost use Rattle.gtp_check_questions.specs.Places.{most_steps};
@@ -12,8 +12,9 @@ ghost use Rattle.gtp_check_questions.specs.Stretches.{steps_of};
 use crate::actions::Question;
 use crate::boards::Board;
 use crate::draws::{Draws, drawn_move, probed};
+use crate::kos::{actor_pass, answer, sealed};
 use crate::scenes::crossing;
-use crate::sweeps::{emptied, points, waits};
+use crate::sweeps::{all_back, emptied, points, waits};
 use arrayvec::ArrayVec;
 use go_base::{Colour, Move, Point, Size, Vertex, handicap};
 use go_board::Game;
@@ -23,12 +24,21 @@ use gtp_wire::Command;
 /// The number of the move whose stone is taken in the first scene of kos.
 const RETAKEN: usize = 2;
 
+/// The smallest size of a scene's board, and how many sizes there are from it on.
+const LEAST_SIZE: u32 = 5;
+
+const SIZES_OF_SCENES: u32 = 21;
+
+const MOST_SIZE: u32 = 25;
+
 /// The lines of a scene's corner.
 const LINES: u32 = 6;
 
 /// Steps of one kind, one after the other.
 #[derive(Clone, Copy, Debug, PartialEq, Eq)]
 pub enum Stretch {
+    /// While no size of scenes is known, `boardsize` with each from 5 on, until one is taken.
+    Seek,
     /// `boardsize`, with the part's size.
     Size,
     /// The part is left where the size was refused.
@@ -41,6 +51,10 @@ pub enum Stretch {
     Komi,
     /// `komi`, with the other one.
     OtherKomi,
+    /// `komi`, with one that no float of 32 bits represents: the engine may take, round or refuse it. The game
+    /// stays. (The standard's topics float and komi. A match has such a komi only where its organiser asks for
+    /// it.)
+    Inexact,
     /// `clear_board`.
     Clear,
     /// The moves of the scene.
@@ -51,6 +65,9 @@ pub enum Stretch {
     Corner,
     /// A pass of the colour that didn't act.
     Pass,
+    /// A pass of the colour that acted. After a ko was taken it ends the ko by itself. (The rules of play, topic ko. A
+    /// mistake spoils a match.)
+    ActorPass,
     /// The last move of the scene.
     Act,
     /// A move of the colour that didn't act, in the far corner.
@@ -83,6 +100,9 @@ pub enum Stretch {
     Back(u32),
     /// So many steps, each an `undo` while the game has moves.
     Emptied(u32),
+    /// The same in the first of the sixteen ways alone, and nothing in the others. (An engine may keep a part of the
+    /// history alone. So the answer to an `undo` after one that succeeded is waited for, which takes long.)
+    AllBack(u32),
     /// So many steps, of which each fifth is an `undo`, and the others are moves of the engine's own. Of four, three
     /// are of the colour whose turn it is.
     Genmoves(u32),
@@ -94,6 +114,11 @@ pub enum Stretch {
     Swept,
     /// A move of the engine's own, of the colour that plays this one's moves.
     Chosen(Colour),
+    /// The colour that acts fills the board beside a ko, so that hardly a point is legal for the other colour.
+    Sealed,
+    /// A move of the engine's own, of the colour that didn't act: it may not retake a ko. (The standard's topic
+    /// genmove, and the rules of play, topic ko. A mistake spoils a match.)
+    Answer,
     /// A new start, after a `quit`.
     Restart,
     /// A new start, without a `quit`.
@@ -113,8 +138,10 @@ impl Stretch {
             | Stretch::OtherTaken
             | Stretch::Komi
             | Stretch::OtherKomi
+            | Stretch::Inexact
             | Stretch::Clear
             | Stretch::Pass
+            | Stretch::ActorPass
             | Stretch::Act
             | Stretch::Elsewhere
             | Stretch::Undo
@@ -122,15 +149,17 @@ impl Stretch {
             | Stretch::Stones(_)
             | Stretch::Score
             | Stretch::Chosen(_)
+            | Stretch::Answer
             | Stretch::Restart
             | Stretch::Kill => 1,
+            Stretch::Seek => 2 * SIZES_OF_SCENES,
             Stretch::Moves => 12,
             Stretch::Own => 24,
             Stretch::Corner => 2 * LINES * LINES,
             Stretch::Edges => 6,
             Stretch::Stars => 18,
             Stretch::Surround | Stretch::Swept => 4,
-            Stretch::Filled => 625,
+            Stretch::Filled | Stretch::Sealed => 625,
             Stretch::Gaps => 3,
             Stretch::Points => 1875,
             Stretch::Passes(steps)
@@ -139,21 +168,25 @@ impl Stretch {
             | Stretch::Probed(steps)
             | Stretch::Back(steps)
             | Stretch::Emptied(steps)
+            | Stretch::AllBack(steps)
             | Stretch::Genmoves(steps) => steps.min(2000),
         }
     }
 
     /// What is asked in its step of this number, where the game is this one.
     pub fn question(self, step: u32, board: &Board, game: &Game, draws: Draws) -> Question
-        ensures { IsQuestion self step board.now draws game.now result }
+        ensures { IsQuestion self (record { number = step; draws = draws })
+            board.now game.now result }
     {
         match self {
+            Stretch::Seek => seek(step, board.is_sought),
             Stretch::Size => ask(Command::Boardsize(board.size)),
             Stretch::Taken => Question::Size(board.size),
             Stretch::OtherSize => ask(Command::Boardsize(board.other_size)),
             Stretch::OtherTaken => Question::Size(board.other_size),
             Stretch::Komi => ask(Command::Komi(board.komi)),
             Stretch::OtherKomi => ask(Command::Komi(board.other_komi)),
+            Stretch::Inexact => ask(Command::Komi(board.inexact_komi)),
             Stretch::Clear => ask(Command::ClearBoard),
             Stretch::Undo | Stretch::Back(_) => ask(Command::Undo),
             Stretch::Handicap => ask(Command::FixedHandicap(board.stones)),
@@ -168,6 +201,9 @@ impl Stretch {
             Stretch::Gaps => play_act(Some(gap_act(step, board.size.get())), board),
             Stretch::Swept => play_act(Some(swept_act(step, board.size.get())), board),
             Stretch::Pass => pass_after(last_of(board), board),
+            Stretch::ActorPass => actor_pass(last_of(board), board),
+            Stretch::Sealed => sealed(step, last_of(board), board),
+            Stretch::Answer => answer(last_of(board), board),
             Stretch::Elsewhere => elsewhere(last_of(board), board),
             Stretch::Own => own_point(step, board),
             Stretch::Corner => corner_point(step, board),
@@ -177,11 +213,28 @@ impl Stretch {
             Stretch::Points => points(step, board.size.get()),
             Stretch::Waits(_) => waits(step, act_of(RETAKEN, board), board),
             Stretch::Emptied(_) => emptied(game),
+            Stretch::AllBack(_) => all_back(board.way, game),
             Stretch::Passes(_) => play(colour_of(step), Vertex::Pass),
             Stretch::Drawn(_) => drawn_move(game, &mut draws.generator()),
             Stretch::Probed(_) => probed(step, game, &mut draws.generator()),
             Stretch::Genmoves(_) => genmove(step, game),
         }
+    }
+}
+
+/// While a size of scenes is sought, in two steps for each: whether it is taken.
+fn seek(step: u32, is_sought: bool) -> Question
+    ensures { result ≡ seek_asked step is_sought }
+{
+    let Some(size) = Size::new((LEAST_SIZE + step / 2).min(MOST_SIZE)) else {
+        unreachable!()
+    };
+    if !is_sought {
+        Question::Nothing
+    } else if step % 2 == 0 {
+        ask(Command::Boardsize(size))
+    } else {
+        Question::Found(size)
     }
 }
 
@@ -200,7 +253,7 @@ fn last_of(board: &Board) -> Option<(Colour, u32, u32)>
 }
 
 /// A move of the scene, if there is one.
-fn play_act(act: Option<(Colour, u32, u32)>, board: &Board) -> Question
+pub(crate) fn play_act(act: Option<(Colour, u32, u32)>, board: &Board) -> Question
     ensures { result ≡ act_asked board.now act }
 {
     match act {

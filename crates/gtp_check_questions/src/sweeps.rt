@@ -1,11 +1,11 @@
 //! Stretches that look at each point, wait long, or empty the board.
 ghost use Rattle.std.specs.Prelude.{◌≡◌, ◌<◌, ◌/◌, length};
-ghost use Rattle.gtp_check_questions.specs.Questions.{crossing_of, emptied_asked, points_asked, retake_asked};
-ghost use Rattle.gtp_check_questions.specs.Questions.{waits_asked};
+ghost use Rattle.gtp_check_questions.specs.Questions.{crossing_of, emptied_asked, all_back_asked};
+ghost use Rattle.gtp_check_questions.specs.Questions.{points_asked, retake_asked, waits_asked};
 
 use crate::actions::Question;
 use crate::boards::Board;
-use crate::scenes::crossing;
+use crate::scenes::{Way, crossing};
 use crate::stretches::{ask, colour_of, play, probe};
 use go_base::{Colour, Vertex};
 use go_board::Game;
@@ -68,5 +68,16 @@ pub(crate) fn emptied(game: &Game) -> Question
         Question::Nothing
     } else {
         ask(Command::Undo)
+    }
+}
+
+/// An `undo` in the first of the ways, while the game has moves.
+pub(crate) fn all_back(way: Way, game: &Game) -> Question
+    ensures { result ≡ all_back_asked way (length game.now.moves) }
+{
+    if way.is_first() {
+        emptied(game)
+    } else {
+        Question::Nothing
     }
 }

@@ -1,5 +1,5 @@
 -- Calls of a process's pipes: which are tried again, and when a process counts as cut off.
-use Rattle.std.specs.Prelude.{ℕ, ◌+◌}
+use Rattle.std.specs.Prelude.{ℕ, ◌+◌, ◌==◌, ◌&&◌, nat_lt, Bool, true, false, Result, Ok, Err}
 use Rattle.byte_streams.specs.declared.calls.CallFault.{CallFault}
 use Rattle.byte_streams.specs.declared.calls.CallFault.TheVariants.{Interrupted, Other}
 
@@ -46,3 +46,10 @@ pub data OutputEnded {P : Type 0} (fails : Fails P) (succeeds : GoesThrough P) (
     : Type 0 where
   ran_out : {mid : P} → IsUnbroken fails succeeds before mid → runs_out mid after
       → OutputEnded fails succeeds runs_out before after
+
+-- Whether a call of a pipe shows that it is closed at the other end or fails, by what it returned, asked for so many
+-- bytes: it moved none of them, or failed otherwise than by an interruption.
+abbrev pub shows_break : ℕ → Result ℕ CallFault → Bool
+shows_break asked (Ok count) = count == 0 && nat_lt 0 asked
+shows_break asked (Err Interrupted) = false
+shows_break asked (Err Other) = true

@@ -9,7 +9,7 @@ use Rattle.gtp_process.specs.declared.causes.PipeCause.{PipeCause}
 use Rattle.gtp_process.specs.declared.causes.PipeCause.TheVariants.{Writing, Reading, Ended}
 use Rattle.gtp_process.specs.declared.causes.Unstarted.{Unstarted}
 use Rattle.gtp_process.specs.declared.starter.Ending.{Ending}
-use Rattle.gtp_process.specs.declared.starter.Ending.TheVariants.{Unknown, Status, Signal}
+use Rattle.gtp_process.specs.declared.starter.Ending.TheVariants.{Unknown, Status, Signal, Running}
 use Rattle.gtp_process.specs.declared.starter.StartReason.{StartReason}
 use Rattle.gtp_process.specs.declared.starter.StartReason.TheVariants as reason
 use Rattle.gtp_process.specs.Starts.{Text, first_word}
@@ -65,6 +65,7 @@ abbrev pub ending_text : Ending → List ℕ
 ending_text Unknown = []
 ending_text (Status number) = codes ", exit status " ++ decimal number
 ending_text (Signal number) = codes ", signal " ++ decimal number
+ending_text Running = codes ", but it ran on"
 
 -- ---- a program that was not started
 

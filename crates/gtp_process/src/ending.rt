@@ -1,7 +1,11 @@
-//! How a process is ended.
-ghost use Rattle.gtp_process.specs.Endings.{EndsAs, IsEnded};
+//! How a process is ended, and how it ended.
+ghost use Rattle.std.specs.Prelude.{◌≡◌};
+ghost use Rattle.gtp_process.specs.Endings.{EndsAs, IsEnded, after_kill, told_ending};
 
 use crate::starter::{Ending, Process};
+
+/// The number of the signal that kills a process: the same on Linux, the BSDs and macOS.
+const SIGKILL: u32 = 9;
 
 /// Ends a process, if there is one, and returns how it ended.
 pub fn end_known<P: Process>(process: Option<P>) -> Ending
@@ -18,4 +22,26 @@ pub fn end<P: Process>(process: Option<P>)
     ensures { IsEnded P.Process process }
 {
     let _ = end_known(process);
+}
+
+/// How a process ended, by the status that it ended with and the number of the signal that ended it.
+pub(crate) fn told_ending(status: Option<i32>, signal: Option<i32>) -> Ending
+    ensures { result ≡ told_ending status signal }
+{
+    match (status, signal) {
+        (Some(number), _) => Ending::Status(number.unsigned_abs()),
+        (None, Some(number)) => Ending::Signal(number.unsigned_abs()),
+        (None, None) => Ending::Unknown,
+    }
+}
+
+/// How a process ended that still ran when it was killed, by what the system tells then. It may have ended by itself
+/// just before.
+pub(crate) fn after_kill(told: Ending) -> Ending
+    ensures { result ≡ after_kill told }
+{
+    match told {
+        Ending::Signal(SIGKILL) => Ending::Running,
+        told => told,
+    }
 }

@@ -68,6 +68,7 @@ pub fn push_ending<const ROOM: usize>(line: &mut ArrayVec<u8, ROOM>, ending: End
             push(line, b", signal ");
             push(line, &write_int(number));
         }
+        Ending::Running => push(line, b", but it ran on"),
     }
 }
 

@@ -49,6 +49,8 @@ pub enum Ending {
     Status(u32),
     /// By this signal.
     Signal(u32),
+    /// It was still running, and this program ended it.
+    Running,
 }
 
 /// The means to start processes.
@@ -119,7 +121,8 @@ pub trait Process {
     /// Lets the process run before it is read, where that saves time. What it was sent and what it gave stay.
     fn let_run_first(&self);
 
-    /// Closes the pipes, kills the process if it still runs, waits for it, and returns how it ended.
+    /// Kills the process if it still runs, closes the pipes, waits for it, and returns how it ended. Where its output
+    /// ended, or another call of a pipe broke, it first has a short time to end by itself.
     fn end(self) -> Ending
         ensures { leaves self result };
 }

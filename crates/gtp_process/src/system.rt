@@ -1,8 +1,12 @@
 //! Processes of the operating system.
 ghost use Rattle.std.specs.Prelude.{◌≡◌, ◌≢◌, ⊤, length, None, IfErr, IfOk, IsErrAnd, IsErrOf, IsOkAnd};
 ghost use Rattle.std.specs.IoError.{error_kind, raw_os_error};
+ghost use Rattle.std.specs.Process.{exit_code, exit_signal};
 ghost use Rattle.gtp_process.specs.Starts.{kind_reason, limit_of, reason_of, start_fault_of};
+ghost use Rattle.gtp_process.specs.Endings.{told_ending};
+ghost use Rattle.gtp_process.specs.Pipes.{shows_break};
 
+use crate::ending::{after_kill, told_ending};
 use crate::precedence::Precedence;
 use crate::starter::{Ending, Process, StartFault, StartReason, Starter};
 use byte_streams::{CallFault, outcome_of};
@@ -12,7 +16,7 @@ use std::io;
 use std::io::{ErrorKind, Read, Stderr, Write};
 use std::os::unix::process::ExitStatusExt;
 use std::process::{Child, Command, ExitStatus, OpenProcess, Processes, Stdio};
-use std::time::Clock;
+use std::time::{Clock, Duration};
 
 /// The number of the system's error where no file can be opened any more in the whole system: the same on Linux, the
 /// BSDs and macOS.
@@ -20,6 +24,12 @@ const ENFILE: i32 = 23;
 
 /// The number of its error where no file can be opened any more in this process: the same on these systems too.
 const EMFILE: i32 = 24;
+
+/// How often a process is looked at that may be about to end, with a pause after each look.
+const MOST_PAUSES: u32 = 200;
+
+/// How many milliseconds a pause has.
+const PAUSE_MILLISECONDS: u64 = 1;
 
 /// Starts processes of the operating system. Their standard error is the program's own.
 #[derive(Drop)]
@@ -38,6 +48,8 @@ pub struct SystemProcess<P: OpenProcess, C> {
     clock: C,
     /// Whether it goes first before it is read.
     precedence: Cell<Precedence>,
+    /// Whether its output ended, or another call of a pipe broke. Then it may be about to end.
+    is_broken: bool,
 }
 
 impl<'r, R: Processes + Clock> Starter for SystemStarter<'r, R> {
@@ -70,6 +82,7 @@ fn process_of<P: OpenProcess, C: Drop>(
             child,
             clock,
             precedence: Cell::new(Precedence::Starting),
+            is_broken: false,
         }),
         Err(error) => Err(start_fault_of(&error)),
     }
@@ -167,14 +180,18 @@ impl<P: OpenProcess + Drop, C: Clock + Drop> Process for SystemProcess<P, C> {
         let Some(stdout) = &mut self.child.stdout else {
             return Err(CallFault::Other);
         };
-        outcome_of(stdout.read(buffer))
+        let outcome = outcome_of(stdout.read(buffer));
+        self.is_broken |= shows_break(outcome, buffer.len());
+        outcome
     }
 
     fn write(&mut self, text: &[u8]) -> Result<usize, CallFault> {
         let Some(stdin) = &mut self.child.stdin else {
             return Err(CallFault::Other);
         };
-        outcome_of(stdin.write(text))
+        let outcome = outcome_of(stdin.write(text));
+        self.is_broken |= shows_break(outcome, text.len());
+        outcome
     }
 
     fn flush(&mut self) -> Result<(), CallFault> {
@@ -192,27 +209,56 @@ impl<P: OpenProcess + Drop, C: Clock + Drop> Process for SystemProcess<P, C> {
     fn end(self) -> Ending {
         let SystemProcess {
             mut child,
-            clock: _,
+            clock,
             precedence: _,
+            is_broken,
         } = self;
-        drop(child.stdin.take());
-        drop(child.stdout.take());
-        // A process that has ended can't be killed. Its status is asked for all the same.
-        let _ = child.kill();
-        match child.wait() {
-            Ok(status) => ending_of(status),
-            Err(_) => Ending::Unknown,
+        // Its input stays open meanwhile: an engine that lives on may end at the end of its input.
+        if is_broken {
+            wait_a_while(&mut child, &clock);
+        }
+        match child.try_wait() {
+            Ok(Some(status)) => ending_of(status),
+            Ok(None) | Err(_) => after_kill(kill(child)),
         }
     }
 }
 
+/// Whether a call of a pipe shows that it is closed at the other end or fails, by what it returned, asked for so many
+/// bytes.
+fn shows_break(outcome: Result<usize, CallFault>, asked: usize) -> bool
+    ensures { result ≡ shows_break asked outcome }
+{
+    match outcome {
+        Ok(count) => count == 0 && asked > 0,
+        Err(fault) => fault == CallFault::Other,
+    }
+}
+
+/// Waits until a process has ended, for some 200 milliseconds at most.
+fn wait_a_while<P: OpenProcess, C: Clock>(child: &mut Child<P>, clock: &C) {
+    for _pause in 0..MOST_PAUSES {
+        match child.try_wait() {
+            Ok(None) => clock.sleep(Duration::from_millis(PAUSE_MILLISECONDS)),
+            Ok(Some(_)) | Err(_) => return,
+        }
+    }
+}
+
+/// Kills a process, waits for it, and returns how it ended. Where it can't be killed, its own end is waited for.
+fn kill<P: OpenProcess + Drop>(mut child: Child<P>) -> Ending {
+    let _ = child.kill();
+    drop(child.stdin.take());
+    drop(child.stdout.take());
+    match child.wait() {
+        Ok(status) => ending_of(status),
+        Err(_) => Ending::Unknown,
+    }
+}
+
 /// How a process with this exit status ended.
-fn ending_of(status: ExitStatus) -> Ending {
-    if let Some(number) = status.code() {
-        return Ending::Status(number.unsigned_abs());
-    }
-    match status.signal() {
-        Some(number) => Ending::Signal(number.unsigned_abs()),
-        None => Ending::Unknown,
-    }
+fn ending_of(status: ExitStatus) -> Ending
+    ensures { result ≡ told_ending (exit_code status) (exit_signal status) }
+{
+    told_ending(status.code(), status.signal())
 }

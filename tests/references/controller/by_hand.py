@@ -469,6 +469,7 @@ BY_HAND = [
     ("bytes aren't escaped", why, "escaped", lambda data: data.decode("latin-1")),
     ("hex digits are small", why, "escaped", in_small_letters),
     ("bytes above 126 aren't escaped", why, "escaped", high_bytes_stand_as_they_are),
-    ("an end by itself is reported as one by force", matches.Process, "endings", lambda self: ["signal 9"]),
+    ("an end by itself is reported as one by force", matches.Process, "ending", lambda self: why.RAN_ON),
+    ("an end by force is reported as one by itself", matches.Process, "ending", lambda self: f"exit status {self.engine.status}"),
     ("the side that forfeits by an undo that fails isn't named", why, "KEPT_MOVE", why.KEPT_MOVE.partition(":")[0]),
 ]

@@ -17,8 +17,7 @@ from .faulty import CLOSES, ENDS, SHUTS
 # - where an engine writes what is no reply and has other commands to answer: some of those answers may be read with it;
 # - where an engine is sent a script of more than eight commands: how many of them were sent when it fails goes by how many replies each
 #   read brought;
-# - where an engine ends by itself, and is written to after that: the write may fail, or the end of its output is met first;
-# - where an engine closes its output and goes on: it may end at the end of its input, before it is killed.
+# - where an engine ends by itself, and is written to after that: the write may fail, or the end of its output is met first.
 Timing = namedtuple("Timing", "most is_quick breaks")
 PATIENT = Timing(MOST_UNANSWERED, False, False)
 TIMINGS = [
@@ -102,12 +101,9 @@ class Process:
         """May a write to it have failed, since it had ended by then?"""
         return self.has_ended and self.writes > self.last
 
-    def endings(self):
-        """How it may have ended when it fails by its pipes. One that goes on is killed; where only its output ended, it may end before
-        that, since the end of its input comes first."""
-        if self.has_ended:
-            return [f"exit status {self.engine.status}"]
-        return ["signal 9"] if self.has_shut else ["signal 9", f"exit status {self.engine.status}"]
+    def ending(self):
+        """How it had ended when it failed by its pipes. One that goes on is ended then. Until that its input stays open."""
+        return f"exit status {self.engine.status}" if self.has_ended else why.RAN_ON
 
     def is_silent(self):
         """Does it go on, and has it written nothing that a controller would take for a reply, or for none?"""
@@ -240,7 +236,7 @@ def lose(controller, side, texts):
 
 def broken(process, cause, writes):
     """The texts of a pipe that is broken, with what was unanswered and what had come by then."""
-    return [why.cut_off(unanswered, cause, ending, rest) for unanswered, rest in writes for ending in process.endings()]
+    return [why.cut_off(unanswered, cause, process.ending(), rest) for unanswered, rest in writes]
 
 
 def say_quit(controller, processes):

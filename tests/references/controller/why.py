@@ -10,6 +10,7 @@ MOST_BYTES = 80
 # The causes. After those of a pipe comes how the process ended.
 OUTPUT_ENDED = "its output ended"
 WRITING_FAILED = "writing failed"
+RAN_ON = "but it ran on"
 NO_STATUS = "not a GTP reply (it begins with neither = nor ?)"
 OVERLONG = "no end of a reply in 8192 bytes"
 WRONG_ID = "a reply without the awaited id"

@@ -280,7 +280,7 @@ def explanations():
     for plan, wrote in (("c2//ends", ""), ("c2/<reply:2>/ends", "=2"), (r"c1/<reply>\n/on,1/c2//ends", r"\n")):
         reported = f'black: 2 unanswered, the first "2 komi 0": its output ended, exit status 0; it wrote "{wrote}"'
         yield explained("0 moves 2 restarts 1 0", passing(f"1/{plan}"), passing(), reported, **small)
-    reported = 'black: 3 unanswered, the first "1 boardsize 2": its output ended, signal 9; it wrote "=1"'
+    reported = 'black: 3 unanswered, the first "1 boardsize 2": its output ended, but it ran on; it wrote "=1"'
     yield explained("0 moves 2 restarts 1 0", passing("1/c1/<reply:2>/closes"), passing(), reported, **small)
     for fault, wrote in (("stop:1", ""), ("cut:1:3", "=4 ")):
         reported = f'{asked}: its output ended, exit status 4; it wrote "{wrote}"'
@@ -288,7 +288,7 @@ def explanations():
         yield explained("abandoned black moves 0 restarts 0 0", black, FIRST, reported, status=1, restarts=0, **small)
     # A write that fails: nothing is read after that. What was read since the last whole reply is shown.
     for template, wrote in (("<reply>", "nothing of it was read"), (r"<reply>\n_=", r'it wrote "\n ="')):
-        reported = f'black: 1 unanswered, "5 play w A1": writing failed, signal 9; {wrote}'
+        reported = f'black: 1 unanswered, "5 play w A1": writing failed, but it ran on; {wrote}'
         black = passing(f"*/g1/{template}/shuts")
         yield explained("abandoned black moves 2 restarts 0 0", black, FIRST, reported, status=1, restarts=0, **small)
     # The second process is that of the second game.

@@ -21,6 +21,16 @@ WAITS = """#!/bin/sh
 echo wrong
 exec sleep 20
 """
+SOON_ENDS = """#!/bin/sh
+read -r line
+exec >&-
+sleep 0.05
+exit 7
+"""
+IS_KILLED = """#!/bin/sh
+read -r line
+kill -KILL $$
+"""
 SECONDS = 60  # that a command of a probe may take, also where the machine is busy
 SECONDS_OF_KILLED = 10  # the same of the probe `killed`: an engine that isn't killed runs longer
 
@@ -46,6 +56,8 @@ IN_SHIMS = [
     Mutant("a refusal of memory has the status of a mistake", "cargo/shims/kit_std/src/memory.rs", "const STATUS: i32 = 3;", "const STATUS: i32 = 2;", "refused"),
     Mutant("the arguments of an engine are out of order", PROCESS, "self.0.args(words);", "self.0.args(words.iter().rev());", "matches"),
     Mutant("an engine is not killed", PROCESS, "self.child.kill()", "Ok(())", "killed"),
+    Mutant("an engine that has ended is taken for one that runs", PROCESS, "self.child.try_wait()?", "self.child.try_wait()?.filter(|_| false)", "ended"),
+    Mutant("a pause takes no time", "cargo/shims/kit_std/src/runtime.rs", "std::thread::sleep(duration)", "drop(duration)", "ended"),
     Mutant("a status is another", PROCESS, "ExitCode(status)\n", "ExitCode(status.min(2))\n", "full"),
     Mutant("an argument that is no text is taken", "cargo/shims/kit_std/src/env.rs", ".to_str()", '.to_str().or(Some("?"))', "no_text"),
     Mutant("the greatest value of an option is refused", "cargo/shims/clap/src/lib.rs", "range(least..=most)", "range(least..most)", "limits"),
@@ -95,8 +107,13 @@ class Probes:
             "limits": [trial(["--seed=4294967295"], b"quit\n"), trial(["--seed=0"], b"quit\n")],
             "no_text": [trial([b"--book=\xff"], b"quit\n")],
             "not_started": [trial(["--black", at, "--white", at, "--why"], program="twogtp") for at in self.no_programs()],
-            "killed": [trial(["--black", self.script("waits", WAITS), "--white", "./gtp_engine", "--restarts", "0"], program="twogtp")],
+            "killed": [self.match_of("waits", WAITS)],
+            "ended": [self.match_of("soon_ends", SOON_ENDS), self.match_of("is_killed", IS_KILLED)],
         }
+
+    def match_of(self, name, text):
+        """A match that a script plays."""
+        return trial(["--black", self.script(name, text), "--white", "./gtp_engine", "--restarts", "0", "--why"], program="twogtp")
 
     def no_programs(self):
         """What can't be started, each for a reason of its own."""

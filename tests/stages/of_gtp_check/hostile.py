@@ -1,12 +1,13 @@
 """Engines that misbehave, tests/engines/hostile/engine, and programs that can't be started.
 
 What each check has to come to was worked out by hand. An engine is asked `name`, `version`, three times `known_command`, `boardsize 5`,
-`komi 6.5`, `clear_board`, and then, in the lesson of the start, `play b E5`, `undo` and `play w F1`, which is off that board. In the
-lesson of its own moves it is asked `genmove b` after `clear_board`, and then `genmove w`. With `--singly` each is asked once the one
-before is answered. After something was found the engine is started again, and the next part begins: another size.
+which finds the size of scenes, `boardsize 5`, `komi 6.5`, `clear_board`, and then, in the lesson of the start, `play b E5`, `undo` and
+`play w F1`, which is off that board. In the lesson of its own moves it is asked `genmove b` after `clear_board`, and then `genmove w`;
+with `--size` no size of scenes is sought. With `--singly` each is asked once the one before is answered.
 
-The lesson of the start is over once a size was taken. Before that, and in the other lesson, a check goes on to the end of
-`--restarts 3`, with four starts. Where an engine gives no right answer, or is lost three times in a lesson, it has three.
+The lesson of the start has one part, and is over where something was found. In the other lessons the engine is started again then, the
+next part begins, and a check goes on to the end of `--restarts 3`, with four starts. Where an engine gives no right answer, or is lost
+three times in a lesson, it has three.
 """
 import tempfile
 from pathlib import Path
@@ -15,9 +16,10 @@ from .running import AHEAD, TOP, checked, read
 
 HOSTILE = f"{TOP}/tests/engines/hostile/engine"
 START = ("--only", "start", "--restarts", "3", "--singly")
+KOMI = ("--only", "komi", "--restarts", "3", "--singly")
 OWN = ("--only", "genmoves", "--size", "5", "--restarts", "3", "--singly")
 NAME = "1 name"
-OFF = "11 play w F1"
+OFF = "12 play w F1"
 NO_STATUS = "not a GTP reply (it begins with neither = nor ?)"
 NO_ID = "a reply without the id of the command"
 NO_END = "no end of a reply in 8192 bytes"
@@ -30,7 +32,7 @@ NO_VERTEX = "neither a vertex nor resign"
 FRUITLESS = {
     "exits": ENDED + "exit status 1",
     "reads_and_exits": ENDED + "exit status 0",
-    "closes_its_output": ENDED + "signal 9",  # it is killed
+    "closes_its_output": ENDED + "but it ran on",
     "greets": NO_STATUS,
     "junk": NO_STATUS,
     "echoes": NO_STATUS,
@@ -54,7 +56,7 @@ MOVES = {
     "move_half": ("9 genmove b", WITHIN + "exit status 0", (9, 9, 9)),
     "move_without_its_end": ("9 genmove b", WITHIN + "exit status 0", (9, 9, 9)),
     "move_twice": ("10 genmove w", NO_ID, (10, 10, 10, 10)),
-    "move_sleeps_closed": ("9 genmove b", ENDED + "signal 9", (9, 9, 9)),
+    "move_sleeps_closed": ("9 genmove b", ENDED + "but it ran on", (9, 9, 9)),
     "no_move": ("9 genmove b", "no move: the genmove failed", (9, 9, 9, 9)),
     "no_vertex": ("9 genmove b", NO_VERTEX, (9, 9, 9, 9)),
     "two_vertices": ("9 genmove b", NO_VERTEX, (9, 9, 9, 9)),
@@ -66,6 +68,12 @@ MOVES = {
     "resigns": ("13 undo", TAKEN, (13, 13, 13, 13)),
 }
 
+# what stands before the engine in some rows, and what it writes on standard error for each start
+LIMITED = {
+    "silent, under timeout": ("timeout 1 ", ""),
+    "silent, under patience": (f"{TOP}/tournament/patience 1 ", "patience: no answer in time to '1 name'\n"),
+}
+
 
 def command(kind, folder):
     """The command of an engine of this kind, whose processes are noted."""
@@ -75,43 +83,42 @@ def command(kind, folder):
 def rows():
     """The checks: of each its name, its options, the kind, and what is wanted: the first complaint, how many starts, how many commands."""
     for kind, fault in FRUITLESS.items():
-        yield kind, START, kind, (NAME, fault, 3, 3)
+        yield kind, KOMI, kind, (NAME, fault, 3, 3)
     for kind, fault in SECOND.items():
-        yield kind, START, kind, ("2 version", fault, 4, 8)
+        yield kind, KOMI, kind, ("2 version", fault, 4, 8)
     for kind in POLITE:
         # The replies of `odd` have a text, and its handicap has stones; the others' don't. None of that is asked by then.
-        yield kind, START, kind, (OFF, TAKEN, 1, 11)
-    yield "play_refused", START, "play_refused", ("9 play b E5", "it was refused", 1, 9)
-    yield "play_refused_once", START, "play_refused_once", ("9 play b E5", "it was refused", 1, 9)
-    yield "undo_refused", START, "undo_refused", ("10 undo", "it was refused", 1, 10)
-    yield "undo_exits", START, "undo_exits", ("10 undo", ENDED + "exit status 0", 1, 10)
-    yield "play_half", START, "play_half", ("9 play b E5", WITHIN + "exit status 0", 1, 9)
+        yield kind, START, kind, (OFF, TAKEN, 1, 12)
+    yield "play_refused", START, "play_refused", ("10 play b E5", "it was refused", 1, 10)
+    yield "play_refused_once", START, "play_refused_once", ("10 play b E5", "it was refused", 1, 10)
+    yield "undo_refused", START, "undo_refused", ("11 undo", "it was refused", 1, 11)
+    yield "undo_exits", START, "undo_exits", ("11 undo", ENDED + "exit status 0", 1, 11)
+    yield "play_half", START, "play_half", ("10 play b E5", WITHIN + "exit status 0", 1, 10)
     for kind, (line, fault, counts) in MOVES.items():
         yield f"{kind}, at its move", OWN, kind, (line, fault, len(counts), sum(counts))
-    # No answer comes: the program waits, and `timeout` ends the engine. Its status is 124 then.
-    yield "silent, under timeout", (*START[:-1],), "silent", (NAME, ENDED + "exit status 124", 3, 15)
-    # It refuses the name, and each size from 5 on, which an engine may: 5 commands and 21 sizes. So no pass is earned.
-    yield "refuses", ("--only", "start", "--restarts", "3"), "refuses", (None, None, 1, 26)
+    # No answer comes: the program waits, and what stands before the engine ends it. Its status is 124 then.
+    yield "silent, under timeout", (*KOMI[:-1],), "silent", (NAME, ENDED + "exit status 124", 3, 15)
+    yield "silent, under patience", (*KOMI[:-1],), "silent", (NAME, ENDED + "exit status 124", 3, 15)
+    # It refuses the name, and each size from 5 on, which an engine may: 5 commands, 21 sizes, and 5 again. So no pass is earned.
+    yield "refuses", ("--only", "start", "--restarts", "3"), "refuses", (None, None, 1, 27)
 
 
 def faults(row):
     """What is odd about the check of a hostile engine."""
-    _, options, kind, (line, fault, starts, commands) = row
+    name, options, kind, (line, fault, starts, commands) = row
+    before, errors = LIMITED.get(name, ("", ""))
     with tempfile.TemporaryDirectory() as folder:
-        engine = command(kind, folder)
-        result = checked(options, f"timeout 1 {engine}" if kind == "silent" else engine, folder=folder)
+        result = checked(options, before + command(kind, folder), folder=folder)
         started = len((Path(folder) / "started").read_text().splitlines())
     report = read(result.output)
     if isinstance(report, str):
         return f"{report}: {result}"
     first = report.complaints[0].command if report.complaints else None
-    # From the second start on the board is another one, and so may be the point. What `timeout` ends may be gone before `timeout` is,
-    # which is killed then.
-    late = (ENDED + "signal 9", ENDED + "exit status 124") if kind == "silent" else ("", "")
-    others = {(it.command.split()[1], it.fault.replace(*late)) for it in report.complaints}
+    # From the second start on the board is another one, and so may be the point.
+    others = {(it.command.split()[1], it.fault) for it in report.complaints}
     got = (result.status, first, others, report.starts, report.commands, report.count, result.errors)
     complaints = 0 if line is None else starts
-    wanted = (1 if complaints else 4, line, {(line.split()[1], fault)} if line else set(), starts, commands, complaints, "")
+    wanted = (1 if complaints else 4, line, {(line.split()[1], fault)} if line else set(), starts, commands, complaints, starts * errors)
     if got != wanted or started != starts:
         return f"wanted {wanted}, got {got}, {started} processes:\n{result.output[:3000]}"
     return None
@@ -139,17 +146,17 @@ def gone(folder):
     once = folder / "once"
     once.write_text('#!/bin/sh\nrm "$0"\nexit 7\n')
     once.chmod(0o755)
-    result = checked(("--only", "start"), once, folder=folder)
+    result = checked(("--only", "komi"), once, folder=folder)
     wanted = f"""\
 check: an engine without a name, version unknown, seed 1, simple ko
-# 1 start: "1 name": its output ended, exit status 7
+# 1 komi: "1 name": its output ended, exit status 7
 1 name
 # it wrote: ""
 # right: an engine answers each command, and reads on until quit
 
-check: not asked, as the options say: sizes ko captures suicide joining handicaps komi drawn record genmoves games restarts
+check: not asked, as the options say: start sizes ko captures suicide joining handicaps drawn record genmoves games restarts
 check: the engine was not started: no such file: "{str(once)[:80]}"
-check: not asked, or not to their end, for that: start
+check: not asked, or not to their end, for that: komi
 check: 5 commands, 1 start, 1 complaint
 """
     same = (result.status, AHEAD.sub("", result.output), result.errors) == (1, wanted, "")
@@ -171,12 +178,13 @@ def gone_after_its_first_start(folder):
 
 def refusing(kind):
     """What is odd about a whole check of an engine that refuses each size: nothing is found, and no pass is earned. The commands are five
-    of its start, and one for each part of a lesson."""
-    parts = dict(start=21, sizes=25, ko=6 * 16, captures=8 * 16, suicide=5 * 16, joining=4 * 16, handicaps=25 * 12, komi=16, drawn=11,
+    of its start, one for each part of a lesson, and in those that seek the size of scenes 21 more."""
+    parts = dict(start=1, sizes=25, ko=6 * 16, captures=8 * 16, suicide=5 * 16, joining=4 * 16, handicaps=25 * 12, komi=16, drawn=11,
                  record=3, genmoves=9, games=5, restarts=5)  # fmt: skip
+    commands = 5 + sum(count if lesson in ("sizes", "handicaps") else 22 * count for lesson, count in parts.items())
     unasked = "".join(f"check: {lesson}: no play and no genmove was asked on any board of it\n" for lesson in parts)
     sizes = " ".join(map(str, [*range(5, 26), *range(1, 5)]))
-    wanted = f"{unasked}check: it refuses the sizes {sizes}\ncheck: {5 + sum(parts.values())} commands, 1 start, 0 complaints\n"
+    wanted = f"{unasked}check: it refuses the sizes {sizes}\ncheck: {commands} commands, 1 start, 0 complaints\n"
     with tempfile.TemporaryDirectory() as folder:
         result = checked((), command(kind, folder), folder=folder)
     output = result.output.partition("\n")[2]

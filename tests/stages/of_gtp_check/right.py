@@ -1,11 +1,19 @@
-"""Right engines: nothing may be found, with any seed."""
+"""Right engines: nothing may be found, with any seed. Engines that go beyond what is left to them are noticed."""
+import contextlib
+import os
+import re
+import signal
+import subprocess
+
+from tests.shared import running
+
 from .running import PYTHON, checked, read
 
 OURS = "gtp_engine --policy {} --seed {} --ko {}"
 PLAIN = PYTHON + " tests/engines/right/plain {} {} {}"
 WRONGLESS = PYTHON + " tests/engines/wrong/engine --seed {1} --ko {2}"
 DRESSED = PYTHON + " tests/engines/right/dressed {} gtp_engine --policy random --seed 7"
-SAMPLE = PYTHON + " tournament/engine.py 1"
+SAMPLE = PYTHON + " tournament/engine.py"
 BOOK = "gtp_engine --policy book --book C3,C4,,D3,resign,D4"
 FEW = ("--only", "start", "--only", "sizes", "--only", "komi", "--only", "drawn", "--only", "games", "--only", "restarts")
 
@@ -24,6 +32,8 @@ DRESSES = {
     "without_scores": ("--only", "komi", "--only", "games"),
     "three_sizes": (*FEW, "--only", "handicaps", "--only", "ko"),
     "one_size": (),
+    "nineteen": (),
+    "bare": (),
     "short_history": (*FEW, "--only", "record"),
     "resigning": ("--only", "start", "--only", "genmoves", "--only", "games"),
     "late_end": ("--only", "restarts"),
@@ -37,8 +47,106 @@ LACKS = {
     "short_history": ["check: it takes back at most 20 moves in a row"],
     # the sizes from 5 on until one is taken, and each size from 1 to 25; in the order in which they are refused first
     "three_sizes": ["check: it refuses the sizes 5 6 7 8 1 2 3 4 10 11 12 14 15 16 17 18 20 21 22 23 24 25"],
+    "nineteen": ["check: it refuses the sizes 5 6 7 8 9 10 11 12 13 14 15 16 17 18 1 2 3 4 20 21 22 23 24 25"],
+    "bare": [f"check: it lacks {it}; nothing was asked that needs it" for it in ("undo", "fixed_handicap", "final_score")],
     "one_size": ["check: it refuses the sizes 5 6 1 2 3 4 8 9 10 11 12 13 14 15 16 17 18 19 20 21 22 23 24 25"],
 }
+
+
+# ---- freedoms
+
+FREE = PYTHON + " tests/engines/right/free {} --seed {} --ko {}"
+BEYOND = PYTHON + " tests/engines/wrong/beyond {}"
+# the lessons that ask what a freedom is about
+SCORES = ("komi", "record", "games")
+HISTORY = ("start", "drawn", "record", "genmoves", "games")
+PLAYS = ("start", "ko", "captures", "suicide", "joining", "drawn", "genmoves", "games")
+FREEDOMS = {
+    "rounds_komi": SCORES,
+    "refuses_komi": SCORES,
+    "estimates": SCORES,
+    "estimates_whole_points": SCORES,
+    "estimates_by_chance": SCORES,
+    "counts_territory": (*SCORES, "handicaps"),
+    "gives_points_for_a_handicap": (*SCORES, "handicaps"),
+    "keeps_moves": HISTORY,
+    "keeps_one_move": HISTORY,
+    "allows_suicide": PLAYS,
+    "allows_suicide_of_chains": PLAYS,
+    "has_all_freedoms": (*PLAYS, *SCORES),
+}
+# Of these gtp_check has to be told that suicide isn't to be asked.
+SUICIDAL = {"allows_suicide", "allows_suicide_of_chains", "has_all_freedoms", "suicide_and_no_ko", "captures_are_suicide"}
+UNASKED = ("--suicide", "unasked")
+# Those that gtp_check blames still, though they are right. Once it has their freedom, they go from here.
+AWAITED = {*SUICIDAL}
+# lines on what these engines lack, which depend on what is drawn
+MAY_BE_SAID = re.compile(r"check: it takes back at most \d+ moves? in a row|check: .*\b(?:suicide|score)s?\b.*")
+# engines that go beyond a freedom: the lessons in which this is noticed, and the command that is answered wrongly at first
+GO_BEYOND = {
+    "half_of_komi_is_lost": (SCORES, "final_score"),
+    "whole_komi_gets_a_half": (SCORES, "final_score"),
+    "sign_of_komi_is_lost": (SCORES, "final_score"),
+    "sign_of_a_score_is_lost": (SCORES, "final_score"),
+    "score_is_turned": (SCORES, "final_score"),
+    "first_komi_stays": (SCORES, "final_score"),
+    "komi_is_reset_by_clear_board": (SCORES, "final_score"),
+    "komi_is_reset_by_undo": (SCORES, "final_score"),
+    "komi_is_forgotten_in_a_later_game": (SCORES, "final_score"),
+    "komi_counts_twice": (SCORES, "final_score"),
+    "large_komi_is_cut": (SCORES, "final_score"),
+    "exact_komi_is_refused": (SCORES, "komi"),
+    "undo_fails_at_once": (HISTORY, "undo"),
+    "undo_fails_after_a_genmove": (HISTORY, "undo"),
+    "history_is_not_refilled": (HISTORY, "undo"),
+    "refused_undo_takes_back": (HISTORY, None),
+    "suicide_and_no_ko": (PLAYS, None),
+    "captures_are_suicide": (PLAYS, None),
+}
+
+
+def only(lessons):
+    """These lessons, as options."""
+    return [word for lesson in dict.fromkeys(lessons) for word in ("--only", lesson)]
+
+
+def told(name):
+    """What gtp_check is told of this engine."""
+    return UNASKED if name in SUICIDAL - AWAITED else ()
+
+
+def free_rows(seeds):
+    """The engines that have a freedom, each with these seeds."""
+    return [(name, seed) for name in FREEDOMS for seed in seeds]
+
+
+def free(row):
+    """What is odd about the check of an engine that has a freedom, by the lessons that ask what it is about, and in each tenth seed by the
+    whole course. Nothing may be found; of those that are awaited, something."""
+    name, seed = row
+    rule = ("simple", "positional")[seed % 2]
+    lessons = only(FREEDOMS[name]) if seed % 10 else []
+    result = checked(("--ko", rule, "--seed", str(seed), *told(name), *lessons), FREE.format(name, seed, rule))
+    report = read(result.output)
+    if isinstance(report, str):
+        return f"{report}: {result}"
+    if name in AWAITED:
+        return None if report.count else "nothing is found: AWAITED in of_gtp_check/right.py is to be changed"
+    said = [it for it in report.notes if not it.startswith("check: not asked, as the options say: ") and not MAY_BE_SAID.fullmatch(it)]
+    if (result.status, result.errors, report.count, said) != (0, "", 0, []):
+        return f"status {result.status}, {report.count} complaints, {said}, standard error {result.errors!r}:\n{result.output[:2000]}"
+    return None
+
+
+def beyond(name):
+    """What is odd about the check of an engine that goes beyond a freedom, which is noticed."""
+    lessons, command = GO_BEYOND[name]
+    result = checked(("--restarts", "12", *told(name), *only(lessons)), BEYOND.format(name))
+    report = read(result.output)
+    if isinstance(report, str) or (result.status, result.errors) != (1, "") or not report.complaints:
+        return f"{report}: {result}"
+    first = report.complaints[0].command.split()[1]
+    return f"{first!r} is complained of at first" if command not in (None, first) else None
 
 
 def rows():
@@ -50,8 +158,7 @@ def rows():
             options = (*FEW, "--only", "ko") if policy == "first" else ("--quick",)
             yield f"the plain reference, {policy}, {rule} ko", ("--ko", rule, "--seed", seed, *options), PLAIN.format(policy, 3, rule), []
         yield f"the right engine of tests/engines/wrong, {rule} ko", ("--ko", rule, "--seed", "9"), WRONGLESS.format("", 9, rule), []
-    options = ("--seed", "8", *FEW, "--only", "ko", "--only", "handicaps", "--only", "genmoves")
-    yield "the sample engine", options, SAMPLE, ["check: it lacks final_score; nothing was asked that needs it"]
+    yield "the sample engine", ("--seed", "8"), SAMPLE, ["check: it lacks final_score; nothing was asked that needs it"]
     yield "gtp_engine with a book", ("--only", "genmoves", "--only", "games", "--only", "start"), BOOK, []
     for size in ("6", "25"):
         yield f"gtp_engine, scenes on size {size}", ("--quick", "--size", size), OURS.format("random", 1, "simple"), []
@@ -68,9 +175,38 @@ def faults(row):
     if isinstance(report, str):
         return f"{report}: {result}"
     said = [it for it in report.notes if not it.startswith("check: not asked, as the options say: ")]
-    if (result.status, result.errors, report.count, said) != (0, "", 0, lacks):
+    if (result.status, result.errors, report.count, sorted(said)) != (0, "", 0, sorted(lacks)):
         return f"status {result.status}, {report.count} complaints, {said}, standard error {result.errors!r}:\n{result.output[:2000]}"
     return None
+
+
+# lessons in which an engine of simple ko is wrong by positional ko, so that it is ended in the middle of a game, again and again
+OTHER_KO = ("--ko", "positional", "--only", "ko", "--only", "record", "--only", "drawn", "--only", "genmoves")
+
+
+def ended_in_the_middle():
+    """What is odd about the sample where the check ends what started it in the middle of games, and closes the pipes: it writes nothing
+    on standard error."""
+    result = checked(OTHER_KO, f"timeout 60 {SAMPLE}")
+    report = read(result.output)
+    if isinstance(report, str) or (result.status, result.errors) != (1, "") or report.starts < 10:
+        return f"{report}: {result}"
+    return None
+
+
+def unread(kept):
+    """What is odd about the sample where its output isn't read any more, after so many bytes: it ends by that, and writes nothing on
+    standard error. Its input is open all the while."""
+    with running.started([*SAMPLE.split(), "1"], stdin=subprocess.PIPE) as process:
+        process.stdin.write(b"boardsize 9\n" + 40 * b"genmove b\ngenmove w\nlist_commands\n")
+        process.stdin.flush()
+        os.read(process.stdout.fileno(), kept)
+        process.stdout.close()
+        with contextlib.suppress(BrokenPipeError):  # where it has ended already
+            process.stdin.write(b"name\n" * 2)
+            process.stdin.flush()
+        came = process.wait(), process.stderr.read()
+    return None if came == (-signal.SIGPIPE, b"") else came
 
 
 def drawn(seed):

@@ -78,14 +78,26 @@ def quoted(text):
     return re.sub(r"\\(x[0-9A-F]{2}|.)", one, text)
 
 
+def is_board(lines):
+    """Whether these lines draw a board: its rows from the top down, each with its number, and the letters of the columns."""
+    rows = [f"# {' '.join(it)} {size}" for size, it in zip(range(len(lines) - 1, 0, -1), [re.sub("[^.XO]", "", line) for line in lines])]
+    letters = f"# {' '.join('ABCDEFGHJKLMNOPQRSTUVWXYZ'[: len(lines) - 1])}"
+    return lines == [*rows, letters] and all(len(it.split()) == len(lines) + 1 for it in rows)
+
+
 def block_read(lines):
     """The complaint that a block of lines is, or what is odd about it."""
     head = HEAD.fullmatch(lines[0])
-    talk = [it for it in lines[1:] if not it.startswith("#")]
-    rest = lines[1 + len(talk):]
-    if not head or lines[1 : 1 + len(talk)] != talk or not talk or talk[-1] != head[3]:
+    end = next((at for at, it in enumerate(lines) if it.startswith("# it wrote: ")), len(lines))
+    talk = [it for it in lines[1:end] if not it.startswith("#")]
+    board = lines[len(talk) : end - 1]
+    if not head or not talk or talk[-1] != head[3] or lines[1:end] != [*talk[:-1], *board, talk[-1]] or not (not board or is_board(board)):
         return f"no block of a complaint: {lines}"
-    if len(rest) < 2 or not re.fullmatch('# it wrote: ".*"', rest[0]) or not rest[1].startswith("# right: ") or len(rest) > 4:
+    rest = lines[end:]
+    if len(rest) < 2 or not re.fullmatch('# it wrote: ".*"', rest[0]) or not rest[1].startswith("# right: "):
+        return f"other lines at the end of a complaint: {rest}"
+    more = rest[2:-1] if rest[-1].startswith("# under positional ko") else rest[2:]
+    if more and (more[0] != "# asked before this answer was read:" or len(more) == 1 or any(it.startswith("#") for it in more[1:])):
         return f"other lines at the end of a complaint: {rest}"
     return Complaint(int(head[1]), head[2], head[3], head[4], tuple(talk), quoted(rest[0][13:-1]), rest[1][9:])
 

@@ -53,6 +53,8 @@ OTHERS = {
         "first_move_is_the_middle last_draw_is_played chosen_pass_is_a_point",
         # 9x9 comes after 1x1, which has no neighbours
         "tables_of_another_size neighbours_are_kept room_of_the_first_size",
+        # full boards of 19x19 and more, and points past 255 that are taken back
+        "search_has_room_for_sixteen_points moves_are_bytes",
     ),
     ("sizes", "ko"): ("ids_are_shorts",),
     ("komi",): (
@@ -60,7 +62,11 @@ OTHERS = {
         # a score after the first `clear_board` of a process
         "first_komi_is_lost",
     ),
-    ("captures",): ("note_at_a_capture capture_is_suicide atari_is_no_suicide last_taken_chain_comes_back",),
+    ("captures",): (
+        "note_at_a_capture capture_is_suicide atari_is_no_suicide last_taken_chain_comes_back",
+        # a chain gets a liberty by a capture, and a play is legal that was suicide before
+        "suicide_is_noted",
+    ),
     ("joining",): (
         "joined_chain_counts_twice",
         # refused as suicide, and legal
@@ -81,7 +87,7 @@ OTHERS = {
         # right after a handicap `undo` has nothing to take back
         "handicap_is_undone undo_forgets_the_handicap undo_sets_komi_back passes_stay_at_undo",
         # scores after a handicap, by many komis
-        "score_has_a_comma score_has_six_digits whites_lead_is_floored empty_board_is_blacks even_score_is_a_word",
+        "score_has_a_comma score_has_six_digits whites_lead_is_floored even_score_is_a_word",
     ),
     ("genmoves",): (
         # the third of five genmoves is of the colour that moved last
@@ -97,7 +103,7 @@ OTHERS = {
         # a genmove after 60 drawn moves on 5x5
         "points_twice",
     ),
-    ("games",): ("ends_at_the_third_game game_over_stays colour_of_the_first_genmove",),
+    ("games",): ("ends_at_the_third_game colour_of_the_first_genmove",),
     # games that are drawn: long chains and play between them, two boards with equal counts, more than eight boards, a board with other
     # colours, a probe after 100 moves; of their sizes the second is smaller than the first
     ("drawn",): (
@@ -105,6 +111,8 @@ OTHERS = {
         "taken_chain_gives_one_liberty eight_boards_alone ko_of_equal_counts third_time_is_refused hash_ignores_colours",
         "ko_outlives_a_second_move",
         "refused_suicide_takes_liberties chain_numbers_are_bytes first_of_a_block_stays edges_of_a_larger_board",
+        # passes in a row, and many boards under positional ko
+        "dead_stones_go_after_two_passes numbers_of_fifteen_bits",
     ),
 }
 # bugs that show by chance
@@ -122,7 +130,12 @@ NOT_SENT = "no command is written in that form"
 NOT_ASKED = "this command isn't asked"
 KEPT_IN_PART = "an engine may keep a part of the history alone, which undos in a row use up"
 # bugs that the course doesn't notice, and why
+# two of its scores differ from their komis' difference by no more than this
+WITHIN_A_UNIT = "its scores contradict each other by no more than one unit of their last digit"
 UNNOTICED = {
+    "whole_komi_alone": WITHIN_A_UNIT,
+    "komi_of_four_characters": WITHIN_A_UNIT,
+    "empty_board_is_blacks": "a score of an empty board is an opinion",
     "blank_line_in_a_reply": NOT_ASKED,
     "no_reply_to_an_unknown_command": NOT_ASKED,
     "id_at_multiple_lines": NOT_ASKED,
@@ -159,8 +172,10 @@ UNNOTICED = {
     "moves_taken_back_fill_a_list": KEPT_IN_PART,
     "undo_once": KEPT_IN_PART,
     "eight_moves_are_kept": KEPT_IN_PART,
-    "moves_are_a_ring": "no `undo` is asked right after the 1,024th move",
     "ko_forgotten_at_a_suicide": "no ko is open where a suicide is asked",
+    "games_are_counted_in_a_byte": "a point that had a stone 256 games before has had another one since",
+    "stones_on_lines_of_their_own": "the points of a handicap are read from all lines of the reply",
+    "handicap_makes_the_engine_white": "whose stone a chosen one is isn't asked after a handicap",
 }
 
 # They wait for more input before they answer, so `timeout` has to end them.

@@ -61,6 +61,8 @@ def is_real(complaint, name, folder):
         return f"pasted, the engine writes {wrote!r} and ends by {ending(status)}"
     if any("genmove" in line for line in complaint.lines[:-1]):
         return None  # the right engine may choose another move
+    if complaint.fault == "a score that doesn't differ from its others as the komis do":
+        return None  # which of the two scores is the wrong one isn't said
     right, _ = pasted(words, complaint.lines, tempfile.gettempdir())
     if right is None or not right.endswith("\n\n") or right == wrote:
         return f"pasted into the right engine, it is answered by {right!r}, as by the wrong one: {wrote!r}"

@@ -66,6 +66,11 @@ def ended(how, owed=ALL, said="", times=3):
     return (said + lost(owed, f"its output ended, {how}", "")) * times
 
 
+def ran_on(owed=ALL, wrote="", times=3):
+    """What `--why` reports of an engine whose output ends each time, and which lives on."""
+    return lost(owed, "its output ended, but it ran on", wrote, times)
+
+
 @dataclass(frozen=True)
 class Said:
     """What a program writes on its standard error, where it is run alone and sent this, `times` times."""
@@ -99,9 +104,6 @@ class Case:
     # How the engine ends, where it ends by itself before it reads anything. Then it is a question of time whether what it wrote, or the
     # end of its output, is met first, or the write to it fails. A line of such a write is taken for that of the row.
     hastens: str = ""
-    # How the engine ends where its output may be closed before it has ended: then it is killed, if that is quicker, and the line has
-    # signal 9. Such a line is taken for that of the row.
-    closes: str = ""
     # What it writes after what `why` says that it wrote, write for write. So much of that is shown as was read by then: nothing, the
     # first, the first two, and so on.
     follows: tuple = ()

@@ -4,7 +4,7 @@ import sys
 from .cases import (
     ABANDONED, ABANDONED_AT_ONCE, ALL, ALL_BUT_ONE, FAILED, FOURTH_GENMOVE, GENMOVE, GENMOVE_OF_WHITE, KEPT_MOVE, NOT_ALLOWED, NO_FILE,
     NO_POINT, NO_PROGRAM, NO_REPLY, NO_VERTEX, NO_VERTEX_OF_WHITE, PLAYED, PLAY_OF_BLACK, REFUSED, SAID, SETUP, STONES, UNFIT, WAITS,
-    WRONG_ID, Case, Said, ended, explained, lost, no_start, retaken,
+    WRONG_ID, Case, Said, ended, explained, lost, no_start, ran_on, retaken,
 )  # fmt: skip
 from .engines import GNU_GO, GNU_GO_FOR_A_PERSON, NO_LIBRARY, PASSES, PLAYS, answers, formed, in_turn, polite
 
@@ -82,9 +82,9 @@ START = [
     Case("an engine that writes its help and ends", ABANDONED, 1, made="#!/bin/sh\necho 'usage: mygo [options]'\n",
          why=lost(ALL, NO_REPLY, r"usage: mygo [options]\n", 3), hastens="exit status 0"),
     Case("a shell in place of an engine", ABANDONED_AT_ONCE, 1, "timeout 2 /bin/sh", options=("--size", "9", "--restarts", "0"),
-         errors=Said(("/bin/sh",), 1, SETUP), why=ended("exit status 124", said=SAID, times=1), closes="exit status 124"),
+         errors=Said(("/bin/sh",), 1, SETUP), why=ended("exit status 124", said=SAID, times=1)),
     Case("Python in place of an engine", ABANDONED_AT_ONCE, 1, f"timeout 2 {sys.executable}", options=("--size", "9", "--restarts", "0"),
-         why=ended("exit status 124", times=1), closes="exit status 124"),
+         why=ended("exit status 124", times=1)),
     Case("a book without --policy book", "game 1: limit moves 1 restarts 0 0\nA1", 0, "gtp_engine --book D4",
          options=("--size", "9", "--max-moves", "1", "--record")),
     Case("a library of the engine is missing", ABANDONED, 1, made=polite(f"sys.stderr.write({NO_LIBRARY!r})\nos._exit(127)"),
@@ -202,7 +202,8 @@ form = lambda id, status, text: plain(id, status, text) + ("playouts 1000\\n" if
 
 # An engine that is gone is started again, twice. After the game nothing is asked of it but to quit: the line is there by then.
 # The move that ends a match isn't sent to the other side. One that closes its input passes, and White plays A1, B1 and C1: none of them
-# can be written, and nothing is read of an engine after that.
+# can be written, and nothing is read of an engine after that. One that closes its output may be about to end, so it has some 200
+# milliseconds for that: how it ends then is shown, or that it ran on.
 END = [
     Case("it crashes at its start", ABANDONED, 1,
          made=polite("resource.setrlimit(resource.RLIMIT_CORE, (0, 0))\nos.kill(os.getpid(), signal.SIGSEGV)"),
@@ -211,6 +212,8 @@ END = [
 resource.setrlimit(resource.RLIMIT_CORE, (0, 0))
 at["genmove"] = lambda: os.kill(os.getpid(), signal.SIGSEGV)"""),
          why=ended("signal 11", GENMOVE)),
+    Case("it is killed from outside at genmove", ABANDONED, 1, made=polite('''\
+at["genmove"] = lambda: os.system(f"kill -KILL {os.getpid()}")'''), why=ended("signal 9", GENMOVE)),
     Case("it ends silently at genmove", ABANDONED, 1, made=polite('at["genmove"] = sys.exit'), why=ended("exit status 0", GENMOVE)),
     Case("it closes its input after each of its moves", "game 1: abandoned black moves 6 restarts 2 0", 1, made=polite("""\
 def passes_and_closes():
@@ -219,8 +222,31 @@ def passes_and_closes():
     time.sleep(1000)
 
 at["genmove"] = passes_and_closes"""), other=PLAYS,
-         why="".join(explained(f'1 unanswered, "{id} play w {vertex}": writing failed, signal 9; nothing of it was read')
+         why="".join(explained(f'1 unanswered, "{id} play w {vertex}": writing failed, but it ran on; nothing of it was read')
                      for id, vertex in ((5, "A1"), (7, "B1"), (9, "C1")))),
+    Case("it closes its output at its start, and sleeps", ABANDONED, 1, made=polite("os.close(1)\ntime.sleep(1000)"), why=ran_on()),
+    Case("it closes its output at genmove, and reads on", ABANDONED, 1, made=polite('at["genmove"] = lambda: os.close(1)'),
+         why=ran_on(GENMOVE)),
+    Case("it closes its output in the middle of an answer", ABANDONED, 1, made=polite("""\
+def begins_and_closes():
+    write("=4 D")
+    os.close(1)
+
+at["genmove"] = begins_and_closes"""), why=ran_on(GENMOVE, "=4 D")),
+    Case("it closes its output at genmove, and soon ends with a status", ABANDONED, 1, made=polite("""\
+def closes_and_ends():
+    os.close(1)
+    time.sleep(0.05)
+    os._exit(7)
+
+at["genmove"] = closes_and_ends"""), why=ended("exit status 7", GENMOVE)),
+    Case("it closes its output at genmove, and a signal soon ends it", ABANDONED, 1, made=polite("""\
+def closes_and_ends():
+    os.close(1)
+    time.sleep(0.05)
+    os.kill(os.getpid(), signal.SIGTERM)
+
+at["genmove"] = closes_and_ends"""), why=ended("signal 15", GENMOVE)),
     Case("it ends without an answer to quit", PLAYED, 0, made=polite('at["quit"] = sys.exit'), side="white"),
     Case("it hangs on quit", PLAYED, WAITS, made=polite('at["quit"] = lambda: time.sleep(1000)'), sent=SETUP + "4 genmove b\nquit\n"),
     Case("it hangs on quit, as White", PLAYED, WAITS, made=polite('at["quit"] = lambda: time.sleep(1000)'), side="white",

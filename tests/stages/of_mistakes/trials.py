@@ -156,8 +156,6 @@ def differences(case, result):
 def with_why(case, result):
     """The row and the result of a match that was played with `--why`, to be compared. What is a question of time is the same in both."""
     errors = result.errors
-    if case.closes:
-        errors = errors.replace("its output ended, signal 9;", f"its output ended, {case.closes};")
     if case.hastens:
         unread = explained(f"{ALL}: writing failed, {case.hastens}; nothing of it was read")
         errors = errors.replace(unread, re.findall("^twogtp: .*\n", case.why, re.MULTILINE)[0])

@@ -14,6 +14,8 @@ OTHER_WORDS = [
     ("no word of which command is the first", r", the first ", ", "),
     ("a loss that wrote nothing", "nothing of it was read", 'it wrote ""'),
     ("a loss of which nothing was read", 'it wrote ""', "nothing of it was read"),
+    ("an end by itself of what ran on", "but it ran on", "signal 9"),
+    ("no end by itself of what ended", r"exit status \d+|signal \d+", "but it ran on"),
     ("no program that isn't started", r'(not started: .*): "(.*)"', r"\1"),
     ("another reason not to start", r"(not started: )[^:]*", r"\1it is Sunday"),
 ]

@@ -1,4 +1,5 @@
 //! How a test ends.
+use crate::alloc::AllocError;
 use crate::runtime::HostRuntime;
 use std::fmt::Debug;
 
@@ -25,6 +26,12 @@ impl Outcome for () {
 impl Outcome for Result<(), Fail> {
     fn failed(self) -> Option<Fail> {
         self.err()
+    }
+}
+
+impl Outcome for Result<(), AllocError> {
+    fn failed(self) -> Option<Fail> {
+        self.err().map(Fail::from)
     }
 }
 

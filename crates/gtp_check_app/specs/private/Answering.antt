@@ -6,7 +6,7 @@ use Rattle.cli.specs.Requests.{Answers, Outputs, Shows, Writers, outputs}
 use Rattle.cli.specs.Status.{own_failure, usage_failure}
 use Rattle.cli.specs.declared.failure.Failure.TheVariants.{OutOfMemory}
 use Rattle.gtp_check_app.specs.Checks.{IsHinted}
-use Rattle.gtp_check_app.specs.Listing.{list_lines}
+use Rattle.gtp_check_texts.specs.Listing.{list_lines}
 use Rattle.gtp_check_app.specs.Status.{ReportsFailure, program_name}
 
 -- The list was shown; or memory was refused for it, which is reported.

@@ -14,15 +14,15 @@ use Rattle.gtp_check_questions.specs.declared.actions.Action.TheVariants as acti
 use Rattle.gtp_check_questions.specs.Course.{Course}
 use Rattle.gtp_check_app.specs.declared.check.Next.{Next}
 use Rattle.gtp_check_app.specs.declared.check.Next.TheVariants.{Exchange, Kill, Over, Restart, Start}
-use Rattle.gtp_check_app.specs.declared.engine.Engine.{Engine}
-use Rattle.gtp_check_app.specs.declared.engine.Fault.{Fault}
+use Rattle.gtp_check_talks.specs.declared.engine.Engine.{Engine}
+use Rattle.gtp_check_texts.specs.declared.fault.Fault.{Fault}
 use Rattle.cli.specs.declared.failure.Failure.{Failure}
 use Rattle.cli.specs.declared.failure.Failure.TheVariants.{OutOfMemory, Write}
-use Rattle.gtp_check_app.specs.declared.notes.Notes.{Notes}
+use Rattle.gtp_check_talks.specs.declared.notes.Notes.{Notes}
 use Rattle.gtp_check_app.specs.declared.plan.Plan.{Plan}
 use Rattle.gtp_check_app.specs.declared.summary.Over.{Over as WhyOver}
-use Rattle.gtp_check_app.specs.Dialogues.{AsksForMore, Wrong, begun_with, dialogue}
-use Rattle.gtp_check_app.specs.Notes.{started as noted_start}
+use Rattle.gtp_check_talks.specs.Dialogues.{AsksForMore, Wrong, begun_with, dialogue}
+use Rattle.gtp_check_talks.specs.Notes.{started as noted_start}
 use Rattle.gtp_check_app.specs.Progress.{IsShown, cleared, clearing, looking, looking_line}
 use Rattle.gtp_check_app.specs.Tally.{started_again}
 use Rattle.gtp_check_app.specs.Turns.{Asks, Closes, Complains, IsNext, IsOverBy, MayStart, State, WritesFirst}

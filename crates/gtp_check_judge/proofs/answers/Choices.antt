@@ -16,19 +16,21 @@ use Rattle.gtp_session.specs.Commands.{Answer, answer, asked, answer_choice}
 use Rattle.gtp_session.proofs.engines.Sent.{genmove_answer, genmove_asks}
 use Rattle.gtp_check_judge.specs.declared.dues.Due.TheVariants.{Chooses}
 use Rattle.gtp_check_judge.specs.declared.judging.Judgement.{Judgement}
-use Rattle.gtp_check_judge.specs.declared.judging.Judgement.TheVariants.{Right, Plays, Resized, Undone, Wrong}
+use Rattle.gtp_check_judge.specs.declared.judging.Judgement.TheVariants.{Right, Plays, Resized, Undone, Opines, Wrong}
 use Rattle.gtp_check_judge.specs.declared.judging.Kind.TheVariants.{Refused, Took, OtherPoints, NoMove, NoVertex}
 use Rattle.gtp_check_judge.specs.declared.judging.Kind.TheVariants.{Unlawful, NoScore, OtherScore, WrongId, Unasked}
 use Rattle.gtp_check_judge.specs.declared.judging.Kind.TheVariants.{NoStatus, Overlong}
+use Rattle.gtp_check_judge.specs.declared.opinions.Opinion.{Opinion}
 use Rattle.gtp_check_judge.specs.declared.unanswered.Asked.{Asked}
 use Rattle.gtp_wire.specs.ReplyWords.{choice_of_text}
 use Rattle.gtp_check_judge.specs.Asking.{line_of_check}
-use Rattle.gtp_check_judge.specs.RightEngine.{RightEngine, undone_after, undone_by}
+use Rattle.gtp_check_judge.specs.RightEngine.{RightEngine, undone_after, undone_by, opinion_after}
 use Rattle.gtp_check_judge.specs.Dues.{IsDue}
 use Rattle.gtp_check_judge.specs.Judging.{ChoiceJudged, SaidJudged, VertexJudged}
 use Rattle.gtp_check_judge.specs.Laws.{line_of_asked, Says, IsByTable, IsRight}
 use Rattle.go_base.specs.declared.choices.Choice.TheVariants as choice
 use Rattle.gtp_check_judge.proofs.answers.Statuses.{HoldsOf, as_due, by_table, engine_with, if_true, moved}
+use Rattle.gtp_check_judge.proofs.answers.Statuses.{opinion_kept}
 use Rattle.gtp_check_judge.proofs.answers.Statuses.{wrong_status}
 use Rattle.gtp_check_judge.proofs.answers.Table.{vertex_unlawful}
 use Rattle.gtp_check_judge.proofs.answers.Texts.{chooses_genmove}
@@ -72,8 +74,8 @@ right_choice : (before : RightEngine) (entry : Asked) (reply : Reply) (colour : 
     → IsGenmove before entry colour → reply.ok ≡ true → (right : IsByTable before entry reply after)
     → choice_of_text reply.text.items ≡ Some right.choice
 right_choice before entry reply colour after a ok right =
-    subst (λ (k : CheckCommand). Says before.game k right.choice true reply.text.items) a.command
-    (subst (λ (b : Bool). Says before.game entry.command right.choice b reply.text.items) ok right.says)
+    subst (λ (k : CheckCommand). Says before k right.choice true reply.text.items) a.command
+    (subst (λ (b : Bool). Says before entry.command right.choice b reply.text.items) ok right.says)
 
 right_lawful : (before : RightEngine) (entry : Asked) (reply : Reply) (colour : Colour) (after : RightEngine)
     → IsGenmove before entry colour → (right : IsByTable before entry reply after)
@@ -94,21 +96,27 @@ chosen_right : (before : RightEngine) (entry : Asked) (reply : Reply) (colour : 
     → IsGenmove before entry colour → reply.id ≡ Some entry.id → reply.ok ≡ true
     → choice_of_text reply.text.items ≡ Some ch → IsLawful before.game colour ch
     → IsRight before entry reply
-    (engine_with (answer_choice before.game colour ch).game (undone_by before.undone (Genmove colour) (Some ch)))
+    (engine_with (answer_choice before.game colour ch).game (undone_by before.undone (Genmove colour) (Some ch))
+    before.opinion)
 chosen_right before entry reply colour ch a id ok said lawful =
-    subst (λ (u : Bool). IsRight before entry reply (engine_with (answer_choice before.game colour ch).game u))
+    subst (λ (u : Bool). IsRight before entry reply
+    (engine_with (answer_choice before.game colour ch).game u before.opinion))
     (undone_chosen before.undone entry.command reply colour ch a.command ok said)
+    (subst (λ (o : Opinion). IsRight before entry reply
+    (engine_with (answer_choice before.game colour ch).game (undone_after before.undone entry.command reply) o))
+    (opinion_kept before entry.command (Chooses colour) reply a.is_due tt)
     (IsRight.by_table (record {
       id = id;
       choice = ch;
       lawful = subst (λ (o : Option Colour). IfSome o (λ c. IsLawful before.game c ch)) (sym a.asks) lawful;
       status = ok ∙ sym (ap (λ (x : Answer). x.ok) (a.given ch) ∙ choice_ok before.game colour ch);
       says =
-          subst (λ (b : Bool). Says before.game entry.command ch b reply.text.items) (sym ok)
-          (subst (λ (k : CheckCommand). Says before.game k ch true reply.text.items) (sym a.command) said);
+          subst (λ (b : Bool). Says before entry.command ch b reply.text.items) (sym ok)
+          (subst (λ (k : CheckCommand). Says before k ch true reply.text.items) (sym a.command) said);
       leaves =
-          ap (λ (x : Answer). engine_with x.game (undone_after before.undone entry.command reply)) (sym (a.given ch));
-    }))
+          ap (λ (x : Answer). engine_with x.game (undone_after before.undone entry.command reply)
+          (opinion_after before entry.command reply)) (sym (a.given ch));
+    })))
 
 unlawful_choice : (before : RightEngine) (entry : Asked) (reply : Reply) (colour : Colour) (v : Vertex)
     (fault : PlayFault)
@@ -135,6 +143,7 @@ vertex_holds before entry reply colour v (Wrong (Unlawful fault)) a id ok said j
     (unlawful_choice before entry reply colour v fault a ok said j, (ok, (colour, v, a.due, said, j)))
 vertex_holds before entry reply colour v (Resized s) a id ok said j = absurd j
 vertex_holds before entry reply colour v Undone a id ok said j = absurd j
+vertex_holds before entry reply colour v (Opines opinion) a id ok said j = absurd j
 vertex_holds before entry reply colour v (Wrong Refused) a id ok said j = absurd j
 vertex_holds before entry reply colour v (Wrong (Took cause)) a id ok said j = absurd j
 vertex_holds before entry reply colour v (Wrong OtherPoints) a id ok said j = absurd j

@@ -21,7 +21,7 @@ use Rattle.gtp_check_judge.proofs.answers.Table.{due_answered}
 -- what is judged of a reply to a command holds of it, where it was asked in this game
 pub judged_holds : (before : RightEngine) (entry : Asked) (due : Due) (reply : Reply) (got : Judgement)
     → entry.due ≡ due → IsSize before.game.size → IsAsked before entry
-    → reply.id ≡ Some entry.id → Judged before.game due reply got → HoldsOf before entry reply got
+    → reply.id ≡ Some entry.id → Judged before.game before.opinion due reply got → HoldsOf before entry reply got
 judged_holds before entry Succeeds reply got is size a id j =
     let due = subst (IsDue before entry.command) is a.is_due in
     success_holds before entry reply reply.ok got due is
@@ -34,10 +34,10 @@ judged_holds before entry (Resizes s) reply got is size a id j =
     let due = subst (IsDue before entry.command) is a.is_due in
     size_holds before entry reply s reply.ok got due is
     (λ ch. due_answered before entry.id entry.command (Resizes s) ch size a.writable a.limits due) id refl j
-judged_holds before entry (Scores s) reply got is size a id j =
+judged_holds before entry (Scores s k) reply got is size a id j =
     let due = subst (IsDue before entry.command) is a.is_due in
-    score_holds before entry reply s reply.ok got due is
-    (λ ch. due_answered before entry.id entry.command (Scores s) ch size a.writable a.limits due) id refl j
+    score_holds before entry reply s k reply.ok got due is
+    (λ ch. due_answered before entry.id entry.command (Scores s k) ch size a.writable a.limits due) id refl j
 judged_holds before entry AnyReply reply got is size a id j =
     let due = subst (IsDue before entry.command) is a.is_due in
     any_holds before entry reply reply.ok got due is

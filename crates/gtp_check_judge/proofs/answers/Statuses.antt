@@ -19,13 +19,14 @@ use Rattle.gtp_check_judge.specs.declared.dues.Due.{Due}
 use Rattle.gtp_check_judge.specs.declared.dues.Due.TheVariants.{Succeeds, Fails, Places, Resizes, Scores, AnyReply}
 use Rattle.gtp_check_judge.specs.declared.dues.Due.TheVariants.{Chooses, MayUndo}
 use Rattle.gtp_check_judge.specs.declared.judging.Judgement.{Judgement}
-use Rattle.gtp_check_judge.specs.declared.judging.Judgement.TheVariants.{Right, Plays, Resized, Undone, Wrong}
+use Rattle.gtp_check_judge.specs.declared.judging.Judgement.TheVariants.{Right, Plays, Resized, Undone, Opines, Wrong}
+use Rattle.gtp_check_judge.specs.declared.opinions.Opinion.{Opinion}
 use Rattle.gtp_check_judge.specs.declared.unanswered.Asked.{Asked}
-use Rattle.gtp_check_judge.specs.RightEngine.{RightEngine, undone_after}
+use Rattle.gtp_check_judge.specs.RightEngine.{RightEngine, undone_after, opinion_after}
 use Rattle.gtp_check_judge.specs.Dues.{IsDue, UndoDue, PlayDue, after_check, engine_after, undone_once}
 use Rattle.gtp_check_judge.specs.Judging.{success_judged, failure_judged, size_judged, undo_judged, points_judged}
 use Rattle.gtp_check_judge.specs.Judging.{are_points}
-use Rattle.gtp_check_judge.specs.Laws.{line_of_asked, Says, MayRefuse, IsByTable, IsRight, KindIsTrue}
+use Rattle.gtp_check_judge.specs.Laws.{line_of_asked, Says, MayRefuse, after_refusal, IsByTable, IsRight, KindIsTrue}
 use Rattle.go_base.specs.declared.choices.Choice.TheVariants as choice
 use Rattle.gtp_check_judge.proofs.answers.Table.{AnswersSo}
 use Rattle.gtp_check_judge.proofs.answers.Texts.{MayFail, free_fails, points_said, resign_lawful, resizes_boardsize}
@@ -47,25 +48,28 @@ by_success before entry reply after ok (IsRight.by_table right) = right
 by_success before entry reply after ok (IsRight.by_refusal refuses) =
     absurd (let e : true ≡ false = sym ok ∙ refuses.status in cc e)
 
--- a refusal of what may be refused is right, and leaves the game
-pub refusal_right : (before : RightEngine) (entry : Asked) (reply : Reply)
-    → MayRefuse before entry.command
-    → reply.id ≡ Some entry.id → reply.ok ≡ false → IsRight before entry reply before
-refusal_right before entry reply may id ok =
-    IsRight.by_refusal (record { may = may; id = id; status = ok; leaves = refl })
+-- a refusal of what may be refused is right
+pub refusal_right : (before : RightEngine) (entry : Asked) (reply : Reply) (after : RightEngine)
+    → MayRefuse before entry.command → after ≡ after_refusal before entry.command
+    → reply.id ≡ Some entry.id → reply.ok ≡ false → IsRight before entry reply after
+refusal_right before entry reply after may leaves id ok =
+    IsRight.by_refusal (record { may = may; id = id; status = ok; leaves = leaves })
 
-abbrev pub engine_with : GameRecord → Bool → RightEngine
-engine_with game undone = record { game = game; undone = undone }
+abbrev pub engine_with : GameRecord → Bool → Opinion → RightEngine
+engine_with game undone opinion = record { game = game; undone = undone; opinion = opinion }
 
--- the engine after a move, after it took a size, and after a move was taken back
+-- the engine after a move, after it took a size, after a move was taken back, and after a score
 abbrev pub moved : RightEngine → Colour → Vertex → RightEngine
-moved engine colour v = engine_with (with_move engine.game colour v) false
+moved engine colour v = engine_with (with_move engine.game colour v) false engine.opinion
 
 abbrev pub resized : RightEngine → ℕ → RightEngine
-resized engine size = engine_with (after_command engine.game (Boardsize size)) engine.undone
+resized engine size = engine_with (after_command engine.game (Boardsize size)) engine.undone engine.opinion
 
 abbrev pub taken_back : RightEngine → RightEngine
-taken_back engine = engine_with (without_last engine.game) true
+taken_back engine = engine_with (without_last engine.game) true engine.opinion
+
+abbrev pub opined : RightEngine → Opinion → RightEngine
+opined engine opinion = engine_with engine.game engine.undone opinion
 
 -- what a reply was judged to be holds by the table: a right answer, with the engine after it, or none
 abbrev pub HoldsOf : RightEngine → Asked → Reply → Judgement → Type 0
@@ -73,6 +77,7 @@ HoldsOf before entry reply Right = IsRight before entry reply (engine_after befo
 HoldsOf before entry reply (Plays colour v) = IsRight before entry reply (moved before colour v)
 HoldsOf before entry reply (Resized size) = IsRight before entry reply (resized before size)
 HoldsOf before entry reply Undone = IsRight before entry reply (taken_back before)
+HoldsOf before entry reply (Opines opinion) = IsRight before entry reply (opined before opinion)
 HoldsOf before entry reply (Wrong kind) =
     ((after : RightEngine) → IsRight before entry reply after → ⊥) × KindIsTrue before entry reply kind
 
@@ -119,7 +124,7 @@ undone_failed undone (KnownCommand k) reply ok = refl
 abbrev pub IsStill : Due → Type 0
 IsStill (Places size stones) = Unit {0}
 IsStill (Resizes size) = Unit {0}
-IsStill (Scores s) = Unit {0}
+IsStill (Scores s k) = Unit {0}
 IsStill AnyReply = Unit {0}
 IsStill Succeeds = ⊥
 IsStill (Fails cause) = ⊥
@@ -129,7 +134,7 @@ IsStill MayUndo = ⊥
 play_stirs : (game : GameRecord) (move : Move) (due : Due) → PlayDue game move due → IsStill due → ⊥
 play_stirs game move (Places size stones) h still = h
 play_stirs game move (Resizes size) h still = h
-play_stirs game move (Scores s) h still = h
+play_stirs game move (Scores s k) h still = h
 play_stirs game move AnyReply h still = h
 play_stirs game move Succeeds h still = still
 play_stirs game move (Fails cause) h still = still
@@ -139,7 +144,7 @@ play_stirs game move MayUndo h still = still
 undo_stirs : (engine : RightEngine) (due : Due) → UndoDue engine due → IsStill due → ⊥
 undo_stirs engine (Places size stones) h still = h
 undo_stirs engine (Resizes size) h still = h
-undo_stirs engine (Scores s) h still = h
+undo_stirs engine (Scores s k) h still = h
 undo_stirs engine AnyReply h still = h
 undo_stirs engine Succeeds h still = still
 undo_stirs engine (Fails cause) h still = still
@@ -161,6 +166,27 @@ undone_still engine Name due reply h still = refl
 undone_still engine Version due reply h still = refl
 undone_still engine (KnownCommand k) due reply h still = refl
 
+-- ---- what the engine thinks of an empty board
+
+-- only a score changes it
+abbrev pub IsNoScore : Due → Type 0
+IsNoScore (Scores s k) = ⊥
+IsNoScore (Places size stones) = Unit {0}
+IsNoScore (Resizes size) = Unit {0}
+IsNoScore AnyReply = Unit {0}
+IsNoScore Succeeds = Unit {0}
+IsNoScore (Fails cause) = Unit {0}
+IsNoScore (Chooses colour) = Unit {0}
+IsNoScore MayUndo = Unit {0}
+
+pub opinion_kept : (engine : RightEngine) (command : CheckCommand) (due : Due) (reply : Reply)
+    → IsDue engine command due → IsNoScore due → opinion_after engine command reply ≡ engine.opinion
+opinion_kept engine (Match command) due reply h other = refl
+opinion_kept engine FinalScore due reply h other = absurd (subst IsNoScore h.0 other)
+opinion_kept engine Name due reply h other = refl
+opinion_kept engine Version due reply h other = refl
+opinion_kept engine (KnownCommand k) due reply h other = refl
+
 -- ---- statuses
 
 -- a status that differs from each answer's is no right one
@@ -177,29 +203,35 @@ pub plain_right : (before : RightEngine) (entry : Asked) (reply : Reply) (ok : B
     → reply.id ≡ Some entry.id → reply.ok ≡ ok
     → (answer before.game (line_of_asked entry) choice.Resign).ok ≡ ok
     → (answer before.game (line_of_asked entry) choice.Resign).game ≡ after
-    → Says before.game entry.command choice.Resign ok reply.text.items
-    → IsRight before entry reply (engine_with after (undone_after before.undone entry.command reply))
+    → Says before entry.command choice.Resign ok reply.text.items
+    → IsRight before entry reply
+    (engine_with after (undone_after before.undone entry.command reply) (opinion_after before entry.command reply))
 plain_right before entry reply ok after id is status game says = IsRight.by_table (record {
   id = id;
   choice = choice.Resign;
   lawful = resign_lawful before.game (asked before.game (line_of_asked entry));
   status = is ∙ sym status;
-  says = subst (λ (b : Bool). Says before.game entry.command choice.Resign b reply.text.items) (sym is) says;
+  says = subst (λ (b : Bool). Says before entry.command choice.Resign b reply.text.items) (sym is) says;
   leaves =
-      ap (λ (g : GameRecord). engine_with g (undone_after before.undone entry.command reply)) (sym game);
+      ap (λ (g : GameRecord). engine_with g (undone_after before.undone entry.command reply)
+      (opinion_after before entry.command reply)) (sym game);
 })
 
--- the same, where it is known whether an `undo` has succeeded since the last move
+-- the same, where it is known whether an `undo` has succeeded since the last move, and what the engine thinks of an
+-- empty board
 pub plain_known : (before : RightEngine) (entry : Asked) (reply : Reply) (ok : Bool) (after : GameRecord)
-    (undone : Bool) → undone_after before.undone entry.command reply ≡ undone
+    (undone : Bool) (opinion : Opinion) → undone_after before.undone entry.command reply ≡ undone
+    → opinion_after before entry.command reply ≡ opinion
     → reply.id ≡ Some entry.id → reply.ok ≡ ok
     → (answer before.game (line_of_asked entry) choice.Resign).ok ≡ ok
     → (answer before.game (line_of_asked entry) choice.Resign).game ≡ after
-    → Says before.game entry.command choice.Resign ok reply.text.items
-    → IsRight before entry reply (engine_with after undone)
-plain_known before entry reply ok after undone known id is status game says =
-    subst (λ (u : Bool). IsRight before entry reply (engine_with after u)) known
-    (plain_right before entry reply ok after id is status game says)
+    → Says before entry.command choice.Resign ok reply.text.items
+    → IsRight before entry reply (engine_with after undone opinion)
+plain_known before entry reply ok after undone opinion known thinks id is status game says =
+    subst (λ (u : Bool). IsRight before entry reply (engine_with after u opinion)) known
+    (subst (λ (o : Opinion). IsRight before entry reply
+    (engine_with after (undone_after before.undone entry.command reply) o)) thinks
+    (plain_right before entry reply ok after id is status game says))
 
 -- what is due holds of the reply, where this is due
 pub as_due : (before : RightEngine) (entry : Asked) (reply : Reply) (due : Due) → entry.due ≡ due
@@ -215,7 +247,8 @@ success_holds before entry reply true got due is so id ok j =
     subst (HoldsOf before entry reply) (sym j)
     (as_due before entry reply Succeeds is
     (plain_known before entry reply true (after_check before.game entry.command)
-    (undone_once before.undone entry.command) (undone_done before entry.command reply due ok) id ok
+    (undone_once before.undone entry.command) before.opinion (undone_done before entry.command reply due ok)
+    (opinion_kept before entry.command Succeeds reply due tt) id ok
     (so choice.Resign).0 (so choice.Resign).1
     (says_success before entry.command choice.Resign true reply.text.items due)))
 success_holds before entry reply false got due is so id ok j =
@@ -232,10 +265,11 @@ pub failure_holds : (before : RightEngine) (entry : Asked) (reply : Reply) (caus
 failure_holds before entry reply cause false got due is so id ok j =
     subst (HoldsOf before entry reply) (sym j)
     (as_due before entry reply (Fails cause) is
-    (plain_known before entry reply false before.game before.undone
-    (undone_failed before.undone entry.command reply ok) id ok
+    (plain_known before entry reply false before.game before.undone before.opinion
+    (undone_failed before.undone entry.command reply ok)
+    (opinion_kept before entry.command (Fails cause) reply due tt) id ok
     (so choice.Resign).0 (so choice.Resign).1
-    (says_failure before.game entry.command choice.Resign reply.text.items)))
+    (says_failure before entry.command choice.Resign reply.text.items)))
 failure_holds before entry reply cause true got due is so id ok j =
     subst (HoldsOf before entry reply) (sym j) (
       wrong_status before entry reply (Fails cause) true false due (λ f. f) ok (λ ch. (so ch).0) (λ e. cc e),
@@ -251,15 +285,17 @@ pub size_holds : (before : RightEngine) (entry : Asked) (reply : Reply) (size : 
 size_holds before entry reply size true got due is so id ok j =
     let command : entry.command ≡ Match (Boardsize size) = resizes_boardsize before entry.command size due in
     subst (HoldsOf before entry reply) (sym j)
-    (plain_known before entry reply true (after_command before.game (Boardsize size)) before.undone
-    (undone_still before entry.command (Resizes size) reply due tt) id ok
+    (plain_known before entry reply true (after_command before.game (Boardsize size)) before.undone before.opinion
+    (undone_still before entry.command (Resizes size) reply due tt)
+    (opinion_kept before entry.command (Resizes size) reply due tt) id ok
     (so choice.Resign).0 ((so choice.Resign).1 ∙ ap (after_check before.game) command)
-    (subst (λ (k : CheckCommand). Says before.game k choice.Resign true reply.text.items) (sym command) tt))
+    (subst (λ (k : CheckCommand). Says before k choice.Resign true reply.text.items) (sym command) tt))
 size_holds before entry reply size false got due is so id ok j =
     subst (HoldsOf before entry reply) (sym j)
     (as_due before entry reply (Resizes size) is
-    (refusal_right before entry reply (subst (MayRefuse before) (sym
-    (resizes_boardsize before entry.command size due)) tt) id ok))
+    (refusal_right before entry reply before (subst (MayRefuse before) (sym
+    (resizes_boardsize before entry.command size due)) tt)
+    (sym (ap (after_refusal before) (resizes_boardsize before entry.command size due))) id ok))
 
 -- and to an `undo` that may fail
 pub undo_holds : (before : RightEngine) (entry : Asked) (reply : Reply) (ok : Bool) (got : Judgement)
@@ -269,23 +305,24 @@ pub undo_holds : (before : RightEngine) (entry : Asked) (reply : Reply) (ok : Bo
 undo_holds before entry reply true got due is so id ok j =
     let undo = undos_undo before entry.command due in
     subst (HoldsOf before entry reply) (sym j)
-    (plain_known before entry reply true (without_last before.game) true
+    (plain_known before entry reply true (without_last before.game) true before.opinion
     (ap (λ (k : CheckCommand). undone_after before.undone k reply) undo.0
-    ∙ if_true reply.ok true before.undone ok) id ok
+    ∙ if_true reply.ok true before.undone ok) (opinion_kept before entry.command MayUndo reply due tt) id ok
     (so choice.Resign).0 ((so choice.Resign).1 ∙ ap (after_check before.game) undo.0)
-    (subst (λ (k : CheckCommand). Says before.game k choice.Resign true reply.text.items) (sym undo.0) tt))
+    (subst (λ (k : CheckCommand). Says before k choice.Resign true reply.text.items) (sym undo.0) tt))
 undo_holds before entry reply false got due is so id ok j =
     let undo = undos_undo before entry.command due in
     subst (HoldsOf before entry reply) (sym j)
     (as_due before entry reply MayUndo is
-    (refusal_right before entry reply (subst (MayRefuse before) (sym undo.0) undo.1) id ok))
+    (refusal_right before entry reply before (subst (MayRefuse before) (sym undo.0) undo.1)
+    (sym (ap (after_refusal before) undo.0)) id ok))
 
 other_points : (before : RightEngine) (entry : Asked) (reply : Reply) (size stones : ℕ)
     → IsDue before entry.command (Places size stones) → reply.ok ≡ true → are_points size stones reply ≡ false
     → (after : RightEngine) → IsRight before entry reply after → ⊥
 other_points before entry reply size stones due ok named after right =
     let tabled = by_table before entry reply after (Places size stones) due (λ f. f) right in
-    let said = subst (λ (b : Bool). Says before.game entry.command tabled.choice b reply.text.items) ok tabled.says in
+    let said = subst (λ (b : Bool). Says before entry.command tabled.choice b reply.text.items) ok tabled.says in
     let e : true ≡ false = sym (points_said before entry.command size stones tabled.choice reply.text.items due said)
     ∙ named in cc e
 
@@ -299,8 +336,9 @@ pub points_hold : (before : RightEngine) (entry : Asked) (reply : Reply) (size s
 points_hold before entry reply size stones true true got due is so id ok named j =
     subst (HoldsOf before entry reply) (sym j)
     (as_due before entry reply (Places size stones) is
-    (plain_known before entry reply true (after_check before.game entry.command) before.undone
-    (undone_still before entry.command (Places size stones) reply due tt) id ok
+    (plain_known before entry reply true (after_check before.game entry.command) before.undone before.opinion
+    (undone_still before entry.command (Places size stones) reply due tt)
+    (opinion_kept before entry.command (Places size stones) reply due tt) id ok
     (so choice.Resign).0 (so choice.Resign).1
     (says_points before entry.command size stones choice.Resign reply.text.items due named)))
 points_hold before entry reply size stones true false got due is so id ok named j =

@@ -40,6 +40,7 @@ use Rattle.gtp_check_judge.specs.Asking.{line_of_check, IsCheckWritable, IsCheck
 use Rattle.gtp_check_judge.specs.RightEngine.{RightEngine}
 use Rattle.gtp_check_judge.specs.Dues.{IsDue, IsDueTo, after_check}
 use Rattle.gtp_session.specs.declared.commands.CommandName.TheVariants as name
+use Rattle.gtp_check_judge.proofs.commands.Komis.{of_komi}
 
 -- ---- a move that is refused is not legal
 
@@ -73,8 +74,8 @@ AnswersTo game command Succeeds given = (given.ok ≡ true) × (given.game ≡ a
 AnswersTo game command (Places size stones) given = (given.ok ≡ true) × (given.game ≡ after_command game command)
 AnswersTo game command (Fails cause) given = (given.ok ≡ false) × (given.game ≡ game)
 AnswersTo game command (Resizes size) given = (given.ok ≡ true) × (given.game ≡ after_command game command)
-AnswersTo game command (Scores s) given = (given.ok ≡ true) × (given.game ≡ game)
-AnswersTo game command AnyReply given = (given.ok ≡ true) × (given.game ≡ game)
+AnswersTo game command (Scores s k) given = (given.ok ≡ true) × (given.game ≡ game)
+AnswersTo game command AnyReply given = (given.ok ≡ true) × (given.game ≡ after_command game command)
 AnswersTo game command MayUndo given = (given.ok ≡ true) × (given.game ≡ after_command game command)
 AnswersTo game command (Chooses colour) given = Unit {0}
 
@@ -137,7 +138,7 @@ pub match_answered : (engine : RightEngine) (id : Option ℕ) (command : Command
     → IsWritable command → IsInLimits command → IsDueTo engine command due
     → AnswersTo engine.game command due (answer engine.game (line_of_command id command) ch)
 match_answered engine id (Boardsize size) (Resizes s) ch is w l h = well engine.game id (Boardsize size) ch h.1
-match_answered engine id (Boardsize size) (Scores s) ch is w l h = absurd (cc (h.0))
+match_answered engine id (Boardsize size) (Scores s k) ch is w l h = absurd (cc (h.0))
 match_answered engine id (Boardsize size) AnyReply ch is w l h = absurd (cc (h.0))
 match_answered engine id (Boardsize size) Succeeds ch is w l h = absurd (cc (h.0))
 match_answered engine id (Boardsize size) (Fails cause) ch is w l h = absurd (cc (h.0))
@@ -145,18 +146,18 @@ match_answered engine id (Boardsize size) (Places s n) ch is w l h = absurd (cc 
 match_answered engine id (Boardsize size) (Chooses c) ch is w l h = tt
 match_answered engine id (Boardsize size) MayUndo ch is w l h = absurd (cc (h.0))
 match_answered engine id (Komi komi) Succeeds ch is w l h = well engine.game id (Komi komi) ch h.1
-match_answered engine id (Komi komi) (Fails cause) ch is w l h = absurd (cc (h.0))
-match_answered engine id (Komi komi) (Places s n) ch is w l h = absurd (cc (h.0))
-match_answered engine id (Komi komi) (Resizes s) ch is w l h = absurd (cc (h.0))
-match_answered engine id (Komi komi) (Scores s) ch is w l h = absurd (cc (h.0))
-match_answered engine id (Komi komi) AnyReply ch is w l h = absurd (cc (h.0))
+match_answered engine id (Komi komi) (Fails cause) ch is w l h = absurd (of_komi komi (Fails cause) h.0)
+match_answered engine id (Komi komi) (Places s n) ch is w l h = absurd (of_komi komi (Places s n) h.0)
+match_answered engine id (Komi komi) (Resizes s) ch is w l h = absurd (of_komi komi (Resizes s) h.0)
+match_answered engine id (Komi komi) (Scores s k) ch is w l h = absurd (of_komi komi (Scores s k) h.0)
+match_answered engine id (Komi komi) AnyReply ch is w l h = well engine.game id (Komi komi) ch h.1
 match_answered engine id (Komi komi) (Chooses c) ch is w l h = tt
-match_answered engine id (Komi komi) MayUndo ch is w l h = absurd (cc (h.0))
+match_answered engine id (Komi komi) MayUndo ch is w l h = absurd (of_komi komi MayUndo h.0)
 match_answered engine id ClearBoard Succeeds ch is w l h = well engine.game id ClearBoard ch tt
 match_answered engine id ClearBoard (Fails cause) ch is w l h = absurd (cc h)
 match_answered engine id ClearBoard (Places s n) ch is w l h = absurd (cc h)
 match_answered engine id ClearBoard (Resizes s) ch is w l h = absurd (cc h)
-match_answered engine id ClearBoard (Scores s) ch is w l h = absurd (cc h)
+match_answered engine id ClearBoard (Scores s k) ch is w l h = absurd (cc h)
 match_answered engine id ClearBoard AnyReply ch is w l h = absurd (cc h)
 match_answered engine id ClearBoard (Chooses c) ch is w l h = tt
 match_answered engine id ClearBoard MayUndo ch is w l h = absurd (cc h)
@@ -168,7 +169,7 @@ match_answered engine id (FixedHandicap stones) (Fails (BadMove fault)) ch is w 
 match_answered engine id (FixedHandicap stones) (Fails NoMoves) ch is w l h = absurd h
 match_answered engine id (FixedHandicap stones) Succeeds ch is w l h = absurd h
 match_answered engine id (FixedHandicap stones) (Resizes s) ch is w l h = absurd h
-match_answered engine id (FixedHandicap stones) (Scores s) ch is w l h = absurd h
+match_answered engine id (FixedHandicap stones) (Scores s k) ch is w l h = absurd h
 match_answered engine id (FixedHandicap stones) AnyReply ch is w l h = absurd h
 match_answered engine id (FixedHandicap stones) (Chooses c) ch is w l h = tt
 match_answered engine id (FixedHandicap stones) MayUndo ch is w l h = absurd h
@@ -179,7 +180,7 @@ match_answered engine id (Play move) (Fails (BadHandicap fault)) ch is w l h = a
 match_answered engine id (Play move) (Fails NoMoves) ch is w l h = absurd h
 match_answered engine id (Play move) (Places s n) ch is w l h = absurd h
 match_answered engine id (Play move) (Resizes s) ch is w l h = absurd h
-match_answered engine id (Play move) (Scores s) ch is w l h = absurd h
+match_answered engine id (Play move) (Scores s k) ch is w l h = absurd h
 match_answered engine id (Play move) AnyReply ch is w l h = absurd h
 match_answered engine id (Play move) (Chooses c) ch is w l h = tt
 match_answered engine id (Play move) MayUndo ch is w l h = absurd h
@@ -187,7 +188,7 @@ match_answered engine id (Genmove colour) Succeeds ch is w l h = absurd (cc (h.0
 match_answered engine id (Genmove colour) (Fails cause) ch is w l h = absurd (cc (h.0))
 match_answered engine id (Genmove colour) (Places s n) ch is w l h = absurd (cc (h.0))
 match_answered engine id (Genmove colour) (Resizes s) ch is w l h = absurd (cc (h.0))
-match_answered engine id (Genmove colour) (Scores s) ch is w l h = absurd (cc (h.0))
+match_answered engine id (Genmove colour) (Scores s k) ch is w l h = absurd (cc (h.0))
 match_answered engine id (Genmove colour) AnyReply ch is w l h = absurd (cc (h.0))
 match_answered engine id (Genmove colour) (Chooses c) ch is w l h = tt
 match_answered engine id (Genmove colour) MayUndo ch is w l h = absurd (cc (h.0))
@@ -201,7 +202,7 @@ match_answered engine id Undo (Fails (BadMove fault)) ch is w l h = absurd h
 match_answered engine id Undo (Fails (BadHandicap fault)) ch is w l h = absurd h
 match_answered engine id Undo (Places s n) ch is w l h = absurd h
 match_answered engine id Undo (Resizes s) ch is w l h = absurd h
-match_answered engine id Undo (Scores s) ch is w l h = absurd h
+match_answered engine id Undo (Scores s k) ch is w l h = absurd h
 match_answered engine id Undo AnyReply ch is w l h = absurd h
 match_answered engine id Undo (Chooses c) ch is w l h = tt
 match_answered engine id Quit due ch is w l h = absurd h
@@ -212,8 +213,8 @@ AnswersSo game command Succeeds given = (given.ok ≡ true) × (given.game ≡ a
 AnswersSo game command (Places size stones) given = (given.ok ≡ true) × (given.game ≡ after_check game command)
 AnswersSo game command (Fails cause) given = (given.ok ≡ false) × (given.game ≡ game)
 AnswersSo game command (Resizes size) given = (given.ok ≡ true) × (given.game ≡ after_check game command)
-AnswersSo game command (Scores s) given = (given.ok ≡ true) × (given.game ≡ game)
-AnswersSo game command AnyReply given = (given.ok ≡ true) × (given.game ≡ game)
+AnswersSo game command (Scores s k) given = (given.ok ≡ true) × (given.game ≡ game)
+AnswersSo game command AnyReply given = (given.ok ≡ true) × (given.game ≡ after_check game command)
 AnswersSo game command MayUndo given = (given.ok ≡ true) × (given.game ≡ after_check game command)
 AnswersSo game command (Chooses colour) given = Unit {0}
 
@@ -223,7 +224,7 @@ match_so game command Succeeds given h = h
 match_so game command (Places size stones) given h = h
 match_so game command (Fails cause) given h = h
 match_so game command (Resizes size) given h = h
-match_so game command (Scores s) given h = h
+match_so game command (Scores s k) given h = h
 match_so game command AnyReply given h = h
 match_so game command MayUndo given h = h
 match_so game command (Chooses colour) given h = h

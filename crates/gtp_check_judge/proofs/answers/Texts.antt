@@ -19,11 +19,11 @@ use Rattle.gtp_check_judge.specs.declared.dues.Due.{Due}
 use Rattle.gtp_check_judge.specs.declared.dues.Due.TheVariants.{Succeeds, Fails, Places, Resizes, Scores, AnyReply}
 use Rattle.gtp_check_judge.specs.declared.dues.Due.TheVariants.{Chooses, MayUndo}
 use Rattle.gtp_wire.specs.ReplyWords.{names_points}
-use Rattle.go_board.specs.Area.{score}
 use Rattle.gtp_check_judge.specs.RightEngine.{RightEngine}
-use Rattle.gtp_check_judge.specs.Dues.{IsDue, IsDueTo, UndoDue}
-use Rattle.gtp_check_judge.specs.Laws.{Says, SaysTo, MayFailToUndo, MayRefuse}
+use Rattle.gtp_check_judge.specs.Dues.{IsDue, IsDueTo, IsFresh, UndoDue, engine_after}
+use Rattle.gtp_check_judge.specs.Laws.{Says, SaysTo, MayFailToUndo, MayRefuse, after_refusal}
 use Rattle.go_base.specs.declared.choices.Choice.TheVariants as choice
+use Rattle.gtp_check_judge.proofs.commands.Komis.{any_inexact, inexact_any, of_komi}
 
 -- a success that is due says nothing
 says_success_to : (engine : RightEngine) (command : Command) (ch : Choice) (ok : Bool) (text : List ℕ)
@@ -38,7 +38,7 @@ says_success_to engine Undo ch ok text h = tt
 says_success_to engine Quit ch ok text h = tt
 
 pub says_success : (engine : RightEngine) (command : CheckCommand) (ch : Choice) (ok : Bool) (text : List ℕ)
-    → IsDue engine command Succeeds → Says engine.game command ch ok text
+    → IsDue engine command Succeeds → Says engine command ch ok text
 says_success engine (Match command) ch ok text h = says_success_to engine command ch ok text h
 says_success engine FinalScore ch ok text h = absurd (cc (h.0))
 says_success engine Name ch ok text h = tt
@@ -57,13 +57,13 @@ says_failure_to game (Genmove colour) ch text = tt
 says_failure_to game Undo ch text = tt
 says_failure_to game Quit ch text = tt
 
-pub says_failure : (game : GameRecord) (command : CheckCommand) (ch : Choice) (text : List ℕ)
-    → Says game command ch false text
-says_failure game (Match command) ch text = says_failure_to game command ch text
-says_failure game FinalScore ch text = tt
-says_failure game Name ch text = tt
-says_failure game Version ch text = tt
-says_failure game (KnownCommand k) ch text = tt
+pub says_failure : (engine : RightEngine) (command : CheckCommand) (ch : Choice) (text : List ℕ)
+    → Says engine command ch false text
+says_failure engine (Match command) ch text = says_failure_to engine.game command ch text
+says_failure engine FinalScore ch text = tt
+says_failure engine Name ch text = tt
+says_failure engine Version ch text = tt
+says_failure engine (KnownCommand k) ch text = tt
 
 -- the points of a handicap that are due are those that the text has to name
 says_points_to : (engine : RightEngine) (command : Command) (size stones : ℕ) (ch : Choice) (text : List ℕ)
@@ -73,7 +73,7 @@ says_points_to engine (FixedHandicap count) size stones ch text h named =
     subst (λ (n : ℕ). names_points (handicap_points engine.game.size n) (reply_words text) ≡ true) h.1
     (subst (λ (s : ℕ). names_points (handicap_points s stones) (reply_words text) ≡ true) h.0 named)
 says_points_to engine (Boardsize s) size stones ch text h named = absurd (cc (h.0))
-says_points_to engine (Komi komi) size stones ch text h named = absurd (cc (h.0))
+says_points_to engine (Komi komi) size stones ch text h named = absurd (of_komi komi (Places size stones) h.0)
 says_points_to engine ClearBoard size stones ch text h named = absurd (cc h)
 says_points_to engine (Play move) size stones ch text h named = absurd h
 says_points_to engine (Genmove colour) size stones ch text h named = absurd (cc (h.0))
@@ -82,7 +82,7 @@ says_points_to engine Quit size stones ch text h named = absurd h
 
 pub says_points : (engine : RightEngine) (command : CheckCommand) (size stones : ℕ) (ch : Choice) (text : List ℕ)
     → IsDue engine command (Places size stones)
-    → names_points (handicap_points size stones) (reply_words text) ≡ true → Says engine.game command ch true text
+    → names_points (handicap_points size stones) (reply_words text) ≡ true → Says engine command ch true text
 says_points engine (Match command) size stones ch text h named =
     says_points_to engine command size stones ch text h named
 says_points engine FinalScore size stones ch text h named = absurd (cc (h.0))
@@ -97,7 +97,7 @@ points_said_to engine (FixedHandicap count) size stones ch text h said =
     subst (λ (s : ℕ). names_points (handicap_points s stones) (reply_words text) ≡ true) (sym h.0)
     (subst (λ (n : ℕ). names_points (handicap_points engine.game.size n) (reply_words text) ≡ true) (sym h.1) said)
 points_said_to engine (Boardsize s) size stones ch text h said = absurd (cc (h.0))
-points_said_to engine (Komi komi) size stones ch text h said = absurd (cc (h.0))
+points_said_to engine (Komi komi) size stones ch text h said = absurd (of_komi komi (Places size stones) h.0)
 points_said_to engine ClearBoard size stones ch text h said = absurd (cc h)
 points_said_to engine (Play move) size stones ch text h said = absurd h
 points_said_to engine (Genmove colour) size stones ch text h said = absurd (cc (h.0))
@@ -106,7 +106,7 @@ points_said_to engine Quit size stones ch text h said = absurd h
 
 pub points_said : (engine : RightEngine) (command : CheckCommand) (size stones : ℕ) (ch : Choice) (text : List ℕ)
     → IsDue engine command (Places size stones)
-    → Says engine.game command ch true text → names_points (handicap_points size stones) (reply_words text) ≡ true
+    → Says engine command ch true text → names_points (handicap_points size stones) (reply_words text) ≡ true
 points_said engine (Match command) size stones ch text h said = points_said_to engine command size stones ch text h said
 points_said engine FinalScore size stones ch text h said = absurd (cc (h.0))
 points_said engine Name size stones ch text h said = absurd (cc h)
@@ -119,7 +119,7 @@ chooses_genmove_to : (engine : RightEngine) (command : Command) (colour : Colour
     → (command ≡ Genmove colour) × HasRoom engine.game
 chooses_genmove_to engine (Genmove c) colour h = (let e : c ≡ colour = cc (h.0) in ap Genmove e, h.1)
 chooses_genmove_to engine (Boardsize s) colour h = absurd (cc (h.0))
-chooses_genmove_to engine (Komi komi) colour h = absurd (cc (h.0))
+chooses_genmove_to engine (Komi komi) colour h = absurd (of_komi komi (Chooses colour) h.0)
 chooses_genmove_to engine ClearBoard colour h = absurd (cc h)
 chooses_genmove_to engine (FixedHandicap stones) colour h = absurd h
 chooses_genmove_to engine (Play move) colour h = absurd h
@@ -143,7 +143,7 @@ resign_lawful game (Some c) = tt
 resizes_boardsize_to : (engine : RightEngine) (command : Command) (size : ℕ) → IsDueTo engine command (Resizes size)
     → command ≡ Boardsize size
 resizes_boardsize_to engine (Boardsize s) size h = let e : s ≡ size = cc (h.0) in ap Boardsize e
-resizes_boardsize_to engine (Komi komi) size h = absurd (cc (h.0))
+resizes_boardsize_to engine (Komi komi) size h = absurd (of_komi komi (Resizes size) h.0)
 resizes_boardsize_to engine ClearBoard size h = absurd (cc h)
 resizes_boardsize_to engine (FixedHandicap stones) size h = absurd h
 resizes_boardsize_to engine (Play move) size h = absurd h
@@ -164,7 +164,7 @@ pub undos_undo : (engine : RightEngine) (command : CheckCommand) → IsDue engin
     → (command ≡ Match Undo) × MayFailToUndo engine
 undos_undo engine (Match Undo) h = (refl, record { undone = h.0; moves = h.1 })
 undos_undo engine (Match (Boardsize s)) h = absurd (cc (h.0))
-undos_undo engine (Match (Komi komi)) h = absurd (cc (h.0))
+undos_undo engine (Match (Komi komi)) h = absurd (of_komi komi MayUndo h.0)
 undos_undo engine (Match ClearBoard) h = absurd (cc h)
 undos_undo engine (Match (FixedHandicap stones)) h = absurd h
 undos_undo engine (Match (Play move)) h = absurd h
@@ -175,27 +175,34 @@ undos_undo engine Name h = absurd (cc h)
 undos_undo engine Version h = absurd (cc h)
 undos_undo engine (KnownCommand k) h = absurd (cc h)
 
--- a score is due to a `final_score` alone, and it is that of the game
-pub scores_final : (engine : RightEngine) (command : CheckCommand) (s : ℤ) → IsDue engine command (Scores s)
-    → (command ≡ FinalScore) × (s ≡ score engine.game)
-scores_final engine (Match (Boardsize size)) s h = absurd (cc (h.0))
-scores_final engine (Match (Komi komi)) s h = absurd (cc (h.0))
-scores_final engine (Match ClearBoard) s h = absurd (cc h)
-scores_final engine (Match (FixedHandicap stones)) s h = absurd h
-scores_final engine (Match (Play move)) s h = absurd h
-scores_final engine (Match (Genmove colour)) s h = absurd (cc (h.0))
-scores_final engine (Match Undo) s h = absurd h
-scores_final engine (Match Quit) s h = absurd h
-scores_final engine FinalScore s h = (refl, cc (h.0))
-scores_final engine Name s h = absurd (cc h)
-scores_final engine Version s h = absurd (cc h)
-scores_final engine (KnownCommand k) s h = absurd (cc h)
+-- a score is due to a `final_score` alone, and it is one of the empty board
+pub record IsScored (engine : RightEngine) (command : CheckCommand) (size : ℕ) (komi : ℤ) : Type 0 where
+  pub command_is : command ≡ FinalScore
+  pub size_is : size ≡ engine.game.size
+  pub komi_is : komi ≡ engine.game.komi
+  pub fresh : IsFresh engine.game
+
+pub scores_final : (engine : RightEngine) (command : CheckCommand) (s : ℕ) (k : ℤ) → IsDue engine command (Scores s k)
+    → IsScored engine command s k
+scores_final engine (Match (Boardsize size)) s k h = absurd (cc (h.0))
+scores_final engine (Match (Komi komi)) s k h = absurd (of_komi komi (Scores s k) h.0)
+scores_final engine (Match ClearBoard) s k h = absurd (cc h)
+scores_final engine (Match (FixedHandicap stones)) s k h = absurd h
+scores_final engine (Match (Play move)) s k h = absurd h
+scores_final engine (Match (Genmove colour)) s k h = absurd (cc (h.0))
+scores_final engine (Match Undo) s k h = absurd h
+scores_final engine (Match Quit) s k h = absurd h
+scores_final engine FinalScore s k h =
+    record { command_is = refl; size_is = cc (h.0); komi_is = cc (h.0); fresh = h.1 }
+scores_final engine Name s k h = absurd (cc h)
+scores_final engine Version s k h = absurd (cc h)
+scores_final engine (KnownCommand known) s k h = absurd (cc h)
 
 -- what may be refused, and what may say anything
 pub any_free : (engine : RightEngine) (command : CheckCommand) → IsDue engine command AnyReply
     → MayRefuse engine command
 any_free engine (Match (Boardsize size)) h = absurd (cc (h.0))
-any_free engine (Match (Komi komi)) h = absurd (cc (h.0))
+any_free engine (Match (Komi komi)) h = any_inexact komi h.0
 any_free engine (Match ClearBoard) h = absurd (cc h)
 any_free engine (Match (FixedHandicap stones)) h = absurd h
 any_free engine (Match (Play move)) h = absurd h
@@ -207,10 +214,25 @@ any_free engine Name h = tt
 any_free engine Version h = tt
 any_free engine (KnownCommand k) h = tt
 
+pub any_refused : (engine : RightEngine) (command : CheckCommand) → IsDue engine command AnyReply
+    → engine_after engine command AnyReply ≡ after_refusal engine command
+any_refused engine (Match (Boardsize size)) h = absurd (cc (h.0))
+any_refused engine (Match (Komi komi)) h = refl
+any_refused engine (Match ClearBoard) h = absurd (cc h)
+any_refused engine (Match (FixedHandicap stones)) h = absurd h
+any_refused engine (Match (Play move)) h = absurd h
+any_refused engine (Match (Genmove colour)) h = absurd (cc (h.0))
+any_refused engine (Match Undo) h = absurd h
+any_refused engine (Match Quit) h = absurd h
+any_refused engine FinalScore h = absurd (cc (h.0))
+any_refused engine Name h = refl
+any_refused engine Version h = refl
+any_refused engine (KnownCommand k) h = refl
+
 pub says_anything : (engine : RightEngine) (command : CheckCommand) (ch : Choice) (ok : Bool) (text : List ℕ)
-    → IsDue engine command AnyReply → Says engine.game command ch ok text
+    → IsDue engine command AnyReply → Says engine command ch ok text
 says_anything engine (Match (Boardsize size)) ch ok text h = absurd (cc (h.0))
-says_anything engine (Match (Komi komi)) ch ok text h = absurd (cc (h.0))
+says_anything engine (Match (Komi komi)) ch ok text h = tt
 says_anything engine (Match ClearBoard) ch ok text h = absurd (cc h)
 says_anything engine (Match (FixedHandicap stones)) ch ok text h = absurd h
 says_anything engine (Match (Play move)) ch ok text h = absurd h
@@ -225,7 +247,7 @@ says_anything engine (KnownCommand k) ch ok text h = tt
 -- A right engine may refuse it: then a size is due, a score, an `undo` that may fail, or any text.
 abbrev pub MayFail : Due → Type 0
 MayFail (Resizes size) = Unit {0}
-MayFail (Scores s) = Unit {0}
+MayFail (Scores s k) = Unit {0}
 MayFail AnyReply = Unit {0}
 MayFail MayUndo = Unit {0}
 MayFail Succeeds = ⊥
@@ -242,7 +264,7 @@ undo_fails engine (Fails (BadMove fault)) may h = absurd h
 undo_fails engine (Fails (BadHandicap fault)) may h = absurd h
 undo_fails engine (Places size stones) may h = absurd h
 undo_fails engine (Resizes size) may h = absurd h
-undo_fails engine (Scores s) may h = absurd h
+undo_fails engine (Scores s k) may h = absurd h
 undo_fails engine AnyReply may h = absurd h
 undo_fails engine (Chooses colour) may h = absurd h
 
@@ -250,7 +272,7 @@ pub free_fails : (engine : RightEngine) (command : CheckCommand) (due : Due) →
     → IsDue engine command due
     → MayFail due
 free_fails engine (Match (Boardsize size)) due may h = subst MayFail (sym h.0) tt
-free_fails engine (Match (Komi komi)) due may h = absurd may
+free_fails engine (Match (Komi komi)) due may h = subst MayFail (sym (inexact_any komi due may h.0)) tt
 free_fails engine (Match ClearBoard) due may h = absurd may
 free_fails engine (Match (FixedHandicap stones)) due may h = absurd may
 free_fails engine (Match (Play move)) due may h = absurd may

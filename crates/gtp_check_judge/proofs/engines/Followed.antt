@@ -26,7 +26,7 @@ use Rattle.gtp_check_judge.specs.declared.unanswered.Asked.{Asked}
 use Rattle.gtp_check_judge.specs.declared.exam.Exam.{Exam}
 use Rattle.gtp_check_judge.specs.declared.exam.Finding.{Finding}
 use Rattle.gtp_check_judge.specs.Judging.{oldest}
-use Rattle.gtp_check_judge.specs.RightEngine.{RightEngine, fresh_engine, undone_after}
+use Rattle.gtp_check_judge.specs.RightEngine.{RightEngine, fresh_engine, undone_after, opinion_after}
 use Rattle.gtp_check_judge.specs.Exam.{engine_of, Hears}
 use Rattle.gtp_check_judge.specs.Laws.{line_of_asked, IsRight}
 use Rattle.gtp_check_judge.specs.Laws.{Exchange, Talks, IsAsked}
@@ -34,7 +34,8 @@ use Rattle.gtp_check_judge.specs.Laws.{IsRightSoFar}
 use Rattle.gtp_check_judge.proofs.answers.Statuses.{engine_with}
 use Rattle.gtp_check_judge.proofs.engines.OneGame.{RightsFrom, rights_from}
 use Rattle.gtp_check_judge.proofs.engines.Rightly.{nothing_first, one_left, same_rest}
-use Rattle.gtp_check_judge.proofs.engines.Says.{engine_says, one_after_at}
+use Rattle.gtp_check_judge.proofs.engines.Says.{engine_says, even_after_at, one_after_at}
+use Rattle.gtp_check_judge.proofs.scoring.Even.{IsEven}
 use Rattle.gtp_check_judge.proofs.engines.Wire.{IsSent, RawsOf, Wire, bytes_lines, entry_of, wire}
 use Rattle.gtp_check_judge.proofs.talks.Findings.{unblamed}
 use Rattle.gtp_check_judge.proofs.talks.Silence.{oldest_asked, right_so_far}
@@ -79,7 +80,8 @@ module _ {P : Type 0} (may : May P) (lawful : AllowsLawful may) where
     going : state.ended ≡ false
     size : IsSize state.game.size
     out : output_of left ≡ rest
-    game_is : (from after : RightEngine) → from.game ≡ game → RightsFrom from said after → after.game ≡ state.game
+    game_is : (from after : RightEngine) → from.game ≡ game → IsEven from.opinion → RightsFrom from said after
+        → (after.game ≡ state.game) × IsEven after.opinion
 
   follow : (said : List Exchange) (unanswered : List Asked) (raw rest : List ℕ) (old new : State P) (ls : List Line)
       (replies : List WrittenReply)
@@ -96,7 +98,10 @@ module _ {P : Type 0} (may : May P) (lawful : AllowsLawful may) where
     going = going;
     size = size;
     out = out ∙ ap (λ (t : List ℕ). t ++ rest) raws;
-    game_is = λ from after same h. ap (λ (e : RightEngine). e.game) h ∙ same;
+    game_is = λ from after same even h. (
+      ap (λ (e : RightEngine). e.game) h ∙ same,
+      subst (λ (e : RightEngine). IsEven e.opinion) (sym h) even,
+    );
   }
   follow (x ∷ xs) unanswered raw rest old new ls replies Answers.none e going size all raws out = absurd (cc e)
   follow (x ∷ xs) unanswered raw rest old new ls replies (Answers.over ended) e going size all raws out =
@@ -129,10 +134,11 @@ module _ {P : Type 0} (may : May P) (lawful : AllowsLawful may) where
         going = f.going;
         size = f.size;
         out = f.out;
-        game_is = λ from after same h.
+        game_is = λ from after same even h.
             f.game_is h.0 after
             (one_after_at from old.game x.entry x.reply h.0 a.choice same size all.0.limits a.fair h.1 reply_is
-            ∙ sym a.game) h.2;
+            ∙ sym a.game)
+            (even_after_at from old.game x.entry x.reply h.0 a.choice same all.0.limits h.1 reply_is even) h.2;
       }
 
   -- what is read next of the engine's output is its answer to the oldest command
@@ -177,22 +183,25 @@ module _ {P : Type 0} (may : May P) (lawful : AllowsLawful may) where
   asked_of_oldest engine o entry e h = subst (λ (p : Option Asked). IfSome p (IsAsked engine)) e h
 
   engine_right : (before : RightEngine) (game : GameRecord) (entry : Asked) (ch : Choice) → before.game ≡ game
+      → IsEven before.opinion
       → IsSize before.game.size → IsAsked before entry → IsLawfulAt game (line_of_asked entry) ch
       → (after : RightEngine)
       × IsRight before entry (reply_of_answer (Some entry.id) (answer game (line_of_asked entry) ch)) after
-  engine_right before game entry ch same size is fair =
+  engine_right before game entry ch same even size is fair =
       subst (λ (g : GameRecord). IsLawfulAt g (line_of_asked entry) ch → (after : RightEngine)
       × IsRight before entry (reply_of_answer (Some entry.id) (answer g (line_of_asked entry) ch)) after) same
       (λ fair. (
         engine_with (answer before.game (line_of_asked entry) ch).game
             (undone_after before.undone entry.command
+            (reply_of_answer (Some entry.id) (answer before.game (line_of_asked entry) ch)))
+            (opinion_after before entry.command
             (reply_of_answer (Some entry.id) (answer before.game (line_of_asked entry) ch))),
         IsRight.by_table (record {
           id = refl;
           choice = ch;
           lawful = fair;
           status = refl;
-          says = engine_says before entry.id entry.command entry.due ch size is.writable is.limits is.is_due fair;
+          says = engine_says before entry.id entry.command entry.due ch size is.writable is.limits is.is_due fair even;
           leaves = refl;
         }),
       )) fair
@@ -224,8 +233,8 @@ module _ {P : Type 0} (may : May P) (lawful : AllowsLawful may) where
       let here : IsAsked s.before next.entry =
       asked_of_oldest s.before (oldest old.unanswered) next.entry next.oldest_is
       (oldest_asked s.before old.unanswered (engine_of old) s.expects) in
-      let same : s.before.game ≡ f.state.game =
-      f.game_is (fresh_engine rule) s.before refl (rights_from (fresh_engine rule) said s.before s.right) in
+      let same : (s.before.game ≡ f.state.game) × IsEven s.before.opinion =
+      f.game_is (fresh_engine rule) s.before refl tt (rights_from (fresh_engine rule) said s.before s.right) in
       unblamed rule sent came said old new bytes used
       (reply_of_answer (Some next.entry.id) (answer f.state.game (line_of_asked next.entry) next.choice)) finding
       next.entry talk
@@ -234,4 +243,4 @@ module _ {P : Type 0} (may : May P) (lawful : AllowsLawful may) where
       subst (λ (e : RightEngine). (after : RightEngine) × IsRight e next.entry
       (reply_of_answer (Some next.entry.id) (answer f.state.game (line_of_asked next.entry) next.choice)) after)
       (one_left rule sent came said old s.before before talk s.right all)
-      (engine_right s.before f.state.game next.entry next.choice same s.size here next.fair))
+      (engine_right s.before f.state.game next.entry next.choice same.0 same.1 s.size here next.fair))

@@ -12,7 +12,7 @@ use Rattle.gtp_session.proofs.table.Asking.{answer-same, answer-asked}
 use Rattle.gtp_check_judge.specs.declared.unanswered.Asked.{Asked}
 use Rattle.gtp_wire.specs.ReplyWords.{choice_of_text}
 use Rattle.gtp_check_judge.specs.Laws.{line_of_asked, Says, IsByTable, IsRefusal, IsRight}
-use Rattle.gtp_check_judge.specs.RightEngine.{RightEngine, undone_after}
+use Rattle.gtp_check_judge.specs.RightEngine.{RightEngine, undone_after, opinion_after}
 use Rattle.gtp_check_judge.specs.Laws.{Exchange, AllRight}
 use Rattle.gtp_check_judge.proofs.answers.Statuses.{engine_with}
 use Rattle.gtp_check_judge.proofs.engines.Says.{asked_genmove, choice_succeeds, never_refused}
@@ -55,11 +55,11 @@ tabled_game before entry reply a b x y = by (asked before.game (line_of_asked en
         ∙ ap (λ (given : Answer). given.ok) (answer-asked before.game (line_of_asked entry) x.choice colour e)
         ∙ choice_succeeds before.game colour x.choice in
         let one : choice_of_text reply.text.items ≡ Some x.choice =
-        subst (λ (k : CheckCommand). Says before.game k x.choice true reply.text.items) command.1
-        (subst (λ (s : Bool). Says before.game entry.command x.choice s reply.text.items) ok x.says) in
+        subst (λ (k : CheckCommand). Says before k x.choice true reply.text.items) command.1
+        (subst (λ (s : Bool). Says before entry.command x.choice s reply.text.items) ok x.says) in
         let two : choice_of_text reply.text.items ≡ Some y.choice =
-        subst (λ (k : CheckCommand). Says before.game k y.choice true reply.text.items) command.1
-        (subst (λ (s : Bool). Says before.game entry.command y.choice s reply.text.items) ok y.says) in
+        subst (λ (k : CheckCommand). Says before k y.choice true reply.text.items) command.1
+        (subst (λ (s : Bool). Says before entry.command y.choice s reply.text.items) ok y.says) in
         let both : Some x.choice ≡ Some y.choice = sym one ∙ two in
         let same : x.choice ≡ y.choice = cc both in
         ap (λ (c : Choice). (answer before.game (line_of_asked entry) c).game) same
@@ -68,7 +68,8 @@ one_tabled : (before : RightEngine) (entry : Asked) (reply : Reply) (a b : Right
     → IsByTable before entry reply a → IsByTable before entry reply b → a ≡ b
 one_tabled before entry reply a b x y =
     x.leaves
-    ∙ ap (λ (g : GameRecord). engine_with g (undone_after before.undone entry.command reply))
+    ∙ ap (λ (g : GameRecord). engine_with g (undone_after before.undone entry.command reply)
+    (opinion_after before entry.command reply))
     (tabled_game before entry reply a b x y) ∙ sym y.leaves
 
 not_both : (before : RightEngine) (entry : Asked) (reply : Reply) (a b : RightEngine) → IsCheckInLimits entry.command

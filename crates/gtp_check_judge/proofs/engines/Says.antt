@@ -30,14 +30,19 @@ use Rattle.gtp_check_judge.specs.declared.dues.Due.{Due}
 use Rattle.gtp_check_judge.specs.declared.dues.Due.TheVariants.{Succeeds, Fails, Places, Resizes, Scores, Chooses}
 use Rattle.gtp_check_judge.specs.declared.unanswered.Asked.{Asked}
 use Rattle.gtp_wire.specs.ReplyWords.{choice_of_text, names_points}
-use Rattle.gtp_check_judge.specs.RightEngine.{RightEngine}
+use Rattle.gtp_check_judge.specs.RightEngine.{RightEngine, opinion_after, view_read}
 use Rattle.gtp_check_judge.specs.Dues.{IsDue, IsDueTo}
 use Rattle.gtp_check_judge.specs.Laws.{line_of_asked, Says, SaysTo, MayRefuse, IsByTable, IsRight}
+use Rattle.gtp_check_judge.specs.Opinions.{opinion_said}
+use Rattle.gtp_check_judge.specs.Scores.{score_of_text}
+use Rattle.go_base.specs.HalfPoints.{score_text}
+use Rattle.go_board.specs.Area.{score}
+use Rattle.std.specs.Prelude.{if◌then◌else◌}
 use Rattle.gtp_wire.proofs.texts.ReadBack.{vertex_is_read, resign_is_read, points_are_named}
 use Rattle.go_base.specs.declared.choices.Choice.TheVariants as choice
 use Rattle.gtp_check_judge.specs.declared.dues.Due.TheVariants as due
 use Rattle.gtp_check_judge.proofs.answers.Table.{match_answered}
-use Rattle.gtp_check_judge.proofs.scoring.ReadBack.{fresh_score_reads}
+use Rattle.gtp_check_judge.proofs.scoring.Even.{IsEven, even_said, even_says, even_then}
 
 on_largest : (size : ℕ) (points : List ℕ) → size ≤ most_size → All (IsOn size) points → All (IsOn most_size) points
 on_largest size points most on = λ k d less.
@@ -105,8 +110,8 @@ tabled_after before entry reply after ch size lawful right is = by (asked before
         let ok : reply.ok ≡ true =
         ap (λ (r : Reply). r.ok) is ∙ ap (λ (a : Answer). a.ok) given ∙ choice_succeeds before.game colour ch in
         let said : choice_of_text reply.text.items ≡ Some right.choice =
-        subst (λ (k : CheckCommand). Says before.game k right.choice true reply.text.items) command.1
-        (subst (λ (b : Bool). Says before.game entry.command right.choice b reply.text.items) ok right.says) in
+        subst (λ (k : CheckCommand). Says before k right.choice true reply.text.items) command.1
+        (subst (λ (b : Bool). Says before entry.command right.choice b reply.text.items) ok right.says) in
         let both : Some right.choice ≡ Some ch =
         sym said ∙ ap choice_of_text text ∙ choice_is_read before.game colour ch size.most fair in
         let same : right.choice ≡ ch = cc both in
@@ -118,7 +123,8 @@ pub never_refused : (engine : RightEngine) (id : ℕ) (command : CheckCommand) (
     → IsCheckInLimits command → (answer engine.game (line_of_check id command) ch).ok ≡ true
 never_refused engine id (Match (Boardsize s)) ch may limits =
     ap (λ (a : Answer). a.ok) (well_answer engine.game (Some id) (Boardsize s) ch limits)
-never_refused engine id (Match (Komi komi)) ch may limits = absurd may
+never_refused engine id (Match (Komi komi)) ch may limits =
+    ap (λ (a : Answer). a.ok) (well_answer engine.game (Some id) (Komi komi) ch limits)
 never_refused engine id (Match ClearBoard) ch may limits = absurd may
 never_refused engine id (Match (FixedHandicap stones)) ch may limits = absurd may
 never_refused engine id (Match (Play move)) ch may limits = absurd may
@@ -156,6 +162,54 @@ one_after_at before game entry reply after ch same size limits lawful right is =
     → after.game ≡ (answer g (line_of_asked entry) ch).game) same
     (λ size lawful is. one_after before entry reply after ch size limits lawful right is) size lawful is
 
+-- ---- what such an engine thinks of an empty board
+
+-- what is left by an answer by the table
+tabled_even : (before : RightEngine) (entry : Asked) (reply : Reply) (ch : Choice) (command : CheckCommand)
+    → entry.command ≡ command → reply ≡ reply_of_answer (Some entry.id) (answer before.game (line_of_asked entry) ch)
+    → IsEven before.opinion → IsEven (opinion_after before command reply)
+tabled_even before entry reply ch (Match command) e is even = even
+tabled_even before entry reply ch Name e is even = even
+tabled_even before entry reply ch Version e is even = even
+tabled_even before entry reply ch (KnownCommand k) e is even = even
+tabled_even before entry reply ch FinalScore e is even = by reply.ok
+  where
+    text : reply.text.items ≡ score_text (score before.game)
+    text =
+        ap (λ (r : Reply). r.text.items) is
+        ∙ ap (λ (c : CheckCommand). (answer before.game (line_of_check entry.id c) ch).text) e
+
+    by : (b : Bool)
+        → IsEven (if b then opinion_said before.opinion (view_read before.game (score_of_text reply.text.items))
+        else before.opinion)
+    by false = even
+    by true =
+        even_then before.opinion (view_read before.game (score_of_text reply.text.items)) even
+        (λ new h. even_said before.game new
+        (ap (λ (t : List ℕ). view_read before.game (score_of_text t)) (sym text) ∙ h))
+
+pub even_after : (before : RightEngine) (entry : Asked) (reply : Reply) (after : RightEngine) (ch : Choice)
+    → IsCheckInLimits entry.command → IsRight before entry reply after
+    → reply ≡ reply_of_answer (Some entry.id) (answer before.game (line_of_asked entry) ch)
+    → IsEven before.opinion → IsEven after.opinion
+even_after before entry reply after ch limits (IsRight.by_table right) is even =
+    subst IsEven (sym (ap (λ (e : RightEngine). e.opinion) right.leaves))
+    (tabled_even before entry reply ch entry.command refl is even)
+even_after before entry reply after ch limits (IsRight.by_refusal refuses) is even =
+    absurd (let e : false ≡ true =
+    sym refuses.status ∙ ap (λ (r : Reply). r.ok) is
+    ∙ never_refused before entry.id entry.command ch refuses.may limits in cc e)
+
+-- the same, where the game is known by another name
+pub even_after_at : (before : RightEngine) (game : GameRecord) (entry : Asked) (reply : Reply) (after : RightEngine)
+    (ch : Choice) → before.game ≡ game → IsCheckInLimits entry.command → IsRight before entry reply after
+    → reply ≡ reply_of_answer (Some entry.id) (answer game (line_of_asked entry) ch)
+    → IsEven before.opinion → IsEven after.opinion
+even_after_at before game entry reply after ch same limits right is even =
+    subst (λ (g : GameRecord). reply ≡ reply_of_answer (Some entry.id) (answer g (line_of_asked entry) ch)
+    → IsEven after.opinion) same
+    (λ is. even_after before entry reply after ch limits right is even) is
+
 -- an engine's answer to what was asked says what it has to
 match_says : (engine : RightEngine) (id : Option ℕ) (command : Command) (due : Due) (ch : Choice)
     → IsSize engine.game.size
@@ -176,7 +230,7 @@ match_says engine id (FixedHandicap stones) (Fails cause) ch is w l h lawful =
     (sym (match_answered engine id (FixedHandicap stones) (Fails cause) ch is w l h).0) tt
 match_says engine id (FixedHandicap stones) Succeeds ch is w l h lawful = absurd h
 match_says engine id (FixedHandicap stones) (Resizes s) ch is w l h lawful = absurd h
-match_says engine id (FixedHandicap stones) (Scores s) ch is w l h lawful = absurd h
+match_says engine id (FixedHandicap stones) (Scores s k) ch is w l h lawful = absurd h
 match_says engine id (FixedHandicap stones) due.AnyReply ch is w l h lawful = absurd h
 match_says engine id (FixedHandicap stones) (Chooses c) ch is w l h lawful = absurd h
 match_says engine id (FixedHandicap stones) due.MayUndo ch is w l h lawful = absurd h
@@ -200,12 +254,12 @@ match_says engine id Quit due ch is w l h lawful = absurd h
 pub engine_says : (engine : RightEngine) (id : ℕ) (command : CheckCommand) (due : Due) (ch : Choice)
     → IsSize engine.game.size
     → IsCheckWritable command → IsCheckInLimits command → IsDue engine command due
-    → IsLawfulAt engine.game (line_of_check id command) ch
-    → Says engine.game command ch (answer engine.game (line_of_check id command) ch).ok
+    → IsLawfulAt engine.game (line_of_check id command) ch → IsEven engine.opinion
+    → Says engine command ch (answer engine.game (line_of_check id command) ch).ok
     (answer engine.game (line_of_check id command) ch).text
-engine_says engine id (Match command) due ch is w l h lawful =
+engine_says engine id (Match command) due ch is w l h lawful even =
     match_says engine (Some id) command due ch is w l h lawful
-engine_says engine id FinalScore due ch is w l h lawful = fresh_score_reads engine.game h.1 h.2
-engine_says engine id Name due ch is w l h lawful = tt
-engine_says engine id Version due ch is w l h lawful = tt
-engine_says engine id (KnownCommand k) due ch is w l h lawful = tt
+engine_says engine id FinalScore due ch is w l h lawful even = even_says engine even h.1 h.2
+engine_says engine id Name due ch is w l h lawful even = tt
+engine_says engine id Version due ch is w l h lawful even = tt
+engine_says engine id (KnownCommand k) due ch is w l h lawful even = tt

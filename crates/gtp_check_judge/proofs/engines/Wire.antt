@@ -21,7 +21,7 @@ use Rattle.gtp_wire.specs.Lines.{lines}
 use Rattle.gtp_wire.specs.Replies.{IsReply, ReadsFirst}
 use Rattle.gtp_session.specs.Commands.{ends}
 use Rattle.gtp_check_judge.specs.declared.judging.Judgement.{Judgement}
-use Rattle.gtp_check_judge.specs.declared.judging.Judgement.TheVariants.{Right, Plays, Resized, Undone, Wrong}
+use Rattle.gtp_check_judge.specs.declared.judging.Judgement.TheVariants.{Right, Plays, Resized, Undone, Opines, Wrong}
 use Rattle.gtp_check_judge.specs.declared.unanswered.Asked.{Asked}
 use Rattle.gtp_check_judge.specs.declared.exam.Exam.{Exam}
 use Rattle.gtp_check_judge.specs.Dues.{MayBeAsked}
@@ -153,6 +153,10 @@ judged_left exam entry later (Resized size) new list none is = record {
   reader = ap (λ (e : Exam). e.reader) is;
 }
 judged_left exam entry later Undone new list none is = record {
+  unanswered = ap (λ (e : Exam). e.unanswered) is ∙ ap (drop 1) list;
+  reader = ap (λ (e : Exam). e.reader) is;
+}
+judged_left exam entry later (Opines opinion) new list none is = record {
   unanswered = ap (λ (e : Exam). e.unanswered) is ∙ ap (drop 1) list;
   reader = ap (λ (e : Exam). e.reader) is;
 }

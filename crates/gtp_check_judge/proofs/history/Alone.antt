@@ -26,6 +26,7 @@ awaited : (engine : RightEngine) (command : CheckCommand) → ChangesFreely engi
     → is_awaited engine command ≡ true
 awaited engine command (ChangesFreely.genmoves colour) = refl
 awaited engine command (ChangesFreely.sizes size) = refl
+awaited engine command ChangesFreely.scores = refl
 awaited engine command (ChangesFreely.undos may) = may_fail engine.undone engine.game.moves may.undone may.moves
 
 undone_is : (undone : Bool) (moves : List Move) → undo_may_fail undone moves ≡ true
@@ -43,6 +44,7 @@ opens : (entry : Asked) → IsAwaited entry → is_open entry.due ≡ true
 opens entry (IsAwaited.choices colour is) = ap is_open is
 opens entry (IsAwaited.sizes size is) = ap is_open is
 opens entry (IsAwaited.undos is) = ap is_open is
+opens entry (IsAwaited.scores size komi is) = ap is_open is
 
 opened_is : (entry : Asked) (due : Due) → entry.due ≡ due → is_open due ≡ true → IsAwaited entry
 opened_is entry (Chooses colour) is e = IsAwaited.choices colour is
@@ -51,7 +53,7 @@ opened_is entry MayUndo is e = IsAwaited.undos is
 opened_is entry Succeeds is e = absurd (cc e)
 opened_is entry (Fails cause) is e = absurd (cc e)
 opened_is entry (Places size stones) is e = absurd (cc e)
-opened_is entry (Scores s) is e = absurd (cc e)
+opened_is entry (Scores s k) is e = IsAwaited.scores s k is
 opened_is entry AnyReply is e = absurd (cc e)
 
 none_open : (list : List Asked) → awaits list ≡ false → SomeAwaited list → ⊥
@@ -74,6 +76,7 @@ own_opens : (engine : RightEngine) (command : CheckCommand) (due : Due) → IsDu
     → IsOwnToSay command → is_open due ≡ true
 own_opens engine command due h (IsOwnToSay.genmoves colour) = ap is_open h.0
 own_opens engine command due h (IsOwnToSay.sizes size) = ap is_open h.0
+own_opens engine command due h IsOwnToSay.scores = ap is_open h.0
 
 none_own : (list : List Asked) → AllDue list → awaits list ≡ false → SomeAsked IsOwnToSay list → ⊥
 none_own [] all none h = h

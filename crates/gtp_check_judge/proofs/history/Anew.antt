@@ -17,7 +17,7 @@ use Rattle.gtp_check_judge.specs.declared.dues.Due.{Due}
 use Rattle.gtp_check_judge.specs.declared.dues.Due.TheVariants.{Succeeds, Fails, Places, Resizes, Scores, AnyReply}
 use Rattle.gtp_check_judge.specs.declared.dues.Due.TheVariants.{Chooses, MayUndo}
 use Rattle.gtp_check_judge.specs.declared.judging.Judgement.{Judgement}
-use Rattle.gtp_check_judge.specs.declared.judging.Judgement.TheVariants.{Right, Plays, Resized, Undone, Wrong}
+use Rattle.gtp_check_judge.specs.declared.judging.Judgement.TheVariants.{Right, Plays, Resized, Undone, Opines, Wrong}
 use Rattle.gtp_check_judge.specs.declared.unanswered.Asked.{Asked}
 use Rattle.gtp_check_judge.specs.declared.exam.Exam.{Exam}
 use Rattle.gtp_check_judge.specs.declared.exam.Finding.{Finding}
@@ -53,8 +53,8 @@ due_rule game command Succeeds = check_rule game command
 due_rule game command (Places size count) = check_rule game command
 due_rule game command (Fails cause) = refl
 due_rule game command (Resizes size) = refl
-due_rule game command (Scores score) = refl
-due_rule game command AnyReply = refl
+due_rule game command (Scores s k) = refl
+due_rule game command AnyReply = check_rule game command
 due_rule game command (Chooses colour) = refl
 due_rule game command MayUndo = refl
 
@@ -63,6 +63,7 @@ judged_rule exam Right = refl
 judged_rule exam (Plays colour v) = refl
 judged_rule exam (Resized size) = refl
 judged_rule exam Undone = refl
+judged_rule exam (Opines opinion) = refl
 judged_rule exam (Wrong kind) = refl
 
 id_rule : (exam : Exam) (entry : Asked) (reply : Reply) (b : Bool) (finding : Option Finding) (new : Exam)

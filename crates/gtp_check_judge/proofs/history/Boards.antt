@@ -13,7 +13,8 @@ use Rattle.gtp_check_judge.specs.declared.asking.CheckCommand.TheVariants.{Known
 use Rattle.gtp_check_judge.specs.declared.dues.Due.{Due}
 use Rattle.gtp_check_judge.specs.declared.dues.Due.TheVariants.{Succeeds, Resizes, Scores, AnyReply, Chooses}
 use Rattle.gtp_check_judge.specs.declared.judging.Judgement.{Judgement}
-use Rattle.gtp_check_judge.specs.declared.judging.Judgement.TheVariants.{Right, Plays, Resized, Undone, Wrong}
+use Rattle.gtp_check_judge.specs.declared.judging.Judgement.TheVariants.{Right, Plays, Resized, Undone, Opines, Wrong}
+use Rattle.gtp_check_judge.specs.declared.opinions.Opinion.{Opinion}
 use Rattle.gtp_check_judge.specs.declared.setups.Board.{Board}
 use Rattle.gtp_check_judge.specs.declared.setups.Board.TheVariants.{Unknown, Sized, Cleared}
 use Rattle.gtp_check_judge.specs.declared.unanswered.Asked.{Asked}
@@ -28,6 +29,7 @@ use Rattle.gtp_check_judge.specs.HistoryLaws.{SomeAsked, TakesSize, SinceSize, I
 use Rattle.gtp_check_judge.specs.HistoryLaws.{BoardsAreKnown}
 use Rattle.gtp_check_judge.proofs.history.Dues.{AllDue, IsDueOnce, all_due, oldest_due}
 use Rattle.gtp_check_judge.proofs.history.Heard.{Leaving, heard_leaving}
+use Rattle.gtp_check_judge.proofs.commands.Komis.{of_komi}
 use Rattle.gtp_check_judge.proofs.order.Asked.{or_left, or_right}
 use Rattle.gtp_check_judge.proofs.order.Heard.{resized_due}
 
@@ -123,8 +125,7 @@ pub due_size : (engine : RightEngine) (command : CheckCommand) (due : Due) (size
     → due ≡ Resizes size → command ≡ Match (Boardsize size)
 due_size engine (Match (Boardsize s)) due size h e =
     let same : s ≡ size = cc (sym h.0 ∙ e) in ap (λ (n : ℕ). Match (Boardsize n)) same
-due_size engine (Match (Komi komi)) due size h e =
-    absurd (let other : Succeeds ≡ Resizes size = sym h.0 ∙ e in cc other)
+due_size engine (Match (Komi komi)) due size h e = absurd (of_komi komi (Resizes size) (sym e ∙ h.0))
 due_size engine (Match ClearBoard) due size h e =
     absurd (let other : Succeeds ≡ Resizes size = sym h ∙ e in cc other)
 due_size engine (Match (FixedHandicap stones)) due size h e = absurd (subst (HandicapDue engine.game stones) e h)
@@ -134,7 +135,7 @@ due_size engine (Match (Genmove colour)) due size h e =
 due_size engine (Match Undo) due size h e = absurd (subst (UndoDue engine) e h)
 due_size engine (Match Quit) due size h e = absurd h
 due_size engine FinalScore due size h e =
-    absurd (let other : Scores _ ≡ Resizes size = sym h.0 ∙ e in cc other)
+    absurd (let other : Scores _ _ ≡ Resizes size = sym h.0 ∙ e in cc other)
 due_size engine Name due size h e = absurd (let other : AnyReply ≡ Resizes size = sym h ∙ e in cc other)
 due_size engine Version due size h e = absurd (let other : AnyReply ≡ Resizes size = sym h ∙ e in cc other)
 due_size engine (KnownCommand known) due size h e =
@@ -148,26 +149,27 @@ size_due engine command due size h e = due_of (subst (λ (c : CheckCommand). IsD
     due_of h = h.0
 
 -- a success where a size is due is a board of that size
-resized_by : (game : GameRecord) (due : Due) (size : ℕ) (reply : Reply) (got : Judgement) → due ≡ Resizes size
-    → reply.ok ≡ true → Judged game due reply got → got ≡ Resized size
-resized_by game due size reply got is ok j =
-    sized (subst (λ (d : Due). Judged game d reply got) is j)
+resized_by : (game : GameRecord) (opinion : Opinion) (due : Due) (size : ℕ) (reply : Reply) (got : Judgement)
+    → due ≡ Resizes size → reply.ok ≡ true → Judged game opinion due reply got → got ≡ Resized size
+resized_by game opinion due size reply got is ok j =
+    sized (subst (λ (d : Due). Judged game opinion d reply got) is j)
   where
-    sized : Judged game (Resizes size) reply got → got ≡ Resized size
+    sized : Judged game opinion (Resizes size) reply got → got ≡ Resized size
     sized h = h ∙ ap (size_judged size) ok
 
-pub takes_none : (ahead : GameRecord) (entry : Asked) (reply : Reply) (got : Judgement) → IsDueOnce entry
-    → Judged ahead entry.due reply got → ((size : ℕ) → got ≡ Resized size → ⊥)
+pub takes_none : (ahead : GameRecord) (opinion : Opinion) (entry : Asked) (reply : Reply) (got : Judgement)
+    → IsDueOnce entry
+    → Judged ahead opinion entry.due reply got → ((size : ℕ) → got ≡ Resized size → ⊥)
     → TakesSize (record { entry = entry; reply = reply }) → ⊥
-takes_none ahead entry reply got asked j other takes =
+takes_none ahead opinion entry reply got asked j other takes =
     other takes.size
-    (resized_by ahead entry.due takes.size reply got
+    (resized_by ahead opinion entry.due takes.size reply got
     (size_due asked.engine entry.command entry.due takes.size asked.is_due takes.asks) takes.succeeds j)
 
-pub takes_one : (ahead : GameRecord) (entry : Asked) (reply : Reply) (size : ℕ) → IsDueOnce entry
-    → Judged ahead entry.due reply (Resized size) → TakesSize (record { entry = entry; reply = reply })
-takes_one ahead entry reply size asked j =
-    let due = resized_due ahead entry.due reply size j in
+pub takes_one : (ahead : GameRecord) (opinion : Opinion) (entry : Asked) (reply : Reply) (size : ℕ) → IsDueOnce entry
+    → Judged ahead opinion entry.due reply (Resized size) → TakesSize (record { entry = entry; reply = reply })
+takes_one ahead opinion entry reply size asked j =
+    let due = resized_due ahead opinion entry.due reply size j in
     record {
       size = size;
       asks = due_size asked.engine entry.command entry.due size asked.is_due due.0;
@@ -181,7 +183,8 @@ BoardOf said exam = BoardSo said exam.unanswered exam.board
 
 judged_board : (old : Exam) (said : List Exchange) (entry : Asked) (later : List Asked)
     (reply : Reply) (got : Judgement) (new : Exam) → IsDueOnce entry → old.unanswered ≡ entry ∷ later
-    → BoardSo said (entry ∷ later) old.board → Judged old.game entry.due reply got → None ≡ finding_of entry got
+    → BoardSo said (entry ∷ later) old.board → Judged old.game old.opinion entry.due reply got
+    → None ≡ finding_of entry got
     → (rest : List ℕ) → new ≡ after_judged (with_learned (with_rest old rest) entry.command reply) got
     → BoardOf (said ++ record { entry = entry; reply = reply } ∷ []) new
 judged_board old said entry later reply Right new asked list so j none rest is =
@@ -189,25 +192,31 @@ judged_board old said entry later reply Right new asked list so j none rest is =
     (subst (λ (l : List Asked). BoardSo (said ++ record { entry = entry; reply = reply } ∷ []) (drop 1 l) old.board)
     (sym list)
     (answered_board said entry later reply old.board
-    (takes_none old.game entry reply Right asked j (λ size e. cc e)) so))
+    (takes_none old.game old.opinion entry reply Right asked j (λ size e. cc e)) so))
 judged_board old said entry later reply (Plays colour v) new asked list so j none rest is =
     subst (BoardOf (said ++ record { entry = entry; reply = reply } ∷ [])) (sym is)
     (subst (λ (l : List Asked). BoardSo (said ++ record { entry = entry; reply = reply } ∷ []) (drop 1 l) old.board)
     (sym list)
     (answered_board said entry later reply old.board
-    (takes_none old.game entry reply (Plays colour v) asked j (λ size e. cc e)) so))
+    (takes_none old.game old.opinion entry reply (Plays colour v) asked j (λ size e. cc e)) so))
 judged_board old said entry later reply (Resized size) new asked list so j none rest is =
     subst (BoardOf (said ++ record { entry = entry; reply = reply } ∷ [])) (sym is) (
       [],
       SinceSize.taken said (record { entry = entry; reply = reply })
-          (takes_one old.game entry reply size asked j),
+          (takes_one old.game old.opinion entry reply size asked j),
     )
 judged_board old said entry later reply Undone new asked list so j none rest is =
     subst (BoardOf (said ++ record { entry = entry; reply = reply } ∷ [])) (sym is)
     (subst (λ (l : List Asked). BoardSo (said ++ record { entry = entry; reply = reply } ∷ []) (drop 1 l) old.board)
     (sym list)
     (answered_board said entry later reply old.board
-    (takes_none old.game entry reply Undone asked j (λ size e. cc e)) so))
+    (takes_none old.game old.opinion entry reply Undone asked j (λ size e. cc e)) so))
+judged_board old said entry later reply (Opines opinion) new asked list so j none rest is =
+    subst (BoardOf (said ++ record { entry = entry; reply = reply } ∷ [])) (sym is)
+    (subst (λ (l : List Asked). BoardSo (said ++ record { entry = entry; reply = reply } ∷ []) (drop 1 l) old.board)
+    (sym list)
+    (answered_board said entry later reply old.board
+    (takes_none old.game old.opinion entry reply (Opines opinion) asked j (λ size e. cc e)) so))
 judged_board old said entry later reply (Wrong kind) new asked list so j none rest is = absurd (cc none)
 
 heard_board : (old : Exam) (said : List Exchange) (new : Exam) (all : List Exchange)

@@ -4,7 +4,7 @@ use Rattle.std.specs.Prelude.{IfSome, drop}
 use Rattle.go_board.specs.declared.rules.KoRule.{KoRule}
 use Rattle.gtp_wire.specs.declared.replies.Reply.{Reply}
 use Rattle.gtp_check_judge.specs.declared.judging.Judgement.{Judgement}
-use Rattle.gtp_check_judge.specs.declared.judging.Judgement.TheVariants.{Right, Plays, Resized, Undone, Wrong}
+use Rattle.gtp_check_judge.specs.declared.judging.Judgement.TheVariants.{Right, Plays, Resized, Undone, Opines, Wrong}
 use Rattle.gtp_check_judge.specs.declared.unanswered.Asked.{Asked}
 use Rattle.gtp_check_judge.specs.declared.exam.Exam.{Exam}
 use Rattle.gtp_check_judge.specs.RightEngine.{RightEngine}
@@ -48,6 +48,7 @@ judged_due old entry later reply got new list all none rest is =
     by (Plays colour v) none = left
     by (Resized size) none = left
     by Undone none = left
+    by (Opines opinion) none = left
     by (Wrong kind) none = absurd (cc none)
 
 heard_due : (old : Exam) (said : List Exchange) (new : Exam) (all : List Exchange) → AllDue old.unanswered

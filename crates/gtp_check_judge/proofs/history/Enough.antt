@@ -8,7 +8,7 @@ use Rattle.gtp_wire.specs.declared.commands.Command.TheVariants.{Genmove, Undo}
 use Rattle.gtp_wire.specs.declared.replies.Reply.{Reply}
 use Rattle.gtp_check_judge.specs.declared.asking.CheckCommand.TheVariants.{Match, FinalScore}
 use Rattle.gtp_check_judge.specs.declared.judging.Judgement.{Judgement}
-use Rattle.gtp_check_judge.specs.declared.judging.Judgement.TheVariants.{Right, Plays, Resized, Undone, Wrong}
+use Rattle.gtp_check_judge.specs.declared.judging.Judgement.TheVariants.{Right, Plays, Resized, Undone, Opines, Wrong}
 use Rattle.gtp_check_judge.specs.declared.setups.Board.{Board}
 use Rattle.gtp_check_judge.specs.declared.setups.Board.TheVariants.{Unknown, Sized, Cleared}
 use Rattle.gtp_check_judge.specs.declared.unanswered.Asked.{Asked}
@@ -114,7 +114,8 @@ EnoughOf said exam = EnoughSo said exam.unanswered exam.board
 judged_enough : (old : Exam) (said : List Exchange) (entry : Asked) (later : List Asked)
     (reply : Reply) (got : Judgement) (new : Exam) → IsDueOnce entry → old.unanswered ≡ entry ∷ later
     → AreOrderly old.game old.sent (entry ∷ later)
-    → EnoughSo said (entry ∷ later) old.board → Judged old.game entry.due reply got → None ≡ finding_of entry got
+    → EnoughSo said (entry ∷ later) old.board → Judged old.game old.opinion entry.due reply got
+    → None ≡ finding_of entry got
     → (rest : List ℕ) → new ≡ after_judged (with_learned (with_rest old rest) entry.command reply) got
     → EnoughOf (said ++ record { entry = entry; reply = reply } ∷ []) new
 judged_enough old said entry later reply Right new asked list o so j none rest is =
@@ -122,19 +123,19 @@ judged_enough old said entry later reply Right new asked list o so j none rest i
     (subst (λ (l : List Asked). EnoughSo (said ++ record { entry = entry; reply = reply } ∷ []) (drop 1 l) old.board)
     (sym list)
     (answered_enough said entry later reply old.board
-    (takes_none old.game entry reply Right asked j (λ size e. cc e)) so))
+    (takes_none old.game old.opinion entry reply Right asked j (λ size e. cc e)) so))
 judged_enough old said entry later reply (Plays colour v) new asked list o so j none rest is =
     subst (EnoughOf (said ++ record { entry = entry; reply = reply } ∷ [])) (sym is)
     (subst (λ (l : List Asked). EnoughSo (said ++ record { entry = entry; reply = reply } ∷ []) (drop 1 l) old.board)
     (sym list)
     (answered_enough said entry later reply old.board
-    (takes_none old.game entry reply (Plays colour v) asked j (λ size e. cc e)) so))
+    (takes_none old.game old.opinion entry reply (Plays colour v) asked j (λ size e. cc e)) so))
 judged_enough old said entry later reply (Resized size) new asked list o so j none rest is =
-    let due = resized_due old.game entry.due reply size j in
+    let due = resized_due old.game old.opinion entry.due reply size j in
     subst (EnoughOf (said ++ record { entry = entry; reply = reply } ∷ [])) (sym is)
     (subst (λ (l : List Asked). EnoughSo (said ++ record { entry = entry; reply = reply } ∷ []) (drop 1 l) Sized)
     (sym list)
-    (sized_enough said entry later reply Sized (takes_one old.game entry reply size asked j)
+    (sized_enough said entry later reply Sized (takes_one old.game old.opinion entry reply size asked j)
     (none_later entry later (ap is_open due.0) o.alone)
     (λ e. cc e)))
 judged_enough old said entry later reply Undone new asked list o so j none rest is =
@@ -142,7 +143,13 @@ judged_enough old said entry later reply Undone new asked list o so j none rest 
     (subst (λ (l : List Asked). EnoughSo (said ++ record { entry = entry; reply = reply } ∷ []) (drop 1 l) old.board)
     (sym list)
     (answered_enough said entry later reply old.board
-    (takes_none old.game entry reply Undone asked j (λ size e. cc e)) so))
+    (takes_none old.game old.opinion entry reply Undone asked j (λ size e. cc e)) so))
+judged_enough old said entry later reply (Opines opinion) new asked list o so j none rest is =
+    subst (EnoughOf (said ++ record { entry = entry; reply = reply } ∷ [])) (sym is)
+    (subst (λ (l : List Asked). EnoughSo (said ++ record { entry = entry; reply = reply } ∷ []) (drop 1 l) old.board)
+    (sym list)
+    (answered_enough said entry later reply old.board
+    (takes_none old.game old.opinion entry reply (Opines opinion) asked j (λ size e. cc e)) so))
 judged_enough old said entry later reply (Wrong kind) new asked list o so j none rest is = absurd (cc none)
 
 heard_enough : (old : Exam) (said : List Exchange) (new : Exam) (all : List Exchange)
@@ -213,8 +220,8 @@ known_asked rule sent came said exam talk ready board =
           (λ e. cleared) (λ e. absurd (cc e))
           ((skill_had rule sent came said exam known.Undo talk).1 knows) tt;
       scores =
-          λ komi knows asked moves stones. room_of exam FinalScore ready (λ e. absurd (cc e)) (λ e. cleared)
-          (λ e. set_so rule sent came said exam talk komi asked)
+          λ komi knows owes taken asked moves stones. room_of exam FinalScore ready (λ e. owes) (λ e. cleared)
+          (λ e. set_so rule sent came said exam talk komi taken asked)
           ((skill_had rule sent came said exam known.FinalScore talk).1 knows)
           (record { no_moves = moves; no_handicap = stones });
     }

@@ -17,6 +17,7 @@ use Rattle.gtp_check_judge.proofs.talks.Silence.{nothing_exchanged}
 -- What is known of the engine is the same, and what it was asked and hasn't answered.
 pub record IsKept (old new : Exam) : Type 0 where
   pub skills : new.skills ≡ old.skills
+  pub opinion : new.opinion ≡ old.opinion
   pub board : new.board ≡ old.board
   pub komi : new.komi_set ≡ old.komi_set
   pub unanswered : new.unanswered ≡ old.unanswered
@@ -26,13 +27,14 @@ pub record IsKept (old new : Exam) : Type 0 where
 pub data Leaving (old : Exam) (said : List Exchange) (new : Exam) : List Exchange → Type 0 where
   nothing : IsKept old new → Leaving old said new said
   answered : (rest : List ℕ) (entry : Asked) (later : List Asked) (reply : Reply) (got : Judgement)
-      → old.unanswered ≡ entry ∷ later → Judged old.game entry.due reply got → None ≡ finding_of entry got
+      → old.unanswered ≡ entry ∷ later → Judged old.game old.opinion entry.due reply got → None ≡ finding_of entry got
       → new ≡ after_judged (with_learned (with_rest old rest) entry.command reply) got
       → Leaving old said new (said ++ record { entry = entry; reply = reply } ∷ [])
 
 kept : (old : Exam) (rest : List ℕ) (new : Exam) → new ≡ with_rest old rest → IsKept old new
 kept old rest new is = record {
   skills = ap (λ (e : Exam). e.skills) is;
+  opinion = ap (λ (e : Exam). e.opinion) is;
   board = ap (λ (e : Exam). e.board) is;
   komi = ap (λ (e : Exam). e.komi_set) is;
   unanswered = ap (λ (e : Exam). e.unanswered) is;

@@ -1,14 +1,14 @@
 -- All commands that were asked in a talk, answered or not.
 use Rattle.std.proofs.Common.{◌≡◌, ℕ, ◌+◌, Bool, false, List, [], ◌∷◌, ◌++◌, None, refl, sym, ap, subst, append_assoc}
 use Rattle.std.proofs.Common.{◌∙◌}
-use Rattle.std.specs.Prelude.{◌||◌, drop}
+use Rattle.std.specs.Prelude.{drop}
 use Rattle.go_board.specs.declared.rules.KoRule.{KoRule}
 use Rattle.gtp_wire.specs.declared.replies.Reply.{Reply}
 use Rattle.gtp_check_judge.specs.declared.judging.Judgement.{Judgement}
-use Rattle.gtp_check_judge.specs.declared.judging.Judgement.TheVariants.{Right, Plays, Resized, Undone, Wrong}
+use Rattle.gtp_check_judge.specs.declared.judging.Judgement.TheVariants.{Right, Plays, Resized, Undone, Opines, Wrong}
 use Rattle.gtp_check_judge.specs.declared.unanswered.Asked.{Asked}
 use Rattle.gtp_check_judge.specs.declared.exam.Exam.{Exam}
-use Rattle.gtp_check_judge.specs.Setups.{is_komi}
+use Rattle.gtp_check_judge.specs.Setups.{komi_after}
 use Rattle.gtp_check_judge.specs.Exam.{after_judged, finding_of, with_learned, with_rest}
 use Rattle.gtp_check_judge.specs.Laws.{Exchange, Talks, commands_of}
 use Rattle.gtp_check_judge.specs.HistoryLaws.{AreCounted, CommandsAreNumbered}
@@ -47,6 +47,7 @@ judged_listed said exam entry later reply got new list none is = record {
     dropped (Plays colour v) none = refl
     dropped (Resized size) none = refl
     dropped Undone none = refl
+    dropped (Opines opinion) none = refl
     dropped (Wrong kind) none = absurd (cc none)
 
     same_komi : (got : Judgement) → (after_judged exam got).komi_set ≡ exam.komi_set
@@ -54,6 +55,7 @@ judged_listed said exam entry later reply got new list none is = record {
     same_komi (Plays colour v) = refl
     same_komi (Resized size) = refl
     same_komi Undone = refl
+    same_komi (Opines opinion) = refl
     same_komi (Wrong kind) = refl
 
     same_sent : (got : Judgement) → (after_judged exam got).sent ≡ exam.sent
@@ -61,6 +63,7 @@ judged_listed said exam entry later reply got new list none is = record {
     same_sent (Plays colour v) = refl
     same_sent (Resized size) = refl
     same_sent Undone = refl
+    same_sent (Opines opinion) = refl
     same_sent (Wrong kind) = refl
 
 listed : (said : List Exchange) (old : Exam) (all : List Exchange) (new : Exam) → Leaving old said new all
@@ -75,11 +78,11 @@ listed said old all new (Leaving.answered rest entry later reply got list j none
     none is in
     record { list = l.list; komi = l.komi; sent = l.sent }
 
--- What holds of no command and stays with each one that is asked holds in every talk, of the commands and of whether a
--- `komi` was asked.
+-- What holds of no command and stays with each one that is asked holds in every talk, of the commands and of whether
+-- the last `komi` is exact.
 pub in_talks : (P : List Asked → Bool → Type 0) → P [] false
     → ((list : List Asked) (set : Bool) (entry : Asked) → P list set
-    → P (list ++ entry ∷ []) (set || is_komi entry.command))
+    → P (list ++ entry ∷ []) (komi_after set entry.command))
     → (rule : KoRule) (sent came : List ℕ) (said : List Exchange) (exam : Exam) → Talks rule sent came said exam
     → P (commands_of said ++ exam.unanswered) exam.komi_set
 in_talks P none more rule sent came said exam Talks.start = none
@@ -87,7 +90,7 @@ in_talks P none more rule sent came said exam (Talks.ask {sent = s} {came = c} {
     command talk room asks) =
     let entry : Asked = record { id = old.sent + 1; command = command; due = asks.due } in
     subst (λ (e : Exam). P (commands_of said ++ e.unanswered) e.komi_set) (sym asks.new_is)
-    (subst (λ (l : List Asked). P l (old.komi_set || is_komi command))
+    (subst (λ (l : List Asked). P l (komi_after old.komi_set command))
     (append_assoc (commands_of said) old.unanswered (entry ∷ []))
     (more (commands_of said ++ old.unanswered) old.komi_set entry (in_talks P none more rule s came said old talk)))
 in_talks P none more rule sent came said exam (Talks.hear {sent = s} {came = c} {said = x} {old = old} {new = new}

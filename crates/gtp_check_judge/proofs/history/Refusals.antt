@@ -36,7 +36,7 @@ refused_due MayUndo true refused e = absurd (cc e)
 refused_due Succeeds ok refused e = absurd (cc e)
 refused_due (Fails cause) ok refused e = absurd (cc e)
 refused_due (Places s n) ok refused e = absurd (cc e)
-refused_due (Scores s) ok refused e = absurd (cc e)
+refused_due (Scores s k) ok refused e = absurd (cc e)
 refused_due AnyReply ok refused e = absurd (cc e)
 refused_due (Chooses colour) ok refused e = absurd (cc e)
 

@@ -28,6 +28,7 @@ use Rattle.gtp_check_judge.specs.Dues.{IsDue, UndoDue}
 use Rattle.gtp_check_judge.specs.Judging.{Judged, success_judged}
 use Rattle.gtp_check_judge.specs.Exam.{engine_of, Hears, ReplyLeaves, IdLeaves, finding_of, with_rest}
 use Rattle.gtp_check_judge.specs.Laws.{MayFailToUndo, MayRefuse, IsRight, Exchange, AllRight, Talks, IsAsked, Expects}
+use Rattle.gtp_check_judge.specs.Laws.{after_refusal}
 use Rattle.gtp_check_judge.specs.Laws.{IsRightSoFar}
 use Rattle.gtp_check_judge.specs.UndoLaws.{MakesMove, TakesBack, IsUndone, UndoneIsWhatWasSaid, RefusesUndo}
 use Rattle.gtp_check_judge.specs.UndoLaws.{FirstUndosHaveToSucceed}
@@ -155,12 +156,27 @@ one_step said x undone after (Does.rests isnt none is) h =
     by (inl takes) = absurd (none takes)
     by (inr (other, u)) = u
 
+refusal_undone : (engine : RightEngine) (command : CheckCommand)
+    → (after_refusal engine command).undone ≡ engine.undone
+refusal_undone engine (Match (Boardsize size)) = refl
+refusal_undone engine (Match (Komi komi)) = refl
+refusal_undone engine (Match ClearBoard) = refl
+refusal_undone engine (Match (FixedHandicap stones)) = refl
+refusal_undone engine (Match (Play move)) = refl
+refusal_undone engine (Match (Genmove colour)) = refl
+refusal_undone engine (Match Undo) = refl
+refusal_undone engine (Match Quit) = refl
+refusal_undone engine FinalScore = refl
+refusal_undone engine Name = refl
+refusal_undone engine Version = refl
+refusal_undone engine (KnownCommand known) = refl
+
 -- each right answer leaves it so
 right_undone : (before : RightEngine) (entry : Asked) (reply : Reply) (after : RightEngine)
     → IsRight before entry reply after → after.undone ≡ undone_after before.undone entry.command reply
 right_undone before entry reply after (IsRight.by_table right) = ap (λ (e : RightEngine). e.undone) right.leaves
 right_undone before entry reply after (IsRight.by_refusal refuses) =
-    ap (λ (e : RightEngine). e.undone) refuses.leaves
+    ap (λ (e : RightEngine). e.undone) refuses.leaves ∙ refusal_undone before entry.command
     ∙ sym (undone_failed before.undone entry.command reply refuses.status)
 
 undone_left : (rule : KoRule) (said : List Exchange) (before : RightEngine) → AllRight (fresh_engine rule) said before
@@ -199,7 +215,7 @@ first_due engine (Fails (BadMove fault)) h first moves = absurd h
 first_due engine (Fails (BadHandicap fault)) h first moves = absurd h
 first_due engine (Places size count) h first moves = absurd h
 first_due engine (Resizes size) h first moves = absurd h
-first_due engine (Scores score) h first moves = absurd h
+first_due engine (Scores s k) h first moves = absurd h
 first_due engine AnyReply h first moves = absurd h
 first_due engine (Chooses colour) h first moves = absurd h
 
@@ -211,7 +227,8 @@ refused_found : (exam : Exam) (entry : Asked) (reply : Reply) (finding : Option 
 refused_found exam entry reply finding new due id fails h =
     let l : IdLeaves exam entry reply true finding new =
     subst (λ (b : Bool). IdLeaves exam entry reply b finding new) (id_has reply.id entry.id id) h in
-    let j : Judged exam.game Succeeds reply l.0 = subst (λ (d : Due). Judged exam.game d reply l.0) due l.1 in
+    let j : Judged exam.game exam.opinion Succeeds reply l.0 =
+    subst (λ (d : Due). Judged exam.game exam.opinion d reply l.0) due l.1 in
     l.2 ∙ ap (finding_of entry) (j ∙ ap success_judged fails)
 
 first_judged : (rule : KoRule) (sent came : List ℕ) (said : List Exchange) (old new : Exam) (bytes : List ℕ) (used : ℕ)
@@ -240,7 +257,8 @@ later_judged rule sent came said old new bytes used reply finding entry talk h r
     let may : MayFailToUndo r.before =
     record { undone = (undone_left rule said r.before r.right).1 undone; moves = r.moves } in
     right_unblamed rule sent came said old new bytes used reply finding entry r.before r.before talk h r.asked r.right
-    (refusal_right r.before entry reply (subst (MayRefuse r.before) (sym r.undo) may) r.id r.fails)
+    (refusal_right r.before entry reply r.before (subst (MayRefuse r.before) (sym r.undo) may)
+    (sym (ap (after_refusal r.before) r.undo)) r.id r.fails)
 
 pub undos_judged : FirstUndosHaveToSucceed
 undos_judged = record { first = first_judged; later = later_judged }

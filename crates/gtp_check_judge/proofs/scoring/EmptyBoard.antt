@@ -17,11 +17,7 @@ use Rattle.go_board.specs.Counting.{CountsFor}
 use Rattle.go_board.specs.decisions.Counting.{counts_for?}
 use Rattle.go_base.specs.Decide.{holds}
 use Rattle.std.specs.List.{range_with_len}
-use Rattle.gtp_check_judge.specs.RightEngine.{RightEngine}
-use Rattle.gtp_check_judge.specs.Dues.{IsFresh, IsDue}
-use Rattle.gtp_check_judge.specs.declared.dues.Due.{Due}
-use Rattle.gtp_check_judge.specs.declared.dues.Due.TheVariants.{Scores}
-use Rattle.gtp_check_judge.specs.declared.asking.CheckCommand.TheVariants.{FinalScore}
+use Rattle.gtp_check_judge.specs.Dues.{IsFresh}
 use Rattle.go_base.specs.declared.colours.Colour.TheVariants as colour
 
 blank : (size : ℕ) (c : Colour) (q : ℕ) → at (empty_board size) q ≡ stone c → ⊥
@@ -74,7 +70,3 @@ score_fresh game fresh =
     (no_area game.size colour.Black)
     ∙ ap (λ (n : ℕ). (pos 2 *ℤ (pos 0 -ℤ pos n)) -ℤ game.komi) (no_area game.size colour.White)
     ∙ by_komi game.komi
-
-pub due_score : (engine : RightEngine) (due : Due) → IsDue engine FinalScore due
-    → due ≡ Scores (neg_ℤ engine.game.komi)
-due_score engine due h = h.0 ∙ ap Scores (score_fresh engine.game h.1)

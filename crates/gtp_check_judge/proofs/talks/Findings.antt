@@ -7,7 +7,7 @@ use Rattle.gtp_wire.specs.declared.replies.Reply.{Reply}
 use Rattle.gtp_wire.specs.declared.replies.ReplyFault.{ReplyFault}
 use Rattle.gtp_wire.specs.declared.replies.ReplyFault.TheVariants as fault
 use Rattle.gtp_check_judge.specs.declared.judging.Judgement.{Judgement}
-use Rattle.gtp_check_judge.specs.declared.judging.Judgement.TheVariants.{Right, Plays, Resized, Undone, Wrong}
+use Rattle.gtp_check_judge.specs.declared.judging.Judgement.TheVariants.{Right, Plays, Resized, Undone, Opines, Wrong}
 use Rattle.gtp_check_judge.specs.declared.judging.Kind.{Kind}
 use Rattle.gtp_check_judge.specs.declared.judging.Kind.TheVariants.{WrongId, Unasked}
 use Rattle.gtp_check_judge.specs.declared.unanswered.Asked.{Asked}
@@ -62,6 +62,7 @@ found_by entry Right finding e = absurd (cc e)
 found_by entry (Plays colour v) finding e = absurd (cc e)
 found_by entry (Resized size) finding e = absurd (cc e)
 found_by entry Undone finding e = absurd (cc e)
+found_by entry (Opines opinion) finding e = absurd (cc e)
 found_by entry (Wrong kind) finding e = (kind, refl, e)
 
 -- a right answer has the id

@@ -4,7 +4,7 @@ use Rattle.std.specs.Prelude.{Result, Ok, Err}
 use Rattle.gtp_wire.specs.declared.replies.Reply.{Reply}
 use Rattle.gtp_wire.specs.declared.replies.ReplyFault.{ReplyFault}
 use Rattle.gtp_check_judge.specs.declared.judging.Judgement.{Judgement}
-use Rattle.gtp_check_judge.specs.declared.judging.Judgement.TheVariants.{Right, Plays, Resized, Undone, Wrong}
+use Rattle.gtp_check_judge.specs.declared.judging.Judgement.TheVariants.{Right, Plays, Resized, Undone, Opines, Wrong}
 use Rattle.gtp_check_judge.specs.declared.unanswered.Asked.{Asked}
 use Rattle.gtp_check_judge.specs.declared.exam.Exam.{Exam}
 use Rattle.gtp_check_judge.specs.declared.exam.Finding.{Finding}
@@ -35,6 +35,7 @@ judged_down exam entry Right finding new e is = absurd (cc e)
 judged_down exam entry (Plays colour v) finding new e is = absurd (cc e)
 judged_down exam entry (Resized size) finding new e is = absurd (cc e)
 judged_down exam entry Undone finding new e is = absurd (cc e)
+judged_down exam entry (Opines opinion) finding new e is = absurd (cc e)
 judged_down exam entry (Wrong kind) finding new e is = ap (λ (x : Exam). x.up) is
 
 id_down : (exam : Exam) (entry : Asked) (reply : Reply) (b : Bool) (finding : Finding) (new : Exam)
@@ -62,6 +63,7 @@ judged_up exam entry Right new none is = ap (λ (x : Exam). x.up) is
 judged_up exam entry (Plays colour v) new none is = ap (λ (x : Exam). x.up) is
 judged_up exam entry (Resized size) new none is = ap (λ (x : Exam). x.up) is
 judged_up exam entry Undone new none is = ap (λ (x : Exam). x.up) is
+judged_up exam entry (Opines opinion) new none is = ap (λ (x : Exam). x.up) is
 judged_up exam entry (Wrong kind) new none is = absurd (cc none)
 
 id_up : (exam : Exam) (entry : Asked) (reply : Reply) (b : Bool) (new : Exam)

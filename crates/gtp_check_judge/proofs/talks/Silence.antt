@@ -7,6 +7,10 @@ use Rattle.std.proofs.lemmas.List.{append-nil}
 use Rattle.go_base.specs.Size.{IsSize}
 use Rattle.go_board.specs.declared.rules.KoRule.{KoRule}
 use Rattle.gtp_check_judge.specs.declared.asking.CheckCommand.{CheckCommand}
+use Rattle.gtp_check_judge.specs.declared.asking.CheckCommand.TheVariants.{Match, FinalScore, Name, Version}
+use Rattle.gtp_check_judge.specs.declared.asking.CheckCommand.TheVariants.{KnownCommand}
+use Rattle.gtp_wire.specs.declared.commands.Command.TheVariants.{Boardsize, Komi, ClearBoard, FixedHandicap, Play}
+use Rattle.gtp_wire.specs.declared.commands.Command.TheVariants.{Genmove, Undo, Quit}
 use Rattle.gtp_wire.specs.declared.replies.Reply.{Reply}
 use Rattle.gtp_wire.specs.declared.replies.ReplyFault.{ReplyFault}
 use Rattle.gtp_session.proofs.reply_texts.Spoken.{answer_good}
@@ -14,7 +18,7 @@ use Rattle.gtp_check_judge.specs.declared.dues.Due.{Due}
 use Rattle.gtp_check_judge.specs.declared.dues.Due.TheVariants.{Succeeds, Fails, Places, Resizes, Scores, AnyReply}
 use Rattle.gtp_check_judge.specs.declared.dues.Due.TheVariants.{Chooses, MayUndo}
 use Rattle.gtp_check_judge.specs.declared.judging.Judgement.{Judgement}
-use Rattle.gtp_check_judge.specs.declared.judging.Judgement.TheVariants.{Right, Plays, Resized, Undone, Wrong}
+use Rattle.gtp_check_judge.specs.declared.judging.Judgement.TheVariants.{Right, Plays, Resized, Undone, Opines, Wrong}
 use Rattle.gtp_check_judge.specs.declared.unanswered.Asked.{Asked}
 use Rattle.gtp_check_judge.specs.declared.exam.Exam.{Exam}
 use Rattle.gtp_check_judge.specs.RightEngine.{RightEngine, fresh_engine}
@@ -25,10 +29,11 @@ use Rattle.gtp_check_judge.specs.Exam.{finding_of}
 use Rattle.gtp_check_judge.specs.Exam.{with_learned, with_rest, AreOrderly, IsOrderly, HasRoomFor}
 use Rattle.gtp_check_judge.specs.Laws.{line_of_asked, IsRight, Exchange, AllRight, exchanged, Talks, IsAsked, Expects}
 use Rattle.gtp_check_judge.specs.Laws.{IsRightSoFar}
+use Rattle.gtp_check_judge.specs.Laws.{after_refusal}
 use Rattle.gtp_check_judge.proofs.answers.Judged.{judged_holds}
-use Rattle.gtp_check_judge.proofs.answers.Statuses.{HoldsOf, moved, resized, taken_back}
+use Rattle.gtp_check_judge.proofs.answers.Statuses.{HoldsOf, moved, opined, resized, taken_back}
 use Rattle.gtp_check_judge.proofs.order.Asked.{asked_orderly}
-use Rattle.gtp_check_judge.proofs.order.Heard.{heard_orderly, plays_chosen, resized_due, undone_by_undo}
+use Rattle.gtp_check_judge.proofs.order.Heard.{heard_orderly, opines_scores, plays_chosen, resized_due, undone_by_undo}
 
 -- ---- what is expected
 
@@ -92,33 +97,53 @@ alone before ahead sent entry later due is opens stays o h =
 
 judged_before : (before ahead : RightEngine) (sent : ℕ) (entry : Asked) (later : List Asked) (due : Due) (reply : Reply)
     (got : Judgement) → entry.due ≡ due → AreOrderly ahead.game sent (entry ∷ later)
-    → Expects before (entry ∷ later) ahead → Judged ahead.game due reply got → Judged before.game due reply got
+    → Expects before (entry ∷ later) ahead → Judged ahead.game ahead.opinion due reply got
+    → Judged before.game before.opinion due reply got
 judged_before before ahead sent entry later Succeeds reply got is o h j = j
 judged_before before ahead sent entry later (Fails cause) reply got is o h j = j
 judged_before before ahead sent entry later (Places s n) reply got is o h j = j
 judged_before before ahead sent entry later (Resizes s) reply got is o h j = j
-judged_before before ahead sent entry later (Scores s) reply got is o h j = j
+judged_before before ahead sent entry later (Scores s k) reply got is o h j =
+    subst (λ (g : RightEngine). Judged g.game g.opinion (Scores s k) reply got)
+    (alone before ahead sent entry later (Scores s k) is refl refl o h).here j
 judged_before before ahead sent entry later AnyReply reply got is o h j = j
 judged_before before ahead sent entry later MayUndo reply got is o h j = j
 judged_before before ahead sent entry later (Chooses colour) reply got is o h j =
-    subst (λ (g : RightEngine). Judged g.game (Chooses colour) reply got)
+    subst (λ (g : RightEngine). Judged g.game g.opinion (Chooses colour) reply got)
     (alone before ahead sent entry later (Chooses colour) is refl refl o h).here j
 
 -- what is judged of the reply to the oldest command holds of it
 pub holds : (before ahead : RightEngine) (sent : ℕ) (entry : Asked) (later : List Asked) (reply : Reply)
     (got : Judgement)
     → IsSize before.game.size → AreOrderly ahead.game sent (entry ∷ later) → Expects before (entry ∷ later) ahead
-    → has_id reply.id entry.id ≡ true → Judged ahead.game entry.due reply got → HoldsOf before entry reply got
+    → has_id reply.id entry.id ≡ true → Judged ahead.game ahead.opinion entry.due reply got
+    → HoldsOf before entry reply got
 holds before ahead sent entry later reply got size o h id j =
     judged_holds before entry entry.due reply got refl size h.0 (id_is reply.id entry.id id)
     (judged_before before ahead sent entry later entry.due reply got refl o h j)
 
 -- ---- silence
 
+refusal_size : (engine : RightEngine) (command : CheckCommand)
+    → (after_refusal engine command).game.size ≡ engine.game.size
+refusal_size engine (Match (Boardsize size)) = refl
+refusal_size engine (Match (Komi komi)) = refl
+refusal_size engine (Match ClearBoard) = refl
+refusal_size engine (Match (FixedHandicap stones)) = refl
+refusal_size engine (Match (Play move)) = refl
+refusal_size engine (Match (Genmove colour)) = refl
+refusal_size engine (Match Undo) = refl
+refusal_size engine (Match Quit) = refl
+refusal_size engine FinalScore = refl
+refusal_size engine Name = refl
+refusal_size engine Version = refl
+refusal_size engine (KnownCommand known) = refl
+
 right_size : (before : RightEngine) (entry : Asked) (reply : Reply) (after : RightEngine) → IsSize before.game.size
     → IsRight before entry reply after → IsSize after.game.size
 right_size before entry reply after size (IsRight.by_refusal refuses) =
-    subst (λ (g : RightEngine). IsSize g.game.size) (sym refuses.leaves) size
+    subst (λ (g : RightEngine). IsSize g.game.size) (sym refuses.leaves)
+    (subst IsSize (sym (refusal_size before entry.command)) size)
 right_size before entry reply after size (IsRight.by_table right) =
     subst (λ (g : RightEngine). IsSize g.game.size) (sym right.leaves)
     (answer_good before.game (line_of_asked entry) right.choice size right.lawful).size
@@ -154,7 +179,7 @@ judged_so_far : (rule : KoRule) (said : List Exchange) (exam : Exam) (entry : As
     → (s : IsRightBefore rule said (entry ∷ later) (engine_of exam))
     → AreOrderly exam.game exam.sent (entry ∷ later)
     → exam.unanswered ≡ entry ∷ later
-    → has_id reply.id entry.id ≡ true → Judged exam.game entry.due reply got
+    → has_id reply.id entry.id ≡ true → Judged exam.game exam.opinion entry.due reply got
     → None ≡ finding_of entry got → new ≡ after_judged exam got
     → IsRightBefore rule (said ++ record { entry = entry; reply = reply } ∷ []) new.unanswered (engine_of new)
 judged_so_far rule said exam entry later reply Right new s o list id j none is =
@@ -169,22 +194,28 @@ judged_so_far rule said exam entry later reply Right new s o list id j none is =
       size = right_size s.before entry reply after s.size right;
     }
 judged_so_far rule said exam entry later reply (Plays colour v) new s o list id j none is =
-    let chosen = plays_chosen exam.game entry.due reply colour v j in
+    let chosen = plays_chosen exam.game exam.opinion entry.due reply colour v j in
     opened_so_far rule said exam entry later reply new (λ (e : RightEngine). moved e colour v) s list
     (alone s.before (engine_of exam) exam.sent entry later (Chooses chosen.0) chosen.1 refl refl o s.expects)
     (holds s.before (engine_of exam) exam.sent entry later reply (Plays colour v) s.size o s.expects id j)
     (ap (λ (e : Exam). e.unanswered) is) (ap engine_of is)
 judged_so_far rule said exam entry later reply (Resized size) new s o list id j none is =
-    let due = resized_due exam.game entry.due reply size j in
+    let due = resized_due exam.game exam.opinion entry.due reply size j in
     opened_so_far rule said exam entry later reply new (λ (e : RightEngine). resized e size) s list
     (alone s.before (engine_of exam) exam.sent entry later (Resizes size) due.0 refl refl o s.expects)
     (holds s.before (engine_of exam) exam.sent entry later reply (Resized size) s.size o s.expects id j)
     (ap (λ (e : Exam). e.unanswered) is) (ap engine_of is)
 judged_so_far rule said exam entry later reply Undone new s o list id j none is =
-    let due = undone_by_undo exam.game entry.due reply j in
+    let due = undone_by_undo exam.game exam.opinion entry.due reply j in
     opened_so_far rule said exam entry later reply new taken_back s list
     (alone s.before (engine_of exam) exam.sent entry later MayUndo due.0 refl refl o s.expects)
     (holds s.before (engine_of exam) exam.sent entry later reply Undone s.size o s.expects id j)
+    (ap (λ (e : Exam). e.unanswered) is) (ap engine_of is)
+judged_so_far rule said exam entry later reply (Opines opinion) new s o list id j none is =
+    let due = opines_scores exam.game exam.opinion entry.due reply opinion j in
+    opened_so_far rule said exam entry later reply new (λ (e : RightEngine). opined e opinion) s list
+    (alone s.before (engine_of exam) exam.sent entry later (Scores due.0 due.1) due.2 refl refl o s.expects)
+    (holds s.before (engine_of exam) exam.sent entry later reply (Opines opinion) s.size o s.expects id j)
     (ap (λ (e : Exam). e.unanswered) is) (ap engine_of is)
 judged_so_far rule said exam entry later reply (Wrong kind) new s o list id j none is = absurd (cc none)
 

@@ -1,7 +1,7 @@
 -- A right answer leaves what is known of the engine's commands.
 use Rattle.std.proofs.Common.{◌≡◌, None, ap}
 use Rattle.gtp_check_judge.specs.declared.judging.Judgement.{Judgement}
-use Rattle.gtp_check_judge.specs.declared.judging.Judgement.TheVariants.{Right, Plays, Resized, Undone, Wrong}
+use Rattle.gtp_check_judge.specs.declared.judging.Judgement.TheVariants.{Right, Plays, Resized, Undone, Opines, Wrong}
 use Rattle.gtp_check_judge.specs.declared.unanswered.Asked.{Asked}
 use Rattle.gtp_check_judge.specs.declared.exam.Exam.{Exam}
 use Rattle.gtp_check_judge.specs.Exam.{after_judged, finding_of}
@@ -12,4 +12,5 @@ judged_skills exam entry Right new none is = ap (λ (e : Exam). e.skills) is
 judged_skills exam entry (Plays colour v) new none is = ap (λ (e : Exam). e.skills) is
 judged_skills exam entry (Resized size) new none is = ap (λ (e : Exam). e.skills) is
 judged_skills exam entry Undone new none is = ap (λ (e : Exam). e.skills) is
+judged_skills exam entry (Opines opinion) new none is = ap (λ (e : Exam). e.skills) is
 judged_skills exam entry (Wrong kind) new none is = absurd (cc none)

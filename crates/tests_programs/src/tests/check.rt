@@ -9,8 +9,8 @@ mod texts;
 use crate::asserts::{assert_true, some};
 use crate::tests::commands::command;
 use go_base::Size;
-use gtp_check_app::talk::{Purpose, Said};
 use gtp_check_questions::Lesson;
+use gtp_check_shortening::talk::{Purpose, Said};
 use std::process::Abort;
 
 /// A conversation of these commands on a board of this size, each with the end of its line. A right engine refuses none
@@ -26,6 +26,8 @@ fn talk_of<R: Abort + AllocGlobal>(rt: &R, lines: u32, commands: &[(&str, usize)
             },
             is_illegal: false,
             size: some(rt, Size::new(lines)),
+            moves: 0,
+            last: None,
             end: *end,
         };
         assert_true(rt, talk.push(said).is_ok());

@@ -1,6 +1,7 @@
 //! Tests of the examiner.
 mod conversations;
 mod findings;
+mod scores;
 
 use crate::asserts::{assert_equal, assert_true, some};
 use crate::tests::commands::command;
@@ -12,7 +13,7 @@ use std::process::Abort;
 /// The line of a command, which may be asked and is.
 fn asked(rt: &impl Abort, examiner: &mut Examiner, command: CheckCommand) -> CommandText {
     assert_true(rt, examiner.has_room(&command));
-    examiner.ask(command)
+    examiner.ask(command).text
 }
 
 /// Asks the command of this line, which is to be written so.

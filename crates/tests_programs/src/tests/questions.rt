@@ -18,7 +18,7 @@ use std::process::Abort;
 
 /// A part of this lesson whose scenes are on a board of this size. No lesson has more than 300 parts.
 fn board(rt: &impl Abort, lesson: Lesson, part: u32, lines: u32) -> Board {
-    board_of(lesson, part.min(299), some(rt, Size::new(lines)))
+    board_of(lesson, part.min(299), Some(some(rt, Size::new(lines))))
 }
 
 /// A part on a board of this size, which is turned in the way of this number.

@@ -315,3 +315,43 @@ class SharedLibertyCountsOnce(Bug):
                 taken |= set() if free - marked else chain
                 marked |= chain | free
         return taken
+
+
+# all points but two, of which one is played then
+@shown_by(on(19, " ".join(f"b {column}{row}" for column in "ABCDEFGHJKLMNOPQRST" for row in range(1, 20)
+                          if (column, row) not in (("A", 1), ("T", 19))), "play w A1"), "?")
+class SearchHasRoomForSixteenPoints(Bug):
+    """The search of a chain has room for 16 points that wait, and what finds no room isn't looked at further."""
+
+    def chain(self, board, point):
+        found, todo = {point}, [point]
+        while todo:
+            for near in self.near[todo.pop()]:
+                if near not in found and board[near] == board[point]:
+                    found.add(near)
+                    todo += [near] if len(todo) < 16 else []
+        return found
+
+
+@shown_by(on(5, "b C3", "play b C3"), "?")
+class OwnStoneIsPlayedAgain(Bug):
+    """A play on a stone of one's own is taken: only the other side's are looked for."""
+
+    def is_legal(self, colour, point):
+        return point != PASS and self.board[point] == colour or super().is_legal(colour, point)
+
+    def is_sensible(self, colour, point):
+        return self.board[point] == EMPTY and super().is_sensible(colour, point)
+
+
+# A1 takes B1, and is looked at before it
+@instead_of("move", on(5, KO, "play w B1"), "=")
+def first_chain_without_a_liberty_is_taken(self, right, colour, point):
+    """After a play the board is looked through from A1, and the first chain without a liberty is taken off, the mover's own too."""
+    before = self.board
+    right(colour, point)
+    bare = filled(before, [] if point == PASS else [point], colour)
+    own = set() if point == PASS else self.chain(bare, point)
+    taken = gone(before, self.board)
+    if taken and not self.is_free(bare, own) and min(own) < min(taken):
+        self.board = filled(bare, own)

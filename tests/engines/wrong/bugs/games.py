@@ -291,3 +291,24 @@ class NeighboursAreKept(Bug):
         if (row, column) not in self.kept:
             self.kept[row, column] = [divmod(near, self.size) for near in self.beside(point)]
         return [y * self.size + x for y, x in self.kept[row, column] if x < self.size and y < self.size]
+
+
+@shown_by([*on(5, "b C3"), "\n".join(["clear_board"] * 256), "play w C3"], "=")
+class GamesAreCountedInAByte(Bug):
+    """`clear_board` empties nothing. A stone has the number of its game, and that of another game counts as none. The number is a byte."""
+
+    def __init__(self, *options):
+        self.game, self.stamps = 0, {}  # and of a point the last stone there, with its game
+        super().__init__(*options)
+
+    def begin(self, size):
+        if size != getattr(self, "size", None):
+            self.stamps = {}
+        else:
+            self.stamps.update((point, (self.game, stone)) for point, stone in enumerate(self.board) if stone != EMPTY)
+        self.game = (self.game + 1) % 256
+        super().begin(size)
+        board = bytearray(self.board)
+        for point, (game, stone) in self.stamps.items():
+            board[point] = stone if game == self.game else EMPTY
+        self.board = bytes(board)

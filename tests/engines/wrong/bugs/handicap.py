@@ -182,3 +182,30 @@ class RefusedHandicapCounts(Bug):
             raise Failure("board not empty")
         self.noted = True
         return super().do_fixed_handicap(arguments)
+
+
+@instead_of("do_fixed_handicap", placed(9, 2), "points C3 G7")
+def stones_on_lines_of_their_own(self, right, arguments):
+    """The points are answered on a line each, as names are by `list_commands`."""
+    return right(arguments).replace(" ", "\n")
+
+
+# White's only move that is no eye takes A1, and Black has none: all other points are White's, but G7 and the two where stones were taken
+@shown_by(on(7, "", "fixed_handicap 2", *plays("b A1 " + " ".join(
+    f"w {column}{row}" for column in "ABCDEFG" for row in range(1, 8) if column + str(row) not in ("A1", "B1", "G7", "C3", "E5"))),
+    "genmove b"), "moves pass")
+class HandicapMakesTheEngineWhite(Bug):
+    """After a handicap the engine is White, whatever colour is asked for."""
+
+    placed = False
+
+    def begin(self, size):
+        super().begin(size)
+        self.placed = False
+
+    def place_handicap(self, points):
+        super().place_handicap(points)
+        self.placed = True
+
+    def do_genmove(self, arguments):
+        return super().do_genmove(["w"] if self.placed and self.argument(arguments, 0, self.read_colour) else arguments)

@@ -1,6 +1,8 @@
 """Ko."""
+from itertools import islice
+
 from rules import EMPTY, PASS, POSITIONAL, other
-from talks import KO, NO_ROOM_AT_E5, Bug, Counting, Keeping, gone, instead_of, on, passes, patch, shown_by
+from talks import KO, NO_ROOM_AT_E5, Bug, Counting, Keeping, filled, gone, instead_of, on, passes, patch, shown_by
 
 HAS_STONE = bytes(min(value, 1) for value in range(256))
 
@@ -207,3 +209,44 @@ class KoForgottenAtASuicide(Counting):
     def undo(self):
         super().undo()
         self.number = 0
+
+
+@instead_of("refuse", on(5, KO, "! play b B1", "play w A1"), "?")
+def refused_retake_takes_the_stone(self, right, colour, point):
+    """A play that is ko is refused, and the stone that it would have taken is off the board: ko is looked at after the captures."""
+    board = self.put(colour, point) if point is not None and self.board[point] == EMPTY else None
+    if board and self.is_ko(board, colour, point):
+        self.board = filled(self.board, gone(self.board, board))
+    right(colour, point)
+
+
+def drawn():
+    """Numbers of fifteen bits, as `rand` of an old C library gives them."""
+    state = 1
+    while True:
+        state = (state * 214013 + 2531011) % 2**32
+        yield state >> 16 & 0x7FFF
+
+
+# the numbers of the three stones have the sum 0, as the empty board has
+@shown_by(on(7, "b F3 w D6", "play w C6"), "=", options=("--ko", POSITIONAL))
+class NumbersOfFifteenBits(Keeping):
+    """Positional ko compares boards by a sum of numbers of their stones, which have fifteen bits, so others have the same sum."""
+
+    numbers = list(islice(zip(*[drawn()] * 2), 625))  # of each point those of a stone of Black's and of White's
+
+    def fresh(self):
+        return []
+
+    def sum_of(self, board):
+        """The sum of the numbers of a board's stones, bit by bit."""
+        total = 0
+        for point, stone in enumerate(board):
+            total ^= self.numbers[point][stone - 1] if stone != EMPTY else 0
+        return total
+
+    def after(self, before, colour, point):
+        return [*self.kept, self.sum_of(before)]
+
+    def is_ko(self, board, colour, point):
+        return self.sum_of(board) in (self.kept if self.ko == POSITIONAL else self.kept[-1:])

@@ -1,6 +1,8 @@
 """Komi, and scores. `final_score` of an empty board shows the komi that an engine uses."""
 import struct
 
+from right import Failure
+from rules import BLACK, PASS
 from talks import Bug, instead_of, on, patch, shown_by
 
 
@@ -197,3 +199,39 @@ class KomiIsOfTheNextGame(Bug):
 
     def do_komi(self, arguments):
         self.setting = self.argument(arguments, 0, self.read_komi)
+
+
+@instead_of("do_final_score", on(5, "", "final_score", "play w A1"), "=")
+def score_plays_on_the_board(self, right, arguments):
+    """A score is worked out by playing on, and the first stone of that stays on the board."""
+    text = right(arguments)
+    point = next((point for point in range(len(self.board)) if self.is_legal(BLACK, point)), PASS)
+    self.board = self.board if point == PASS else self.put(BLACK, point)
+    return text
+
+
+@shown_by(on(5, "", "final_score", "play b C3"), "=")
+class GameIsOverAfterAScore(Bug):
+    """`final_score` ends the game, so up to the next `clear_board` no move is taken."""
+
+    over = False
+
+    def begin(self, size):
+        super().begin(size)
+        self.over = False
+
+    def do_final_score(self, arguments):
+        self.over = True
+        return super().do_final_score(arguments)
+
+    def need_room(self):
+        super().need_room()
+        if self.over:
+            raise Failure("the game is over")
+
+
+@instead_of("do_komi", on(5, "b C3", "komi 6.5", "play w C3"), "?")
+def komi_clears_the_board(self, right, arguments):
+    """A komi begins a new game."""
+    right(arguments)
+    self.begin(self.size)

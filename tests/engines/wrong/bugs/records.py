@@ -238,3 +238,15 @@ class ChainsOf361(Bug):
         super().place_handicap(points)
         for _ in points:
             next(self.numbers)
+
+
+# T19 is point 360
+@shown_by(on(19, "b T19", "undo", "play w T19"), "=")
+class MovesAreBytes(Bug):
+    """The record keeps a move's point in a byte, so `undo` leaves a stone past point 255, and empties another point."""
+
+    def undo(self):
+        (colour, point), after = self.record[-1], self.board
+        super().undo()
+        if point != PASS and point > 255 and after[point] == colour:
+            self.board = filled(filled(self.board, [point], colour), [point % 256])

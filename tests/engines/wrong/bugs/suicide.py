@@ -1,6 +1,6 @@
 """Suicide, and plays that are taken for it."""
-from rules import EMPTY, other
-from talks import NO_ROOM_AT_E5, Bug, Keeping, filled, gone, instead_of, on, patch, shown_by
+from rules import EMPTY, PASS, other
+from talks import NO_ROOM_AT_E5, Bug, Keeping, filled, gone, instead_of, on, patch, plays, shown_by
 
 from .captures import Counted
 
@@ -145,3 +145,21 @@ class PrisonersAllowSuicide(Keeping):
 
     def is_suicide(self, board, colour, point):
         return colour not in self.kept and super().is_suicide(board, colour, point)
+
+
+# White's A2 has no liberty but A1, until White takes A3
+@shown_by(on(5, "w A2 b A3 b B2 b B1", "! play w A1", *plays("w A4 w B3"), "play w A1"), "=")
+class SuicideIsNoted(Bug):
+    """That a play is suicide is noted until a point beside it changes, so a liberty that its chain gets elsewhere isn't seen."""
+
+    def begin(self, size):
+        super().begin(size)
+        self.noted = {}
+
+    def is_legal(self, colour, point):
+        if point == PASS or self.board[point] != EMPTY:
+            return super().is_legal(colour, point)
+        beside = [self.board[near] for near in self.near[point]]
+        if self.dies(colour, point):
+            self.noted[colour, point] = beside
+        return self.noted.get((colour, point)) != beside and super().is_legal(colour, point)

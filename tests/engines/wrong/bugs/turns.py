@@ -1,7 +1,7 @@
 """Whose turn it is. Either colour may move at any time, also after two passes."""
 from right import Failure
-from rules import BLACK, PASS, WHITE, other
-from talks import instead_of, on, patch
+from rules import BLACK, EMPTY, PASS, WHITE, other
+from talks import filled, instead_of, on, patch
 
 PATCHES = [
     patch("same_colour_twice", "A second play of one colour is refused, as out of turn.", on(5, "b A1", "play b B1"), "=",
@@ -52,3 +52,13 @@ def colours_by_turn(self, right, arguments):
     self.argument(arguments, 0, self.read_colour)
     turn = other(self.record[-1][0]) if self.record else BLACK
     right(["?bw"[turn], *arguments[1:]])
+
+
+@instead_of("move", on(5, "b A1 w A2 b pass w pass", "play w A1"), "?")
+def dead_stones_go_after_two_passes(self, right, colour, point):
+    """After two passes the game is counted, and chains that have one liberty are taken off as dead."""
+    right(colour, point)
+    if [place for _, place in self.record[-2:]] == [PASS, PASS]:
+        chains = {frozenset(self.chain(self.board, place)) for place, stone in enumerate(self.board) if stone != EMPTY}
+        dead = [chain for chain in chains if len({near for it in chain for near in self.near[it] if self.board[near] == EMPTY}) == 1]
+        self.board = filled(self.board, [place for chain in dead for place in chain])

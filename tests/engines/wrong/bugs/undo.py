@@ -1,6 +1,6 @@
 """Undo."""
 from right import Failure
-from rules import BLACK, EMPTY, PASS, WHITE, other
+from rules import BLACK, EMPTY, PASS, POSITIONAL, WHITE, other
 from talks import KO, Bug, Counting, filled, gone, instead_of, on, plays, shown_by
 
 from .captures import Counted
@@ -361,3 +361,19 @@ class PassesStayAtUndo(Bug):
         if self.passes >= 2:
             raise Failure("game over")
         return super().do_genmove(arguments)
+
+
+@shown_by(on(5, "b C3", "undo", "play b C3"), "=", options=("--ko", POSITIONAL))
+class TakenBackBoardsAreKept(Bug):
+    """Positional ko keeps the boards of the game in a set, from which `undo` takes none, so a move can't be made again."""
+
+    def begin(self, size):
+        super().begin(size)
+        self.made = set()
+
+    def move(self, colour, point):
+        super().move(colour, point)
+        self.made |= {self.board} if point != PASS else set()
+
+    def is_ko(self, board, colour, point):
+        return board in self.made or super().is_ko(board, colour, point)

@@ -1,7 +1,7 @@
 use Rattle.std.proofs.Common.{[], ◌∷◌, codes, sym}
 use Rattle.std.proofs.lemmas.List.{append-nil}
 use Rattle.gtp_check_app.specs.Summary.{lack_line}
-use Rattle.gtp_check_app.proofs.Joining.{one_more}
+use Rattle.gtp_check_texts.proofs.Joining.{one_more}
 use Rattle.gtp_check_app.proofs.summary.add_lacks.Goals as goal
 
 pub returns : goal.returns

@@ -16,6 +16,7 @@ fn bytes_endings_and_causes_are_shown_in_printable_bytes(rt: HostRuntime) -> Res
     push_ending(&mut line, Ending::Unknown);
     push_ending(&mut line, Ending::Status(3));
     push_ending(&mut line, Ending::Signal(11));
+    push_ending(&mut line, Ending::Running);
     let mut unstarted = ArrayVec::<u8, 600>::new();
     let words = ["no_such_program", "--now"];
     push_unstarted(
@@ -24,7 +25,10 @@ fn bytes_endings_and_causes_are_shown_in_printable_bytes(rt: HostRuntime) -> Res
     );
     for (bytes, text) in [
         (shown.as_slice(), " A~\\\"\\\\\\n\\r\\t\\x00\\x1B\\x7F\\xFF"),
-        (line.as_slice(), "\"=1 ok\\n\", exit status 3, signal 11"),
+        (
+            line.as_slice(),
+            "\"=1 ok\\n\", exit status 3, signal 11, but it ran on",
+        ),
         (
             unstarted.as_slice(),
             "not started: no such file: \"no_such_program\"",

@@ -1,11 +1,15 @@
 //! The texts of complaints.
 use super::talk_of;
 use crate::asserts::{assert_equal_for, text_of};
-use gtp_check_app::complaint::{Complaint, complaint_text};
-use gtp_check_app::engine::Fault;
+use go_board::{Game, KoRule};
 use gtp_check_judge::{Cause, Kind};
 use gtp_check_questions::Lesson;
+use gtp_check_shortening::superko::game_before;
+use gtp_check_shortening::talk::Said;
+use gtp_check_texts::complaint::{Complaint, complaint_text};
+use gtp_check_texts::fault::Fault;
 use gtp_process::{Ending, PipeCause};
+use std::process::Abort;
 use std::test::Fail;
 
 /// A complaint without its commands: its number and its lesson, what is wrong, and how the process ended.
@@ -43,7 +47,8 @@ static ROWS: [Row; 8] = [
 2 undo
 # it wrote: \"=2\\n\\n\"
 # right: there is no move to take back
-# the command after it may have been sent before its answer came
+# asked before this answer was read:
+3 undo
 
 ",
     },
@@ -64,7 +69,9 @@ static ROWS: [Row; 8] = [
 1 undo
 # it wrote: \"\"
 # right: an engine answers each command, and reads on until quit
-# the 2 commands after it may have been sent before its answer came
+# asked before this answer was read:
+2 undo
+3 undo
 
 ",
     },
@@ -84,8 +91,10 @@ static ROWS: [Row; 8] = [
         text: "# 12 ko: \"1 undo\": its output ended within a reply, signal 11
 1 undo
 # it wrote: \"=1\\n\"
-# right: a reply ends with two newlines
-# the 2 commands after it may have been sent before its answer came
+# right: an answer ends with an empty line: two newlines
+# asked before this answer was read:
+2 undo
+3 undo
 
 ",
     },
@@ -107,12 +116,12 @@ static ROWS: [Row; 8] = [
 2 undo
 3 undo
 # it wrote: \"?3 ko\\n\\n\"
-# right: there is a move to take back
+# right: the command succeeds
 # under positional ko the refusal is right: try --ko positional
 
 ",
     },
-    // The right score is that of the last komi. Other komis were set before that and after it.
+    // A score is judged by the engine's own scores alone.
     Row {
         head: (
             1,
@@ -120,71 +129,75 @@ static ROWS: [Row; 8] = [
             Fault::Wrote(Kind::OtherScore),
             Ending::Status(0),
         ),
-        commands: &[
-            ("komi 1", 0),
-            ("komi 6.5", 0),
-            ("clear_board", 0),
-            ("final_score", 0),
-            ("komi 2", 0),
-        ],
-        answered: 3,
+        commands: &[("komi 1", 0), ("clear_board", 0), ("final_score", 0)],
+        answered: 2,
         sent: b"",
         wrote: b"=\n\n",
         is_positional: false,
-        text: "# 1 komi: \"\": another score
+        text: "# 1 komi: \"\": a score that doesn't differ from its others as the komis do
 # it wrote: \"=\\n\\n\"
-# right: W+6.5; on an empty board the score is komi alone
-# the command after it may have been sent before its answer came
+# right: it scored this board twice alike under another komi: scores differ as the komis do
 
 ",
     },
+    // What is late may not be flushed.
     Row {
         head: (
             1,
-            Lesson::Komi,
-            Fault::Wrote(Kind::OtherScore),
-            Ending::Status(0),
+            Lesson::Start,
+            Fault::CutOff(PipeCause::Ended),
+            Ending::Status(124),
         ),
-        commands: &[
-            ("komi 1", 0),
-            ("komi -3.5", 0),
-            ("clear_board", 0),
-            ("final_score", 0),
-            ("komi 2", 0),
-        ],
-        answered: 3,
-        sent: b"",
-        wrote: b"=\n\n",
+        commands: &[("name", 7)],
+        answered: 0,
+        sent: b"1 name\n",
+        wrote: b"",
         is_positional: false,
-        text: "# 1 komi: \"\": another score
-# it wrote: \"=\\n\\n\"
-# right: B+3.5; on an empty board the score is komi alone
-# the command after it may have been sent before its answer came
+        text: "# 1 start: \"1 name\": its output ended, exit status 124
+1 name
+# it wrote: \"\"
+# right: an engine answers in time: does it flush each answer, and end it with an empty line?
 
 ",
     },
+    // The board is drawn before the command, and the stones that it captures are named.
     Row {
         head: (
-            1,
-            Lesson::Komi,
-            Fault::Wrote(Kind::OtherScore),
-            Ending::Status(0),
+            2,
+            Lesson::Captures,
+            Fault::Wrote(Kind::Refused),
+            Ending::Running,
         ),
         commands: &[
-            ("komi 1", 0),
-            ("komi 0", 0),
-            ("clear_board", 0),
-            ("final_score", 0),
-            ("komi 2", 0),
+            ("boardsize 9", 14),
+            ("play b A1", 26),
+            ("play w B1", 38),
+            ("play w A2", 50),
+            ("name", 57),
         ],
         answered: 3,
-        sent: b"",
-        wrote: b"=\n\n",
+        sent: b"1 boardsize 9\n2 play b A1\n3 play w B1\n4 play w A2\n5 name\n",
+        wrote: b"?4 no\n\n",
         is_positional: false,
-        text: "# 1 komi: \"\": another score
-# it wrote: \"=\\n\\n\"
-# right: 0; on an empty board the score is komi alone
-# the command after it may have been sent before its answer came
+        text: "# 2 captures: \"4 play w A2\": it was refused
+1 boardsize 9
+2 play b A1
+3 play w B1
+# . . . . . . . . . 9
+# . . . . . . . . . 8
+# . . . . . . . . . 7
+# . . . . . . . . . 6
+# . . . . . . . . . 5
+# . . . . . . . . . 4
+# . . . . . . . . . 3
+# . . . . . . . . . 2
+# X O . . . . . . . 1
+# A B C D E F G H J
+4 play w A2
+# it wrote: \"?4 no\\n\\n\"
+# right: legal: it captures 1 stone of black: A1
+# asked before this answer was read:
+5 name
 
 ",
     },
@@ -214,23 +227,42 @@ static ROWS: [Row; 8] = [
     },
 ];
 
+/// What an engine was asked, and the game of a right engine before the command that was answered wrongly.
+#[derive(Drop)]
+struct Asked {
+    talk: Vec<Said>,
+    game: Option<Game>,
+}
+
+/// What a row's engine was asked.
+fn asked_by<R: Abort + AllocGlobal>(rt: &R, row: &Row) -> Asked {
+    let talk = talk_of(rt, 9, row.commands);
+    let game = game_before(&talk[..row.answered + 1], KoRule::Simple);
+    Asked { talk, game }
+}
+
+/// The complaint of a row.
+fn complaint_of<'t>(row: &'t Row, asked: &'t Asked) -> Complaint<'t> {
+    let (number, lesson, fault, ending) = row.head;
+    Complaint {
+        number,
+        lesson,
+        fault,
+        sent: row.sent,
+        talk: asked.talk.as_slice(),
+        answered: row.answered,
+        wrote: row.wrote,
+        ending,
+        is_positional: row.is_positional,
+        game: asked.game.as_ref(),
+    }
+}
+
 #[test]
 fn a_complaint_has_the_conversation_and_what_is_right(rt: HostRuntime) -> Result<(), Fail> {
     for row in &ROWS {
-        let (number, lesson, fault, ending) = row.head;
-        let talk = talk_of(&rt, 9, row.commands);
-        let complaint = Complaint {
-            number,
-            lesson,
-            fault,
-            sent: row.sent,
-            talk: talk.as_slice(),
-            answered: row.answered,
-            wrote: row.wrote,
-            ending,
-            is_positional: row.is_positional,
-        };
-        let text = complaint_text(rt.alloc(), &complaint)?;
+        let asked = asked_by(&rt, row);
+        let text = complaint_text(rt.alloc(), &complaint_of(row, &asked))?;
         assert_equal_for(&rt, row.commands, text_of(&rt, text.as_slice()), row.text);
     }
     Ok(())

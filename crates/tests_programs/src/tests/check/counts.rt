@@ -1,10 +1,10 @@
 //! What was found and noted.
 use crate::asserts::assert_equal;
-use gtp_check_app::engine::Fault;
-use gtp_check_app::notes::Notes;
 use gtp_check_app::tally::Tally;
 use gtp_check_judge::Kind;
 use gtp_check_questions::Lesson;
+use gtp_check_talks::notes::Notes;
+use gtp_check_texts::fault::Fault;
 
 #[test]
 fn three_of_a_kind_are_shown_and_starts_without_a_right_answer_are_counted(rt: HostRuntime) {
@@ -25,8 +25,9 @@ fn three_of_a_kind_are_shown_and_starts_without_a_right_answer_are_counted(rt: H
     );
     assert_equal(&rt, tally.find(Lesson::Komi, refused), true);
     assert_equal(&rt, tally.complaints, 7);
-    assert_equal(&rt, tally.take_start(), true);
-    assert_equal(&rt, tally.take_start(), false);
+    assert_equal(&rt, tally.may_start(), true);
+    tally.start();
+    assert_equal(&rt, tally.starts_left, 0);
     let mut notes = Notes::new();
     notes.start();
     notes.start();

@@ -18,8 +18,8 @@ fn options_have_defaults_and_lessons_are_chosen_in_their_order(
     assert_equal(&rt, options.rule, KoRule::Simple);
     assert_equal(
         &rt,
-        (options.size, options.seed, options.restarts),
-        (0, 1, 200),
+        (options.size, options.seed, options.restarts, options.trials),
+        (0, 1, 200, 60),
     );
     let plan = plan_of(rt.alloc(), &options)?;
     assert_equal(&rt, plan.words.len(), 2);
@@ -83,10 +83,11 @@ fn a_plan_has_a_command_and_a_lesson(rt: HostRuntime) -> Result<(), Fail> {
 }
 
 /// Words of which one option is out of its limits, or names no lesson.
-static BEYOND: [[&str; 4]; 4] = [
+static BEYOND: [[&str; 4]; 5] = [
     ["gtp_check", "engine", "--size", "4"],
     ["gtp_check", "engine", "--size", "26"],
     ["gtp_check", "engine", "--restarts", "1001"],
+    ["gtp_check", "engine", "--trials", "1001"],
     ["gtp_check", "engine", "--only", "nothing"],
 ];
 

@@ -2,8 +2,8 @@
 use super::talk_of;
 use crate::asserts::{assert_equal, assert_equal_for, assert_true, some};
 use crate::tests::commands::command;
-use gtp_check_app::flat::{games_in, last_games, shortened, shortenings};
-use gtp_check_app::superko::is_positional;
+use gtp_check_shortening::flat::{games_in, last_games, shortened, shortenings};
+use gtp_check_shortening::superko::is_positional;
 use std::test::Fail;
 
 /// Two games. In the first a stone is put on another one, and two moves are taken back.

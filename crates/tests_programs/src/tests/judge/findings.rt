@@ -7,7 +7,7 @@ use gtp_check_judge::{Cause, CheckCommand, Examiner, Kind, MOST_UNANSWERED, Refu
 use gtp_wire::Reply;
 
 /// The board's size, the commands that are asked on it, what is heard, and what is found.
-static ANSWERS: [(&str, &[&str], &str, Option<Kind>); 23] = [
+static ANSWERS: [(&str, &[&str], &str, Option<Kind>); 15] = [
     // What a right engine does may not be refused.
     (
         "1 boardsize 5\n",
@@ -92,55 +92,6 @@ static ANSWERS: [(&str, &[&str], &str, Option<Kind>); 23] = [
         &["6 undo\n"],
         "hello\n",
         Some(Kind::NoStatus),
-    ),
-    // Scores are compared as numbers.
-    (
-        "1 boardsize 5\n",
-        &["6 komi 6.5\n", "7 final_score\n"],
-        "=6\n\n=7 W+6.50\n\n",
-        None,
-    ),
-    (
-        "1 boardsize 5\n",
-        &["6 komi 6.5\n", "7 final_score\n"],
-        "=6\n\n?7 cannot score\n\n",
-        None,
-    ),
-    (
-        "1 boardsize 5\n",
-        &["6 komi -3.5\n", "7 final_score\n"],
-        "=6\n\n=7 B+3.5\n\n",
-        None,
-    ),
-    (
-        "1 boardsize 5\n",
-        &["6 komi 0\n", "7 final_score\n"],
-        "=6\n\n=7 0\n\n",
-        None,
-    ),
-    (
-        "1 boardsize 5\n",
-        &["6 komi 6.5\n", "7 final_score\n"],
-        "=6\n\n=7 W+6\n\n",
-        Some(Kind::OtherScore),
-    ),
-    (
-        "1 boardsize 5\n",
-        &["6 komi 6.5\n", "7 final_score\n"],
-        "=6\n\n=7 B+6.5\n\n",
-        Some(Kind::OtherScore),
-    ),
-    (
-        "1 boardsize 5\n",
-        &["6 komi 6.5\n", "7 final_score\n"],
-        "=6\n\n=7 W+-6.5\n\n",
-        Some(Kind::NoScore),
-    ),
-    (
-        "1 boardsize 5\n",
-        &["6 komi 6.5\n", "7 final_score\n"],
-        "=6\n\n=7 6.5\n\n",
-        Some(Kind::NoScore),
     ),
 ];
 

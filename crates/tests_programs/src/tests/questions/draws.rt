@@ -71,7 +71,7 @@ fn assert_drawn(rt: &impl Abort, row: &Row) {
     let board = Board {
         size,
         way: Way::of(0),
-        ..board_of(Lesson::Genmoves, 0, size)
+        ..board_of(Lesson::Genmoves, 0, Some(size))
     };
     let game = game_on(&board, is_filled);
     let draws = Draws { seed, number };

@@ -1,11 +1,12 @@
 //! Boards that are filled, however they are turned, on sizes 3, 5, 6 and 19.
-use super::{asked, turned};
+use super::{after, asked, board, turned};
 use crate::asserts::{assert_equal, assert_equal_for, assert_true};
 use go_base::Colour;
 use go_board::Game;
 use gtp_check_judge::CheckCommand;
 use gtp_check_questions::actions::Question;
 use gtp_check_questions::boards::Board;
+use gtp_check_questions::lessons::Lesson;
 use gtp_check_questions::scenes::{WAYS, crossing};
 use gtp_check_questions::stretches::Stretch;
 use gtp_wire::Command;
@@ -70,6 +71,46 @@ fn the_points_that_are_left_are_played_on_an_empty_board(rt: HostRuntime) {
         play_all(&rt, Stretch::Filled, &board, &mut full);
         for made in game.moves() {
             assert_true(&rt, full.legal(made.colour, made.vertex));
+        }
+    }
+}
+
+/// The game beside the ko of this part, once the board was filled and the ko taken, and the colour that took.
+fn sealed(rt: &impl Abort, board: &Board) -> (Game, Colour) {
+    let mut game = after(rt, board, board.scene);
+    assert_true(rt, game.undo().is_ok());
+    for step in 0..Stretch::Sealed.steps() {
+        if let Question::Ask(CheckCommand::Match(Command::Play(made))) = asked(
+            Stretch::Sealed,
+            step,
+            board,
+            &game,
+        ) {
+            let _ = game.play(made.colour, made.vertex);
+        }
+    }
+    play_all(rt, Stretch::Act, board, &mut game);
+    let took = match game.moves().last() {
+        Some(made) => made.colour,
+        None => Colour::Black,
+    };
+    (game, took)
+}
+
+/// Beside what only looks like a ko it has two points, or one.
+#[test]
+fn beside_a_ko_on_a_full_board_the_other_colour_may_only_pass(rt: HostRuntime) {
+    let legal = [0, 0, 0, 0, 2, 1];
+    for lines in [5, 6, 19] {
+        for part in 0..Lesson::Ko.parts() {
+            let board = board(&rt, Lesson::Ko, part, lines);
+            let (game, took) = sealed(&rt, &board);
+            let found = legal_points(&game, took.other());
+            let wanted = legal.get((part / WAYS) as usize).copied();
+            assert_equal_for(&rt, (lines, part), Some(found), wanted);
+            let answer = asked(Stretch::Answer, 0, &board, &game);
+            let genmove = CheckCommand::Match(Command::Genmove(took.other()));
+            assert_equal_for(&rt, (lines, part), answer, Question::Ask(genmove));
         }
     }
 }

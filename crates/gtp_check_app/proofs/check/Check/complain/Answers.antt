@@ -1,15 +1,14 @@
 use Rattle.std.proofs.Common.{◌∙◌, refl, inl, inr, [], ◌∷◌}
 use Rattle.std.proofs.lemmas.Result.{err_from_is_err_and}
 use Rattle.byte_streams.specs.Writing.{line_out, no_line}
-use Rattle.gtp_check_app.specs.Complaints.{complaint_lines}
-use Rattle.gtp_check_app.specs.Dialogues.{wrong_of}
-use Rattle.gtp_check_app.specs.Shortening.{shortenings}
+use Rattle.gtp_check_texts.specs.Complaints.{complaint_lines}
+use Rattle.gtp_check_talks.specs.Dialogues.{wrong_of}
 use Rattle.gtp_check_app.specs.Progress.{cleared, looking_line}
 use Rattle.gtp_check_app.specs.private.Steps.{complaint_broke, complaint_refused}
 use Rattle.gtp_check_app.proofs.Progressing.{both_shown}
 use Rattle.gtp_check_app.proofs.Settling.{complained, is_hidden}
 use Rattle.gtp_check_app.proofs.Gathering.{where_err, where_ok}
-use Rattle.gtp_check_app.proofs.Shortening.{shortens_asks}
+use Rattle.gtp_check_app.proofs.Shortening.{shortened_asks}
 use Rattle.gtp_check_app.proofs.check.Check.complain.Goals as goal
 
 pub returns-then-not-find-clause-goes_out : goal.returns-then-not-find-clause-goes_out
@@ -60,7 +59,7 @@ returns-in-Some-2-clause-stops g c =
           gone)
       | inr kept ↦ rw (kept.0, kept.1, kept.2)
           (complaint_refused c.in-Some.ensures.closes
-          (shortens_asks g.S.Process.Process c.args.plan.now (wrong_of c.in-Some.found) shortenings shortens) refl
+          (shortened_asks g.S.Process.Process c.args.plan.now (wrong_of c.in-Some.found) _ _ _ _ _ shortens) refl
           c.show_looking.ensures gone)
     ]))
 
@@ -97,6 +96,6 @@ returns-clause-stops g c =
           gone)
       | inr kept ↦ rw (kept.0, kept.1, kept.2)
           (complaint_refused c.in-Some.ensures.closes
-          (shortens_asks g.S.Process.Process c.args.plan.now (wrong_of c.in-Some.found) shortenings shortens) refl
+          (shortened_asks g.S.Process.Process c.args.plan.now (wrong_of c.in-Some.found) _ _ _ _ _ shortens) refl
           c.show_looking.ensures gone)
     ]))

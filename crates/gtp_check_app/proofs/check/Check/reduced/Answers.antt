@@ -1,0 +1,80 @@
+use Rattle.std.proofs.Common.{◌≡◌, ◌∙◌, ap, arith, length, option_map, refl, sym, List, Some}
+use Rattle.std.proofs.lemmas.Result.{err_from_is_err_and}
+use Rattle.gtp_process.specs.Starts.{program_line}
+use Rattle.gtp_check_judge.specs.declared.asking.CheckCommand.{CheckCommand}
+use Rattle.gtp_check_talks.specs.Dialogues.{none, wrong_of, wrong_talk}
+use Rattle.gtp_check_shortening.specs.Reduction.{begun, next}
+use Rattle.gtp_check_shortening.specs.Shortening.{commands_of}
+use Rattle.gtp_check_shortening.specs.declared.limits.Limits.{Limits}
+use Rattle.gtp_check_app.specs.Turns.{Reduces, limits_of}
+use Rattle.gtp_check_app.proofs.Shortening.{reduces_asks, then_more}
+use Rattle.gtp_check_app.proofs.check.Check.reduced.Goals as goal
+use Rattle.gtp_check_app.proofs.check.Check.reduced.Goals.{in-None, in-Some-2}
+
+pub returns-in_err-commands-clause-refused : goal.returns-in_err-commands-clause-refused
+returns-in_err-commands-clause-refused g c =
+    let exit = c.from_residual in
+    let failed = err_from_is_err_and exit.result exit.ensures.1 in
+    rw failed.1 (failed.2, none)
+
+pub returns-in_err-reduction-clause-refused : goal.returns-in_err-reduction-clause-refused
+returns-in_err-reduction-clause-refused g c =
+    let exit = c.from_residual-in_err-reduction in
+    let failed = err_from_is_err_and exit.result exit.ensures.1 in
+    rw failed.1 (failed.2, none)
+
+pub loop-best-init : goal.loop-best-init
+loop-best-init g c =
+    let commands : c.as_slice.result.now ≡ commands_of (wrong_talk (wrong_of c.args.longer.now)) =
+    c.as_slice.ensures.value ∙ c.in_ok-commands.ensures ∙ ap commands_of c.conversation.ensures in
+    let is : c.in_ok-reduction.reduction ≡ begun (commands_of (wrong_talk (wrong_of c.args.longer.now)))
+    (limits_of c.args.plan.now (wrong_of c.args.longer.now)) =
+    c.in_ok-reduction.ensures
+    ∙ ap (λ (all : List CheckCommand). begun all c.limits_of-limits.result) commands
+    ∙ ap (λ (limits : Limits). begun (commands_of (wrong_talk (wrong_of c.args.longer.now))) limits)
+    c.limits_of-limits.ensures in
+    record { reduces = rw is Reduces.begins; engine = refl }
+
+pub returns-in_err-commands-2-clause-refused : goal.returns-in_err-commands-2-clause-refused
+returns-in_err-commands-2-clause-refused g c =
+    let exit = c.from_residual-in_err-commands-2 in
+    let failed = err_from_is_err_and exit.result exit.ensures.1 in
+    rw failed.1 (
+      failed.2,
+      reduces_asks g.S.Process.Process c.args.plan.now (wrong_of c.args.found.now) _ _ _ c.loop-best.invariant.reduces,
+    )
+
+pub returns-in_err-try_one-clause-refused : goal.returns-in_err-try_one-clause-refused
+returns-in_err-try_one-clause-refused g c =
+    let exit = c.from_residual-in_err-try_one in
+    let failed = err_from_is_err_and exit.result exit.ensures.1 in
+    let refused = c.in_err-try_one.ensures.refused in
+    rw (failed.1, failed.2) (
+      refused.0,
+      then_more (program_line c.args.plan.now.words.items) _ _
+          (reduces_asks g.S.Process.Process c.args.plan.now (wrong_of c.args.found.now) _ _ _
+          c.loop-best.invariant.reduces)
+          refused.1,
+    )
+
+pub loop-best-preserved : goal.loop-best-preserved
+loop-best-preserved g c =
+    let is_next : next c.loop-best.reduction ≡ Some c.in-Some.commands.items =
+    sym c.in_ok-commands-2.ensures ∙ ap (λ one. option_map (λ commands. commands.items) one) c.in-Some.is in
+    let count : c.len-asked.result ≡ length c.in-Some.commands.items = omega (arith, c.len-asked.ensures) in
+    let same = c.in_ok-try_one.ensures.engine ∙ c.loop-best.invariant.engine in
+    elim c.match-branch-6.branch [
+      | in-None w ↦ record {
+        reduces = rw (w.reduction-is, w.best-is, w.failed.ensures, count)
+            (Reduces.failed c.in-Some.commands.items c.loop-best.invariant.reduces is_next
+            (rw (c.as_slice-in-Some.ensures.value, w.in-None.is) at c.in_ok-try_one.ensures.tries));
+        engine = same;
+      }
+      | in-Some-2 w ↦ record {
+        reduces = rw (w.reduction-is, w.best-is, w.succeeded.ensures, count)
+            (Reduces.succeeded {tried = wrong_of w.in-Some-2.tried} c.in-Some.commands.items
+            c.loop-best.invariant.reduces is_next
+            (rw (c.as_slice-in-Some.ensures.value, w.in-Some-2.is) at c.in_ok-try_one.ensures.tries));
+        engine = same;
+      }
+    ]

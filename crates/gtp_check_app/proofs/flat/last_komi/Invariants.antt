@@ -1,7 +1,0 @@
-use Rattle.std.proofs.Common.{◌≡◌, take}
-use Rattle.gtp_check_app.specs.Shortening.{is_komi, last_such}
-use Rattle.gtp_check_app.proofs.flat.last_komi.Given as goal
-
--- the last one so far
-abbrev pub invariant-loop-said : goal.invariant-loop-said
-invariant-loop-said l = l.last ≡ last_such is_komi (take l.said-index l.talk)

@@ -1,6 +1,0 @@
-use Rattle.gtp_check_app.proofs.Talks.{found_in}
-use Rattle.gtp_check_app.proofs.laws.complaints_are_justified.Goals as goal
-
-pub returns : goal.returns
-returns g c rule process first kind new after ends =
-    found_in g.P.Process rule process first c.findings_are_justified.ensures kind new after ends

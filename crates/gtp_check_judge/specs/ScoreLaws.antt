@@ -1,0 +1,92 @@
+-- Laws of scores. (The standard's topic final_score leaves to the engine how it counts, and what it thinks of a board.
+-- Two scores of one board differ as the komis do, where the engine's opinion of the board stays.)
+use Rattle.std.specs.Prelude.{◌≡◌, ◌≢◌, ℕ, ◌<◌, ◌≤◌, max, true, pos, neg_ℤ, ◌+ℤ◌, ◌*ℤ◌, ◌≤ℤ◌, List, [], ◌∷◌, ◌++◌}
+use Rattle.std.specs.Prelude.{Option, None, Some, Ok}
+use Rattle.go_board.specs.declared.rules.KoRule.{KoRule}
+use Rattle.gtp_wire.specs.declared.replies.Reply.{Reply}
+use Rattle.gtp_check_judge.specs.declared.asking.CheckCommand.TheVariants.{FinalScore}
+use Rattle.gtp_check_judge.specs.declared.dues.Due.{Due}
+use Rattle.gtp_check_judge.specs.declared.dues.Due.TheVariants.{Scores}
+use Rattle.gtp_check_judge.specs.declared.scores.Score.{Score}
+use Rattle.gtp_check_judge.specs.declared.scores.SaidScore.TheVariants.{Number}
+use Rattle.gtp_check_judge.specs.declared.opinions.View.{View}
+use Rattle.gtp_check_judge.specs.declared.opinions.Opinion.TheVariants.{Twice}
+use Rattle.gtp_check_judge.specs.declared.unanswered.Asked.{Asked}
+use Rattle.gtp_check_judge.specs.declared.exam.Exam.{Exam}
+use Rattle.gtp_check_judge.specs.declared.exam.Finding.{Finding}
+use Rattle.gtp_check_judge.specs.RightEngine.{RightEngine}
+use Rattle.gtp_check_judge.specs.Scores.{score_of_text}
+use Rattle.gtp_check_judge.specs.Opinions.{distance}
+use Rattle.gtp_check_judge.specs.Dues.{IsDue}
+use Rattle.gtp_check_judge.specs.Judging.{oldest}
+use Rattle.gtp_check_judge.specs.Exam.{Hears, HasRoomFor}
+use Rattle.gtp_check_judge.specs.Laws.{Exchange, Talks}
+
+-- A score is asked only of a board without a stone: no move was made, and no handicap was placed. What is due is a
+-- score of a board of its size, with its komi.
+pub record ScoresAreOfEmptyBoards : Type 0 where
+  pub asked : (exam : Exam) → HasRoomFor exam FinalScore
+      → (exam.game.moves ≡ []) × (exam.game.handicap ≡ 0)
+  pub due : (engine : RightEngine) (due : Due) → IsDue engine FinalScore due
+      → due ≡ Scores engine.game.size engine.game.komi
+
+-- The exchange is a success to a `final_score` by which the engine said this of an empty board of that size, with that
+-- komi, which is at most 1,000 points either way: by so many millionths of a point Black leads on the board alone,
+-- which is the score and komi.
+pub record SaysOfBoard (view : View) (exchange : Exchange) : Type 0 where
+  pub due : exchange.entry.due ≡ Scores view.size view.komi
+  pub succeeds : exchange.reply.ok ≡ true
+  pub score : Score
+  pub said : score_of_text exchange.reply.text.items ≡ Some (Number score)
+  pub near : (neg_ℤ (pos 2000) ≤ℤ view.komi) × (view.komi ≤ℤ pos 2000)
+  pub lead : view.lead ≡ score.millionths +ℤ (pos 500000 *ℤ view.komi)
+  pub unit : view.unit ≡ score.unit
+
+-- none of the exchanges says such a thing
+abbrev pub NoneSays : List Exchange → Type 0
+NoneSays [] = Unit {0}
+NoneSays (exchange ∷ later) = ((view : View) → ¬ SaysOfBoard view exchange) × NoneSays later
+
+-- It was heard twice, one after the other: of the same size, with the same komi, and the same number. No other score
+-- that is compared was heard in between.
+pub record IsHeardTwice (said : List Exchange) (old : View) : Type 0 where
+  pub earlier : List Exchange
+  pub one : Exchange
+  pub between : List Exchange
+  pub other : Exchange
+  pub later : List Exchange
+  pub all : said ≡ earlier ++ one ∷ (between ++ other ∷ later)
+  pub first : SaysOfBoard old one
+  pub again : View
+  pub second : SaysOfBoard again other
+  pub same : (again.size ≡ old.size) × (again.komi ≡ old.komi) × (again.lead ≡ old.lead)
+  pub none_between : NoneSays between
+
+-- a reply to the oldest unanswered command, which this is, by which the engine says this of an empty board
+pub record HearsOfBoard (exam : Exam) (reply : Reply) (entry : Asked) (new : View) : Type 0 where
+  pub oldest_is : oldest exam.unanswered ≡ Some entry
+  pub id : reply.id ≡ Some entry.id
+  pub says : SaysOfBoard new (record { entry = entry; reply = reply })
+
+-- Where the engine said the score of a board twice, each other score of a board of that size is found wrong that
+-- differs from it by more than the komis do, and by more than one of the last digit that is written, the coarser of the
+-- two. One that differs by no more isn't. No other score is compared with anything. And what is compared was heard
+-- twice.
+pub record ScoresDifferAsKomis : Type 0 where
+  pub far : (rule : KoRule) (sent came : List ℕ) (said : List Exchange) (old new : Exam) (bytes : List ℕ) (used : ℕ)
+      (reply : Reply) (finding : Option Finding) (entry : Asked) (one other : View)
+      → Talks rule sent came said old → Hears old bytes used (Some (Ok reply)) finding new
+      → HearsOfBoard old reply entry other → old.opinion ≡ Twice one → other.size ≡ one.size
+      → max one.unit other.unit < distance one.lead other.lead → finding ≢ None
+  pub near : (rule : KoRule) (sent came : List ℕ) (said : List Exchange) (old new : Exam) (bytes : List ℕ) (used : ℕ)
+      (reply : Reply) (finding : Option Finding) (entry : Asked) (one other : View)
+      → Talks rule sent came said old → Hears old bytes used (Some (Ok reply)) finding new
+      → HearsOfBoard old reply entry other → old.opinion ≡ Twice one
+      → distance one.lead other.lead ≤ max one.unit other.unit → finding ≡ None
+  pub free : (rule : KoRule) (sent came : List ℕ) (said : List Exchange) (old new : Exam) (bytes : List ℕ) (used : ℕ)
+      (reply : Reply) (finding : Option Finding) (entry : Asked) (other : View)
+      → Talks rule sent came said old → Hears old bytes used (Some (Ok reply)) finding new
+      → HearsOfBoard old reply entry other → ((one : View) → old.opinion ≡ Twice one → other.size ≢ one.size)
+      → finding ≡ None
+  pub twice : (rule : KoRule) (sent came : List ℕ) (said : List Exchange) (exam : Exam) (one : View)
+      → Talks rule sent came said exam → exam.opinion ≡ Twice one → IsHeardTwice said one

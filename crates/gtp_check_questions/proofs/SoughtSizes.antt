@@ -1,0 +1,43 @@
+-- Each size of scenes is asked for while none is known.
+use Rattle.std.proofs.Common.{◌≡◌, ℕ, true, ◌+◌, ◌-◌, ◌*◌, ◌≤◌, refl, sym, ◌∙◌, ap, slice_get, Some, arith}
+use Rattle.std.proofs.lemmas.Bool.Decides.{nat_tests}
+use Rattle.gtp_wire.specs.declared.commands.Command.TheVariants as command
+use Rattle.gtp_check_questions.specs.declared.actions.Question.TheVariants.{Found}
+use Rattle.gtp_check_questions.specs.declared.boards.Board.{Board}
+use Rattle.gtp_check_questions.specs.declared.lessons.Lesson.{Lesson}
+use Rattle.gtp_check_questions.specs.declared.lessons.Lesson.TheVariants as lesson
+use Rattle.gtp_check_questions.specs.declared.stretches.Stretch.TheVariants as stretch
+use Rattle.gtp_check_questions.specs.Laws.{EachSizeIsSought, SeeksEachSize}
+use Rattle.gtp_check_questions.specs.Lessons.{stretches_of}
+use Rattle.gtp_check_questions.specs.Questions.{asks, seek_asked}
+
+asked_for : (size : ℕ) → 5 ≤ size → size ≤ 25 → seek_asked (2 * (size - 5)) true ≡ asks (command.Boardsize size)
+asked_for size least most = grind (arith, nat_tests)
+
+looked_at : (size : ℕ) → 5 ≤ size → size ≤ 25 → seek_asked (2 * (size - 5) + 1) true ≡ Found size
+looked_at size least most = grind (arith, nat_tests)
+
+seeks : (now : Lesson) → slice_get (stretches_of now) 0 ≡ Some stretch.Seek → SeeksEachSize now
+seeks now has board size is_sought least most = record {
+  first = stretch.Seek;
+  has_first = has;
+  step = 2 * (size - 5);
+  asks_size = record {
+    within = omega arith;
+    is = λ draws game. sym (ap (seek_asked (2 * (size - 5))) is_sought ∙ asked_for size least most);
+  };
+  looks = record {
+    within = omega arith;
+    is = λ draws game. sym (ap (seek_asked (2 * (size - 5) + 1)) is_sought ∙ looked_at size least most);
+  };
+}
+
+pub each_size : EachSizeIsSought
+each_size = record {
+  start = seeks lesson.Start refl;
+  ko = seeks lesson.Ko refl;
+  captures = seeks lesson.Captures refl;
+  suicide = seeks lesson.Suicide refl;
+  joining = seeks lesson.Joining refl;
+  komi = seeks lesson.Komi refl;
+}

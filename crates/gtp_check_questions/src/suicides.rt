@@ -1,0 +1,32 @@
+//! Suicide: moves that leave their own chain without a liberty.
+ghost use Rattle.std.specs.Prelude.{◌≡◌, true};
+ghost use Rattle.gtp_check_questions.specs.Course.{IsSuicide};
+
+use go_board::{Game, PlayFault};
+use gtp_check_judge::CheckCommand;
+use gtp_wire::Command;
+
+/// Whether an engine is asked a `play` that would be suicide. Some rule sets forbid it, and others don't.
+#[derive(Clone, Copy, Debug, PartialEq, Eq)]
+pub enum Suicide {
+    /// It is asked, and has to be refused: by our rules no move may be one.
+    Forbidden,
+    /// It isn't asked: each such step is passed over.
+    Unasked,
+}
+
+/// Whether a command is a `play` that the game's rules refuse as suicide.
+pub(crate) fn is_suicide(game: &Game, command: CheckCommand) -> bool
+    ensures is { result ≡ true → IsSuicide game.now command }
+    ensures only { IsSuicide game.now command → result ≡ true }
+{
+    match command {
+        CheckCommand::Match(Command::Play(made)) => {
+            matches!(
+                game.refusal(made.colour, made.vertex),
+                Some(PlayFault::Suicide)
+            )
+        }
+        _ => false,
+    }
+}

@@ -1,0 +1,10 @@
+mod Counting
+mod Ending
+mod Games
+mod Latest
+mod Leaving
+mod LeftOf
+mod Minimal
+mod Placing
+mod Playing
+mod Trying

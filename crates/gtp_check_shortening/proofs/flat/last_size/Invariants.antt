@@ -1,0 +1,7 @@
+use Rattle.std.proofs.Common.{◌≡◌, take}
+use Rattle.gtp_check_shortening.specs.Shortening.{is_size, last_such}
+use Rattle.gtp_check_shortening.proofs.flat.last_size.Given as goal
+
+-- the last one so far
+abbrev pub invariant-loop-said : goal.invariant-loop-said
+invariant-loop-said l = l.last ≡ last_such is_size (take l.said-index l.talk)

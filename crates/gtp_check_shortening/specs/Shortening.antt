@@ -1,0 +1,177 @@
+-- Which shorter conversations are tried in place of a long one. (Own.)
+use Rattle.std.specs.Prelude.{ℕ, ◌+◌, ◌-◌, ◌==◌, Bool, true, false, nat_lt, if◌then◌else◌, count_by, map, take, drop}
+use Rattle.std.specs.Prelude.{fold}
+use Rattle.std.specs.Prelude.{List, [], ◌∷◌, ◌++◌, length, Option, None, Some}
+use Rattle.std.specs.List.{list_any}
+use Rattle.gtp_wire.specs.declared.commands.Command.{Command}
+use Rattle.gtp_wire.specs.declared.commands.Command.TheVariants.{Boardsize, Komi, ClearBoard, FixedHandicap, Play}
+use Rattle.gtp_wire.specs.declared.commands.Command.TheVariants.{Genmove, Undo, Quit}
+use Rattle.gtp_check_judge.specs.declared.asking.CheckCommand.{CheckCommand}
+use Rattle.gtp_check_judge.specs.declared.asking.CheckCommand.TheVariants.{Match, FinalScore, Name, Version}
+use Rattle.gtp_check_judge.specs.declared.asking.CheckCommand.TheVariants.{KnownCommand}
+use Rattle.gtp_check_judge.specs.declared.asking.Known.{Known}
+use Rattle.gtp_check_judge.specs.declared.asking.Known.TheVariants as known
+use Rattle.gtp_check_shortening.specs.declared.flat.Role.{Role}
+use Rattle.gtp_check_shortening.specs.declared.flat.Role.TheVariants as role
+use Rattle.gtp_check_shortening.specs.declared.flat.Shortening.{Shortening}
+use Rattle.gtp_check_shortening.specs.declared.talk.Said.{Said}
+use Rattle.gtp_check_shortening.specs.Played.{played}
+
+-- ---- what a command is to a game
+
+-- what a command of a match is to a game, where it is a `play` that a right engine refuses or not
+abbrev pub match_role : Command → Bool → Role
+match_role (Boardsize size) refused = role.Size
+match_role (Komi komi) refused = role.Komi
+match_role ClearBoard refused = role.Clear
+match_role (FixedHandicap stones) refused = role.Stones
+match_role (Play move) true = role.Nothing
+match_role (Play move) false = role.Move
+match_role (Genmove colour) refused = role.Move
+match_role Undo refused = role.Undo
+match_role Quit refused = role.Nothing
+
+-- a question is nothing to it
+abbrev pub command_role : CheckCommand → Bool → Role
+command_role (Match command) refused = match_role command refused
+command_role FinalScore refused = role.Nothing
+command_role Name refused = role.Nothing
+command_role Version refused = role.Nothing
+command_role (KnownCommand asked) refused = role.Nothing
+
+abbrev pub role_of : Said → Role
+role_of said = command_role said.command said.is_illegal
+
+abbrev pub is_clear : Role → Bool
+is_clear role.Clear = true
+is_clear _ = false
+
+abbrev pub is_size : Role → Bool
+is_size role.Size = true
+is_size _ = false
+
+abbrev pub is_komi : Role → Bool
+is_komi role.Komi = true
+is_komi _ = false
+
+-- ---- the last games
+
+-- how many games begin in these commands
+abbrev pub games_in : List Said → ℕ
+games_in talk = count_by (λ said. is_clear (role_of said)) talk
+
+-- How many commands come before the last so many games: all but the shortest end of the conversation in which so many
+-- games begin. Where fewer begin there are none.
+unfoldable pub start_of : ℕ → List Said → ℕ
+start_of games [] = 0
+start_of games (said ∷ later) = if nat_lt (games_in later) games then 0 else start_of games later + 1
+
+-- ---- what is in force before them
+
+-- the last of these commands that sets the size, and the last one that sets komi, where there are such
+abbrev pub last_such : (Role → Bool) → List Said → Option CheckCommand
+last_such is talk = fold (λ last said. if is (role_of said) then Some said.command else last) None talk
+
+abbrev pub listed : Option CheckCommand → List CheckCommand
+listed None = []
+listed (Some command) = command ∷ []
+
+abbrev pub settings : List Said → List CheckCommand
+settings talk = listed (last_such is_size talk) ++ listed (last_such is_komi talk)
+
+-- ---- a flat game
+
+-- how many moves are taken back that were made before a command of this role, where those after it take back so many
+abbrev pub taken_by : Role → ℕ → ℕ
+taken_by role.Move after = after - 1
+taken_by role.Undo after = after + 1
+taken_by role.Clear after = 0
+taken_by role.Size after = 0
+taken_by role.Komi after = after
+taken_by role.Stones after = after
+taken_by role.Nothing after = after
+
+-- how many moves that were made before these commands they take back
+unfoldable pub taken_back : List Said → ℕ
+taken_back [] = 0
+taken_back (said ∷ later) = taken_by (role_of said) (taken_back later)
+
+-- Whether a command of this role stays, where those after it take so many moves back: a move that isn't taken back, and
+-- what sets a game up. What is refused, what is asked, and `undo` don't.
+abbrev pub stays : Role → ℕ → Bool
+stays role.Move after = after == 0
+stays role.Undo after = false
+stays role.Clear after = true
+stays role.Size after = true
+stays role.Komi after = true
+stays role.Stones after = true
+stays role.Nothing after = false
+
+-- the commands that stay
+unfoldable pub flat : List Said → List CheckCommand
+flat [] = []
+flat (said ∷ later) =
+    if stays (role_of said) (taken_back later) then said.command ∷ flat later else flat later
+
+-- ---- a shorter conversation
+
+abbrev pub commands_of : List Said → List CheckCommand
+commands_of talk = map (λ said. said.command) talk
+
+-- the games whole; or flat, with the last command, which is the one that was answered wrongly
+abbrev pub games_as : Bool → List Said → List CheckCommand
+games_as true games = commands_of games
+games_as false games = flat (take (length games - 1) games) ++ commands_of (drop (length games - 1) games)
+
+-- a command may be asked only of an engine that was asked whether it knows this one
+abbrev pub needs : CheckCommand → Known → Bool
+needs (Match (FixedHandicap stones)) known.FixedHandicap = true
+needs (Match Undo) known.Undo = true
+needs FinalScore known.FinalScore = true
+needs _ _ = false
+
+abbrev pub needed_for : List CheckCommand → Known → List CheckCommand
+needed_for commands asked =
+    listed (if list_any (λ command. needs command asked) commands then Some (KnownCommand asked) else None)
+
+-- the commands after each `known_command` that they need
+abbrev pub with_needed : List CheckCommand → List CheckCommand
+with_needed commands =
+    needed_for commands known.FixedHandicap ++ needed_for commands known.Undo
+    ++ needed_for commands known.FinalScore ++ commands
+
+-- the last so many games alone, with what is in force before them
+abbrev pub from_game : ℕ → Bool → List Said → List CheckCommand
+from_game start whole talk = with_needed (settings (take start talk) ++ games_as whole (drop start talk))
+
+-- the conversation as it was asked, or as what was done
+abbrev pub played_if : Bool → List Said → List Said
+played_if true talk = played talk
+played_if false talk = talk
+
+-- the last so many games of it
+abbrev pub games_of : Shortening → List Said → List CheckCommand
+games_of how talk = from_game (start_of how.games talk) how.is_whole talk
+
+-- the shorter conversation
+abbrev pub shortened : Shortening → List Said → List CheckCommand
+shortened how talk = games_of how (played_if how.is_played talk)
+
+-- ---- those that are tried
+
+abbrev pub last_games : ℕ → ℕ → Bool → Shortening
+last_games games more_than whole =
+    record { games = games; more_than = more_than; is_whole = whole; is_played = false }
+
+-- with the moves that the engine chose in place of the questions for them
+abbrev pub with_plays : Shortening → Shortening
+with_plays how = record how { is_played = true }
+
+-- They are tried in this order: ever more games, flat or whole, and first with the moves that the engine chose in place
+-- of the questions for them. Each is for conversations with more games than those before could have.
+abbrev pub shortenings : List Shortening
+shortenings =
+    with_plays (last_games 1 0 false) ∷ last_games 1 0 false ∷ with_plays (last_games 1 0 true) ∷
+    last_games 1 0 true ∷ with_plays (last_games 2 1 false) ∷ last_games 2 1 true ∷
+    with_plays (last_games 4 2 false) ∷ last_games 4 2 true ∷ last_games 16 4 false ∷ last_games 16 4 true ∷
+    last_games 64 16 false ∷ last_games 256 64 false ∷ []

@@ -1,0 +1,362 @@
+//! Shorter conversations, which are tried in place of a long one.
+ghost use Rattle.std.specs.Prelude.{◌≡◌, ◌≤◌, ◌+◌, ◌∷◌, ◌++◌, [], length, IfOk, OnOk};
+ghost use Rattle.std.specs.List.{list_any};
+ghost use Rattle.gtp_check_shortening.specs.Shortening.{command_role, commands_of, flat, games_as, games_in, last_such};
+ghost use Rattle.gtp_check_shortening.specs.Shortening.{games_of, last_games, listed, with_plays};
+ghost use Rattle.gtp_check_shortening.specs.Shortening.{match_role, needed_for, needs, role_of, settings, shortened};
+ghost use Rattle.gtp_check_shortening.specs.Shortening.{shortenings};
+ghost use Rattle.gtp_check_shortening.specs.Shortening.{start_of, stays, taken_by, with_needed, is_clear, is_size, is_komi};
+
+use crate::played::played;
+use crate::talk::Said;
+use gtp_check_judge::{CheckCommand, Known};
+use gtp_wire::Command;
+use std::alloc::{AllocError, Global};
+
+/// A conversation that is tried: commands, in their order.
+pub type Commands = Vec<CheckCommand>;
+
+/// How a conversation is shortened: to its last games.
+#[derive(Clone, Copy, Debug, PartialEq, Eq)]
+pub struct Shortening {
+    /// How many games stay.
+    pub games: usize,
+    /// It is for conversations of more games than this.
+    pub more_than: usize,
+    /// Whether all of these games stays, or the flat games do: without what was refused, taken back or asked.
+    pub is_whole: bool,
+    /// Whether each `genmove` becomes the `play` of what the engine chose.
+    pub is_played: bool,
+}
+
+/// What a command is to a game.
+#[derive(Clone, Copy, Debug, PartialEq, Eq)]
+pub enum Role {
+    /// It sets the size, and ends a game.
+    Size,
+    /// It sets komi.
+    Komi,
+    /// It begins a game.
+    Clear,
+    /// It puts handicap stones.
+    Stones,
+    /// It makes a move.
+    Move,
+    /// It takes a move back.
+    Undo,
+    /// It changes nothing.
+    Nothing,
+}
+
+/// The shortenings that are tried, in this order.
+pub fn shortenings() -> [Shortening; 12]
+    ensures { result ≡ shortenings }
+{
+    [
+        with_plays(last_games(1, 0, false)),
+        last_games(1, 0, false),
+        with_plays(last_games(1, 0, true)),
+        last_games(1, 0, true),
+        with_plays(last_games(2, 1, false)),
+        last_games(2, 1, true),
+        with_plays(last_games(4, 2, false)),
+        last_games(4, 2, true),
+        last_games(16, 4, false),
+        last_games(16, 4, true),
+        last_games(64, 16, false),
+        last_games(256, 64, false),
+    ]
+}
+
+/// The shortening to the last games, as they were asked.
+pub fn last_games(games: usize, more_than: usize, is_whole: bool) -> Shortening
+    ensures { result ≡ last_games games more_than is_whole }
+{
+    Shortening {
+        games,
+        more_than,
+        is_whole,
+        is_played: false,
+    }
+}
+
+/// The same with the moves that the engine chose in place of the questions for them.
+pub fn with_plays(shortening: Shortening) -> Shortening
+    ensures { result ≡ with_plays shortening }
+{
+    Shortening {
+        is_played: true,
+        ..shortening
+    }
+}
+
+/// The last games of a conversation, flat or whole, with what is in force before them. The last command is the one that
+/// was answered wrongly. Before them come the `known_command` that they need.
+///
+/// # Errors
+///
+/// Where memory is refused.
+pub fn shortened(
+    alloc: Global,
+    talk: &[Said],
+    shortening: Shortening,
+) -> Result<Commands, AllocError>
+    ensures { IfOk result (λ commands. commands.items ≡ shortened shortening talk.now) }
+{
+    if shortening.is_played {
+        let done = played(alloc, talk)?;
+        return last_of(alloc, done.as_slice(), shortening);
+    }
+    last_of(alloc, talk, shortening)
+}
+
+/// The last games of what was said.
+fn last_of(alloc: Global, talk: &[Said], shortening: Shortening) -> Result<Commands, AllocError>
+    ensures { IfOk result (λ commands. commands.items
+        ≡ games_of shortening talk.now) }
+{
+    let start = start_of(talk, shortening.games);
+    let mut commands = settings(alloc, &talk[..start])?;
+    let games = games_as(alloc, shortening.is_whole, &talk[start..])?;
+    commands.extend_from_slice(games.as_slice())?;
+    with_needed(alloc, commands.as_slice())
+}
+
+/// How many games begin in a conversation.
+pub fn games_in(talk: &[Said]) -> usize
+    ensures { result ≡ games_in talk.now }
+{
+    talk.iter().filter(|said| is_clear(role_of(said))).count()
+}
+
+/// How many commands come before the last so many games.
+fn start_of(talk: &[Said], games: usize) -> usize
+    ensures start { result ≡ start_of games talk.now }
+    ensures within { result ≤ length talk.now }
+{
+    let mut left = games_in(talk);
+    for index in 0..talk.len() {
+        if is_clear(role_of(&talk[index])) {
+            left = left.saturating_sub(1);
+        }
+        if left < games {
+            return index;
+        }
+    }
+    talk.len()
+}
+
+/// What is in force after these commands: the size and komi.
+fn settings(alloc: Global, talk: &[Said]) -> Result<Commands, AllocError>
+    ensures { IfOk result (λ commands. commands.items ≡ settings talk.now) }
+{
+    let mut commands = Vec::new(alloc);
+    add_if(&mut commands, last_size(talk))?;
+    add_if(&mut commands, last_komi(talk))?;
+    Ok(commands)
+}
+
+/// The last command that sets the size.
+fn last_size(talk: &[Said]) -> Option<CheckCommand>
+    ensures { result ≡ last_such is_size talk.now }
+{
+    let mut last = None;
+    for said in talk {
+        if is_size(role_of(said)) {
+            last = Some(said.command);
+        }
+    }
+    last
+}
+
+/// The last command that sets komi.
+pub fn last_komi(talk: &[Said]) -> Option<CheckCommand>
+    ensures { result ≡ last_such is_komi talk.now }
+{
+    let mut last = None;
+    for said in talk {
+        if is_komi(role_of(said)) {
+            last = Some(said.command);
+        }
+    }
+    last
+}
+
+/// A command is added.
+fn add(commands: &mut Commands, command: CheckCommand) -> Result<(), AllocError>
+    ensures { OnOk result (commands.new.items ≡ commands.old.items ++ command ∷ []) }
+{
+    commands.extend_from_slice(&[command])
+}
+
+/// A command is added, if there is one.
+fn add_if(commands: &mut Commands, command: Option<CheckCommand>) -> Result<(), AllocError>
+    ensures { OnOk result (commands.new.items ≡ commands.old.items ++ listed command) }
+{
+    match command {
+        Some(command) => add(commands, command),
+        None => Ok(()),
+    }
+}
+
+/// Games whole or flat.
+fn games_as(alloc: Global, is_whole: bool, games: &[Said]) -> Result<Commands, AllocError>
+    ensures { IfOk result (λ commands. commands.items ≡ games_as is_whole games.now) }
+{
+    if is_whole {
+        return commands_of(alloc, games);
+    }
+    let before = games.len().saturating_sub(1);
+    let mut commands = flat(alloc, &games[..before])?;
+    let last = commands_of(alloc, &games[before..])?;
+    commands.extend_from_slice(last.as_slice())?;
+    Ok(commands)
+}
+
+/// The commands of a conversation.
+///
+/// # Errors
+///
+/// Where memory is refused.
+pub fn commands_of(alloc: Global, talk: &[Said]) -> Result<Commands, AllocError>
+    ensures { IfOk result (λ commands. commands.items ≡ commands_of talk.now) }
+{
+    let mut commands = Vec::new(alloc);
+    for said in talk {
+        add(&mut commands, said.command)?;
+    }
+    Ok(commands)
+}
+
+/// The commands that stay in flat games.
+fn flat(alloc: Global, talk: &[Said]) -> Result<Commands, AllocError>
+    ensures { IfOk result (λ commands. commands.items ≡ flat talk.now) }
+{
+    let mut commands = Vec::new(alloc);
+    let mut taken_back: usize = 0;
+    for done in 0..talk.len() {
+        let said = talk[talk.len() - 1 - done];
+        let role = role_of(&said);
+        add_if(
+            &mut commands,
+            stays(role, taken_back).then_some(said.command),
+        )?;
+        taken_back = taken_by(role, taken_back);
+    }
+    commands.reverse();
+    Ok(commands)
+}
+
+/// Whether a command of this role stays, where those after it take so many moves back.
+fn stays(role: Role, after: usize) -> bool
+    ensures { result ≡ stays role after }
+{
+    match role {
+        Role::Move => after == 0,
+        Role::Undo | Role::Nothing => false,
+        Role::Size | Role::Komi | Role::Clear | Role::Stones => true,
+    }
+}
+
+/// How many moves are taken back that were made before it.
+fn taken_by(role: Role, after: usize) -> usize
+    requires { after ≤ 9223372036854775807 }
+    ensures taken { result ≡ taken_by role after }
+    ensures few { result ≤ after + 1 }
+{
+    match role {
+        Role::Move => after.saturating_sub(1),
+        Role::Undo => after + 1,
+        Role::Clear | Role::Size => 0,
+        Role::Komi | Role::Stones | Role::Nothing => after,
+    }
+}
+
+/// These commands after each `known_command` that they need.
+fn with_needed(alloc: Global, commands: &[CheckCommand]) -> Result<Commands, AllocError>
+    ensures { IfOk result (λ all. all.items ≡ with_needed commands.now) }
+{
+    let mut all = Vec::new(alloc);
+    add_needed(&mut all, commands, Known::FixedHandicap)?;
+    add_needed(&mut all, commands, Known::Undo)?;
+    add_needed(&mut all, commands, Known::FinalScore)?;
+    all.extend_from_slice(commands)?;
+    Ok(all)
+}
+
+/// One of these `known_command`, where it is needed.
+fn add_needed(all: &mut Commands, commands: &[CheckCommand], known: Known) -> Result<(), AllocError>
+    ensures { OnOk result (all.new.items ≡ all.old.items ++ needed_for commands.now known) }
+{
+    let command = CheckCommand::KnownCommand(known);
+    add_if(all, is_needed(commands, known).then_some(command))
+}
+
+/// Whether one of these commands needs it.
+fn is_needed(commands: &[CheckCommand], known: Known) -> bool
+    ensures { result ≡ list_any (λ command. needs command known) commands.now }
+{
+    commands.iter().any(|command| needs(command, known))
+}
+
+/// Whether a command may be asked only of an engine that was asked whether it knows this one.
+fn needs(command: &CheckCommand, known: Known) -> bool
+    ensures { result ≡ needs command.now known }
+{
+    match (command, known) {
+        (CheckCommand::Match(Command::FixedHandicap(_)), Known::FixedHandicap) => true,
+        (CheckCommand::Match(Command::Undo), Known::Undo) => true,
+        (CheckCommand::FinalScore, Known::FinalScore) => true,
+        _ => false,
+    }
+}
+
+/// What a command is to a game.
+fn role_of(said: &Said) -> Role
+    ensures { result ≡ role_of said.now }
+{
+    match said.command {
+        CheckCommand::Match(command) => match_role(&command, said.is_illegal),
+        CheckCommand::FinalScore
+        | CheckCommand::Name
+        | CheckCommand::Version
+        | CheckCommand::KnownCommand(_) => Role::Nothing,
+    }
+}
+
+/// The same of a command of a match, where it is a `play` that a right engine refuses or not.
+fn match_role(command: &Command, is_refused: bool) -> Role
+    ensures { result ≡ match_role command.now is_refused }
+{
+    match command {
+        Command::Boardsize(_) => Role::Size,
+        Command::Komi(_) => Role::Komi,
+        Command::ClearBoard => Role::Clear,
+        Command::FixedHandicap(_) => Role::Stones,
+        Command::Play(_) if is_refused => Role::Nothing,
+        Command::Play(_) | Command::Genmove(_) => Role::Move,
+        Command::Undo => Role::Undo,
+        Command::Quit => Role::Nothing,
+    }
+}
+
+/// Whether it begins a game.
+fn is_clear(role: Role) -> bool
+    ensures { result ≡ is_clear role }
+{
+    matches!(role, Role::Clear)
+}
+
+/// Whether it sets the size.
+fn is_size(role: Role) -> bool
+    ensures { result ≡ is_size role }
+{
+    matches!(role, Role::Size)
+}
+
+/// Whether it sets komi.
+fn is_komi(role: Role) -> bool
+    ensures { result ≡ is_komi role }
+{
+    matches!(role, Role::Komi)
+}

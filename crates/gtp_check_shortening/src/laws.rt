@@ -1,0 +1,26 @@
+//! Laws of a reduction. Each is the contract of a function that does nothing.
+ghost use Rattle.gtp_check_shortening.specs.Laws.{EachRunIsBounded, EachTrialIsShorter, NoCommandIsTooMany};
+ghost use Rattle.gtp_check_shortening.specs.Laws.{WhatIsLeftWasTried};
+
+/// What is tried is left of the first conversation, is shorter than the shortest one so far, from which a part was left
+/// out, and ends with the command that was answered wrongly.
+pub fn each_trial_is_shorter()
+    ensures { EachTrialIsShorter }
+{}
+
+/// However trials end, no more of them are made, and no more commands asked in them, than the limits say.
+pub fn each_run_is_bounded()
+    ensures { EachRunIsBounded }
+{}
+
+/// What is left is what the latest trial that ended by the same wrong answer asked, up to that answer. Where no trial
+/// did it is the first conversation.
+pub fn what_is_left_was_tried()
+    ensures { WhatIsLeftWasTried }
+{}
+
+/// Where nothing is tried next, though the limits allow another trial, each command before the last was left out of
+/// what is left, alone and in vain.
+pub fn no_command_is_too_many()
+    ensures { NoCommandIsTooMany }
+{}

@@ -1,0 +1,86 @@
+//! What was done in a conversation.
+ghost use Rattle.std.specs.Prelude.{◌≡◌, ◌++◌, IfOk, OnOk, option_map};
+ghost use Rattle.gtp_wire.specs.declared.commands.Command.TheVariants as command;
+ghost use Rattle.gtp_check_shortening.specs.Played.{asked_as, done_before, done_by, played, said_as};
+
+use crate::talk::Said;
+use go_base::Move;
+use gtp_check_judge::CheckCommand;
+use gtp_wire::Command;
+use std::alloc::{AllocError, Global};
+
+/// The commands of a conversation as what was done by them: each `genmove` is the `play` of what the engine chose.
+/// Without those by which nothing was done: where it resigned, or refused an `undo` or a size. The last command stays
+/// as it is.
+///
+/// # Errors
+///
+/// Where memory is refused.
+pub fn played(alloc: Global, talk: &[Said]) -> Result<Vec<Said>, AllocError>
+    ensures { IfOk result (λ all. all.items ≡ played talk.now) }
+{
+    let mut all = Vec::new(alloc);
+    for index in 0..talk.len() {
+        add_done(&mut all, &talk[index], talk.get(index + 1))?;
+    }
+    Ok(all)
+}
+
+/// What was done by a command is added, where this one was asked next.
+fn add_done(all: &mut Vec<Said>, said: &Said, next: Option<&Said>) -> Result<(), AllocError>
+    ensures { OnOk result (all.new.items
+        ≡ all.old.items ++ done_before said.now (option_map (λ one. one.now) next.entry)) }
+{
+    match next {
+        None => all.extend_from_slice(&[*said]),
+        Some(next) => add_as(all, said, asked_as(said, next)),
+    }
+}
+
+/// A command is added in place of the one that was asked, if there is one.
+fn add_as(all: &mut Vec<Said>, said: &Said, command: Option<CheckCommand>) -> Result<(), AllocError>
+    ensures { OnOk result (all.new.items ≡ all.old.items ++ said_as said.now command) }
+{
+    match command {
+        Some(command) => all.extend_from_slice(&[Said { command, ..*said }]),
+        None => Ok(()),
+    }
+}
+
+/// What was done by a command, where this one was asked next.
+fn asked_as(said: &Said, next: &Said) -> Option<CheckCommand>
+    ensures { result ≡ asked_as said.now.command said.now next.now }
+{
+    match &said.command {
+        CheckCommand::Match(command) => match done_by(command, said, next) {
+            Some(done) => Some(CheckCommand::Match(done)),
+            None => None,
+        },
+        other => Some(*other),
+    }
+}
+
+/// The same of a command of a match.
+fn done_by(command: &Command, said: &Said, next: &Said) -> Option<Command>
+    ensures { result ≡ done_by command.now said.now next.now }
+{
+    match command {
+        Command::Genmove(_) if said.moves < next.moves => chosen(next.last),
+        Command::Genmove(_) => None,
+        Command::Undo => (next.moves < said.moves).then_some(Command::Undo),
+        Command::Boardsize(size) => {
+            (next.size == *size && next.moves == 0).then_some(Command::Boardsize(*size))
+        }
+        other => Some(*other),
+    }
+}
+
+/// The `play` of a move, if there is one.
+fn chosen(made: Option<Move>) -> Option<Command>
+    ensures { result ≡ option_map (λ move. command.Play move) made }
+{
+    match made {
+        Some(made) => Some(Command::Play(made)),
+        None => None,
+    }
+}

@@ -1,0 +1,133 @@
+//! Whether positional ko explains a refusal.
+ghost use Rattle.std.specs.Prelude.{◌≡◌, ◌↔◌, IsTrue, None, Some, true, false};
+ghost use Rattle.go_board.specs.Refusals.{RefusesVertex};
+ghost use Rattle.go_board.specs.declared.faults.PlayFault.TheVariants as fault;
+ghost use Rattle.go_board.specs.declared.rules.KoRule.TheVariants as rule;
+ghost use Rattle.go_board.specs.Game.{fresh_game_under, without_last};
+ghost use Rattle.gtp_check_shortening.specs.Superko.{IsPositional, after_all, after_asked, after_match, after_play, game_before};
+ghost use Rattle.gtp_check_shortening.specs.Superko.{after_stones};
+
+use crate::talk::Said;
+use go_base::Move;
+use go_board::{Game, KoRule, PlayFault};
+use gtp_check_judge::CheckCommand;
+use gtp_wire::Command;
+
+/// Whether the last command is a `play` that positional ko forbids after the commands before it, on the board that it
+/// was asked on. Where a move among them was the engine's own it isn't known, and the answer is no.
+pub fn is_positional(talk: &[Said]) -> bool
+    ensures { IsTrue result ↔ IsPositional talk.now }
+{
+    let Some((last, before)) = talk.split_last() else {
+        return false;
+    };
+    let CheckCommand::Match(Command::Play(made)) = last.command else {
+        return false;
+    };
+    match game_after(before, KoRule::Positional) {
+        Some(game) => game.size() == last.size && is_ko(&game, made),
+        None => false,
+    }
+}
+
+/// The game in which the last of these commands was asked, if they give it, on the board that it was asked on.
+pub fn game_before(talk: &[Said], rule: KoRule) -> Option<Game>
+    ensures { result ≡ game_before rule talk.now }
+{
+    let (last, before) = talk.split_last()?;
+    let game = game_after(before, rule)?;
+    if game.size() == last.size {
+        Some(game)
+    } else {
+        None
+    }
+}
+
+/// Whether a move is refused as ko.
+fn is_ko(game: &Game, made: Move) -> bool
+    ensures { IsTrue result ↔ RefusesVertex game.now made.colour made.vertex fault.Ko }
+{
+    matches!(game.refusal(made.colour, made.vertex), Some(PlayFault::Ko))
+}
+
+/// The game under a ko rule after these commands, if they give it: none where a `genmove` is among them.
+pub fn game_after(talk: &[Said], rule: KoRule) -> Option<Game>
+    ensures { result ≡ after_all (fresh_game_under rule) talk.now }
+{
+    let mut game = Game::fresh(rule);
+    for said in talk {
+        if !follow(&mut game, &said.command) {
+            return None;
+        }
+    }
+    Some(game)
+}
+
+/// The game follows a command. Whether it could.
+fn follow(game: &mut Game, command: &CheckCommand) -> bool
+    ensures known { result ≡ true → after_asked game.old command.now ≡ Some game.new }
+    ensures unknown { result ≡ false → after_asked game.old command.now ≡ None }
+{
+    match command {
+        CheckCommand::Match(command) => follow_match(game, command),
+        CheckCommand::FinalScore
+        | CheckCommand::Name
+        | CheckCommand::Version
+        | CheckCommand::KnownCommand(_) => true,
+    }
+}
+
+/// The same of a command of a match.
+fn follow_match(game: &mut Game, command: &Command) -> bool
+    ensures known { result ≡ true → after_match game.old command.now ≡ Some game.new }
+    ensures unknown { result ≡ false → after_match game.old command.now ≡ None }
+{
+    match command {
+        Command::Boardsize(size) => {
+            game.set_size(*size);
+            true
+        }
+        Command::Komi(komi) => {
+            game.set_komi(*komi);
+            true
+        }
+        Command::ClearBoard => {
+            game.clear();
+            true
+        }
+        Command::FixedHandicap(stones) => {
+            place(game, *stones);
+            true
+        }
+        Command::Play(made) => {
+            play(game, *made);
+            true
+        }
+        Command::Undo => {
+            undo(game);
+            true
+        }
+        Command::Genmove(_) | Command::Quit => false,
+    }
+}
+
+/// Handicap stones are placed, where they may be.
+fn place(game: &mut Game, stones: u32)
+    ensures { game.new ≡ after_stones game.old stones }
+{
+    let _ = game.place_handicap(stones);
+}
+
+/// A move is made, where it may be.
+fn play(game: &mut Game, made: Move)
+    ensures { game.new ≡ after_play game.old made }
+{
+    let _ = game.play(made.colour, made.vertex);
+}
+
+/// The last move is taken back, if there is one.
+fn undo(game: &mut Game)
+    ensures { game.new ≡ without_last game.old }
+{
+    let _ = game.undo();
+}

@@ -1,0 +1,338 @@
+-- What is said with an engine since it was started: what it is asked, what it writes, and what is found. (Own.)
+use Rattle.std.specs.Prelude.{◌≡◌, ℕ, ◌+◌, ◌<◌, Bool, true, false, List, [], ◌∷◌, ◌++◌, length, take, drop}
+use Rattle.std.specs.Prelude.{◌-◌, ◌==◌, ◌&&◌, slice_get, Option, None, Some, is_some, option_map, if◌then◌else◌}
+use Rattle.std.specs.Prelude.{Result, Ok, Err, IsTrue, ◌↔◌, All}
+use Rattle.std.specs.Io.KnownBytes.{Appends, Keeps}
+use Rattle.byte_streams.specs.Parts.{TakesPart}
+use Rattle.go_base.specs.declared.moves.Move.{Move}
+use Rattle.go_board.specs.Game.{GameRecord, IsLegal}
+use Rattle.gtp_wire.specs.Replies.{most_shown}
+use Rattle.gtp_wire.specs.declared.commands.Command.TheVariants.{Play}
+use Rattle.gtp_wire.specs.declared.replies.Reply.{Reply}
+use Rattle.gtp_wire.specs.declared.replies.ReplyFault.{ReplyFault}
+use Rattle.gtp_process.specs.declared.causes.PipeCause.TheVariants.{Ended, Reading}
+use Rattle.gtp_process.specs.declared.starter.Process.{Ghosts}
+use Rattle.gtp_process.specs.declared.starter.Ending.{Ending}
+use Rattle.gtp_process.specs.declared.starter.StartFault.{StartFault}
+use Rattle.gtp_process.specs.declared.starter.StartFault.TheVariants as start_fault
+use Rattle.gtp_process.specs.declared.starter.StartReason.{StartReason}
+use Rattle.gtp_process.specs.Starts.{Attempts, Text, Tries}
+use Rattle.gtp_process.specs.Pipes.{IsCutOff, IsUnbroken, OutputEnded}
+use Rattle.gtp_check_judge.specs.declared.asking.CheckCommand.{CheckCommand}
+use Rattle.gtp_check_judge.specs.declared.asking.CheckCommand.TheVariants.{Match}
+use Rattle.gtp_check_judge.specs.declared.exam.Exam.{Exam}
+use Rattle.gtp_check_judge.specs.declared.exam.Finding.{Finding}
+use Rattle.gtp_check_judge.specs.declared.skills.Skills.{Skills}
+use Rattle.gtp_check_judge.specs.declared.unanswered.Asked.{Asked}
+use Rattle.gtp_check_judge.specs.Asking.{written_check}
+use Rattle.gtp_check_judge.specs.Judging.{oldest, refused_by}
+use Rattle.gtp_check_judge.specs.Check.{Check, after_loss, started, with_exam}
+use Rattle.gtp_check_questions.specs.declared.lessons.Lesson.TheVariants as lesson
+use Rattle.gtp_check_questions.specs.Lessons.{number_of}
+use Rattle.gtp_check_judge.specs.Exam.{Asks, HasRoomFor, Hears, HearsDown}
+use Rattle.gtp_check_talks.specs.declared.engine.Engine.{Engine}
+use Rattle.gtp_check_texts.specs.declared.fault.Fault.{Fault}
+use Rattle.gtp_check_texts.specs.declared.fault.Fault.TheVariants.{CutOff, Wrote}
+use Rattle.gtp_check_talks.specs.declared.notes.Notes.{Notes}
+use Rattle.gtp_check_shortening.specs.declared.talk.Purpose.{Purpose}
+use Rattle.gtp_check_shortening.specs.declared.talk.Said.{Said}
+use Rattle.gtp_check_talks.specs.declared.trial.Tried.{Tried}
+use Rattle.gtp_check_talks.specs.Notes.{counted, noted}
+use Rattle.gtp_check_shortening.specs.Shortening.{commands_of}
+
+-- ---- an engine that was started
+
+-- An engine that was started: its process, the bytes of all lines that it was asked, the commands, those bytes that
+-- aren't sent yet, what it wrote that wasn't heard yet, and the beginning of what it wrote since its last whole reply.
+-- And what is noted of it so far.
+pub record Dialogue (P : Type 0) : Type 0 where
+  pub process : P
+  pub sent : List ℕ
+  pub talk : List Said
+  pub waiting : List ℕ
+  pub held : List ℕ
+  pub wrote : List ℕ
+  pub notes : Notes
+
+abbrev pub dialogue : {P : Type 0} → Engine P → Notes → Dialogue P
+dialogue engine notes = record {
+  process = engine.process;
+  sent = engine.sent.items;
+  talk = engine.talk.items;
+  waiting = engine.waiting.items;
+  held = engine.held;
+  wrote = engine.wrote.items;
+  notes = notes;
+}
+
+-- one that was asked nothing
+abbrev pub begun_with : {P : Type 0} → P → Notes → Dialogue P
+begun_with process notes = record {
+  process = process;
+  sent = [];
+  talk = [];
+  waiting = [];
+  held = [];
+  wrote = [];
+  notes = notes;
+}
+
+-- ---- a command
+
+-- a `play` that isn't legal in this game: a right engine refuses it
+abbrev pub IsIllegal : GameRecord → CheckCommand → Type 0
+IsIllegal game (Match (Play move)) = ¬ IsLegal game move.colour move.vertex
+IsIllegal game _ = ⊥
+
+-- the last move of a game, if it has one
+abbrev pub last_move : GameRecord → Option Move
+last_move game = slice_get game.moves (length game.moves - 1)
+
+-- A command is asked, for this purpose: it may be asked, and its line is joined to what the engine was asked and to
+-- what is sent next. It is counted.
+pub record IsAsked {P : Type 0} (purpose : Purpose) (old : Exam) (before : Dialogue P) (command : CheckCommand)
+    (new : Exam) (after : Dialogue P) : Type 0 where
+  pub may : HasRoomFor old command
+  pub asks : Asks old command new
+  pub is_illegal : Bool
+  pub illegal : IsTrue is_illegal ↔ IsIllegal old.game command
+  pub joins : after ≡ record before {
+    sent = before.sent ++ written_check new.sent command;
+    talk = before.talk ++ record {
+      command = command;
+      purpose = purpose;
+      is_illegal = is_illegal;
+      size = old.game.size;
+      moves = length old.game.moves;
+      last = last_move old.game;
+      end = length (before.sent ++ written_check new.sent command);
+    } ∷ [];
+    waiting = before.waiting ++ written_check new.sent command;
+    notes = counted purpose.lesson command before.notes;
+  }
+
+-- ---- what it wrote
+
+-- who hears an engine: its exam, the beginning of what it wrote since its last whole reply, and what is noted
+pub record Listener : Type 0 where
+  pub exam : Exam
+  pub wrote : List ℕ
+  pub notes : Notes
+
+abbrev pub listener : Exam → List ℕ → Notes → Listener
+listener exam wrote notes = record { exam = exam; wrote = wrote; notes = notes }
+
+-- what is noted of what was read, where this is the oldest command, if any, and nothing was found
+abbrev pub noted_of_read : Notes → Option Asked → Option (Result Reply ReplyFault) → Skills → Notes
+noted_of_read notes (Some asked) (Some (Ok reply)) skills =
+    noted notes (Some asked) (refused_by asked.due reply.ok) reply skills
+noted_of_read notes (Some asked) (Some (Err shown)) skills = notes
+noted_of_read notes (Some asked) None skills = notes
+noted_of_read notes None read skills = notes
+
+-- bytes are heard by the exam, be the engine up or not
+pub record IsHeard (old : Exam) (bytes : List ℕ) (used : ℕ) (read : Option (Result Reply ReplyFault))
+    (finding : Option Finding) (new : Exam) : Type 0 where
+  pub up : old.up ≡ true → Hears old bytes used read finding new
+  pub down : old.up ≡ false → HearsDown old bytes used finding new
+
+-- what is kept of what the engine wrote, these bytes too: nothing after a whole reply
+abbrev pub kept_after : List ℕ → List ℕ → Bool → List ℕ
+kept_after wrote bytes is_read = if is_read then [] else take most_shown (wrote ++ bytes)
+
+-- The first reply in the bytes was heard, or all of them where none ends in them, and nothing was found. This end of
+-- them is left.
+pub record IsHeardQuietly (bytes : List ℕ) (first last : Listener) (left : List ℕ) : Type 0 where
+  pub used : ℕ
+  pub read : Option (Result Reply ReplyFault)
+  pub heard : IsHeard first.exam bytes used read None last.exam
+  pub wrote : last.wrote ≡ kept_after first.wrote (take used bytes) (is_some read)
+  pub notes : last.notes ≡ noted_of_read first.notes (oldest first.exam.unanswered) read last.exam.skills
+  pub rest : left ≡ drop used bytes
+
+-- In the bytes something wrong was found.
+pub record IsFoundIn (bytes : List ℕ) (first last : Listener) (fault : Fault) : Type 0 where
+  pub used : ℕ
+  pub read : Option (Result Reply ReplyFault)
+  pub finding : Finding
+  pub found : IsHeard first.exam bytes used read (Some finding) last.exam
+  pub wrote : last.wrote ≡ take most_shown (first.wrote ++ take used bytes)
+  pub notes : last.notes ≡ first.notes
+  pub kind : fault ≡ Wrote finding.kind
+
+-- the bytes were heard, and this is what is wrong with them, if anything; what is left is held
+abbrev pub AreHeard : {P : Type 0} → List ℕ → Exam → Dialogue P → Option Fault → Exam → Dialogue P → Type 0
+AreHeard bytes old before None new after =
+    IsHeardQuietly bytes (listener old before.wrote before.notes) (listener new after.wrote after.notes) after.held
+    × (after ≡ record before { held = after.held; wrote = after.wrote; notes = after.notes })
+AreHeard bytes old before (Some fault) new after =
+    IsFoundIn bytes (listener old before.wrote before.notes) (listener new after.wrote after.notes) fault
+    × (after ≡ record before { wrote = after.wrote; notes = after.notes })
+
+-- ---- an exchange
+
+-- A process was sent lines, if there were any: it took them whole, and nothing waits to go out. Or it was cut off, and
+-- took a beginning of them.
+pub data IsSent {P : Type 0} (known : Ghosts P) (lines : List ℕ) (before after : P) : Type 0 where
+  no_line : lines ≡ [] → after ≡ before → IsSent known lines before after
+  whole : 0 < length lines → Appends (known.taken before) (known.taken after) lines
+      → IsUnbroken known.fails known.succeeds before after → known.flushed after
+      → Keeps (known.given before) (known.given after)
+      → IsSent known lines before after
+  part : 0 < length lines → TakesPart lines (known.taken before) (known.taken after)
+      → IsCutOff known.fails known.succeeds before after
+      → Keeps (known.given before) (known.given after)
+      → IsSent known lines before after
+
+-- An engine was read. What its process gives, a byte at least, is heard. Or its output ended, or it was cut off, and it
+-- gave nothing. It was sent nothing.
+pub data IsRead {P : Type 0} (known : Ghosts P) (old : Exam) (before : Dialogue P)
+    : Option Fault → Exam → Dialogue P → Type 0 where
+  gives : {fault : Option Fault} {new : Exam} {after : Dialogue P} (bytes : List ℕ) (process : P)
+      → 0 < length bytes → Appends (known.given before.process) (known.given process) bytes
+      → IsUnbroken known.fails known.succeeds before.process process
+      → Keeps (known.taken before.process) (known.taken process)
+      → AreHeard bytes old (record before { process = process }) fault new after
+      → IsRead known old before fault new after
+  ends : (process : P)
+      → OutputEnded known.fails known.succeeds known.runs_out before.process process
+      → Keeps (known.given before.process) (known.given process)
+      → Keeps (known.taken before.process) (known.taken process)
+      → IsRead known old before (Some (CutOff Ended)) old (record before { process = process })
+  breaks : (process : P)
+      → IsCutOff known.fails known.succeeds before.process process
+      → Keeps (known.given before.process) (known.given process)
+      → Keeps (known.taken before.process) (known.taken process)
+      → IsRead known old before (Some (CutOff Reading)) old (record before { process = process })
+
+-- What an engine owes is heard, and this is what is wrong with it, if anything. What is held is heard first. Else what
+-- waits is sent, and the engine is read. One that owes nothing isn't read.
+pub data IsExchanged {P : Type 0} (known : Ghosts P) (old : Exam) (before : Dialogue P)
+    : Option Fault → Exam → Dialogue P → Type 0 where
+  owes_nothing : (process : P) → length old.unanswered ≡ 0 → IsSent known before.waiting before.process process
+      → IsExchanged known old before None old (record before { process = process; waiting = [] })
+  held : {fault : Option Fault} {new : Exam} {after : Dialogue P} → 0 < length old.unanswered
+      → 0 < length before.held
+      → AreHeard before.held old (record before { held = [] }) fault new after
+      → IsExchanged known old before fault new after
+  reads : {fault : Option Fault} {new : Exam} {after : Dialogue P} (process : P) → 0 < length old.unanswered
+      → length before.held ≡ 0 → IsSent known before.waiting before.process process
+      → IsRead known old (record before { process = process; waiting = [] }) fault new after
+      → IsExchanged known old before fault new after
+
+-- ---- a conversation
+
+-- A conversation with an engine, from this point on: commands were asked, whose lines are sent with the next exchange,
+-- and nothing was found.
+pub data Converses {P : Type 0} (known : Ghosts P) (first : Exam) (start : Dialogue P)
+    : Exam → Dialogue P → Type 0 where
+  begins : Converses known first start first start
+  asks : {old new : Exam} {before after : Dialogue P} (purpose : Purpose) (command : CheckCommand)
+      → Converses known first start old before → IsAsked purpose old before command new after
+      → Converses known first start new after
+  exchanges : {old new : Exam} {before after : Dialogue P}
+      → Converses known first start old before → IsExchanged known old before None new after
+      → Converses known first start new after
+
+-- it ended with something wrong
+pub record EndsWrong {P : Type 0} (known : Ghosts P) (first : Exam) (start : Dialogue P) (fault : Fault) (new : Exam)
+    (after : Dialogue P) : Type 0 where
+  pub old : Exam
+  pub before : Dialogue P
+  pub converses : Converses known first start old before
+  pub exchanged : IsExchanged known old before (Some fault) new after
+
+-- so a conversation ended: with something wrong, or without
+abbrev pub EndsSo : {P : Type 0} → Ghosts P → Exam → Dialogue P → Option Fault → Exam → Dialogue P → Type 0
+EndsSo known first start None new after = Converses known first start new after
+EndsSo known first start (Some fault) new after = EndsWrong known first start fault new after
+
+-- ---- a conversation that ended with something wrong
+
+-- What is wrong, how many commands were answered before, all that was sent, the commands, what the engine wrote since
+-- its last whole reply, and how its process ended.
+pub record Wrong : Type 0 where
+  pub fault : Fault
+  pub answered : ℕ
+  pub sent : List ℕ
+  pub talk : List Said
+  pub wrote : List ℕ
+  pub ending : Ending
+
+abbrev pub wrong_of : Tried → Wrong
+wrong_of tried = record {
+  fault = tried.fault;
+  answered = tried.answered;
+  sent = tried.said.sent.items;
+  talk = tried.said.talk.items;
+  wrote = tried.said.wrote.items;
+  ending = tried.said.ending;
+}
+
+-- what is wrong with this engine, whose process ended so
+abbrev pub wrong_with : {P : Type 0} → Fault → Exam → Dialogue P → Ending → Wrong
+wrong_with fault exam engine ending = record {
+  fault = fault;
+  answered = length engine.talk - length exam.unanswered;
+  sent = engine.sent;
+  talk = engine.talk;
+  wrote = engine.wrote;
+  ending = ending;
+}
+
+-- what was asked up to and with the command that was answered wrongly
+abbrev pub wrong_talk : Wrong → List Said
+wrong_talk wrong = take (wrong.answered + 1) wrong.talk
+
+-- what the command that was answered wrongly was asked for, if there is one
+abbrev pub purpose_of : Option Said → Purpose
+purpose_of None = record { lesson = lesson.Start; part = 0 }
+purpose_of (Some said) = said.purpose
+
+abbrev pub wrong_purpose : Wrong → Purpose
+wrong_purpose wrong = purpose_of (slice_get wrong.talk wrong.answered)
+
+-- the command that was answered wrongly
+abbrev pub wrong_command : Wrong → Option CheckCommand
+wrong_command wrong = option_map (λ said. said.command) (slice_get wrong.talk wrong.answered)
+
+-- it ended with the same fault in the answer to the same command
+pub record EndsLike (one other : Wrong) : Type 0 where
+  pub fault : one.fault ≡ other.fault
+  pub command : wrong_command one ≡ wrong_command other
+
+-- ---- a trial
+
+-- Programs were asked for, each by this command line.
+pub data AsksForMore {P : Type 0} (line : List Text) (before : Attempts P) : Attempts P → Type 0 where
+  none : AsksForMore line before before
+  one_more : {mid after : Attempts P} (answer : Result P StartFault) → AsksForMore line before mid
+      → Tries mid after line answer → AsksForMore line before after
+
+-- all was asked for this purpose
+abbrev pub AreFor : Purpose → List Said → Type 0
+AreFor purpose talk = All (λ said. said.purpose ≡ purpose) talk
+
+-- an engine was asked the first of these commands, in their order, each for this purpose
+pub record AsksFirst (purpose : Purpose) (commands : List CheckCommand) (talk : List Said) : Type 0 where
+  pub order : commands_of talk ≡ take (length talk) commands
+  pub purposes : AreFor purpose talk
+
+-- A conversation was tried, for this purpose, on an engine that was asked for by this command line. It wasn't started.
+-- Or it was, and asked the first of these commands, and then nothing was wrong, or this was; and its process ended.
+pub data IsTrial {P : Type 0} (known : Ghosts P) (line : List Text) (purpose : Purpose) (commands : List CheckCommand)
+    (old : Check) (had : Attempts P) (first : Notes) : Option Wrong → Check → Attempts P → Notes → Type 0 where
+  unstarted : {has : Attempts P} (reason : StartReason) → Tries had has line (Err (start_fault.NotStarted reason))
+      → IsTrial known line purpose commands old had first None old has first
+  right : {has : Attempts P} {exam : Exam} {engine : Dialogue P} (process : P) (ending : Ending)
+      → Tries had has line (Ok process)
+      → Converses known (started old).exam (begun_with process first) exam engine
+      → AsksFirst purpose commands engine.talk → known.leaves engine.process ending
+      → IsTrial known line purpose commands old had first None (after_loss (with_exam (started old) exam)) has
+      engine.notes
+  wrong : {has : Attempts P} {exam : Exam} {engine : Dialogue P} (process : P) (ending : Ending) (fault : Fault)
+      → Tries had has line (Ok process)
+      → EndsWrong known (started old).exam (begun_with process first) fault exam engine
+      → AsksFirst purpose commands engine.talk → known.leaves engine.process ending
+      → IsTrial known line purpose commands old had first (Some (wrong_with fault exam engine ending))
+      (after_loss (with_exam (started old) exam)) has engine.notes

@@ -1,0 +1,363 @@
+//! An engine that was started: what it is asked, and what it writes.
+ghost use Rattle.std.specs.Prelude.{◌≡◌, ◌↔◌, ◌+◌, ◌-◌, ◌++◌, ◌≤◌, ◌<◌, true, [], length, drop, take};
+ghost use Rattle.std.specs.Prelude.{IsTrue, OnOk, false};
+ghost use Rattle.arrayvec.specs.ArrayVec.{array_vec_len};
+ghost use Rattle.gtp_wire.specs.Replies.{most_shown};
+ghost use Rattle.gtp_check_judge.specs.Asking.{written_check};
+ghost use Rattle.gtp_check_judge.specs.Check.{with_exam};
+ghost use Rattle.gtp_check_judge.specs.Exam.{HasRoomFor};
+ghost use Rattle.gtp_check_talks.specs.declared.notes.Notes.{Notes};
+ghost use Rattle.gtp_check_talks.specs.Dialogues.{AreHeard, IsAsked, IsRead, IsExchanged, IsSent, begun_with, dialogue};
+ghost use Rattle.gtp_check_talks.specs.Dialogues.{IsIllegal, kept_after, last_move, listener};
+ghost use Rattle.gtp_check_talks.specs.private.Hearing.{IsHeardBy};
+
+use crate::held::Held;
+use crate::notes::{Beginning, Notes};
+use arrayvec::ArrayVec;
+use go_base::{Move, push};
+use go_board::Game;
+use gtp_check_judge::{CheckCommand, Examiner};
+use gtp_check_shortening::talk::{Purpose, Said};
+use gtp_check_texts::fault::Fault;
+use gtp_process::{CutOff, Ending, PipeCause, Process, READ_ROOM, read_some, write_whole};
+use gtp_wire::{Command, MOST_COMMAND_BYTES, MOST_SHOWN, Reply};
+use std::alloc::{AllocError, Global};
+
+/// The room for the lines of commands that are sent at once.
+pub const LINES_ROOM: usize = 16 * MOST_COMMAND_BYTES;
+
+/// The lines of commands that are sent at once.
+pub type Lines = ArrayVec<u8, LINES_ROOM>;
+
+/// The room for what is read.
+#[derive(Drop)]
+pub struct Room {
+    /// For the bytes of one read.
+    pub buffer: [u8; READ_ROOM],
+    /// For a reply.
+    pub reply: Reply,
+}
+
+impl Room {
+    /// Nothing was read.
+    pub fn new() -> Room {
+        Room {
+            buffer: [0u8; READ_ROOM],
+            reply: Reply::new(),
+        }
+    }
+}
+
+/// An engine that was started. It is not `Drop`: its process has to be ended.
+pub struct Engine<P> {
+    /// Its process.
+    pub process: P,
+    /// The lines of all that it was asked.
+    pub sent: Vec<u8>,
+    /// The commands.
+    pub talk: Vec<Said>,
+    /// The lines of those that aren't sent yet.
+    pub waiting: Lines,
+    /// What it wrote while it owed nothing. That is heard with the next answer.
+    pub held: Held,
+    /// The beginning of what it wrote since its last whole reply.
+    pub wrote: Beginning,
+}
+
+impl<P: Process> Engine<P> {
+    /// An engine that was asked nothing.
+    pub fn new(alloc: Global, process: P) -> Self
+        ensures { (notes : Notes) → dialogue result notes ≡ begun_with process notes }
+    {
+        Engine {
+            process,
+            sent: Vec::new(alloc),
+            talk: Vec::new(alloc),
+            waiting: ArrayVec::new(),
+            held: Held::new(),
+            wrote: ArrayVec::new(),
+        }
+    }
+
+    /// Whether another line can wait to be sent.
+    pub fn has_room(&self) -> bool
+        ensures room { result ≡ true → array_vec_len self.now.waiting + 64 ≤ LINES_ROOM }
+        ensures full { result ≡ false → LINES_ROOM < array_vec_len self.now.waiting + 64 }
+    {
+        self.waiting.len() + MOST_COMMAND_BYTES <= LINES_ROOM
+    }
+
+    /// The engine is asked a command, whose line is joined to those that are sent next.
+    ///
+    /// # Errors
+    ///
+    /// Where memory is refused.
+    pub fn ask(
+        &mut self,
+        examiner: &mut Examiner,
+        command: CheckCommand,
+        purpose: Purpose,
+        notes: &mut Notes,
+    ) -> Result<(), AllocError>
+        requires may { HasRoomFor examiner.old.exam command }
+        requires room { array_vec_len self.old.waiting + 64 ≤ LINES_ROOM }
+        ensures asked { OnOk result (IsAsked purpose examiner.old.exam
+            (dialogue self.old notes.old) command examiner.new.exam (dialogue self.new notes.new)) }
+        ensures process { self.new.process ≡ self.old.process }
+        ensures check { examiner.new ≡ with_exam examiner.old examiner.new.exam }
+    {
+        let is_illegal = is_illegal(examiner, &command);
+        let size = examiner.game().size();
+        let moves = examiner.game().moves().len();
+        let last = last_move(examiner.game());
+        let line = examiner.ask(command).text;
+        self.sent.extend_from_slice(line.as_slice())?;
+        self.talk.extend_from_slice(&[Said {
+            command,
+            purpose,
+            is_illegal,
+            size,
+            moves,
+            last,
+            end: self.sent.len(),
+        }])?;
+        push(&mut self.waiting, line.as_slice());
+        notes.count(purpose.lesson, &command);
+        Ok(())
+    }
+
+    /// What the engine owes is heard, one reply at most. What it wrote before is heard first. Else what waits is sent,
+    /// and the engine is read once. Returns what is wrong with it, if anything.
+    ///
+    /// So the engine is asked the next commands after each reply, however many come at once: what it was asked when
+    /// something is found doesn't hang on the time.
+    pub fn exchange(
+        &mut self,
+        examiner: &mut Examiner,
+        room: &mut Room,
+        notes: &mut Notes,
+    ) -> Option<Fault>
+        ensures exchanged { IsExchanged P.Process examiner.old.exam
+            (dialogue self.old notes.old) result examiner.new.exam (dialogue self.new notes.new) }
+        ensures check { examiner.new ≡ with_exam examiner.old examiner.new.exam }
+    {
+        if examiner.unanswered() == 0 {
+            self.send_waiting();
+            return None;
+        }
+        if !self.held.is_empty() {
+            return self.hear_held(examiner, &mut room.reply, notes);
+        }
+        self.send_waiting();
+        self.read(examiner, room, notes)
+    }
+
+    /// What waits is sent.
+    fn send_waiting(&mut self)
+        ensures sent { IsSent P.Process self.old.waiting.items self.old.process self.new.process }
+        ensures rest { (notes : Notes) → dialogue self.new notes
+            ≡ record (dialogue self.old notes) { process = self.new.process; waiting = [] } }
+    {
+        send(&mut self.process, self.waiting.as_slice());
+        self.waiting.clear();
+    }
+
+    /// The engine is read once, and what it wrote is heard. One that owes several answers may run first.
+    fn read(&mut self, examiner: &mut Examiner, room: &mut Room, notes: &mut Notes) -> Option<Fault>
+        ensures read { IsRead P.Process examiner.old.exam
+            (dialogue self.old notes.old) result examiner.new.exam (dialogue self.new notes.new) }
+        ensures check { examiner.new ≡ with_exam examiner.old examiner.new.exam }
+    {
+        if examiner.unanswered() > 1 {
+            self.process.let_run_first();
+        }
+        match read_some(&mut self.process, &mut room.buffer) {
+            Ok(0) => Some(Fault::CutOff(PipeCause::Ended)),
+            Ok(count) => self.hear_read(examiner, &room.buffer[..count], &mut room.reply, notes),
+            Err(CutOff) => Some(Fault::CutOff(PipeCause::Reading)),
+        }
+    }
+
+    /// What was read is heard. What is left of it is held.
+    fn hear_read(
+        &mut self,
+        examiner: &mut Examiner,
+        bytes: &[u8],
+        reply: &mut Reply,
+        notes: &mut Notes,
+    ) -> Option<Fault>
+        requires { length bytes.now ≤ READ_ROOM }
+        ensures heard { AreHeard bytes.now examiner.old.exam (dialogue self.old notes.old) result
+            examiner.new.exam (dialogue self.new notes.new) }
+        ensures check { examiner.new ≡ with_exam examiner.old examiner.new.exam }
+    {
+        let hearing = hear(bytes, &mut self.wrote, examiner, reply, notes);
+        match hearing.fault {
+            Some(fault) => Some(fault),
+            None => {
+                self.held.hold(&bytes[hearing.used..]);
+                None
+            }
+        }
+    }
+
+    /// What the engine wrote before is heard.
+    fn hear_held(
+        &mut self,
+        examiner: &mut Examiner,
+        reply: &mut Reply,
+        notes: &mut Notes,
+    ) -> Option<Fault>
+        ensures heard { AreHeard self.old.held examiner.old.exam
+            (record (dialogue self.old notes.old) { held = [] }) result
+            examiner.new.exam (dialogue self.new notes.new) }
+        ensures check { examiner.new ≡ with_exam examiner.old examiner.new.exam }
+    {
+        let hearing = hear(self.held.bytes(), &mut self.wrote, examiner, reply, notes);
+        match hearing.fault {
+            Some(fault) => {
+                self.held.clear();
+                Some(fault)
+            }
+            None => {
+                self.held.pass(hearing.used);
+                None
+            }
+        }
+    }
+
+    /// How many commands the engine has answered.
+    pub fn answered(&self, examiner: &Examiner) -> usize
+        ensures { result ≡ length self.now.talk.items - length examiner.now.exam.unanswered }
+    {
+        self.talk.len().saturating_sub(examiner.unanswered())
+    }
+
+    /// The process is ended, and what was said stays.
+    pub fn end(self) -> Ended
+        ensures said { (result.sent.items ≡ self.sent.items)
+            × (result.talk.items ≡ self.talk.items) × (result.wrote.items ≡ self.wrote.items) }
+        ensures ended { P.leaves self.process result.ending }
+    {
+        let Engine {
+            process,
+            sent,
+            talk,
+            waiting: _,
+            held: _,
+            wrote,
+        } = self;
+        let ending = process.end();
+        Ended {
+            sent,
+            talk,
+            wrote,
+            ending,
+        }
+    }
+}
+
+/// What was heard of an engine.
+#[derive(Clone, Copy, Debug, PartialEq, Eq)]
+struct Hearing {
+    /// How many of the bytes were used.
+    used: usize,
+    /// What is wrong, if anything.
+    fault: Option<Fault>,
+}
+
+/// What an engine wrote is heard, up to the end of one reply, or to something wrong. The beginning of what it wrote
+/// since its last whole reply is kept.
+fn hear(
+    bytes: &[u8],
+    wrote: &mut Beginning,
+    examiner: &mut Examiner,
+    reply: &mut Reply,
+    notes: &mut Notes,
+) -> Hearing
+    ensures used { result.used ≤ length bytes.now }
+    ensures heard { IsHeardBy bytes.now (listener examiner.old.exam wrote.old.items notes.old)
+        result.fault (listener examiner.new.exam wrote.new.items notes.new)
+        (drop result.used bytes.now) }
+    ensures check { examiner.new ≡ with_exam examiner.old examiner.new.exam }
+{
+    let heard = examiner.heard(bytes, reply);
+    let used = heard.used;
+    if let Some(finding) = heard.finding {
+        keep(wrote, &bytes[..used]);
+        return Hearing {
+            used,
+            fault: Some(Fault::Wrote(finding.kind)),
+        };
+    }
+    keep_since(wrote, &bytes[..used], heard.read.is_some());
+    notes.take(&heard, reply, examiner);
+    Hearing { used, fault: None }
+}
+
+/// The beginning of what an engine wrote since its last whole reply is kept: nothing where these bytes end one.
+fn keep_since(wrote: &mut Beginning, bytes: &[u8], is_read: bool)
+    ensures { wrote.new.items ≡ kept_after wrote.old.items bytes.now is_read }
+{
+    if is_read {
+        wrote.clear();
+        return;
+    }
+    keep(wrote, bytes);
+}
+
+/// The beginning of what an engine wrote is kept.
+fn keep(wrote: &mut Beginning, bytes: &[u8])
+    ensures { wrote.new.items ≡ take most_shown (wrote.old.items ++ bytes.now) }
+{
+    let room = MOST_SHOWN - wrote.len();
+    push(wrote, &bytes[..room.min(bytes.len())]);
+}
+
+/// The lines are sent, if there are any. Where a process is cut off then, what it wrote before is heard still, up to
+/// the end of its output.
+fn send<P: Process>(process: &mut P, lines: &[u8])
+    ensures { IsSent P.Process lines.now process.old process.new }
+{
+    if lines.is_empty() {
+        return;
+    }
+    match write_whole(process, lines) {
+        Ok(()) | Err(CutOff) => {}
+    }
+}
+
+/// Whether a command is a `play` that isn't legal.
+fn is_illegal(examiner: &Examiner, command: &CheckCommand) -> bool
+    ensures { IsTrue result ↔ IsIllegal examiner.now.exam.game command.now }
+{
+    match command {
+        CheckCommand::Match(Command::Play(made)) => {
+            !examiner.game().legal(made.colour, made.vertex)
+        }
+        _ => false,
+    }
+}
+
+/// The last move of a game, if it has one.
+fn last_move(game: &Game) -> Option<Move>
+    ensures { result ≡ last_move game.now }
+{
+    match game.moves() {
+        [.., last] => Some(*last),
+        [] => None,
+    }
+}
+
+/// What was said with an engine that was ended.
+#[derive(Drop)]
+pub struct Ended {
+    /// The lines of all that it was asked.
+    pub sent: Vec<u8>,
+    /// The commands.
+    pub talk: Vec<Said>,
+    /// The beginning of what it wrote since its last whole reply.
+    pub wrote: Beginning,
+    /// How it ended.
+    pub ending: Ending,
+}

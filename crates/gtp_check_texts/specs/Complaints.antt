@@ -1,0 +1,140 @@
+-- The text of a complaint. (Own.)
+use Rattle.std.specs.Prelude.{ℕ, ◌-◌, zero, suc, Bool, true, false, List, [], ◌∷◌, codes, length, take, drop}
+use Rattle.std.specs.Prelude.{◌++◌, ◌==◌, slice_get, unwrap_or, Option, None, Some}
+use Rattle.std.specs.Borrow.{Bor}
+use Rattle.std.specs.Fmt.{decimal}
+use Rattle.std.specs.Io.BufRead.{strip_last}
+use Rattle.std.specs.List.{concat}
+use Rattle.std.specs.Option.{option_map_or}
+use Rattle.std.specs.Prelude.{option_map}
+use Rattle.go_base.specs.Bytes.{newline}
+use Rattle.gtp_check_questions.specs.Lessons.{name_of}
+use Rattle.gtp_process.specs.Shown.{ending_text, quoted}
+use Rattle.gtp_process.specs.declared.starter.Ending.{Ending}
+use Rattle.gtp_wire.specs.Replies.{most_shown}
+use Rattle.gtp_check_texts.specs.Kinds.{fault_text}
+use Rattle.gtp_check_texts.specs.Answers.{before_rule, right_answer}
+use Rattle.gtp_check_texts.specs.Rules.{rule_text}
+use Rattle.gtp_check_texts.specs.Board.{drawn_board}
+use Rattle.gtp_check_texts.specs.Reasons.{reason}
+use Rattle.go_board.specs.Game.{GameRecord}
+use Rattle.gtp_check_shortening.specs.declared.talk.Said.{Said}
+use Rattle.gtp_check_texts.specs.declared.complaint.Complaint.{Complaint}
+use Rattle.gtp_check_texts.specs.declared.fault.Fault.{Fault}
+use Rattle.gtp_check_texts.specs.declared.fault.Fault.TheVariants.{Wrote, CutOff}
+use Rattle.gtp_process.specs.declared.causes.PipeCause.TheVariants.{Ended}
+
+-- ---- the conversation
+
+-- where the line of the command with this number, counted from 0, ends in all that was sent
+abbrev pub line_end : Complaint → ℕ → ℕ
+line_end complaint number =
+    option_map_or (λ said. said.end) (slice_get complaint.talk.now number) (length complaint.sent.now)
+
+-- where it begins: where the line before it ends
+abbrev pub line_start : Complaint → ℕ → ℕ
+line_start complaint zero = 0
+line_start complaint (suc before) = line_end complaint before
+
+-- the lines that were sent, up to that of the faulty command: the first one that wasn't answered before
+abbrev pub conversation : Complaint → List ℕ
+conversation complaint = take (line_end complaint complaint.answered) complaint.sent.now
+
+-- the lines before the faulty command
+abbrev pub before_lines : Complaint → List ℕ
+before_lines complaint = take (line_start complaint complaint.answered) (conversation complaint)
+
+-- the line of the faulty command as it was sent
+abbrev pub asked_line : Complaint → List ℕ
+asked_line complaint = drop (line_start complaint complaint.answered) (conversation complaint)
+
+-- the faulty command, without its newline
+abbrev pub faulty_line : Complaint → List ℕ
+faulty_line complaint = strip_last newline (asked_line complaint)
+
+-- the lines of what was asked after it
+abbrev pub after_lines : Complaint → List ℕ
+after_lines complaint = drop (line_end complaint complaint.answered) complaint.sent.now
+
+-- ---- the lines
+
+-- Its output ended within a reply: that is what was wrong, and it had written something since its last whole reply.
+abbrev pub is_within : Fault → List ℕ → Bool
+is_within (CutOff Ended) (byte ∷ more) = true
+is_within _ _ = false
+
+-- that it was within a reply
+abbrev pub within_text : Bool → List ℕ
+within_text true = codes " within a reply"
+within_text false = []
+
+-- how the process ended, where that is what was wrong
+abbrev pub ended_text : Fault → Ending → List ℕ
+ended_text (Wrote kind) ending = []
+ended_text (CutOff cause) ending = ending_text ending
+
+-- the number, the lesson, the faulty command and what was wrong
+abbrev pub head_line : Complaint → List ℕ
+head_line complaint = concat (
+    codes "# " ∷ decimal complaint.number ∷ codes " " ∷ name_of complaint.lesson ∷
+    codes ": \"" ∷ faulty_line complaint ∷ codes "\": " ∷
+    fault_text complaint.fault ∷ within_text (is_within complaint.fault complaint.wrote.now) ∷
+    ended_text complaint.fault complaint.ending ∷ codes "\n" ∷ [])
+
+-- the beginning of what the engine wrote
+abbrev pub wrote_line : List ℕ → List ℕ
+wrote_line bytes = concat (codes "# it wrote: " ∷ quoted (take most_shown bytes) ∷ codes "\n" ∷ [])
+
+-- What is right: of a reply without an end how it ends, and else what decides on the board before the command, where
+-- that is known and something was written, or the rule.
+abbrev pub decided : Option (Bor GameRecord) → Fault → Option Said → Option (List ℕ)
+decided (Some game) (Wrote kind) (Some said) = Some (reason game.now said.command kind None)
+decided _ _ _ = None
+
+abbrev pub faulty_said : Complaint → Option Said
+faulty_said complaint = slice_get complaint.talk.now complaint.answered
+
+abbrev pub rule_of : Complaint → Bool → List ℕ
+rule_of complaint true = codes "an answer ends with an empty line: two newlines"
+rule_of complaint false =
+    unwrap_or (decided complaint.game complaint.fault (faulty_said complaint))
+    (rule_text complaint.fault complaint.ending (option_map (λ said. said.command) (faulty_said complaint)))
+
+-- what a right engine answers, where that is shown
+abbrev pub answer_of : Complaint → List ℕ
+answer_of complaint = right_answer complaint.fault (faulty_said complaint)
+
+abbrev pub rule_line : Complaint → List ℕ
+rule_line complaint =
+    codes "# right: " ++ (before_rule (answer_of complaint)
+    ++ (rule_of complaint (is_within complaint.fault complaint.wrote.now) ++ codes "\n"))
+
+-- the board before the command, where it is known
+abbrev pub board_lines : Option (Bor GameRecord) → List ℕ
+board_lines None = []
+board_lines (Some game) = drawn_board game.now
+
+-- that they were asked before the answer was read, where there are any
+abbrev pub ahead_text : Bool → List ℕ
+ahead_text true = []
+ahead_text false = codes "# asked before this answer was read:\n"
+
+-- what was asked after the faulty command, before that was answered
+abbrev pub ahead_lines : List ℕ → List ℕ
+ahead_lines lines = ahead_text (length lines == 0) ++ lines
+
+-- that the refusal is right under the other ko rule
+abbrev pub ko_line : Bool → List ℕ
+ko_line true = codes "# under positional ko the refusal is right: try --ko positional\n"
+ko_line false = []
+
+-- what the engine was asked: the lines before the command, the board, and the command
+abbrev pub asked_lines : Complaint → List ℕ
+asked_lines complaint = before_lines complaint ++ (board_lines complaint.game ++ asked_line complaint)
+
+-- The block of a complaint: its head, what the engine was asked, what it wrote then, what is right, what was on its way,
+-- a hint, and an empty line.
+abbrev pub complaint_lines : Complaint → List ℕ
+complaint_lines complaint = concat (
+    head_line complaint ∷ asked_lines complaint ∷ wrote_line complaint.wrote.now ∷ rule_line complaint ∷
+    ahead_lines (after_lines complaint) ∷ ko_line complaint.is_positional ∷ codes "\n" ∷ [])

@@ -1,0 +1,14 @@
+pub mod Answers
+pub mod Board
+pub mod Complaints
+pub mod Illegal
+pub mod Junk
+pub mod Kinds
+pub mod Laws
+pub mod Lines
+pub mod Listing
+pub mod Plays
+pub mod Reasons
+pub mod Rules
+pub mod Sentences
+pub mod Texts

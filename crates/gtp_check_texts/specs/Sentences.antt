@@ -1,0 +1,45 @@
+-- What is right, in sentences that hang on neither board nor vertex. (Own.)
+use Rattle.std.specs.Prelude.{ℕ, List, codes}
+use Rattle.go_board.specs.declared.faults.HandicapFault.TheVariants.{NotEmpty, BadNumber}
+use Rattle.gtp_check_judge.specs.declared.dues.Cause.{Cause}
+use Rattle.gtp_check_judge.specs.declared.dues.Cause.TheVariants.{BadMove, BadHandicap, NoMoves}
+use Rattle.gtp_check_judge.specs.declared.judging.Kind.{Kind}
+use Rattle.gtp_check_judge.specs.declared.judging.Kind.TheVariants as kind
+use Rattle.gtp_wire.specs.declared.commands.Command.{Command}
+use Rattle.gtp_wire.specs.declared.commands.Command.TheVariants.{Boardsize, Komi, ClearBoard, FixedHandicap, Play}
+use Rattle.gtp_wire.specs.declared.commands.Command.TheVariants.{Genmove, Undo, Quit}
+
+-- why a right engine takes a command of a match
+abbrev pub command_sentence : Command → List ℕ
+command_sentence (FixedHandicap stones) =
+    codes "the board is empty, no move was made, and the size allows this number of stones"
+command_sentence (Komi komi) = codes "a komi that floats of 32 bits have exactly is taken"
+command_sentence ClearBoard = codes "a board can be cleared at any time"
+command_sentence (Boardsize size) = codes "the command succeeds"
+command_sentence (Play move) = codes "the command succeeds"
+command_sentence (Genmove colour) = codes "the command succeeds"
+command_sentence Undo = codes "the command succeeds"
+command_sentence Quit = codes "the command succeeds"
+
+-- why a right engine refuses a command
+abbrev pub cause_sentence : Cause → List ℕ
+cause_sentence (BadMove fault) = codes "the move isn't legal"
+cause_sentence (BadHandicap NotEmpty) = codes "a handicap is placed on an empty board alone, before any move"
+cause_sentence (BadHandicap BadNumber) = codes "the size doesn't allow this number of handicap stones"
+cause_sentence NoMoves = codes "there is no move to take back"
+
+-- what a right engine writes in place of what was wrong
+abbrev pub kind_sentence : Kind → List ℕ
+kind_sentence kind.Refused = codes "the command succeeds"
+kind_sentence (kind.Took cause) = cause_sentence cause
+kind_sentence kind.OtherPoints = codes "the points of a handicap are fixed by the size and the number"
+kind_sentence kind.NoMove = codes "a genmove succeeds; a player who has no move passes or resigns"
+kind_sentence kind.NoVertex = codes "a genmove answers a vertex of the board, pass, or resign"
+kind_sentence (kind.Unlawful fault) = codes "the move isn't legal"
+kind_sentence kind.NoScore = codes "a score is B+ or W+ and the points, or 0"
+kind_sentence kind.OtherScore =
+    codes "it scored this board twice alike under another komi: scores differ as the komis do"
+kind_sentence kind.WrongId = codes "a reply has the id of the oldest unanswered command"
+kind_sentence kind.Unasked = codes "each command has one reply"
+kind_sentence kind.NoStatus = codes "a reply begins with = or ?, and ends with two newlines"
+kind_sentence kind.Overlong = codes "a reply ends with two newlines"

@@ -1,0 +1,334 @@
+//! The block of a complaint.
+ghost use Rattle.std.specs.Prelude.{◌≡◌, ◌≤◌, ◌++◌, length, take, IfOk, OnOk, option_map};
+ghost use Rattle.go_base.specs.Bytes.{newline};
+ghost use Rattle.std.specs.Io.BufRead.{strip_last};
+ghost use Rattle.gtp_process.specs.Shown.{quoted};
+ghost use Rattle.gtp_wire.specs.Replies.{most_shown};
+ghost use Rattle.gtp_check_texts.specs.Answers.{before_rule};
+ghost use Rattle.gtp_check_texts.specs.Complaints.{after_lines, ahead_lines, ahead_text, answer_of, asked_line, asked_lines};
+ghost use Rattle.gtp_check_texts.specs.Complaints.{before_lines, board_lines, complaint_lines, conversation, ended_text};
+ghost use Rattle.gtp_check_texts.specs.Complaints.{faulty_line, faulty_said, head_line, is_within, ko_line};
+ghost use Rattle.gtp_check_texts.specs.Complaints.{line_end, line_start, rule_line, rule_of, within_text, wrote_line};
+ghost use Rattle.gtp_check_texts.specs.Rules.{rule_text};
+
+use crate::answers::{ANSWER_ROOM, right_answer};
+use crate::board::add_board;
+use crate::fault::Fault;
+use crate::kinds::fault_text;
+use crate::reasons::add_reason;
+use crate::rules::rule_text;
+use crate::texts::add_all;
+use arrayvec::ArrayVec;
+use go_base::write_int;
+use go_board::Game;
+use gtp_check_questions::Lesson;
+use gtp_check_shortening::talk::{Said, said_at};
+use gtp_process::{Ending, PipeCause, push_ending, push_quoted};
+use gtp_wire::MOST_SHOWN;
+use std::alloc::{AllocError, Global};
+
+/// Something that was found, and the conversation in which it was.
+#[derive(Clone, Copy)]
+pub struct Complaint<'t> {
+    /// Its number, counted from 1.
+    pub number: u32,
+    /// The lesson in which it was found.
+    pub lesson: Lesson,
+    /// What is wrong.
+    pub fault: Fault,
+    /// The lines of all that the engine was asked since it was started.
+    pub sent: &'t [u8],
+    /// The commands.
+    pub talk: &'t [Said],
+    /// How many of them it answered before.
+    pub answered: usize,
+    /// The beginning of what it wrote after these answers.
+    pub wrote: &'t [u8],
+    /// How its process ended.
+    pub ending: Ending,
+    /// Whether positional ko explains the refusal.
+    pub is_positional: bool,
+    /// The game of a right engine before the faulty command, where it is known.
+    pub game: Option<&'t Game>,
+}
+
+/// The text of a complaint: what was wrong, the conversation as it was sent with the board before the faulty command,
+/// what the engine wrote, what is right, and what was asked before that answer was read.
+///
+/// # Errors
+///
+/// Where memory is refused.
+pub fn complaint_text(alloc: Global, complaint: &Complaint<'_>) -> Result<Vec<u8>, AllocError>
+    ensures { IfOk result (λ text. text.items ≡ complaint_lines complaint.now) }
+{
+    let mut text = Vec::new(alloc);
+    add_head(&mut text, complaint)?;
+    add_asked(&mut text, complaint)?;
+    add_wrote(&mut text, complaint.wrote)?;
+    add_rule(&mut text, complaint)?;
+    add_ahead(&mut text, complaint.after_lines())?;
+    add_ko(&mut text, complaint.is_positional)?;
+    text.extend_from_slice(b"\n")?;
+    Ok(text)
+}
+
+impl<'t> Complaint<'t> {
+    /// Where the line of the command with this number, counted from 0, ends.
+    fn line_end(&self, number: usize) -> usize
+        ensures { result ≡ line_end self.now number }
+    {
+        match self.talk.get(number) {
+            Some(said) => said.end,
+            None => self.sent.len(),
+        }
+    }
+
+    /// Where it begins.
+    fn line_start(&self, number: usize) -> usize
+        ensures { result ≡ line_start self.now number }
+    {
+        match number.checked_sub(1) {
+            Some(before) => self.line_end(before),
+            None => 0,
+        }
+    }
+
+    /// The lines that were sent, up to that of the faulty command.
+    fn conversation(&self) -> &'t [u8]
+        ensures { result.now ≡ conversation self.now }
+    {
+        let end = self.line_end(self.answered);
+        &self.sent[..end.min(self.sent.len())]
+    }
+
+    /// The lines before the faulty command.
+    fn before_lines(&self) -> &'t [u8]
+        ensures { result.now ≡ before_lines self.now }
+    {
+        front(self.conversation(), self.line_start(self.answered))
+    }
+
+    /// The line of the faulty command as it was sent.
+    fn asked_line(&self) -> &'t [u8]
+        ensures { result.now ≡ asked_line self.now }
+    {
+        let lines = self.conversation();
+        let start = self.line_start(self.answered);
+        &lines[start.min(lines.len())..]
+    }
+
+    /// The faulty command, without its newline.
+    fn faulty_line(&self) -> &'t [u8]
+        ensures { result.now ≡ faulty_line self.now }
+    {
+        without_newline(self.asked_line())
+    }
+
+    /// The lines of what was asked after it.
+    fn after_lines(&self) -> &'t [u8]
+        ensures { result.now ≡ after_lines self.now }
+    {
+        let end = self.line_end(self.answered);
+        &self.sent[end.min(self.sent.len())..]
+    }
+
+    /// Whether its output ended within a reply.
+    fn is_within(&self) -> bool
+        ensures { result ≡ is_within self.now.fault self.now.wrote.now }
+    {
+        match self.fault {
+            Fault::CutOff(PipeCause::Ended) => !self.wrote.is_empty(),
+            _ => false,
+        }
+    }
+
+    /// The rule that says what is right, in whatever game.
+    fn rule(&self) -> &'static [u8]
+        ensures { result.now ≡ rule_text self.now.fault self.now.ending
+            (option_map (λ said. said.command) (faulty_said self.now)) }
+    {
+        let command = self.talk.get(self.answered).map(|said| said.command);
+        rule_text(self.fault, self.ending, command)
+    }
+
+    /// What a right engine answers, where that is shown.
+    fn answer(&self) -> ArrayVec<u8, ANSWER_ROOM>
+        ensures { result.items ≡ answer_of self.now }
+    {
+        right_answer(self.fault, said_at(self.talk, self.answered))
+    }
+}
+
+/// The first so many bytes of a text.
+fn front(text: &[u8], count: usize) -> &[u8]
+    ensures { result.now ≡ take count text.entry.now }
+{
+    &text[..count.min(text.len())]
+}
+
+/// A line without its newline.
+pub fn without_newline(line: &[u8]) -> &[u8]
+    ensures { result.now ≡ strip_last newline line.entry.now }
+{
+    match line {
+        [text @ .., b'\n'] => text,
+        _ => line,
+    }
+}
+
+/// The first line: the number, the lesson, the command and what was wrong.
+fn add_head(text: &mut Vec<u8>, complaint: &Complaint<'_>) -> Result<(), AllocError>
+    ensures { OnOk result (text.new.items ≡ text.old.items ++ head_line complaint.now) }
+{
+    add_all(
+        text,
+        &[
+            b"# ",
+            &write_int(complaint.number),
+            b" ",
+            complaint.lesson.name().as_bytes(),
+            b": \"",
+        ],
+    )?;
+    text.extend_from_slice(complaint.faulty_line())?;
+    add_all(
+        text,
+        &[
+            b"\": ",
+            fault_text(complaint.fault),
+            within_text(complaint.is_within()),
+            &ended_text(complaint.fault, complaint.ending),
+            b"\n",
+        ],
+    )
+}
+
+/// That its output ended within a reply.
+fn within_text(is_within: bool) -> &'static [u8]
+    ensures { result.now ≡ within_text is_within }
+{
+    if is_within { b" within a reply" } else { b"" }
+}
+
+/// How the process ended, where that is what was wrong.
+fn ended_text(fault: Fault, ending: Ending) -> ArrayVec<u8, 24>
+    ensures { result.items ≡ ended_text fault ending }
+{
+    let mut text = ArrayVec::new();
+    match fault {
+        Fault::Wrote(_) => {}
+        Fault::CutOff(_) => push_ending(&mut text, ending),
+    }
+    text
+}
+
+/// The line of what the engine wrote.
+fn add_wrote(text: &mut Vec<u8>, wrote: &[u8]) -> Result<(), AllocError>
+    ensures { OnOk result (text.new.items ≡ text.old.items ++ wrote_line wrote.now) }
+{
+    add_all(text, &[b"# it wrote: ", &shown(wrote), b"\n"])
+}
+
+/// The beginning of what the engine wrote, as it is shown.
+fn shown(wrote: &[u8]) -> ArrayVec<u8, 322>
+    ensures { result.items ≡ quoted (take most_shown wrote.now) }
+{
+    let mut text = ArrayVec::new();
+    push_quoted(&mut text, beginning(wrote));
+    text
+}
+
+/// The beginning of what the engine wrote.
+fn beginning(wrote: &[u8]) -> &[u8]
+    ensures beginning { result.now ≡ take most_shown wrote.entry.now }
+    ensures few { length result.now ≤ 80 }
+{
+    &wrote[..MOST_SHOWN.min(wrote.len())]
+}
+
+/// What the engine was asked: the lines before the faulty command, the board, and that command.
+fn add_asked(text: &mut Vec<u8>, complaint: &Complaint<'_>) -> Result<(), AllocError>
+    ensures { OnOk result (text.new.items ≡ text.old.items ++ asked_lines complaint.now) }
+{
+    text.extend_from_slice(complaint.before_lines())?;
+    add_board_if(text, complaint.game)?;
+    text.extend_from_slice(complaint.asked_line())
+}
+
+/// The board of a game, where it is known.
+fn add_board_if(text: &mut Vec<u8>, game: Option<&Game>) -> Result<(), AllocError>
+    ensures { OnOk result (text.new.items ≡ text.old.items ++ board_lines game.entry) }
+{
+    match game {
+        Some(game) => add_board(text, game),
+        None => Ok(()),
+    }
+}
+
+/// The line of what is right.
+fn add_rule(text: &mut Vec<u8>, complaint: &Complaint<'_>) -> Result<(), AllocError>
+    ensures { OnOk result (text.new.items ≡ text.old.items ++ rule_line complaint.now) }
+{
+    text.extend_from_slice(b"# right: ")?;
+    add_answer(text, &complaint.answer())?;
+    add_decided(text, complaint)?;
+    text.extend_from_slice(b"\n")
+}
+
+/// What is right, as far as no answer is shown.
+fn add_decided(text: &mut Vec<u8>, complaint: &Complaint<'_>) -> Result<(), AllocError>
+    ensures { OnOk result (text.new.items ≡ text.old.items
+        ++ rule_of complaint.now (is_within complaint.now.fault complaint.now.wrote.now)) }
+{
+    if complaint.is_within() {
+        return text.extend_from_slice(b"an answer ends with an empty line: two newlines");
+    }
+    let said = said_at(complaint.talk, complaint.answered);
+    match (complaint.game, complaint.fault, said) {
+        (Some(game), Fault::Wrote(kind), Some(said)) => {
+            add_reason(text, game, &said.command, kind, None)
+        }
+        _ => text.extend_from_slice(complaint.rule()),
+    }
+}
+
+/// What a right engine answers, if that is known.
+fn add_answer(text: &mut Vec<u8>, answer: &[u8]) -> Result<(), AllocError>
+    ensures { OnOk result (text.new.items ≡ text.old.items ++ before_rule answer.now) }
+{
+    if answer.is_empty() {
+        return Ok(());
+    }
+    add_all(text, &[answer, b"; "])
+}
+
+/// What was asked after the faulty command, before that was answered, where there is any.
+fn add_ahead(text: &mut Vec<u8>, lines: &[u8]) -> Result<(), AllocError>
+    ensures { OnOk result (text.new.items ≡ text.old.items ++ ahead_lines lines.now) }
+{
+    text.extend_from_slice(ahead_text(lines.is_empty()))?;
+    text.extend_from_slice(lines)
+}
+
+/// That they were asked before, where there are any.
+fn ahead_text(are_none: bool) -> &'static [u8]
+    ensures { result.now ≡ ahead_text are_none }
+{
+    if are_none {
+        b""
+    } else {
+        b"# asked before this answer was read:\n"
+    }
+}
+
+/// The line of the other ko rule, where that explains the refusal.
+fn add_ko(text: &mut Vec<u8>, is_positional: bool) -> Result<(), AllocError>
+    ensures { OnOk result (text.new.items ≡ text.old.items ++ ko_line is_positional) }
+{
+    if is_positional {
+        text.extend_from_slice(
+            b"# under positional ko the refusal is right: try --ko positional\n",
+        )?;
+    }
+    Ok(())
+}

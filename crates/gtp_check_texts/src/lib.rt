@@ -1,0 +1,24 @@
+//! The texts of `gtp_check`: what is wrong with an engine, what is right, and the board on which it is so.
+#![tactic(auto)]
+
+mod answers;
+mod board;
+pub mod complaint;
+pub mod fault;
+mod illegal;
+mod junk;
+mod kinds;
+pub mod laws;
+mod lines;
+pub mod listing;
+mod plays;
+mod reasons;
+mod rules;
+mod sentences;
+#[cfg(test)]
+mod tests;
+pub mod texts;
+
+pub use board::add_board;
+pub use junk::first_line;
+pub use reasons::add_reason;

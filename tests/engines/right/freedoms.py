@@ -1,0 +1,196 @@
+"""What the standard, or another rule set, leaves to engines: right engines, each with one freedom, on that of tests/engines/wrong.
+
+The standard's floats are those that 32 bits can hold. An `undo` may fail where a history is kept in part and used up. A score is an
+opinion: how stones are counted, and what an unfinished game is worth, is the engine's. Rules of suicide differ.
+"""
+import struct
+
+from right import Engine, Failure
+from rules import BLACK, EMPTY, POSITIONAL, WHITE
+
+
+def single(number):
+    """The float of 32 bits that is nearest."""
+    return struct.unpack("f", struct.pack("f", number))[0]
+
+
+# ---- komi
+
+
+class RoundsKomi(Engine):
+    """Komi is a float of 32 bits, and another one is rounded. A score has one digit after the point always, but an even one."""
+
+    def read_komi(self, text):
+        try:
+            return 2 * single(float(text))
+        except ValueError:
+            return None
+
+    def write_score(self, halves):
+        return f"{'B' if halves > 0 else 'W'}+{abs(halves) / 2:.1f}" if halves else "0"
+
+
+class RefusesKomi(RoundsKomi):
+    """Komi is a float of 32 bits, and another one is refused."""
+
+    def read_komi(self, text):
+        halves = super().read_komi(text)
+        return halves if halves is not None and halves / 2 == float(text) else None
+
+
+# ---- history
+
+
+class KeepsMoves(Engine):
+    """The last moves alone can be taken back, `most` of them."""
+
+    most = 400
+
+    def begin(self, size):
+        super().begin(size)
+        self.kept = 0
+
+    def move(self, colour, point):
+        super().move(colour, point)
+        self.kept = min(self.kept + 1, self.most)
+
+    def do_undo(self, arguments):
+        if not self.kept:
+            raise Failure("cannot undo")
+        super().do_undo(arguments)
+        self.kept -= 1
+
+
+class KeepsOneMove(KeepsMoves):
+    """The last move alone can be taken back."""
+
+    most = 1
+
+
+# ---- scores
+
+
+class Estimates(Engine):
+    """A score is what the engine thinks that the board is worth to Black, without komi, to a tenth of a point. The same board is worth the
+    same each time."""
+
+    digits = 1
+
+    def do_final_score(self, arguments):
+        return self.written(self.opinion() - self.komi / 2)
+
+    def opinion(self):
+        """Black's lead without komi. It ends in a quarter, so that scores are rounded up and down."""
+        return super().score() / 2 + self.komi / 2 + 3.25 + self.size
+
+    def written(self, lead):
+        """A score, from Black's lead."""
+        text = f"{abs(lead):.{self.digits}f}"
+        return f"{'B' if lead > 0 else 'W'}+{text}" if float(text) else "0"
+
+
+class EstimatesWholePoints(Estimates):
+    """A score is an estimate, to a point."""
+
+    digits = 0
+
+    def opinion(self):
+        return super().opinion() + 0.25
+
+
+class EstimatesByChance(Estimates):
+    """A score is an estimate that is drawn anew each time, as by some games that are played out."""
+
+    digits = 6
+
+    def opinion(self):
+        return super().opinion() + self.random.gauss(0, 5)
+
+
+class CountsTerritory(Engine):
+    """A score is territory and prisoners, of which those that an `undo` gives back are none any more."""
+
+    def begin(self, size):
+        super().begin(size)
+        self.leads = [0]
+
+    def move(self, colour, point):
+        before = self.board
+        super().move(colour, point)
+        taken = [before[place] for place, stone in enumerate(self.board) if before[place] != EMPTY and stone == EMPTY]
+        self.leads.append(self.leads[-1] + taken.count(WHITE) - taken.count(BLACK))
+
+    def undo(self):
+        super().undo()
+        self.leads.pop()
+
+    def score(self):
+        stones = self.board.count(BLACK) - self.board.count(WHITE)
+        return super().score() - 2 * stones + 2 * self.leads[-1]
+
+
+class GivesPointsForAHandicap(Engine):
+    """White gets a point for each stone of a handicap, and an even score is written with a colour."""
+
+    stones = 0
+
+    def begin(self, size):
+        super().begin(size)
+        self.stones = 0
+
+    def place_handicap(self, points):
+        super().place_handicap(points)
+        self.stones = len(points)
+
+    def score(self):
+        return super().score() - 2 * self.stones
+
+    def write_score(self, halves):
+        return super().write_score(halves) if halves else "B+0"
+
+
+# ---- suicide
+
+
+class AllowsSuicide(Engine):
+    """A chain without a liberty may be made, and is taken off. The engine chooses such moves too."""
+
+    def put(self, colour, point):
+        board = bytearray(super().put(colour, point))
+        chain = self.chain(board, point)
+        if not self.is_free(board, chain):
+            for stone in chain:
+                board[stone] = EMPTY
+        return bytes(board)
+
+    def is_suicide(self, board, colour, point):
+        return False
+
+    def is_ko(self, board, colour, point):
+        """One stone's suicide leaves the board as it is, which positional ko forbids."""
+        return self.ko == POSITIONAL and board == self.board or super().is_ko(board, colour, point)
+
+
+class AllowsSuicideOfChains(AllowsSuicide):
+    """Suicide of one stone is no move, and that of more is."""
+
+    def is_ko(self, board, colour, point):
+        return board == self.board or super().is_ko(board, colour, point)
+
+
+# ---- all of it
+
+
+class HasAllFreedoms(EstimatesByChance, RefusesKomi, KeepsMoves, AllowsSuicide):
+    """Komis that aren't exact are refused, 400 moves are kept, scores are estimates by chance, and suicide is a move."""
+
+    def opinion(self):
+        return 3.25 + self.random.gauss(0, 5)
+
+
+def snake(name):
+    """`RoundsKomi` is rounds_komi."""
+    return "".join("_" * (at > 0 and it.isupper()) + it.lower() for at, it in enumerate(name))
+
+
+FREEDOMS = {snake(it.__name__): it for it in list(vars().values()) if isinstance(it, type) and issubclass(it, Engine) and it is not Engine}
