@@ -154,8 +154,8 @@ static OPTIONS: [OptionRow<'static>; 10] = [
     OptionRow {
         name: "trials",
         takes: Takes::Number("N", 0, 1000, "60"),
-        help: "Shorter conversations that are tried in place of a\n\
-            long one, 0 to 1000; with 0 each is shown whole",
+        help: "Shorter conversations tried in place of a long one,\n\
+            0 to 1000; with 0 each is shown whole",
     },
 ];
 
