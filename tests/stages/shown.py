@@ -27,7 +27,7 @@ OTHERS = r"/usr/games/\w+"  # somebody else's programs
 QUOTES = {
     "crates/gtp_match/CALLING.md": ["crates/twogtp_app/src", "crates/gtp_match/src", "crates/tests_match/src"],
     "crates/gtp_process/CALLING.md": ["crates/gtp_process/src", "crates/tests_match/src"],
-    "crates/gtp_check_judge/CALLING.md": ["crates/gtp_check_judge/src", "crates/tests_programs/src"],
+    "crates/gtp_check_judge/CALLING.md": ["crates/gtp_check_judge/src", "crates/tests_check/src"],
 }
 
 

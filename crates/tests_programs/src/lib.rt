@@ -1,5 +1,5 @@
-//! The tests of what the programs do: `gtp_engine_app`, `twogtp_app`, `gtp_check_app`, and the judge and the questions
-//! of `gtp_check`. A crate with tests is proved twice, so they have a crate of their own.
+//! The tests of what `gtp_engine` and `twogtp` do: of `gtp_engine_app` and `twogtp_app`. A crate with tests is proved
+//! twice, so they have a crate of their own.
 #![tactic(auto)]
 
 #[cfg(test)]
