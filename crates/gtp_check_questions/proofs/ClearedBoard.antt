@@ -67,12 +67,12 @@ short_board scenes part board short is =
     let few = short_at scenes (part / ways) short in omega (arith, ap length is)
 
 -- the three stretches come one after the other, from this one on
-probes_after : (number : ℕ) (lesson : Lesson) (board : Board) → length board.scene.now ≤ 12
-    → slice_get (stretches_of lesson) number ≡ Some stretch.Moves
-    → slice_get (stretches_of lesson) (number + 1) ≡ Some stretch.Clear
-    → slice_get (stretches_of lesson) (number + 2) ≡ Some stretch.Own
-    → ProbesClearedBoard lesson board
-probes_after number lesson board short has_moves has_clear has_own = record {
+probes_after : (number : ℕ) (lesson : Lesson) (part : ℕ) (board : Board) → length board.scene.now ≤ 12
+    → slice_get (stretches_of lesson part) number ≡ Some stretch.Moves
+    → slice_get (stretches_of lesson part) (number + 1) ≡ Some stretch.Clear
+    → slice_get (stretches_of lesson part) (number + 2) ≡ Some stretch.Own
+    → ProbesClearedBoard lesson part board
+probes_after number lesson part board short has_moves has_clear has_own = record {
   number = number;
   moves = stretch.Moves;
   has_moves = has_moves;
@@ -99,11 +99,11 @@ joining_short = search rules
 
 pub each_board : EachClearedBoardIsProbed
 each_board = record {
-  ko = λ part board is. probes_after 30 Ko board (short_board ko_scenes part board ko_short is) refl refl refl;
+  ko = λ part board is. probes_after 30 Ko part board (short_board ko_scenes part board ko_short is) refl refl refl;
   captures = λ part board is.
-      probes_after 31 Captures board (short_board captures_scenes part board captures_short is) refl refl refl;
+      probes_after 31 Captures part board (short_board captures_scenes part board captures_short is) refl refl refl;
   suicide = λ part board is.
-      probes_after 28 Suicide board (short_board suicide_scenes part board suicide_short is) refl refl refl;
+      probes_after 28 Suicide part board (short_board suicide_scenes part board suicide_short is) refl refl refl;
   joining = λ part board is.
-      probes_after 31 Joining board (short_board joining_scenes part board joining_short is) refl refl refl;
+      probes_after 31 Joining part board (short_board joining_scenes part board joining_short is) refl refl refl;
 }

@@ -8,3 +8,4 @@ pub mod ClearedBoard
 pub mod NoSuicide
 pub mod SoughtSizes
 pub mod AnsweredKos
+pub mod SentPieces

@@ -93,13 +93,13 @@ part_over lesson course =
 
 abbrev pub has_next_step : Lesson → Place → Bool
 has_next_step lesson place =
-    nat_lt (place.step + 1) (steps_if (slice_get (stretches_of lesson) place.stretch))
+    nat_lt (place.step + 1) (steps_if (slice_get (stretches_of lesson place.part) place.stretch))
 
 -- The step is over: the next one of its stretch comes, or the next stretch, or the part is over too.
 abbrev pub step_over : Lesson → Course → Course
 step_over lesson course =
     if has_next_step lesson course.place then record course { place = next_step course.place }
-    else if nat_lt (course.place.stretch + 1) (length (stretches_of lesson))
+    else if nat_lt (course.place.stretch + 1) (length (stretches_of lesson course.place.part))
     then record course { place = next_stretch course.place }
     else part_over lesson course
 

@@ -163,6 +163,19 @@ pub(crate) static START: [Stretch; 23] = [
     Stretch::Own,
 ];
 
+/// A few commands after a new start, whose lines are sent in pieces. (The standard's topic command structure: a command
+/// ends with a newline. A mistake can spoil a match: the system may hand on the bytes of a line in pieces.)
+pub(crate) static PIECES: [Stretch; 8] = [
+    Stretch::Seek,
+    Stretch::Restart,
+    Stretch::Size,
+    Stretch::Taken,
+    Stretch::Komi,
+    Stretch::Clear,
+    Stretch::Moves,
+    Stretch::Undo,
+];
+
 /// Each point of a size. Then a full board, of which all is taken at once.
 pub(crate) static SIZES: [Stretch; 18] = [
     Stretch::Size,
