@@ -1,5 +1,5 @@
 //! An engine that was started: what it is asked, and what it writes.
-ghost use Rattle.std.specs.Prelude.{◌≡◌, ◌↔◌, ◌+◌, ◌-◌, ◌++◌, ◌≤◌, ◌<◌, true, [], length, drop, take};
+ghost use Rattle.std.specs.Prelude.{◌≡◌, ◌↔◌, ◌⊎◌, ◌+◌, ◌-◌, ◌++◌, ◌≤◌, ◌<◌, true, [], length, drop, take};
 ghost use Rattle.std.specs.Prelude.{IsTrue, OnOk, false};
 ghost use Rattle.arrayvec.specs.ArrayVec.{array_vec_len};
 ghost use Rattle.gtp_wire.specs.Replies.{most_shown};
@@ -8,7 +8,8 @@ ghost use Rattle.gtp_check_judge.specs.Check.{with_exam};
 ghost use Rattle.gtp_check_judge.specs.Exam.{HasRoomFor};
 ghost use Rattle.gtp_check_talks.specs.declared.notes.Notes.{Notes};
 ghost use Rattle.gtp_check_talks.specs.Dialogues.{AreHeard, IsAsked, IsRead, IsExchanged, IsSent, begun_with, dialogue};
-ghost use Rattle.gtp_check_talks.specs.Dialogues.{IsIllegal, kept_after, last_move, listener};
+ghost use Rattle.gtp_check_talks.specs.Dialogues.{IsIllegal, IsTaken, IsTakenInPart, MayFollow, ends_in_pieces};
+ghost use Rattle.gtp_check_talks.specs.Dialogues.{kept_after, last_move, listener};
 ghost use Rattle.gtp_check_talks.specs.private.Hearing.{IsHeardBy};
 
 use crate::held::Held;
@@ -25,6 +26,9 @@ use std::alloc::{AllocError, Global};
 
 /// The room for the lines of commands that are sent at once.
 pub const LINES_ROOM: usize = 16 * MOST_COMMAND_BYTES;
+
+/// How many bytes are sent later, where a line is sent in two pieces: its newline, and the byte before that.
+const LATER_BYTES: usize = 2;
 
 /// The lines of commands that are sent at once.
 pub type Lines = ArrayVec<u8, LINES_ROOM>;
@@ -79,12 +83,16 @@ impl<P: Process> Engine<P> {
         }
     }
 
-    /// Whether another line can wait to be sent.
+    /// Whether another line can wait to be sent. It can't follow one that is sent in two pieces.
     pub fn has_room(&self) -> bool
         ensures room { result ≡ true → array_vec_len self.now.waiting + 64 ≤ LINES_ROOM }
-        ensures full { result ≡ false → LINES_ROOM < array_vec_len self.now.waiting + 64 }
+        ensures follows { result ≡ true
+            → MayFollow self.now.talk.items self.now.waiting.items }
+        ensures full { result ≡ false → (LINES_ROOM < array_vec_len self.now.waiting + 64)
+            ⊎ ((ends_in_pieces self.now.talk.items ≡ true) × (0 < length self.now.waiting.items)) }
     {
-        self.waiting.len() + MOST_COMMAND_BYTES <= LINES_ROOM
+        let is_cut = !self.waiting.is_empty() && ends_in_pieces(&self.talk);
+        !is_cut && self.waiting.len() + MOST_COMMAND_BYTES <= LINES_ROOM
     }
 
     /// The engine is asked a command, whose line is joined to those that are sent next.
@@ -101,6 +109,7 @@ impl<P: Process> Engine<P> {
     ) -> Result<(), AllocError>
         requires may { HasRoomFor examiner.old.exam command }
         requires room { array_vec_len self.old.waiting + 64 ≤ LINES_ROOM }
+        requires follows { MayFollow self.old.talk.items self.old.waiting.items }
         ensures asked { OnOk result (IsAsked purpose examiner.old.exam
             (dialogue self.old notes.old) command examiner.new.exam (dialogue self.new notes.new)) }
         ensures process { self.new.process ≡ self.old.process }
@@ -152,13 +161,15 @@ impl<P: Process> Engine<P> {
         self.read(examiner, room, notes)
     }
 
-    /// What waits is sent.
+    /// What waits is sent, and the last line of it in two pieces where that is asked for.
     fn send_waiting(&mut self)
-        ensures sent { IsSent P.Process self.old.waiting.items self.old.process self.new.process }
+        ensures sent { IsSent P.Process (ends_in_pieces self.old.talk.items) self.old.waiting.items
+            self.old.process self.new.process }
         ensures rest { (notes : Notes) → dialogue self.new notes
             ≡ record (dialogue self.old notes) { process = self.new.process; waiting = [] } }
     {
-        send(&mut self.process, self.waiting.as_slice());
+        let in_pieces = ends_in_pieces(&self.talk);
+        send(&mut self.process, self.waiting.as_slice(), in_pieces);
         self.waiting.clear();
     }
 
@@ -314,16 +325,43 @@ fn keep(wrote: &mut Beginning, bytes: &[u8])
     push(wrote, &bytes[..room.min(bytes.len())]);
 }
 
-/// The lines are sent, if there are any. Where a process is cut off then, what it wrote before is heard still, up to
-/// the end of its output.
-fn send<P: Process>(process: &mut P, lines: &[u8])
-    ensures { IsSent P.Process lines.now process.old process.new }
+/// Whether the line of the command that was asked last is sent in two pieces.
+fn ends_in_pieces(talk: &[Said]) -> bool
+    ensures { result ≡ ends_in_pieces talk.now }
+{
+    match talk {
+        [.., last] => last.purpose.lesson.is_in_pieces(last.purpose.part),
+        [] => false,
+    }
+}
+
+/// The lines are sent, if there are any: at once, or all but the last bytes, and these a moment later. Where a process
+/// is cut off then, what it wrote before is heard still, up to the end of its output.
+fn send<P: Process>(process: &mut P, lines: &[u8], in_pieces: bool)
+    ensures { IsSent P.Process in_pieces lines.now process.old process.new }
 {
     if lines.is_empty() {
         return;
     }
-    match write_whole(process, lines) {
-        Ok(()) | Err(CutOff) => {}
+    if !in_pieces {
+        let _ = is_taken(process, lines);
+        return;
+    }
+    let (first, second) = lines.split_at(lines.len().saturating_sub(LATER_BYTES));
+    if is_taken(process, first) {
+        process.let_read();
+        let _ = is_taken(process, second);
+    }
+}
+
+/// A piece is sent. Returns whether the process took it whole.
+fn is_taken<P: Process>(process: &mut P, piece: &[u8]) -> bool
+    ensures whole { result ≡ true → IsTaken P.Process piece.now process.old process.new }
+    ensures part { result ≡ false → IsTakenInPart P.Process piece.now process.old process.new }
+{
+    match write_whole(process, piece) {
+        Ok(()) => true,
+        Err(CutOff) => false,
     }
 }
 
