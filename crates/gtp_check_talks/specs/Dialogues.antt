@@ -20,7 +20,7 @@ use Rattle.gtp_process.specs.declared.starter.StartReason.{StartReason}
 use Rattle.gtp_process.specs.Starts.{Attempts, Text, Tries}
 use Rattle.gtp_process.specs.Pipes.{IsCutOff, IsUnbroken, OutputEnded}
 use Rattle.gtp_check_judge.specs.declared.asking.CheckCommand.{CheckCommand}
-use Rattle.gtp_check_judge.specs.declared.asking.CheckCommand.TheVariants.{Match}
+use Rattle.gtp_check_judge.specs.declared.asking.CheckCommand.TheVariants.{Match, PlayInFull}
 use Rattle.gtp_check_judge.specs.declared.exam.Exam.{Exam}
 use Rattle.gtp_check_judge.specs.declared.exam.Finding.{Finding}
 use Rattle.gtp_check_judge.specs.declared.skills.Skills.{Skills}
@@ -83,6 +83,7 @@ begun_with process notes = record {
 -- a `play` that isn't legal in this game: a right engine refuses it
 abbrev pub IsIllegal : GameRecord → CheckCommand → Type 0
 IsIllegal game (Match (Play move)) = ¬ IsLegal game move.colour move.vertex
+IsIllegal game (PlayInFull move) = ¬ IsLegal game move.colour move.vertex
 IsIllegal game _ = ⊥
 
 -- the last move of a game, if it has one

@@ -370,7 +370,7 @@ fn is_illegal(examiner: &Examiner, command: &CheckCommand) -> bool
     ensures { IsTrue result ↔ IsIllegal examiner.now.exam.game command.now }
 {
     match command {
-        CheckCommand::Match(Command::Play(made)) => {
+        CheckCommand::Match(Command::Play(made)) | CheckCommand::PlayInFull(made) => {
             !examiner.game().legal(made.colour, made.vertex)
         }
         _ => false,

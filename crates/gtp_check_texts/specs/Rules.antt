@@ -7,12 +7,13 @@ use Rattle.gtp_check_judge.specs.declared.asking.CheckCommand.TheVariants.{Match
 use Rattle.gtp_check_judge.specs.declared.judging.Kind.TheVariants.{Refused}
 use Rattle.gtp_check_texts.specs.declared.fault.Fault.{Fault}
 use Rattle.gtp_check_texts.specs.declared.fault.Fault.TheVariants.{Wrote, CutOff}
-use Rattle.gtp_check_texts.specs.Sentences.{command_sentence, kind_sentence}
+use Rattle.gtp_check_texts.specs.Sentences.{command_sentence, kind_sentence, other_sentence}
 
 -- why a right engine takes a command
 abbrev pub refused_rule : Option CheckCommand → List ℕ
 refused_rule (Some (Match command)) = command_sentence command
-refused_rule _ = codes "the command succeeds"
+refused_rule (Some other) = other_sentence other
+refused_rule None = codes "the command succeeds"
 
 -- the status by which a program with a limit of time ends an engine that is late
 abbrev pub late : ℕ

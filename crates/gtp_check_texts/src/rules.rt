@@ -3,7 +3,7 @@ ghost use Rattle.std.specs.Prelude.{◌≡◌};
 ghost use Rattle.gtp_check_texts.specs.Rules.{lost_rule, refused_rule, rule_text};
 
 use crate::fault::Fault;
-use crate::sentences::{command_sentence, kind_sentence};
+use crate::sentences::{command_sentence, kind_sentence, other_sentence};
 use gtp_check_judge::{CheckCommand, Kind};
 use gtp_process::Ending;
 
@@ -39,6 +39,7 @@ fn refused_rule(command: Option<CheckCommand>) -> &'static [u8]
 {
     match command {
         Some(CheckCommand::Match(command)) => command_sentence(&command),
-        _ => b"the command succeeds",
+        Some(command) => other_sentence(&command),
+        None => b"the command succeeds",
     }
 }
