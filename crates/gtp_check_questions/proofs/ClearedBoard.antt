@@ -16,7 +16,7 @@ use Rattle.gtp_check_questions.specs.Scenes.{Acts, acts_if, captures_scenes, joi
 use Rattle.gtp_check_questions.specs.Scenes.{suicide_scenes, turned, ways}
 
 -- no scene has more moves than a stretch of moves has steps
-abbrev AreShort : List Acts → Type 0
+abbrev pub AreShort : List Acts → Type 0
 AreShort [] = Unit {0}
 AreShort (acts ∷ others) = (length acts ≤ 12) × AreShort others
 
@@ -26,7 +26,7 @@ short_at (acts ∷ others) zero short = short.0
 short_at (acts ∷ others) (suc number) short = short_at others number short.1
 
 -- what is at a place of a list is within it
-within : (acts : Acts) (number : ℕ) (act : Colour × ℕ × ℕ) → slice_get acts number ≡ Some act → number < length acts
+pub within : (acts : Acts) (number : ℕ) (act : Colour × ℕ × ℕ) → slice_get acts number ≡ Some act → number < length acts
 within [] number act is = absurd (cc)
 within (first ∷ acts) zero act is = omega arith
 within (first ∷ acts) (suc number) act is = let less = within acts number act is in omega arith
@@ -61,7 +61,7 @@ module _ (board : Board) (short : length board.scene.now ≤ 12) where
       probed White number (2 * number + 1) act less (omega arith) (omega arith) (grind (arith, nat_tests)) is
 
 -- a board of a part has no more moves either
-short_board : (scenes : List Acts) (part : ℕ) (board : Board) → AreShort scenes
+pub short_board : (scenes : List Acts) (part : ℕ) (board : Board) → AreShort scenes
     → board.scene.now ≡ acts_if (slice_get scenes (part / ways)) → length board.scene.now ≤ 12
 short_board scenes part board short is =
     let few = short_at scenes (part / ways) short in omega (arith, ap length is)
@@ -85,7 +85,7 @@ probes_after number lesson part board short has_moves has_clear has_own = record
   probes = points board short;
 }
 
-ko_short : AreShort ko_scenes
+pub ko_short : AreShort ko_scenes
 ko_short = search rules
 
 captures_short : AreShort captures_scenes

@@ -9,3 +9,4 @@ pub mod NoSuicide
 pub mod SoughtSizes
 pub mod AnsweredKos
 pub mod SentPieces
+pub mod WrittenInFull

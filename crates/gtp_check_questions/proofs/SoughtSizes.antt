@@ -9,7 +9,8 @@ use Rattle.gtp_check_questions.specs.declared.lessons.Lesson.{Lesson}
 use Rattle.gtp_check_questions.specs.declared.lessons.Lesson.TheVariants as lesson
 use Rattle.gtp_check_questions.specs.declared.stretches.Stretch.TheVariants as stretch
 use Rattle.gtp_check_questions.specs.Laws.{EachSizeIsSought, SeeksEachSize}
-use Rattle.gtp_check_questions.specs.Lessons.{pieces_stretches, start_stretches, stretches_of}
+use Rattle.gtp_check_questions.specs.Lessons.{in_full_stretches, list_stretches, pieces_stretches, start_stretches}
+use Rattle.gtp_check_questions.specs.Lessons.{stretches_of}
 use Rattle.gtp_check_questions.specs.Questions.{asks, seek_asked}
 
 asked_for : (size : ℕ) → 5 ≤ size → size ≤ 25 → seek_asked (2 * (size - 5)) true ≡ asks (command.Boardsize size)
@@ -33,12 +34,16 @@ seeks now has part board size is_sought least most = record {
   };
 }
 
-first_of : (is_second : Bool) → slice_get (if is_second then pieces_stretches else start_stretches) 0 ≡ Some stretch.Seek
-first_of true = refl
-first_of false = refl
+first_of : (second third fourth : Bool)
+    → slice_get (if second then pieces_stretches else if third then in_full_stretches
+    else if fourth then list_stretches else start_stretches) 0 ≡ Some stretch.Seek
+first_of true third fourth = refl
+first_of false true fourth = refl
+first_of false false true = refl
+first_of false false false = refl
 
 start_seeks : (part : ℕ) → slice_get (stretches_of lesson.Start part) 0 ≡ Some stretch.Seek
-start_seeks part = first_of (part == 1)
+start_seeks part = first_of (part == 1) (part == 2) (part == 3)
 
 pub each_size : EachSizeIsSought
 each_size = record {

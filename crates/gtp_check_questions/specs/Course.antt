@@ -7,7 +7,8 @@ use Rattle.go_board.specs.declared.faults.PlayFault.TheVariants.{Suicide as Suic
 use Rattle.gtp_wire.specs.declared.commands.Command.TheVariants as command
 use Rattle.gtp_check_judge.specs.declared.asking.CheckCommand.{CheckCommand}
 use Rattle.gtp_check_judge.specs.declared.asking.CheckCommand.TheVariants.{Match, FinalScore, Name, Version}
-use Rattle.gtp_check_judge.specs.declared.asking.CheckCommand.TheVariants.{KnownCommand}
+use Rattle.gtp_check_judge.specs.declared.asking.CheckCommand.TheVariants.{KnownCommand, PlayInFull, GenmoveInFull}
+use Rattle.gtp_check_judge.specs.declared.asking.CheckCommand.TheVariants.{ListCommands}
 use Rattle.gtp_check_judge.specs.declared.exam.Exam.{Exam}
 use Rattle.gtp_check_judge.specs.Exam.{HasRoomFor}
 use Rattle.gtp_check_questions.specs.declared.lessons.Lesson.{Lesson}
@@ -131,6 +132,9 @@ IsSuicide game FinalScore = ⊥
 IsSuicide game Name = ⊥
 IsSuicide game Version = ⊥
 IsSuicide game (KnownCommand known) = ⊥
+IsSuicide game ListCommands = ⊥
+IsSuicide game (PlayInFull move) = RefusesVertex game move.colour move.vertex SuicideFault
+IsSuicide game (GenmoveInFull colour) = ⊥
 
 -- A command is left out in this game: it is suicide, and that isn't asked. (Rule sets differ in whether it is legal.)
 pub record IsLeftOut (suicide : Suicide) (game : GameRecord) (command : CheckCommand) : Type 0 where

@@ -10,13 +10,16 @@ use Rattle.go_board.specs.Refusals.{RefusesVertex}
 use Rattle.go_board.specs.declared.faults.PlayFault.TheVariants.{Suicide as SuicideFault}
 use Rattle.gtp_wire.specs.declared.commands.Command.TheVariants as command
 use Rattle.gtp_check_judge.specs.declared.asking.CheckCommand.{CheckCommand}
-use Rattle.gtp_check_judge.specs.declared.asking.CheckCommand.TheVariants.{KnownCommand, Match}
+use Rattle.gtp_check_judge.specs.declared.asking.CheckCommand.TheVariants.{KnownCommand, ListCommands}
+use Rattle.gtp_check_judge.specs.declared.asking.CheckCommand.TheVariants.{PlayInFull, GenmoveInFull}
+use Rattle.gtp_check_judge.specs.Asking.{IsPlayOf}
 use Rattle.gtp_check_judge.specs.declared.asking.Known.{Known}
 use Rattle.gtp_check_judge.specs.declared.exam.Exam.{Exam}
 use Rattle.gtp_check_questions.specs.declared.actions.Action.{Action}
 use Rattle.gtp_check_questions.specs.declared.actions.Action.TheVariants.{Start, Restart, Kill, Ask, Wait, Skip, Done}
 use Rattle.gtp_check_questions.specs.declared.actions.Question.{Question}
 use Rattle.gtp_check_questions.specs.declared.actions.Question.TheVariants.{Found}
+use Rattle.gtp_check_questions.specs.declared.actions.Question.TheVariants.{Ask as Asks}
 use Rattle.gtp_check_questions.specs.declared.actions.Question.TheVariants.{Restart as NewStart}
 use Rattle.gtp_check_questions.specs.declared.boards.Board.{Board}
 use Rattle.gtp_check_questions.specs.declared.draws.Draws.{Draws}
@@ -82,11 +85,12 @@ EveryCourseIsBounded = (lessons : List Lesson) (scene_size : Option ℕ) (seed :
 
 -- ---- suicide
 
--- Where suicide isn't asked, no `play` that is asked is one in the examiner's game, by the rules of that.
+-- Where suicide isn't asked, no `play` that is asked is one in the examiner's game, by the rules of that, however its
+-- colour is written.
 abbrev pub NoSuicideIsAsked : Type 0
 NoSuicideIsAsked = (lessons : List Lesson) (scene_size : Option ℕ) (seed asked started : ℕ) (old new : Course)
-    (exam : Exam) (move : Move) → Walks lessons scene_size seed Unasked asked started old
-    → GoesTo old exam (Ask (Match (command.Play move))) new
+    (exam : Exam) (command : CheckCommand) (move : Move) → Walks lessons scene_size seed Unasked asked started old
+    → IsPlayOf move command → GoesTo old exam (Ask command) new
     → ¬ RefusesVertex exam.game move.colour move.vertex SuicideFault
 
 -- ---- each scene is asked
@@ -217,6 +221,25 @@ pub record PiecesAreSent : Type 0 where
   pub play : (board : Board) (act : Colour × ℕ × ℕ) → slice_get board.scene.now 0 ≡ Some act
       → AsksIn lesson.Start part board (asks (command.Play (turned_act board.way act board.size)))
   pub undo : (board : Board) → AsksIn lesson.Start part board (asks command.Undo)
+
+-- ---- colours that are written in full, and a list of commands
+
+-- In one part of the lesson of the start each move of its scene is asked with its colour written in full, and then a
+-- move of the engine's own of each colour, written so too.
+pub record ColoursAreInFull : Type 0 where
+  pub part : ℕ
+  pub few : part < parts_of lesson.Start
+  pub plays : (board : Board) (number : ℕ) (act : Colour × ℕ × ℕ) → board.scene.now ≡ scene_of lesson.Start part
+      → slice_get board.scene.now number ≡ Some act
+      → AsksIn lesson.Start part board (Asks (PlayInFull (turned_act board.way act board.size)))
+  pub chooses : (board : Board) (colour : Colour)
+      → AsksIn lesson.Start part board (Asks (GenmoveInFull (turned_colour board.way colour)))
+
+-- In one part of the lesson of the start the engine is asked to list its commands.
+pub record ListIsAskedFor : Type 0 where
+  pub part : ℕ
+  pub few : part < parts_of lesson.Start
+  pub asks : (board : Board) → AsksIn lesson.Start part board (Asks ListCommands)
 
 -- ---- each command that an engine may lack is asked for
 

@@ -48,10 +48,10 @@ number_of Genmoves = 10
 number_of Games = 11
 number_of Restarts = 12
 
--- the parts: two of the start, the second in pieces; each size; each scene in its sixteen ways; each size with each number of handicap stones
--- up to 11; and so on
+-- the parts: four of the start, the second in pieces; each size; each scene in its sixteen ways; each size with each
+-- number of handicap stones up to 11; and so on
 abbrev pub parts_of : Lesson → ℕ
-parts_of Start = 2
+parts_of Start = 4
 parts_of Sizes = 25
 parts_of Ko = 96
 parts_of Captures = 128
@@ -176,8 +176,22 @@ pieces_stretches =
     stretch.Seek ∷ stretch.Restart ∷ stretch.Size ∷ stretch.Taken ∷ stretch.Komi ∷ stretch.Clear ∷ stretch.Moves ∷
     stretch.Undo ∷ []
 
+-- the part of the start in which colours are written in full
+abbrev pub in_full_stretches : List Stretch
+in_full_stretches =
+    stretch.Seek ∷ stretch.Size ∷ stretch.Taken ∷ stretch.Komi ∷ stretch.Clear ∷ stretch.MovesInFull ∷ stretch.Own ∷
+    stretch.ChosenInFull White ∷ stretch.ChosenInFull Black ∷ stretch.Own ∷ []
+
+-- the part of the start in which the engine lists its commands
+abbrev pub list_stretches : List Stretch
+list_stretches = stretch.Seek ∷ stretch.List ∷ []
+
 abbrev pub start_parts : ℕ → List Stretch
-start_parts part = if part == 1 then pieces_stretches else start_stretches
+start_parts part =
+    if part == 1 then pieces_stretches
+    else if part == 2 then in_full_stretches
+    else if part == 3 then list_stretches
+    else start_stretches
 
 -- the stretches of a part, one after the other
 abbrev pub stretches_of : Lesson → ℕ → List Stretch

@@ -1,5 +1,6 @@
 //! Laws of the course. Each is the contract of a function that does nothing.
 ghost use Rattle.gtp_check_questions.specs.Laws.{EveryCourseIsBounded, EachSceneIsAsked, EachStepAsksOneQuestion};
+ghost use Rattle.gtp_check_questions.specs.Laws.{ColoursAreInFull, ListIsAskedFor};
 ghost use Rattle.gtp_check_questions.specs.Laws.{EachClearedBoardIsProbed, EachLackIsAskedFor, EachKomiIsExact};
 ghost use Rattle.gtp_check_questions.specs.Laws.{EachKoIsAnswered, EachSizeIsSought, NoSuicideIsAsked, PiecesAreSent};
 
@@ -37,7 +38,18 @@ pub fn each_komi_is_exact()
     ensures { EachKomiIsExact }
 {}
 
-/// Where suicide isn't asked, no `play` that is asked is one in the examiner's game.
+/// In one part of the lesson of the start each move of its scene is asked with its colour written in full, and then a
+/// move of the engine's own of each colour.
+pub fn colours_are_in_full()
+    ensures { ColoursAreInFull }
+{}
+
+/// In one part of the lesson of the start the engine is asked to list its commands.
+pub fn list_is_asked_for()
+    ensures { ListIsAskedFor }
+{}
+
+/// Where suicide isn't asked, no `play` that is asked is one in the examiner's game, however its colour is written.
 pub fn no_suicide_is_asked()
     ensures { NoSuicideIsAsked }
 {}

@@ -20,7 +20,8 @@ pub type Lessons = ArrayVec<Lesson, ALL>;
 #[derive(Clone, Copy, Debug, PartialEq, Eq)]
 pub enum Lesson {
     /// Some moves of the engine's own on the smallest board from 5x5 on that it takes, and that board after a new
-    /// start. Then a few commands whose lines come in two pieces each.
+    /// start. Then a few commands whose lines come in two pieces each, some moves whose colours are written in full, and
+    /// `list_commands`.
     Start,
     /// Each size from 1 to 25: whether it is taken, each of its points, and two that it doesn't have. Then the capture
     /// of all stones of a full board, which is taken back with the moves before it, on some sizes with all of them.
@@ -129,7 +130,7 @@ impl Lesson {
         ensures few { result ≤ most_parts }
     {
         match self {
-            Lesson::Start => 2,
+            Lesson::Start => 4,
             Lesson::Sizes => 25,
             Lesson::Ko => 6 * WAYS,
             Lesson::Captures => 8 * WAYS,
@@ -196,6 +197,8 @@ fn start_parts(part: u32) -> &'static [Stretch]
 {
     match part {
         1 => &tables::PIECES,
+        2 => &tables::IN_FULL,
+        3 => &tables::LIST,
         _ => &tables::START,
     }
 }

@@ -176,6 +176,23 @@ pub(crate) static PIECES: [Stretch; 8] = [
     Stretch::Undo,
 ];
 
+/// Some moves whose colours are written in full, the points of them, and moves of the engine's own.
+pub(crate) static IN_FULL: [Stretch; 10] = [
+    Stretch::Seek,
+    Stretch::Size,
+    Stretch::Taken,
+    Stretch::Komi,
+    Stretch::Clear,
+    Stretch::MovesInFull,
+    Stretch::Own,
+    Stretch::ChosenInFull(Colour::White),
+    Stretch::ChosenInFull(Colour::Black),
+    Stretch::Own,
+];
+
+/// The list of the engine's commands.
+pub(crate) static LIST: [Stretch; 2] = [Stretch::Seek, Stretch::List];
+
 /// Each point of a size. Then a full board, of which all is taken at once.
 pub(crate) static SIZES: [Stretch; 18] = [
     Stretch::Size,

@@ -29,12 +29,12 @@ use Rattle.gtp_check_judge.proofs.talks.Silence.{id_has, oldest_asked, right_so_
 
 listed_so : (words : List (List ℕ)) (name : List ℕ) → is_listed words name ≡ true → Contains words name
 listed_so [] name e = absurd (cc e)
-listed_so (word ∷ words) name e = by (bytes_eq name word) refl e
+listed_so (word ∷ words) name e = by (bytes_eq name word) refl e (λ later. listed_so words name later)
   where
     by : (b : Bool) → bytes_eq name word ≡ b → (b || list_any (bytes_eq name) words) ≡ true
-        → Contains (word ∷ words) name
-    by true same e = (0, omega arith, sym ((bytes_eq-Decides name word).0 same))
-    by false other e = let there = listed_so words name e in (suc there.0, omega (arith, there.1), there.2)
+        → (list_any (bytes_eq name) words ≡ true → Contains words name) → Contains (word ∷ words) name
+    by true same e so = (0, omega arith, sym ((bytes_eq-Decides name word).0 same))
+    by false other e so = let there = so e in (suc there.0, omega (arith, there.1), there.2)
 
 so_listed : (words : List (List ℕ)) (name : List ℕ) → Contains words name → is_listed words name ≡ true
 so_listed [] name there = absurd (omega (arith, there.1))

@@ -23,6 +23,7 @@ use Rattle.gtp_check_judge.specs.declared.judging.Kind.TheVariants.{Refused}
 use Rattle.gtp_check_judge.specs.declared.unanswered.Asked.{Asked}
 use Rattle.gtp_check_judge.specs.declared.exam.Exam.{Exam}
 use Rattle.gtp_check_judge.specs.declared.exam.Finding.{Finding}
+use Rattle.go_base.specs.declared.moves.Move.{Move}
 use Rattle.gtp_check_judge.specs.Asking.{IsPlayOf, IsGenmoveOf}
 use Rattle.gtp_check_judge.specs.RightEngine.{RightEngine, fresh_engine, undone_after, undone_by}
 use Rattle.gtp_check_judge.specs.Dues.{IsDue, UndoDue}
