@@ -26,7 +26,6 @@ use Rattle.gtp_check_judge.specs.declared.judging.Refusal.TheVariants as refusal
 use Rattle.go_base.specs.Size.{IsSize}
 use Rattle.gtp_session.specs.CommandAnswers.{after_command}
 use Rattle.gtp_check_judge.specs.Komis.{HasToBeTaken}
-use Rattle.gtp_check_judge.specs.Listings.{required_commands}
 use Rattle.gtp_check_judge.specs.RightEngine.{RightEngine}
 use Rattle.gtp_check_judge.specs.Dues.{IsDue}
 use Rattle.gtp_check_judge.specs.Laws.{Exchange, Talks, IsAsked, IsRight}
@@ -105,6 +104,21 @@ RefusalsAreReported = (rule : KoRule) (sent came : List ℕ) (said : List Exchan
 
 -- ---- lists of commands
 
+-- The commands that the standard requires of every engine: its administrative commands, `boardsize`, `clear_board` and
+-- `komi` of its setup commands, and its core play commands but for `undo`.
+pub data IsRequired : List ℕ → Type 0 where
+  protocol_version : IsRequired (codes "protocol_version")
+  name : IsRequired (codes "name")
+  version : IsRequired (codes "version")
+  known_command : IsRequired (codes "known_command")
+  list_commands : IsRequired (codes "list_commands")
+  quit : IsRequired (codes "quit")
+  boardsize : IsRequired (codes "boardsize")
+  clear_board : IsRequired (codes "clear_board")
+  komi : IsRequired (codes "komi")
+  play : IsRequired (codes "play")
+  genmove : IsRequired (codes "genmove")
+
 -- the reply that was heard is a success to the oldest unanswered command, which is a `list_commands`
 pub record IsListing (exam : Exam) (reply : Reply) (entry : Asked) : Type 0 where
   pub asked : oldest exam.unanswered ≡ Some entry
@@ -118,12 +132,11 @@ pub record ListsNameEachCommand : Type 0 where
   pub lacking : (rule : KoRule) (sent came : List ℕ) (said : List Exchange) (old new : Exam) (bytes : List ℕ)
       (used : ℕ) (reply : Reply) (finding : Option Finding) (entry : Asked) (name : List ℕ)
       → Talks rule sent came said old → Hears old bytes used (Some (Ok reply)) finding new
-      → IsListing old reply entry → Contains required_commands name
-      → ¬ Contains (reply_words reply.text.items) name
+      → IsListing old reply entry → IsRequired name → ¬ Contains (reply_words reply.text.items) name
       → finding ≡ Some (record { asked = Some entry; kind = Unlisted })
   pub complete : (rule : KoRule) (sent came : List ℕ) (said : List Exchange) (old new : Exam) (bytes : List ℕ)
       (used : ℕ) (reply : Reply) (finding : Option Finding) (entry : Asked)
       → Talks rule sent came said old → Hears old bytes used (Some (Ok reply)) finding new
       → IsListing old reply entry
-      → ((name : List ℕ) → Contains required_commands name → Contains (reply_words reply.text.items) name)
+      → ((name : List ℕ) → IsRequired name → Contains (reply_words reply.text.items) name)
       → finding ≡ None

@@ -8,7 +8,7 @@ use Rattle.std.proofs.lemmas.Slice.Eq.{bytes_eq-Decides}
 use Rattle.go_board.specs.declared.rules.KoRule.{KoRule}
 use Rattle.gtp_wire.specs.Words.{reply_words}
 use Rattle.gtp_wire.specs.declared.replies.Reply.{Reply}
-use Rattle.gtp_check_judge.specs.AnswerLaws.{IsListing, ListsNameEachCommand}
+use Rattle.gtp_check_judge.specs.AnswerLaws.{IsListing, IsRequired, ListsNameEachCommand}
 use Rattle.gtp_check_judge.specs.declared.asking.CheckCommand.{CheckCommand}
 use Rattle.gtp_check_judge.specs.declared.asking.CheckCommand.TheVariants.{ListCommands}
 use Rattle.gtp_check_judge.specs.declared.dues.Due.{Due}
@@ -62,12 +62,46 @@ each_of words (first ∷ names) e name (suc k, few, is) =
     right true e = e
     right false e = absurd (cc e)
 
-of_each : (words names : List (List ℕ)) → ((name : List ℕ) → Contains names name → is_listed words name ≡ true)
-    → list_all (is_listed words) names ≡ true
-of_each words [] all = refl
-of_each words (first ∷ names) all =
-    ap (λ (b : Bool). b && list_all (is_listed words) names) (all first (0, omega arith, refl))
-    ∙ of_each words names (λ name there. all name (suc there.0, omega (arith, there.1), there.2))
+-- ---- the commands that every engine has
+
+abbrev AllRequired : List (List ℕ) → Type 0
+AllRequired [] = Unit {0}
+AllRequired (name ∷ names) = IsRequired name × AllRequired names
+
+all_required : AllRequired required_commands
+all_required = (
+  IsRequired.protocol_version,
+  IsRequired.name,
+  IsRequired.version,
+  IsRequired.known_command,
+  IsRequired.list_commands,
+  IsRequired.quit,
+  IsRequired.boardsize,
+  IsRequired.clear_board,
+  IsRequired.komi,
+  IsRequired.play,
+  IsRequired.genmove,
+  tt,
+)
+
+of_each : (words names : List (List ℕ)) → AllRequired names
+    → ((name : List ℕ) → IsRequired name → is_listed words name ≡ true) → list_all (is_listed words) names ≡ true
+of_each words [] needs all = refl
+of_each words (first ∷ names) needs all =
+    ap (λ (b : Bool). b && list_all (is_listed words) names) (all first needs.0) ∙ of_each words names needs.1 all
+
+is_required : (name : List ℕ) → IsRequired name → Contains required_commands name
+is_required name IsRequired.protocol_version = (0, omega arith, refl)
+is_required name IsRequired.name = (1, omega arith, refl)
+is_required name IsRequired.version = (2, omega arith, refl)
+is_required name IsRequired.known_command = (3, omega arith, refl)
+is_required name IsRequired.list_commands = (4, omega arith, refl)
+is_required name IsRequired.quit = (5, omega arith, refl)
+is_required name IsRequired.boardsize = (6, omega arith, refl)
+is_required name IsRequired.clear_board = (7, omega arith, refl)
+is_required name IsRequired.komi = (8, omega arith, refl)
+is_required name IsRequired.play = (9, omega arith, refl)
+is_required name IsRequired.genmove = (10, omega arith, refl)
 
 -- ---- what is found
 
@@ -104,13 +138,13 @@ list_heard rule sent came said old new bytes used reply finding entry has_all ta
     (list_due s.before entry.command entry.due l.lists asked.is_due) l.id l.succeeds lists
     (subst (λ (o : Option Asked). ReplyLeaves (with_rest old h.0) o reply finding new) l.asked h.2)
 
-lacks : (words : List (List ℕ)) (name : List ℕ) → Contains required_commands name → (Contains words name → ⊥)
+lacks : (words : List (List ℕ)) (name : List ℕ) → IsRequired name → (Contains words name → ⊥)
     → lists_required words ≡ false
 lacks words name needs none = by (lists_required words) refl
   where
     by : (b : Bool) → lists_required words ≡ b → lists_required words ≡ false
     by false e = e
-    by true e = absurd (none (listed_so words name (each_of words required_commands e name needs)))
+    by true e = absurd (none (listed_so words name (each_of words required_commands e name (is_required name needs))))
 
 pub lists_judged : ListsNameEachCommand
 lists_judged = record {
@@ -119,6 +153,6 @@ lists_judged = record {
       (lacks (reply_words reply.text.items) name needs none);
   complete = λ rule sent came said old new bytes used reply finding entry talk h l all.
       list_heard rule sent came said old new bytes used reply finding entry true talk h l
-      (of_each (reply_words reply.text.items) required_commands
+      (of_each (reply_words reply.text.items) required_commands all_required
       (λ name needs. so_listed (reply_words reply.text.items) name (all name needs)));
 }
