@@ -113,7 +113,7 @@ class Hostile(Checks):
     """Engines that misbehave."""
 
     def test_refusing(self):
-        """hostile: refuses, by the whole course: no pass is earned."""
+        """hostile: refuses, by the whole course: `list_commands` may not be refused."""
         self.nothing(hostile.refusing("refuses"))
 
     def test_silent(self):

@@ -19,7 +19,7 @@ use Rattle.gtp_wire.specs.declared.commands.Command.TheVariants.{Boardsize, Komi
 use Rattle.gtp_wire.specs.declared.commands.Command.TheVariants.{Genmove, Undo, Quit}
 use Rattle.gtp_check_texts.specs.Illegal.{illegal_text, last_move}
 use Rattle.gtp_check_texts.specs.Plays.{legal_text}
-use Rattle.gtp_check_texts.specs.Sentences.{command_sentence, kind_sentence, other_sentence}
+use Rattle.gtp_check_texts.specs.Sentences.{command_sentence, kind_sentence, no_move_sentence, other_sentence}
 
 -- ---- a refusal of what a right engine does
 
@@ -83,4 +83,5 @@ abbrev pub reason : GameRecord → CheckCommand → Kind → Option Vertex → L
 reason game command kind.Refused chosen = refused_text game command
 reason game command (kind.Took (BadMove fault)) chosen = illegal_text game (move_of command chosen) fault
 reason game command (kind.Unlawful fault) chosen = illegal_text game (move_of command chosen) fault
+reason game command kind.NoMove chosen = no_move_sentence command
 reason game command other chosen = kind_sentence other

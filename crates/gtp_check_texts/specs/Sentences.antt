@@ -55,3 +55,8 @@ kind_sentence kind.WrongId = codes "a reply has the id of the oldest unanswered 
 kind_sentence kind.Unasked = codes "each command has one reply"
 kind_sentence kind.NoStatus = codes "a reply begins with = or ?, and ends with two newlines"
 kind_sentence kind.Overlong = codes "a reply ends with two newlines"
+
+-- why a right engine answers a `genmove` by a success: it reads the colour, and has always a move or resigns
+abbrev pub no_move_sentence : CheckCommand → List ℕ
+no_move_sentence (GenmoveInFull colour) = other_sentence (GenmoveInFull colour)
+no_move_sentence _ = kind_sentence kind.NoMove

@@ -5,7 +5,7 @@ ghost use Rattle.gtp_check_texts.specs.Reasons.{undo_text};
 
 use crate::illegal::{add_illegal, last_move};
 use crate::plays::add_legal;
-use crate::sentences::{command_sentence, kind_sentence, other_sentence};
+use crate::sentences::{command_sentence, kind_sentence, no_move_sentence, other_sentence};
 use crate::texts::add_all;
 use go_base::{Colour, Move, Vertex};
 use go_board::Game;
@@ -38,6 +38,7 @@ pub fn add_reason(
             add_illegal(text, game, move_of(command, chosen), fault)
         }
         Kind::Unlawful(fault) => add_illegal(text, game, move_of(command, chosen), fault),
+        Kind::NoMove => text.extend_from_slice(no_move_sentence(command)),
         _ => text.extend_from_slice(kind_sentence(kind)),
     }
 }

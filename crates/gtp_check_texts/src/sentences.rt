@@ -1,6 +1,7 @@
 //! What is right, in sentences that hang on neither board nor vertex.
 ghost use Rattle.std.specs.Prelude.{◌≡◌};
 ghost use Rattle.gtp_check_texts.specs.Sentences.{cause_sentence, command_sentence, kind_sentence, other_sentence};
+ghost use Rattle.gtp_check_texts.specs.Sentences.{no_move_sentence};
 
 use go_board::HandicapFault;
 use gtp_check_judge::{Cause, CheckCommand, Kind};
@@ -34,6 +35,16 @@ pub(crate) fn other_sentence(command: &CheckCommand) -> &'static [u8]
         }
         CheckCommand::ListCommands => b"each engine has list_commands",
         _ => b"the command succeeds",
+    }
+}
+
+/// Why a right engine answers a `genmove` by a success.
+pub(crate) fn no_move_sentence(command: &CheckCommand) -> &'static [u8]
+    ensures { result.now ≡ no_move_sentence command.now }
+{
+    match command {
+        CheckCommand::GenmoveInFull(_) => other_sentence(command),
+        _ => kind_sentence(Kind::NoMove),
     }
 }
 

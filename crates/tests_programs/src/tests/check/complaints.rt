@@ -28,7 +28,7 @@ struct Row {
     text: &'static str,
 }
 
-static ROWS: [Row; 8] = [
+static ROWS: [Row; 11] = [
     // It can be pasted into an engine.
     Row {
         head: (
@@ -137,6 +137,67 @@ static ROWS: [Row; 8] = [
         text: "# 1 komi: \"\": a score that doesn't differ from its others as the komis do
 # it wrote: \"=\\n\\n\"
 # right: it scored this board twice alike under another komi: scores differ as the komis do
+
+",
+    },
+    // A colour in full isn't read.
+    Row {
+        head: (
+            1,
+            Lesson::Start,
+            Fault::Wrote(Kind::Refused),
+            Ending::Running,
+        ),
+        commands: &[("clear_board", 14), ("play black C3", 30)],
+        answered: 1,
+        sent: b"1 clear_board\n2 play black C3\n",
+        wrote: b"?2 syntax error\n\n",
+        is_positional: false,
+        text: "# 1 start: \"2 play black C3\": it was refused
+1 clear_board
+2 play black C3
+# it wrote: \"?2 syntax error\\n\\n\"
+# right: a colour may be written in full: black for b, and white for w
+
+",
+    },
+    Row {
+        head: (
+            1,
+            Lesson::Start,
+            Fault::Wrote(Kind::NoMove),
+            Ending::Running,
+        ),
+        commands: &[("clear_board", 14), ("genmove white", 30)],
+        answered: 1,
+        sent: b"1 clear_board\n2 genmove white\n",
+        wrote: b"?2 syntax error\n\n",
+        is_positional: false,
+        text: "# 1 start: \"2 genmove white\": no move: the genmove failed
+1 clear_board
+2 genmove white
+# it wrote: \"?2 syntax error\\n\\n\"
+# right: a colour may be written in full: black for b, and white for w
+
+",
+    },
+    // A list lacks a command.
+    Row {
+        head: (
+            4,
+            Lesson::Start,
+            Fault::Wrote(Kind::Unlisted),
+            Ending::Running,
+        ),
+        commands: &[("list_commands", 16)],
+        answered: 0,
+        sent: b"1 list_commands\n",
+        wrote: b"=1 play\n\n",
+        is_positional: false,
+        text: "# 4 start: \"1 list_commands\": a list without a command that each engine has
+1 list_commands
+# it wrote: \"=1 play\\n\\n\"
+# right: each of these is listed: protocol_version name version known_command list_commands quit boardsize clear_board komi play genmove
 
 ",
     },

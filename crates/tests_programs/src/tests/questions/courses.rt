@@ -111,6 +111,8 @@ impl Talk {
         let is_move = matches!(
             command,
             CheckCommand::Match(Command::Play(_) | Command::Genmove(_))
+                | CheckCommand::PlayInFull(_)
+                | CheckCommand::GenmoveInFull(_)
         );
         if let (Some(lesson), true) = (lesson, is_move) {
             let number = lesson.number();
