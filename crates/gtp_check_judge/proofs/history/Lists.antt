@@ -69,20 +69,8 @@ AllRequired [] = Unit {0}
 AllRequired (name ∷ names) = IsRequired name × AllRequired names
 
 all_required : AllRequired required_commands
-all_required = (
-  IsRequired.protocol_version,
-  IsRequired.name,
-  IsRequired.version,
-  IsRequired.known_command,
-  IsRequired.list_commands,
-  IsRequired.quit,
-  IsRequired.boardsize,
-  IsRequired.clear_board,
-  IsRequired.komi,
-  IsRequired.play,
-  IsRequired.genmove,
-  tt,
-)
+all_required =
+    (IsRequired.protocol_version, (IsRequired.name, (IsRequired.version, (IsRequired.known_command, (IsRequired.list_commands, (IsRequired.quit, (IsRequired.boardsize, (IsRequired.clear_board, (IsRequired.komi, (IsRequired.play, (IsRequired.genmove, tt)))))))))))
 
 of_each : (words names : List (List ℕ)) → AllRequired names
     → ((name : List ℕ) → IsRequired name → is_listed words name ≡ true) → list_all (is_listed words) names ≡ true
