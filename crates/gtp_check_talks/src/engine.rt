@@ -9,7 +9,7 @@ ghost use Rattle.gtp_check_judge.specs.Exam.{HasRoomFor};
 ghost use Rattle.gtp_check_talks.specs.declared.notes.Notes.{Notes};
 ghost use Rattle.gtp_check_talks.specs.Dialogues.{AreHeard, IsAsked, IsRead, IsExchanged, IsSent, begun_with, dialogue};
 ghost use Rattle.gtp_check_talks.specs.Dialogues.{IsIllegal, IsTaken, IsTakenInPart, MayFollow, ends_in_pieces};
-ghost use Rattle.gtp_check_talks.specs.Dialogues.{kept_after, last_move, listener};
+ghost use Rattle.gtp_check_talks.specs.Dialogues.{kept_after, last_move, listener, through_line};
 ghost use Rattle.gtp_check_talks.specs.private.Hearing.{IsHeardBy};
 
 use crate::held::Held;
@@ -20,6 +20,7 @@ use go_board::Game;
 use gtp_check_judge::{CheckCommand, Examiner};
 use gtp_check_shortening::talk::{Purpose, Said};
 use gtp_check_texts::fault::Fault;
+use gtp_check_texts::line_len;
 use gtp_process::{CutOff, Ending, PipeCause, Process, READ_ROOM, read_some, write_whole};
 use gtp_wire::{Command, MOST_COMMAND_BYTES, MOST_SHOWN, Reply};
 use std::alloc::{AllocError, Global};
@@ -278,7 +279,7 @@ struct Hearing {
 }
 
 /// What an engine wrote is heard, up to the end of one reply, or to something wrong. The beginning of what it wrote
-/// since its last whole reply is kept.
+/// since its last whole reply is kept, where something is wrong up to the end of its line.
 fn hear(
     bytes: &[u8],
     wrote: &mut Beginning,
@@ -295,7 +296,7 @@ fn hear(
     let heard = examiner.heard(bytes, reply);
     let used = heard.used;
     if let Some(finding) = heard.finding {
-        keep(wrote, &bytes[..used]);
+        keep(wrote, through_line(bytes, used));
         return Hearing {
             used,
             fault: Some(Fault::Wrote(finding.kind)),
@@ -304,6 +305,16 @@ fn hear(
     keep_since(wrote, &bytes[..used], heard.read.is_some());
     notes.take(&heard, reply, examiner);
     Hearing { used, fault: None }
+}
+
+/// The bytes up to the end of the line in which the last of so many is, with its newline, as far as they are there.
+fn through_line(bytes: &[u8], used: usize) -> &[u8]
+    requires { used ≤ length bytes.now }
+    ensures { result.now ≡ through_line used bytes.entry.now }
+{
+    let before = used.saturating_sub(1);
+    let end = before + line_len(&bytes[before..]) + 1;
+    &bytes[..end.min(bytes.len())]
 }
 
 /// The beginning of what an engine wrote since its last whole reply is kept: nothing where these bytes end one.
