@@ -1,3 +1,4 @@
 mod Conversations
+mod Illegal
 mod Talks
 mod Trials
