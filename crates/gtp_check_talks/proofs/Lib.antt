@@ -1,4 +1,5 @@
 mod Conversations
 mod Illegal
+mod Pieces
 mod Talks
 mod Trials
