@@ -212,8 +212,8 @@ impl<S: Starter> Check<S> {
             → length self.now.examiner.exam.unanswered ≡ 0 }
         ensures full { result ≡ false → IsSome self.now.engine }
         ensures why { result ≡ false → IfSome self.now.engine (λ engine.
-            (LINES_ROOM < array_vec_len engine.waiting + 64)
-            ⊎ ((ends_in_pieces engine.talk.items ≡ true) × (0 < length engine.waiting.items))
+            ((LINES_ROOM < array_vec_len engine.waiting + 64)
+            ⊎ ((ends_in_pieces engine.talk.items ≡ true) × (0 < length engine.waiting.items)))
             ⊎ ((singly ≡ true) × (0 < length self.now.examiner.exam.unanswered))) }
     {
         match &self.engine {

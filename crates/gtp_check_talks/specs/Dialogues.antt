@@ -1,6 +1,7 @@
 -- What is said with an engine since it was started: what it is asked, what it writes, and what is found. (Own.)
 use Rattle.std.specs.Prelude.{◌≡◌, ℕ, ◌+◌, ◌<◌, Bool, true, false, List, [], ◌∷◌, ◌++◌, length, take, drop}
 use Rattle.std.specs.Prelude.{◌-◌, ◌==◌, ◌&&◌, slice_get, Option, None, Some, is_some, option_map, if◌then◌else◌}
+use Rattle.std.specs.List.{position_or_len}
 use Rattle.std.specs.Option.{option_map_or}
 use Rattle.std.specs.Prelude.{Result, Ok, Err, IsTrue, ◌↔◌, All}
 use Rattle.std.specs.Io.KnownBytes.{Appends, Keeps}
@@ -34,6 +35,7 @@ use Rattle.gtp_check_judge.specs.Exam.{Asks, HasRoomFor, Hears, HearsDown}
 use Rattle.gtp_check_talks.specs.declared.engine.Engine.{Engine}
 use Rattle.gtp_check_texts.specs.declared.fault.Fault.{Fault}
 use Rattle.gtp_check_texts.specs.declared.fault.Fault.TheVariants.{CutOff, Wrote}
+use Rattle.gtp_check_texts.specs.Lines.{is_newline}
 use Rattle.gtp_check_talks.specs.declared.notes.Notes.{Notes}
 use Rattle.gtp_check_shortening.specs.declared.talk.Purpose.{Purpose}
 use Rattle.gtp_check_shortening.specs.declared.talk.Said.{Said}
@@ -163,13 +165,19 @@ pub record IsHeardQuietly (bytes : List ℕ) (first last : Listener) (left : Lis
   pub notes : last.notes ≡ noted_of_read first.notes (oldest first.exam.unanswered) read last.exam.skills
   pub rest : left ≡ drop used bytes
 
--- In the bytes something wrong was found.
+-- The bytes up to the end of the line in which the last of so many is, with its newline, as far as they are there. Where
+-- that byte is the newline at the end of a reply, these are just so many; and where it shows that this is no reply, the
+-- rest of its line is among them.
+abbrev pub through_line : ℕ → List ℕ → List ℕ
+through_line used bytes = take (used - 1 + (position_or_len is_newline (drop (used - 1) bytes) + 1)) bytes
+
+-- In the bytes something wrong was found. What is kept of them goes to the end of the line in which it was.
 pub record IsFoundIn (bytes : List ℕ) (first last : Listener) (fault : Fault) : Type 0 where
   pub used : ℕ
   pub read : Option (Result Reply ReplyFault)
   pub finding : Finding
   pub found : IsHeard first.exam bytes used read (Some finding) last.exam
-  pub wrote : last.wrote ≡ take most_shown (first.wrote ++ take used bytes)
+  pub wrote : last.wrote ≡ take most_shown (first.wrote ++ through_line used bytes)
   pub notes : last.notes ≡ first.notes
   pub kind : fault ≡ Wrote finding.kind
 

@@ -1,27 +1,30 @@
 //! An engine that was started: what it is asked, and what it writes.
-ghost use Rattle.std.specs.Prelude.{◌≡◌, ◌↔◌, ◌⊎◌, ◌+◌, ◌-◌, ◌++◌, ◌≤◌, ◌<◌, true, [], length, drop, take};
+ghost use Rattle.std.specs.Prelude.{◌≡◌, ◌↔◌, ◌⊎◌, ◌+◌, ◌-◌, ◌++◌, ◌≤◌, ◌<◌, true, [], ◌∷◌, length, drop, take};
 ghost use Rattle.std.specs.Prelude.{IsTrue, OnOk, false};
 ghost use Rattle.arrayvec.specs.ArrayVec.{array_vec_len};
 ghost use Rattle.gtp_wire.specs.Replies.{most_shown};
 ghost use Rattle.gtp_check_judge.specs.Asking.{written_check};
 ghost use Rattle.gtp_check_judge.specs.Check.{with_exam};
-ghost use Rattle.gtp_check_judge.specs.Exam.{HasRoomFor};
+ghost use Rattle.gtp_check_judge.specs.Exam.{Asks, HasRoomFor};
 ghost use Rattle.gtp_check_talks.specs.declared.notes.Notes.{Notes};
-ghost use Rattle.gtp_check_talks.specs.Dialogues.{AreHeard, IsAsked, IsRead, IsExchanged, IsSent, begun_with, dialogue};
+ghost use Rattle.gtp_check_talks.specs.Dialogues.{AreHeard, AreTaken, IsAsked, IsRead, IsExchanged, IsSent};
+ghost use Rattle.gtp_check_talks.specs.Dialogues.{begun_with, dialogue, two_pieces};
 ghost use Rattle.gtp_check_talks.specs.Dialogues.{IsIllegal, IsTaken, IsTakenInPart, MayFollow, ends_in_pieces};
-ghost use Rattle.gtp_check_talks.specs.Dialogues.{kept_after, last_move, listener};
+ghost use Rattle.gtp_check_talks.specs.Dialogues.{kept_after, last_move, listener, through_line};
 ghost use Rattle.gtp_check_talks.specs.private.Hearing.{IsHeardBy};
+ghost use Rattle.gtp_check_talks.specs.private.Illegal.{is_bad_move};
 
 use crate::held::Held;
 use crate::notes::{Beginning, Notes};
 use arrayvec::ArrayVec;
 use go_base::{Move, push};
 use go_board::Game;
-use gtp_check_judge::{CheckCommand, Examiner};
+use gtp_check_judge::{Cause, CheckCommand, Due, Examiner};
 use gtp_check_shortening::talk::{Purpose, Said};
 use gtp_check_texts::fault::Fault;
+use gtp_check_texts::line_len;
 use gtp_process::{CutOff, Ending, PipeCause, Process, READ_ROOM, read_some, write_whole};
-use gtp_wire::{Command, MOST_COMMAND_BYTES, MOST_SHOWN, Reply};
+use gtp_wire::{CommandText, MOST_COMMAND_BYTES, MOST_SHOWN, Reply};
 use std::alloc::{AllocError, Global};
 
 /// The room for the lines of commands that are sent at once.
@@ -115,22 +118,21 @@ impl<P: Process> Engine<P> {
         ensures process { self.new.process ≡ self.old.process }
         ensures check { examiner.new ≡ with_exam examiner.old examiner.new.exam }
     {
-        let is_illegal = is_illegal(examiner, &command);
         let size = examiner.game().size();
         let moves = examiner.game().moves().len();
         let last = last_move(examiner.game());
-        let line = examiner.ask(command).text;
-        self.sent.extend_from_slice(line.as_slice())?;
+        let line = line_of(examiner, command);
+        self.sent.extend_from_slice(line.text.as_slice())?;
         self.talk.extend_from_slice(&[Said {
             command,
             purpose,
-            is_illegal,
+            is_illegal: line.is_illegal,
             size,
             moves,
             last,
             end: self.sent.len(),
         }])?;
-        push(&mut self.waiting, line.as_slice());
+        push(&mut self.waiting, line.text.as_slice());
         notes.count(purpose.lesson, &command);
         Ok(())
     }
@@ -278,7 +280,7 @@ struct Hearing {
 }
 
 /// What an engine wrote is heard, up to the end of one reply, or to something wrong. The beginning of what it wrote
-/// since its last whole reply is kept.
+/// since its last whole reply is kept, where something is wrong up to the end of its line.
 fn hear(
     bytes: &[u8],
     wrote: &mut Beginning,
@@ -295,7 +297,7 @@ fn hear(
     let heard = examiner.heard(bytes, reply);
     let used = heard.used;
     if let Some(finding) = heard.finding {
-        keep(wrote, &bytes[..used]);
+        keep(wrote, through_line(bytes, used));
         return Hearing {
             used,
             fault: Some(Fault::Wrote(finding.kind)),
@@ -304,6 +306,16 @@ fn hear(
     keep_since(wrote, &bytes[..used], heard.read.is_some());
     notes.take(&heard, reply, examiner);
     Hearing { used, fault: None }
+}
+
+/// The bytes up to the end of the line in which the last of so many is, with its newline, as far as they are there.
+fn through_line(bytes: &[u8], used: usize) -> &[u8]
+    requires { used ≤ length bytes.now }
+    ensures { result.now ≡ through_line used bytes.entry.now }
+{
+    let before = used.saturating_sub(1);
+    let end = before + line_len(&bytes[before..]) + 1;
+    &bytes[..end.min(bytes.len())]
 }
 
 /// The beginning of what an engine wrote since its last whole reply is kept: nothing where these bytes end one.
@@ -343,15 +355,30 @@ fn send<P: Process>(process: &mut P, lines: &[u8], in_pieces: bool)
     if lines.is_empty() {
         return;
     }
-    if !in_pieces {
-        let _ = is_taken(process, lines);
+    if in_pieces {
+        send_in_two(process, lines);
+    } else {
+        send_at_once(process, lines);
+    }
+}
+
+/// All but the last bytes are sent, and these a moment later.
+fn send_in_two<P: Process>(process: &mut P, lines: &[u8])
+    ensures { AreTaken P.Process (two_pieces lines.now) process.old process.new }
+{
+    let (first, second) = lines.split_at(lines.len().saturating_sub(LATER_BYTES));
+    if !is_taken(process, first) {
         return;
     }
-    let (first, second) = lines.split_at(lines.len().saturating_sub(LATER_BYTES));
-    if is_taken(process, first) {
-        process.let_read();
-        let _ = is_taken(process, second);
-    }
+    process.let_read();
+    send_at_once(process, second);
+}
+
+/// A piece is sent.
+fn send_at_once<P: Process>(process: &mut P, piece: &[u8])
+    ensures { AreTaken P.Process (piece.now ∷ []) process.old process.new }
+{
+    let _ = is_taken(process, piece);
 }
 
 /// A piece is sent. Returns whether the process took it whole.
@@ -365,14 +392,37 @@ fn is_taken<P: Process>(process: &mut P, piece: &[u8]) -> bool
     }
 }
 
-/// Whether a command is a `play` that isn't legal.
-fn is_illegal(examiner: &Examiner, command: &CheckCommand) -> bool
-    ensures { IsTrue result ↔ IsIllegal examiner.now.exam.game command.now }
+/// A command that is asked.
+#[derive(Drop)]
+struct Line {
+    /// The bytes of its line.
+    text: CommandText,
+    /// Whether it is a `play` that isn't legal.
+    is_illegal: bool,
+}
+
+/// The examiner asks a command. What is due to it says whether it is a `play` that isn't legal.
+fn line_of(examiner: &mut Examiner, command: CheckCommand) -> Line
+    requires may { HasRoomFor examiner.old.exam command }
+    ensures asks { Asks examiner.old.exam command examiner.new.exam }
+    ensures check { examiner.new ≡ with_exam examiner.old examiner.new.exam }
+    ensures text { result.text.items ≡ written_check examiner.new.exam.sent command }
+    ensures illegal { IsTrue result.is_illegal ↔ IsIllegal examiner.old.exam.game command }
 {
-    match command {
-        CheckCommand::Match(Command::Play(made)) | CheckCommand::PlayInFull(made) => {
-            !examiner.game().legal(made.colour, made.vertex)
-        }
+    let asking = examiner.ask(command);
+    let is_illegal = is_bad_move(&asking.due);
+    Line {
+        text: asking.text,
+        is_illegal,
+    }
+}
+
+/// Whether a failure is due, since a move isn't legal.
+fn is_bad_move(due: &Due) -> bool
+    ensures { result ≡ is_bad_move due.now }
+{
+    match due {
+        Due::Fails(Cause::BadMove(_)) => true,
         _ => false,
     }
 }

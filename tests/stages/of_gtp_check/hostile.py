@@ -5,9 +5,9 @@ which finds the size of scenes, `boardsize 5`, `komi 6.5`, `clear_board`, and th
 `play w F1`, which is off that board. In the lesson of its own moves it is asked `genmove b` after `clear_board`, and then `genmove w`;
 with `--size` no size of scenes is sought. With `--singly` each is asked once the one before is answered.
 
-The lesson of the start is asked with one start alone, so it is over where something was found. In the other lessons the engine is
-started again then, the next part begins, and a check goes on to the end of `--restarts 3`, with four starts. Where an engine gives no
-right answer, or is lost three times in a lesson, it has three.
+In the lesson of the start a check is over where something was found, by `--restarts 0`. In the other lessons the engine is started again
+then, the next part begins, and a check goes on to the end of `--restarts 3`, with four starts. Where an engine gives no right answer, or
+is lost three times in a lesson, it has three.
 """
 import tempfile
 from pathlib import Path

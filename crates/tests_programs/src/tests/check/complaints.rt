@@ -5,7 +5,7 @@ use go_board::{Game, KoRule};
 use gtp_check_judge::{Cause, Kind};
 use gtp_check_questions::Lesson;
 use gtp_check_shortening::superko::game_before;
-use gtp_check_shortening::talk::Said;
+use gtp_check_shortening::talk::{Purpose, Said};
 use gtp_check_texts::complaint::{Complaint, complaint_text};
 use gtp_check_texts::fault::Fault;
 use gtp_process::{Ending, PipeCause};
@@ -326,5 +326,41 @@ fn a_complaint_has_the_conversation_and_what_is_right(rt: HostRuntime) -> Result
         let text = complaint_text(rt.alloc(), &complaint_of(row, &asked))?;
         assert_equal_for(&rt, row.commands, text_of(&rt, text.as_slice()), row.text);
     }
+    Ok(())
+}
+
+#[test]
+fn a_complaint_says_that_a_line_came_in_two_pieces(rt: HostRuntime) -> Result<(), Fail> {
+    let mut talk = talk_of(&rt, 9, &[("name", 7), ("version", 17)]);
+    talk[1].purpose = Purpose {
+        lesson: Lesson::Start,
+        part: 1,
+    };
+    let complaint = Complaint {
+        number: 1,
+        lesson: Lesson::Start,
+        fault: Fault::Wrote(Kind::WrongId),
+        sent: b"1 name\n2 version\n",
+        talk: talk.as_slice(),
+        answered: 1,
+        wrote: b"? unknown command\n\n",
+        ending: Ending::Running,
+        is_positional: false,
+        game: None,
+    };
+    let text = complaint_text(rt.alloc(), &complaint)?;
+    assert_equal_for(
+        &rt,
+        complaint.number,
+        text_of(&rt, text.as_slice()),
+        "# 1 start: \"2 version\": a reply without the id of the command
+1 name
+2 version
+# that line came in two pieces: a right engine waits for its newline
+# it wrote: \"? unknown command\\n\\n\"
+# right: a reply has the id of the oldest unanswered command
+
+",
+    );
     Ok(())
 }
