@@ -6,7 +6,7 @@ are as right, and those that have what the standard leaves to engines (tests/eng
 (tests/engines/wrong/beyond). The sample engine has no traceback where it is ended.
 
 Wrong engines (tests/engines/wrong) are noticed by the lessons that show their bugs, and each complaint is pasted into one more process of
-the wrong engine and of the right one. of_gtp_check/table.py says what shows each bug, and what isn't noticed. Engines that misbehave
+the wrong engine and of the right one. One that takes each piece of a line for a line (tests/engines/wrong/pieces) is noticed. of_gtp_check/table.py says what shows each bug, and what isn't noticed. Engines that misbehave
 (tests/engines/hostile/engine) end as was worked out by hand. Where standard error is a terminal, what is waited for is on it, and the
 output is the same. At last no process may be left.
 
@@ -113,7 +113,7 @@ class Hostile(Checks):
     """Engines that misbehave."""
 
     def test_refusing(self):
-        """hostile: refuses, by the whole course: no pass is earned."""
+        """hostile: refuses, by the whole course: `list_commands` may not be refused."""
         self.nothing(hostile.refusing("refuses"))
 
     def test_silent(self):
@@ -137,6 +137,14 @@ class NotStarted(Checks):
 @checks.table(terminal.CHECKS, lambda it: f"a terminal as standard error: {it}", lambda it: terminal.CHECKS[it]())
 class Terminal(Checks):
     """A terminal has what is waited for."""
+
+
+class Pieces(checks.Case):
+    """A wrong engine for which a read is whole lines."""
+
+    def test_pieces(self):
+        """an engine that takes each piece of a line for a line is noticed by the part that is sent in pieces alone."""
+        self.nothing(wrong.pieces())
 
 
 class Table(checks.Case):

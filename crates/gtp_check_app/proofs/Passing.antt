@@ -10,7 +10,8 @@ use Rattle.gtp_wire.specs.declared.commands.Command.TheVariants.{Boardsize, Komi
 use Rattle.gtp_wire.specs.declared.commands.Command.TheVariants.{Genmove, Undo, Quit}
 use Rattle.gtp_check_judge.specs.declared.asking.CheckCommand.{CheckCommand}
 use Rattle.gtp_check_judge.specs.declared.asking.CheckCommand.TheVariants.{Match, FinalScore, Name, Version}
-use Rattle.gtp_check_judge.specs.declared.asking.CheckCommand.TheVariants.{KnownCommand}
+use Rattle.gtp_check_judge.specs.declared.asking.CheckCommand.TheVariants.{KnownCommand, PlayInFull, GenmoveInFull}
+use Rattle.gtp_check_judge.specs.declared.asking.CheckCommand.TheVariants.{ListCommands}
 use Rattle.gtp_check_questions.specs.Lessons.{all_lessons, number_of}
 use Rattle.gtp_check_questions.specs.declared.lessons.Lesson.{Lesson}
 use Rattle.cli.specs.Status.{done}
@@ -191,3 +192,10 @@ was_asked lesson other FinalScore notes is = inl is
 was_asked lesson other Name notes is = inl is
 was_asked lesson other Version notes is = inl is
 was_asked lesson other (KnownCommand known) notes is = inl is
+was_asked lesson other ListCommands notes is = inl is
+was_asked lesson other (PlayInFull move) notes is =
+    moved lesson other (PlayInFull move) (record notes { commands = one_more notes.commands })
+    (AsksForMove.plays_in_full move) is
+was_asked lesson other (GenmoveInFull colour) notes is =
+    moved lesson other (GenmoveInFull colour) (record notes { commands = one_more notes.commands })
+    (AsksForMove.chooses_in_full colour) is

@@ -11,7 +11,7 @@ use Rattle.gtp_process.specs.declared.starter.Process.{Ghosts}
 use Rattle.gtp_session.specs.Policy.{May}
 use Rattle.gtp_session.specs.Engine.{Engine, Engages, fresh_under}
 use Rattle.gtp_check_judge.specs.declared.asking.CheckCommand.{CheckCommand}
-use Rattle.gtp_check_judge.specs.declared.asking.CheckCommand.TheVariants.{Match}
+use Rattle.gtp_check_judge.specs.declared.asking.CheckCommand.TheVariants.{Match, PlayInFull, GenmoveInFull}
 use Rattle.gtp_check_judge.specs.declared.exam.Exam.{Exam}
 use Rattle.gtp_check_judge.specs.declared.exam.Finding.{Finding}
 use Rattle.gtp_check_judge.specs.declared.judging.Kind.{Kind}
@@ -36,6 +36,8 @@ use Rattle.gtp_check_app.specs.Turns.{State}
 pub data AsksForMove : CheckCommand → Type 0 where
   plays : (move : Move) → AsksForMove (Match (Play move))
   chooses : (colour : Colour) → AsksForMove (Match (Genmove colour))
+  plays_in_full : (move : Move) → AsksForMove (PlayInFull move)
+  chooses_in_full : (colour : Colour) → AsksForMove (GenmoveInFull colour)
 
 -- A check is over so, and the engine has passed: nothing was found, the course is over, and of each of its lessons it
 -- is noted that a move was asked.

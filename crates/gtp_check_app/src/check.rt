@@ -11,6 +11,7 @@ ghost use Rattle.gtp_check_app.specs.Turns.{MayStart, TurnsAreOver, before_all, 
 ghost use Rattle.gtp_check_app.specs.Turns.{purpose_in, state_of, without_engine};
 ghost use Rattle.gtp_check_app.specs.private.Steps.{Begins, EndsTurn, FirstGoesOut, FirstStops, Gathers};
 ghost use Rattle.gtp_check_app.specs.private.Steps.{IsPaired, IsRefused, Settles, StopsAfter};
+ghost use Rattle.gtp_check_talks.specs.Dialogues.{MayFollow, ends_in_pieces};
 ghost use Rattle.gtp_check_talks.specs.declared.engine.TheConstants.{LINES_ROOM};
 
 use crate::closing::{close, end_now, quit};
@@ -205,11 +206,14 @@ impl<S: Starter> Check<S> {
     fn has_room(&self, singly: bool) -> bool
         ensures room { result ≡ true → IfSome self.now.engine (λ engine.
             array_vec_len engine.waiting + 64 ≤ LINES_ROOM) }
+        ensures follows { result ≡ true → IfSome self.now.engine (λ engine.
+            MayFollow engine.talk.items engine.waiting.items) }
         ensures alone { result ≡ true → IsSome self.now.engine → singly ≡ true
             → length self.now.examiner.exam.unanswered ≡ 0 }
         ensures full { result ≡ false → IsSome self.now.engine }
         ensures why { result ≡ false → IfSome self.now.engine (λ engine.
-            (LINES_ROOM < array_vec_len engine.waiting + 64)
+            ((LINES_ROOM < array_vec_len engine.waiting + 64)
+            ⊎ ((ends_in_pieces engine.talk.items ≡ true) × (0 < length engine.waiting.items)))
             ⊎ ((singly ≡ true) × (0 < length self.now.examiner.exam.unanswered))) }
     {
         match &self.engine {
@@ -241,6 +245,8 @@ impl<S: Starter> Check<S> {
         requires there { IsSome self.old.engine }
         requires room { IfSome self.old.engine (λ engine.
             array_vec_len engine.waiting + 64 ≤ LINES_ROOM) }
+        requires follows { IfSome self.old.engine (λ engine.
+            MayFollow engine.talk.items engine.waiting.items) }
         ensures asks { OnOk result
             (AsksEngine purpose (state_of self.old) command (state_of self.new)) }
         ensures there { IsSome self.new.engine }

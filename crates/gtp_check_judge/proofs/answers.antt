@@ -3,6 +3,7 @@ pub mod Table
 pub mod Texts
 pub mod Statuses
 pub mod Numbers
+pub mod Lists
 pub mod Choices
 pub mod Judged
 pub mod Komis

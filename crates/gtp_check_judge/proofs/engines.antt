@@ -1,4 +1,5 @@
 -- What is heard of a right engine.
+pub mod ListOfCommands
 pub mod Says
 pub mod OneGame
 pub mod Wire

@@ -12,4 +12,5 @@ pub mod Refusals
 pub mod Lasts
 pub mod Enough
 pub mod Undos
+pub mod Lists
 pub mod Opinions

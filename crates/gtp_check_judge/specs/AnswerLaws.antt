@@ -1,13 +1,14 @@
--- Laws of single answers: which text is a score, which komi may be refused, and what is reported as refused.
+-- Laws of single answers: which text is a score, which komi may be refused, what is reported as refused, and which list
+-- of commands is right.
 use Rattle.std.specs.Prelude.{◌≡◌, ℕ, ◌+◌, ◌-◌, ◌*◌, ◌^◌, ◌<◌, ◌≤◌, ◌⊎◌, ℤ, pos, ◌↔◌, true, false, List, [], ◌∷◌, ◌++◌}
-use Rattle.std.specs.Prelude.{length, codes, Option, None, Some, Result, Ok}
+use Rattle.std.specs.Prelude.{length, codes, Contains, Option, None, Some, Result, Ok}
 use Rattle.std.specs.Str.Parse.{AllDigits, digits_value}
 use Rattle.go_board.specs.declared.rules.KoRule.{KoRule}
 use Rattle.gtp_wire.specs.declared.commands.Command.TheVariants.{Boardsize, Komi, Undo}
 use Rattle.gtp_wire.specs.declared.replies.Reply.{Reply}
 use Rattle.gtp_wire.specs.declared.replies.ReplyFault.{ReplyFault}
 use Rattle.gtp_wire.specs.Words.{reply_words}
-use Rattle.gtp_check_judge.specs.declared.asking.CheckCommand.TheVariants.{Match}
+use Rattle.gtp_check_judge.specs.declared.asking.CheckCommand.TheVariants.{Match, ListCommands}
 use Rattle.gtp_check_judge.specs.declared.unanswered.Asked.{Asked}
 use Rattle.gtp_check_judge.specs.declared.exam.Exam.{Exam}
 use Rattle.gtp_check_judge.specs.declared.exam.Finding.{Finding}
@@ -16,9 +17,10 @@ use Rattle.gtp_check_judge.specs.declared.scores.SaidScore.{SaidScore}
 use Rattle.gtp_check_judge.specs.declared.scores.SaidScore.TheVariants.{Number, Long}
 use Rattle.gtp_check_judge.specs.Scores.{negative, are_only_zeros, score_of_text}
 use Rattle.gtp_check_judge.specs.Judging.{oldest}
-use Rattle.gtp_check_judge.specs.Exam.{refused_what}
+use Rattle.gtp_check_judge.specs.Exam.{Hears, refused_what}
 use Rattle.gtp_check_judge.specs.declared.dues.Due.{Due}
 use Rattle.gtp_check_judge.specs.declared.dues.Due.TheVariants.{Succeeds, MayUndo}
+use Rattle.gtp_check_judge.specs.declared.judging.Kind.TheVariants.{Unlisted}
 use Rattle.gtp_check_judge.specs.declared.judging.Refusal.{Refusal}
 use Rattle.gtp_check_judge.specs.declared.judging.Refusal.TheVariants as refusal
 use Rattle.go_base.specs.Size.{IsSize}
@@ -99,3 +101,42 @@ RefusalsAreReported = (rule : KoRule) (sent came : List ℕ) (said : List Exchan
     → (refused_what (oldest exam.unanswered) read finding ≡ Some refused)
     ↔ ((entry : Asked) × (later : List Asked) × (reply : Reply) × (exam.unanswered ≡ entry ∷ later)
     × (read ≡ Some (Ok reply)) × (finding ≡ None) × AsksFor refused entry × (reply.ok ≡ false))
+
+-- ---- lists of commands
+
+-- The commands that the standard requires of every engine: its administrative commands, `boardsize`, `clear_board` and
+-- `komi` of its setup commands, and its core play commands but for `undo`.
+pub data IsRequired : List ℕ → Type 0 where
+  protocol_version : IsRequired (codes "protocol_version")
+  name : IsRequired (codes "name")
+  version : IsRequired (codes "version")
+  known_command : IsRequired (codes "known_command")
+  list_commands : IsRequired (codes "list_commands")
+  quit : IsRequired (codes "quit")
+  boardsize : IsRequired (codes "boardsize")
+  clear_board : IsRequired (codes "clear_board")
+  komi : IsRequired (codes "komi")
+  play : IsRequired (codes "play")
+  genmove : IsRequired (codes "genmove")
+
+-- the reply that was heard is a success to the oldest unanswered command, which is a `list_commands`
+pub record IsListing (exam : Exam) (reply : Reply) (entry : Asked) : Type 0 where
+  pub asked : oldest exam.unanswered ≡ Some entry
+  pub lists : entry.command ≡ ListCommands
+  pub id : reply.id ≡ Some entry.id
+  pub succeeds : reply.ok ≡ true
+
+-- Such a reply is found wrong where a command that the standard requires of every engine isn't one of its words. Where
+-- each of them is, nothing is found, in whatever order they stand, and whatever other words there are.
+pub record ListsNameEachCommand : Type 0 where
+  pub lacking : (rule : KoRule) (sent came : List ℕ) (said : List Exchange) (old new : Exam) (bytes : List ℕ)
+      (used : ℕ) (reply : Reply) (finding : Option Finding) (entry : Asked) (name : List ℕ)
+      → Talks rule sent came said old → Hears old bytes used (Some (Ok reply)) finding new
+      → IsListing old reply entry → IsRequired name → ¬ Contains (reply_words reply.text.items) name
+      → finding ≡ Some (record { asked = Some entry; kind = Unlisted })
+  pub complete : (rule : KoRule) (sent came : List ℕ) (said : List Exchange) (old new : Exam) (bytes : List ℕ)
+      (used : ℕ) (reply : Reply) (finding : Option Finding) (entry : Asked)
+      → Talks rule sent came said old → Hears old bytes used (Some (Ok reply)) finding new
+      → IsListing old reply entry
+      → ((name : List ℕ) → IsRequired name → Contains (reply_words reply.text.items) name)
+      → finding ≡ None

@@ -1,7 +1,13 @@
--- The commands that a check asks: those of a match, and four more, which an engine may be without.
-use Rattle.std.specs.Prelude.{ℕ, List, [], ◌∷◌, ◌++◌, Some, codes}
+-- The commands that a check asks: those of a match, a `play` and a `genmove` whose colour is written in full, and more
+-- of the standard's.
+use Rattle.std.specs.Prelude.{◌≡◌, ◌⊎◌, ℕ, List, [], ◌∷◌, ◌++◌, Some, codes}
 use Rattle.std.specs.List.{join_with_byte}
 use Rattle.go_base.specs.Bytes.{newline, space}
+use Rattle.go_base.specs.Vertex.{IsVertex, written_vertex}
+use Rattle.go_base.specs.declared.colours.Colour.{Colour}
+use Rattle.go_base.specs.declared.colours.Colour.TheVariants.{Black, White}
+use Rattle.go_base.specs.declared.moves.Move.{Move}
+use Rattle.gtp_wire.specs.declared.commands.Command.TheVariants.{Play, Genmove}
 use Rattle.gtp_wire.specs.declared.lines.Line.{Line}
 use Rattle.gtp_wire.specs.declared.lines.Line.TheVariants as line
 use Rattle.gtp_wire.specs.Commands.{words_of, IsWritable, IsInLimits}
@@ -10,12 +16,17 @@ use Rattle.gtp_check_judge.specs.declared.asking.Known.{Known}
 use Rattle.gtp_check_judge.specs.declared.asking.Known.TheVariants as known
 use Rattle.gtp_check_judge.specs.declared.asking.CheckCommand.{CheckCommand}
 use Rattle.gtp_check_judge.specs.declared.asking.CheckCommand.TheVariants.{Match, FinalScore, Name, Version}
-use Rattle.gtp_check_judge.specs.declared.asking.CheckCommand.TheVariants.{KnownCommand}
+use Rattle.gtp_check_judge.specs.declared.asking.CheckCommand.TheVariants.{KnownCommand, PlayInFull, GenmoveInFull, ListCommands}
 
 abbrev pub known_name : Known → List ℕ
 known_name known.FixedHandicap = codes "fixed_handicap"
 known_name known.Undo = codes "undo"
 known_name known.FinalScore = codes "final_score"
+
+-- a colour, written in full (the standard's topic colour: one of white, w, black and b)
+abbrev pub colour_in_full : Colour → List ℕ
+colour_in_full Black = codes "black"
+colour_in_full White = codes "white"
 
 -- the words of a command
 abbrev pub words_of_check : CheckCommand → List (List ℕ)
@@ -24,6 +35,10 @@ words_of_check FinalScore = codes "final_score" ∷ []
 words_of_check Name = codes "name" ∷ []
 words_of_check Version = codes "version" ∷ []
 words_of_check (KnownCommand known) = codes "known_command" ∷ known_name known ∷ []
+words_of_check ListCommands = codes "list_commands" ∷ []
+words_of_check (PlayInFull move) =
+    codes "play" ∷ colour_in_full move.colour ∷ written_vertex move.vertex ∷ []
+words_of_check (GenmoveInFull colour) = codes "genmove" ∷ colour_in_full colour ∷ []
 
 -- the bytes of a command with this id: the words, with single spaces between them, and a newline
 abbrev pub written_check : ℕ → CheckCommand → List ℕ
@@ -40,6 +55,9 @@ IsCheckWritable FinalScore = Unit {0}
 IsCheckWritable Name = Unit {0}
 IsCheckWritable Version = Unit {0}
 IsCheckWritable (KnownCommand known) = Unit {0}
+IsCheckWritable ListCommands = Unit {0}
+IsCheckWritable (PlayInFull move) = Unit {0}
+IsCheckWritable (GenmoveInFull colour) = Unit {0}
 
 abbrev pub IsCheckInLimits : CheckCommand → Type 0
 IsCheckInLimits (Match command) = IsInLimits command
@@ -47,3 +65,14 @@ IsCheckInLimits FinalScore = Unit {0}
 IsCheckInLimits Name = Unit {0}
 IsCheckInLimits Version = Unit {0}
 IsCheckInLimits (KnownCommand known) = Unit {0}
+IsCheckInLimits ListCommands = Unit {0}
+IsCheckInLimits (PlayInFull move) = IsVertex move.vertex
+IsCheckInLimits (GenmoveInFull colour) = Unit {0}
+
+-- it is a `play` of this move, its colour written in one letter or in full
+abbrev pub IsPlayOf : Move → CheckCommand → Type 0
+IsPlayOf move command = (command ≡ Match (Play move)) ⊎ (command ≡ PlayInFull move)
+
+-- it is a `genmove` of this colour, written in one letter or in full
+abbrev pub IsGenmoveOf : Colour → CheckCommand → Type 0
+IsGenmoveOf colour command = (command ≡ Match (Genmove colour)) ⊎ (command ≡ GenmoveInFull colour)

@@ -14,10 +14,10 @@ use Rattle.gtp_wire.specs.declared.commands.Command.TheVariants.{Genmove, Undo, 
 use Rattle.gtp_session.specs.CommandAnswers.{after_command}
 use Rattle.gtp_check_judge.specs.declared.asking.CheckCommand.{CheckCommand}
 use Rattle.gtp_check_judge.specs.declared.asking.CheckCommand.TheVariants.{Match, FinalScore, Name, Version}
-use Rattle.gtp_check_judge.specs.declared.asking.CheckCommand.TheVariants.{KnownCommand}
+use Rattle.gtp_check_judge.specs.declared.asking.CheckCommand.TheVariants.{KnownCommand, PlayInFull, GenmoveInFull, ListCommands}
 use Rattle.gtp_check_judge.specs.declared.dues.Due.{Due}
 use Rattle.gtp_check_judge.specs.declared.dues.Due.TheVariants.{Succeeds, Fails, Places, Resizes, Scores, AnyReply}
-use Rattle.gtp_check_judge.specs.declared.dues.Due.TheVariants.{Chooses, MayUndo}
+use Rattle.gtp_check_judge.specs.declared.dues.Due.TheVariants.{Chooses, MayUndo, Lists}
 use Rattle.gtp_check_judge.specs.declared.dues.Cause.TheVariants.{BadMove, BadHandicap, NoMoves}
 use Rattle.gtp_check_judge.specs.Komis.{is_exact_komi}
 use Rattle.gtp_check_judge.specs.RightEngine.{RightEngine}
@@ -41,14 +41,17 @@ pub record IsFresh (game : GameRecord) : Type 0 where
   pub no_moves : game.moves ≡ []
   pub no_handicap : game.handicap ≡ 0
 
--- The score only of an empty board: of others engines judge by rules of their own, as which stones are dead. The rest
--- always.
+-- The score only of an empty board: of others engines judge by rules of their own, as which stones are dead. A command
+-- whose colour is written in full, where the same command of a match may be. The rest always.
 abbrev pub MayBeAsked : GameRecord → CheckCommand → Type 0
 MayBeAsked game (Match command) = MayBeSaid game command
 MayBeAsked game FinalScore = IsFresh game
 MayBeAsked game Name = Unit {0}
 MayBeAsked game Version = Unit {0}
 MayBeAsked game (KnownCommand known) = Unit {0}
+MayBeAsked game ListCommands = Unit {0}
+MayBeAsked game (PlayInFull move) = MayBeSaid game (Play move)
+MayBeAsked game (GenmoveInFull colour) = MayBeSaid game (Genmove colour)
 
 -- a `fixed_handicap`: the points, where no stone is on the board, no move was made, and the size allows the number; or
 -- a failure, for its cause
@@ -64,6 +67,7 @@ HandicapDue game stones (Scores size komi) = ⊥
 HandicapDue game stones AnyReply = ⊥
 HandicapDue game stones (Chooses colour) = ⊥
 HandicapDue game stones MayUndo = ⊥
+HandicapDue game stones Lists = ⊥
 
 -- a `play`: a success where the move is legal, or a failure, for the rule that it breaks
 abbrev pub PlayDue : GameRecord → Move → Due → Type 0
@@ -77,6 +81,7 @@ PlayDue game move (Scores size komi) = ⊥
 PlayDue game move AnyReply = ⊥
 PlayDue game move (Chooses colour) = ⊥
 PlayDue game move MayUndo = ⊥
+PlayDue game move Lists = ⊥
 
 -- An `undo`: a failure where there is no move. Else a success, where none has succeeded since the last move; and where
 -- one has, either, since the engine may keep no more of the history.
@@ -91,6 +96,7 @@ UndoDue engine (Resizes size) = ⊥
 UndoDue engine (Scores size komi) = ⊥
 UndoDue engine AnyReply = ⊥
 UndoDue engine (Chooses colour) = ⊥
+UndoDue engine Lists = ⊥
 
 -- a `komi`: a success where every engine has to take it, and else any reply
 abbrev pub komi_due : ℤ → Due
@@ -108,7 +114,8 @@ IsDueTo engine Undo due = UndoDue engine due
 IsDueTo engine Quit due = ⊥
 
 -- What is due to a command. To a `final_score` a score of the board, on which no stone is, with this komi, or a
--- failure; to `name`, `version` and `known_command` a reply, whatever it says.
+-- failure; to `name`, `version` and `known_command` a reply, whatever it says; to `list_commands` a list. A colour may
+-- be written in one letter or in full, and what is due is the same.
 abbrev pub IsDue : RightEngine → CheckCommand → Due → Type 0
 IsDue engine (Match command) due = IsDueTo engine command due
 IsDue engine FinalScore due =
@@ -116,6 +123,9 @@ IsDue engine FinalScore due =
 IsDue engine Name due = due ≡ AnyReply
 IsDue engine Version due = due ≡ AnyReply
 IsDue engine (KnownCommand known) due = due ≡ AnyReply
+IsDue engine ListCommands due = due ≡ Lists
+IsDue engine (PlayInFull move) due = IsDueTo engine (Play move) due
+IsDue engine (GenmoveInFull colour) due = IsDueTo engine (Genmove colour) due
 
 -- the game after a command that goes well
 abbrev pub after_check : GameRecord → CheckCommand → GameRecord
@@ -124,6 +134,9 @@ after_check game FinalScore = game
 after_check game Name = game
 after_check game Version = game
 after_check game (KnownCommand known) = game
+after_check game ListCommands = game
+after_check game (PlayInFull move) = after_command game (Play move)
+after_check game (GenmoveInFull colour) = after_command game (Genmove colour)
 
 -- The game of a right engine once it has answered so. What a `genmove` adds, and whether a `boardsize` or an `undo` is
 -- refused, isn't known before. Its komi is the last that was asked, also where any reply is due: what an engine makes
@@ -137,6 +150,7 @@ after_due game command (Scores size komi) = game
 after_due game command AnyReply = after_check game command
 after_due game command (Chooses colour) = game
 after_due game command MayUndo = game
+after_due game command Lists = game
 
 -- whether an `undo` has succeeded since the last move, once a command whose success is due was answered
 abbrev pub undone_once : Bool → CheckCommand → Bool
@@ -152,6 +166,9 @@ undone_once undone FinalScore = undone
 undone_once undone Name = undone
 undone_once undone Version = undone
 undone_once undone (KnownCommand known) = undone
+undone_once undone ListCommands = undone
+undone_once undone (PlayInFull move) = false
+undone_once undone (GenmoveInFull colour) = undone
 
 -- the same once a right engine has answered what is due
 abbrev pub undone_due : Bool → CheckCommand → Due → Bool
@@ -163,6 +180,7 @@ undone_due undone command (Scores size komi) = undone
 undone_due undone command AnyReply = undone
 undone_due undone command (Chooses colour) = undone
 undone_due undone command MayUndo = undone
+undone_due undone command Lists = undone
 
 -- A right engine once it has answered so. What it thinks of an empty board isn't known before a `final_score` is
 -- answered.

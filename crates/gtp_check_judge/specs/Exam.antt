@@ -14,7 +14,7 @@ use Rattle.gtp_check_judge.specs.Asking.{IsCheckWritable, IsCheckInLimits}
 use Rattle.gtp_session.specs.CommandAnswers.{after_command}
 use Rattle.gtp_check_judge.specs.declared.dues.Due.{Due}
 use Rattle.gtp_check_judge.specs.declared.dues.Due.TheVariants.{Succeeds, Fails, Places, Resizes, Scores, AnyReply}
-use Rattle.gtp_check_judge.specs.declared.dues.Due.TheVariants.{Chooses, MayUndo}
+use Rattle.gtp_check_judge.specs.declared.dues.Due.TheVariants.{Chooses, MayUndo, Lists}
 use Rattle.gtp_check_judge.specs.declared.judging.Judgement.{Judgement}
 use Rattle.gtp_check_judge.specs.declared.judging.Refusal.{Refusal}
 use Rattle.gtp_check_judge.specs.declared.judging.Judgement.TheVariants.{Right, Plays, Resized, Undone, Opines, Wrong}
@@ -185,6 +185,7 @@ MayBeTaken game (Places size stones) = MayBeJudged (Places size stones)
 MayBeTaken game (Resizes size) = Unit {0}
 MayBeTaken game (Scores size komi) = Unit {0}
 MayBeTaken game AnyReply = Unit {0}
+MayBeTaken game Lists = Unit {0}
 MayBeTaken game Succeeds = Unit {0}
 MayBeTaken game (Fails cause) = Unit {0}
 

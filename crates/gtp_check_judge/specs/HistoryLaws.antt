@@ -12,7 +12,8 @@ use Rattle.gtp_check_judge.specs.declared.asking.Known.{Known}
 use Rattle.gtp_check_judge.specs.declared.asking.Known.TheVariants as known
 use Rattle.gtp_check_judge.specs.declared.asking.CheckCommand.{CheckCommand}
 use Rattle.gtp_check_judge.specs.declared.asking.CheckCommand.TheVariants.{Match, FinalScore, Name, Version}
-use Rattle.gtp_check_judge.specs.declared.asking.CheckCommand.TheVariants.{KnownCommand}
+use Rattle.gtp_check_judge.specs.declared.asking.CheckCommand.TheVariants.{KnownCommand, PlayInFull, GenmoveInFull, ListCommands}
+use Rattle.gtp_check_judge.specs.Asking.{IsPlayOf, IsGenmoveOf}
 use Rattle.gtp_check_judge.specs.declared.setups.Board.{Board}
 use Rattle.gtp_check_judge.specs.declared.setups.Board.TheVariants.{Unknown, Cleared}
 use Rattle.gtp_check_judge.specs.declared.skills.Skill.{Skill}
@@ -114,6 +115,8 @@ pub data HangsOnBoard : CheckCommand → Type 0 where
   handicaps : (stones : ℕ) → HangsOnBoard (Match (FixedHandicap stones))
   plays : (move : Move) → HangsOnBoard (Match (Play move))
   genmoves : (colour : Colour) → HangsOnBoard (Match (Genmove colour))
+  plays_in_full : (move : Move) → HangsOnBoard (PlayInFull move)
+  genmoves_in_full : (colour : Colour) → HangsOnBoard (GenmoveInFull colour)
   undos : HangsOnBoard (Match Undo)
   scores : HangsOnBoard FinalScore
 
@@ -169,6 +172,7 @@ CommandsAreNumbered = (rule : KoRule) (sent came : List ℕ) (said : List Exchan
 -- one has succeeded since the last move, or what it thinks of the board.
 pub data ChangesFreely (engine : RightEngine) : CheckCommand → Type 0 where
   genmoves : (colour : Colour) → ChangesFreely engine (Match (Genmove colour))
+  genmoves_in_full : (colour : Colour) → ChangesFreely engine (GenmoveInFull colour)
   sizes : (size : ℕ) → ChangesFreely engine (Match (Boardsize size))
   undos : MayFailToUndo engine → ChangesFreely engine (Match Undo)
   scores : ChangesFreely engine FinalScore
@@ -188,6 +192,7 @@ SomeAwaited (entry ∷ later) = IsAwaited entry ⊎ SomeAwaited later
 -- a `genmove`, a `boardsize` or a `final_score`
 pub data IsOwnToSay : CheckCommand → Type 0 where
   genmoves : (colour : Colour) → IsOwnToSay (Match (Genmove colour))
+  genmoves_in_full : (colour : Colour) → IsOwnToSay (GenmoveInFull colour)
   sizes : (size : ℕ) → IsOwnToSay (Match (Boardsize size))
   scores : IsOwnToSay FinalScore
 
@@ -218,6 +223,7 @@ pub record TheseMayBeAsked (exam : Exam) : Type 0 where
   pub names : HasRoomFor exam Name
   pub versions : HasRoomFor exam Version
   pub knows : (known : Known) → HasRoomFor exam (KnownCommand known)
+  pub lists : HasRoomFor exam ListCommands
 
 abbrev pub ReadyEnginesMayBeAsked : Type 0
 ReadyEnginesMayBeAsked = (exam : Exam) → IsReady exam → TheseMayBeAsked exam
@@ -230,9 +236,10 @@ ReadyEnginesMayBeAsked = (exam : Exam) → IsReady exam → TheseMayBeAsked exam
 pub record TheseMayBeAskedToo (said : List Exchange) (exam : Exam) : Type 0 where
   pub handicaps : (stones : ℕ) → stones ≤ 2147483647 → IsKnown said known.FixedHandicap
       → HasRoomFor exam (Match (FixedHandicap stones))
-  pub plays : (move : Move) → HasRoom exam.game → HasRoomFor exam (Match (Play move))
-  pub genmoves : (colour : Colour) → exam.unanswered ≡ [] → HasRoom exam.game → ¬ IsFinished exam.game
-      → HasRoomFor exam (Match (Genmove colour))
+  pub plays : (command : CheckCommand) (move : Move) → IsPlayOf move command → HasRoom exam.game
+      → HasRoomFor exam command
+  pub genmoves : (command : CheckCommand) (colour : Colour) → IsGenmoveOf colour command → exam.unanswered ≡ []
+      → HasRoom exam.game → ¬ IsFinished exam.game → HasRoomFor exam command
   pub undos : IsKnown said known.Undo → (MayFailToUndo (engine_of exam) → exam.unanswered ≡ [])
       → HasRoomFor exam (Match Undo)
   pub scores : (komi : ℤ) → IsKnown said known.FinalScore → exam.unanswered ≡ [] → HasToBeTaken komi

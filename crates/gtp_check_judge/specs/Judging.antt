@@ -16,10 +16,10 @@ use Rattle.gtp_wire.specs.declared.replies.Reply.{Reply}
 use Rattle.gtp_wire.specs.Words.{reply_words}
 use Rattle.gtp_check_judge.specs.declared.asking.CheckCommand.{CheckCommand}
 use Rattle.gtp_check_judge.specs.declared.asking.CheckCommand.TheVariants.{Match, FinalScore, Name, Version}
-use Rattle.gtp_check_judge.specs.declared.asking.CheckCommand.TheVariants.{KnownCommand}
+use Rattle.gtp_check_judge.specs.declared.asking.CheckCommand.TheVariants.{KnownCommand, PlayInFull, GenmoveInFull, ListCommands}
 use Rattle.gtp_check_judge.specs.declared.dues.Due.{Due}
 use Rattle.gtp_check_judge.specs.declared.dues.Due.TheVariants.{Succeeds, Fails, Places, Resizes, Scores, AnyReply}
-use Rattle.gtp_check_judge.specs.declared.dues.Due.TheVariants.{Chooses, MayUndo}
+use Rattle.gtp_check_judge.specs.declared.dues.Due.TheVariants.{Chooses, MayUndo, Lists}
 use Rattle.gtp_check_judge.specs.declared.dues.Cause.{Cause}
 use Rattle.gtp_check_judge.specs.declared.unanswered.Asked.{Asked}
 use Rattle.gtp_check_judge.specs.declared.judging.Judgement.{Judgement}
@@ -28,13 +28,14 @@ use Rattle.gtp_check_judge.specs.declared.judging.Refusal.{Refusal}
 use Rattle.gtp_check_judge.specs.declared.judging.Refusal.TheVariants as refusal
 use Rattle.gtp_check_judge.specs.declared.judging.Kind.TheVariants.{Refused, Took, OtherPoints, NoMove, NoVertex}
 use Rattle.gtp_check_judge.specs.declared.judging.Kind.TheVariants.{Unlawful, NoScore, OtherScore, WrongId, Unasked}
-use Rattle.gtp_check_judge.specs.declared.judging.Kind.TheVariants.{NoStatus, Overlong}
+use Rattle.gtp_check_judge.specs.declared.judging.Kind.TheVariants.{NoStatus, Overlong, Unlisted}
 use Rattle.gtp_wire.specs.ReplyWords.{choice_of_text, names_points}
 use Rattle.gtp_check_judge.specs.declared.scores.SaidScore.{SaidScore}
 use Rattle.gtp_check_judge.specs.declared.opinions.View.{View}
 use Rattle.gtp_check_judge.specs.declared.opinions.Opinion.{Opinion}
 use Rattle.gtp_check_judge.specs.Scores.{score_of_text}
 use Rattle.gtp_check_judge.specs.Opinions.{view_of, agrees, opinion_with}
+use Rattle.gtp_check_judge.specs.Listings.{lists_required}
 use Rattle.gtp_check_judge.specs.RightEngine.{RightEngine}
 
 -- ---- what is unanswered
@@ -62,6 +63,7 @@ is_open Succeeds = false
 is_open (Fails cause) = false
 is_open (Places size stones) = false
 is_open AnyReply = false
+is_open Lists = false
 
 -- one whose answer has to be awaited is among them
 abbrev pub awaits : List Asked → Bool
@@ -89,6 +91,9 @@ is_awaited engine FinalScore = true
 is_awaited engine Name = false
 is_awaited engine Version = false
 is_awaited engine (KnownCommand known) = false
+is_awaited engine ListCommands = false
+is_awaited engine (PlayInFull move) = leaves_open engine (command.Play move)
+is_awaited engine (GenmoveInFull colour) = leaves_open engine (command.Genmove colour)
 
 -- ---- what a reply is
 
@@ -144,6 +149,7 @@ VertexJudged game colour v (Wrong WrongId) = ⊥
 VertexJudged game colour v (Wrong Unasked) = ⊥
 VertexJudged game colour v (Wrong NoStatus) = ⊥
 VertexJudged game colour v (Wrong Overlong) = ⊥
+VertexJudged game colour v (Wrong Unlisted) = ⊥
 
 -- what was said by a `genmove` that succeeded: neither a vertex nor `resign`; `resign`; or a vertex
 abbrev pub SaidJudged : GameRecord → Colour → Option Choice → Judgement → Type 0
@@ -176,6 +182,12 @@ score_judged opinion size komi true said = said_score_judged opinion size komi s
 abbrev pub are_points : ℕ → ℕ → Reply → Bool
 are_points size stones reply = names_points (handicap_points size stones) (reply_words reply.text.items)
 
+-- Where a list is due, and whether each of the commands that it needs is in it.
+abbrev pub list_judged : Bool → Bool → Judgement
+list_judged has_all false = Wrong Refused
+list_judged true true = Right
+list_judged false true = Wrong Unlisted
+
 -- A reply, to a command to which this is due. The game and the opinion are those of a right engine.
 abbrev pub Judged : GameRecord → Opinion → Due → Reply → Judgement → Type 0
 Judged game opinion Succeeds reply got = got ≡ success_judged reply.ok
@@ -187,6 +199,8 @@ Judged game opinion (Scores size komi) reply got =
     got ≡ score_judged opinion size komi reply.ok (score_of_text reply.text.items)
 Judged game opinion AnyReply reply got = got ≡ Right
 Judged game opinion MayUndo reply got = got ≡ undo_judged reply.ok
+Judged game opinion Lists reply got =
+    got ≡ list_judged (lists_required (reply_words reply.text.items)) reply.ok
 Judged game opinion (Chooses colour) reply got =
     ChoiceJudged game colour reply.ok (choice_of_text reply.text.items) got
 
@@ -199,6 +213,7 @@ MayBeJudged (Resizes size) = Unit {0}
 MayBeJudged (Scores size komi) = Unit {0}
 MayBeJudged AnyReply = Unit {0}
 MayBeJudged MayUndo = Unit {0}
+MayBeJudged Lists = Unit {0}
 MayBeJudged (Chooses colour) = Unit {0}
 
 -- what was asked for and is refused by a reply of this status, if any: a size, or an `undo` that may fail
@@ -212,4 +227,5 @@ refused_by (Fails cause) ok = None
 refused_by (Places size stones) ok = None
 refused_by (Scores size komi) ok = None
 refused_by AnyReply ok = None
+refused_by Lists ok = None
 refused_by (Chooses colour) ok = None

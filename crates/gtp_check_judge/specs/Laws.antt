@@ -13,7 +13,7 @@ use Rattle.go_board.specs.declared.rules.KoRule.{KoRule}
 use Rattle.gtp_wire.specs.declared.commands.Command.{Command}
 use Rattle.gtp_check_judge.specs.declared.asking.CheckCommand.{CheckCommand}
 use Rattle.gtp_check_judge.specs.declared.asking.CheckCommand.TheVariants.{Match, FinalScore, Name, Version}
-use Rattle.gtp_check_judge.specs.declared.asking.CheckCommand.TheVariants.{KnownCommand}
+use Rattle.gtp_check_judge.specs.declared.asking.CheckCommand.TheVariants.{KnownCommand, PlayInFull, GenmoveInFull, ListCommands}
 use Rattle.gtp_wire.specs.declared.commands.Command.TheVariants.{Boardsize, Komi, ClearBoard, FixedHandicap, Play}
 use Rattle.gtp_wire.specs.declared.commands.Command.TheVariants.{Genmove, Undo, Quit}
 use Rattle.gtp_wire.specs.Replies.{IsReply, GivesNoAnswer}
@@ -21,13 +21,14 @@ use Rattle.gtp_wire.specs.declared.lines.Line.{Line}
 use Rattle.gtp_wire.specs.declared.replies.Reply.{Reply}
 use Rattle.gtp_wire.specs.declared.replies.ReplyFault.{ReplyFault}
 use Rattle.gtp_wire.specs.declared.replies.ReplyFault.TheVariants as fault
-use Rattle.gtp_check_judge.specs.Asking.{written_check, line_of_check, IsCheckWritable, IsCheckInLimits}
+use Rattle.gtp_check_judge.specs.Asking.{written_check, line_of_check, IsCheckWritable, IsCheckInLimits, IsPlayOf}
 use Rattle.gtp_check_judge.specs.declared.scores.Score.{Score}
 use Rattle.gtp_check_judge.specs.declared.scores.SaidScore.{SaidScore}
 use Rattle.gtp_check_judge.specs.declared.scores.SaidScore.TheVariants.{Number}
 use Rattle.gtp_check_judge.specs.declared.opinions.View.{View}
 use Rattle.gtp_check_judge.specs.declared.opinions.Opinion.TheVariants.{Twice}
 use Rattle.gtp_check_judge.specs.Scores.{score_of_text}
+use Rattle.gtp_check_judge.specs.Listings.{lists_required}
 use Rattle.gtp_check_judge.specs.Opinions.{agrees_with, distance}
 use Rattle.gtp_wire.specs.Words.{reply_words}
 use Rattle.gtp_session.specs.Policy.{May, IsLawful}
@@ -36,11 +37,11 @@ use Rattle.gtp_session.specs.CommandAnswers.{after_command}
 use Rattle.gtp_session.specs.Engine.{Engine, Engages, fresh_under}
 use Rattle.gtp_check_judge.specs.declared.unanswered.Asked.{Asked}
 use Rattle.gtp_check_judge.specs.declared.dues.Cause.TheVariants.{BadMove}
-use Rattle.gtp_check_judge.specs.declared.dues.Due.TheVariants.{Succeeds, Fails, Places, Scores, Chooses}
+use Rattle.gtp_check_judge.specs.declared.dues.Due.TheVariants.{Succeeds, Fails, Places, Scores, Chooses, Lists}
 use Rattle.gtp_check_judge.specs.declared.judging.Kind.{Kind}
 use Rattle.gtp_check_judge.specs.declared.judging.Kind.TheVariants.{Refused, Took, OtherPoints, NoMove, NoVertex}
 use Rattle.gtp_check_judge.specs.declared.judging.Kind.TheVariants.{Unlawful, NoScore, OtherScore, WrongId, Unasked}
-use Rattle.gtp_check_judge.specs.declared.judging.Kind.TheVariants.{NoStatus, Overlong}
+use Rattle.gtp_check_judge.specs.declared.judging.Kind.TheVariants.{NoStatus, Overlong, Unlisted}
 use Rattle.go_base.specs.declared.choices.Choice.TheVariants as choice
 use Rattle.go_base.specs.declared.colours.Colour.{Colour}
 use Rattle.go_base.specs.declared.vertices.Vertex.{Vertex}
@@ -81,7 +82,7 @@ SaysScore engine None = ⊥
 SaysScore engine (Some said) = agrees_with engine.opinion (view_in engine.game said) ≡ true
 
 -- The same of each command: the text of a `final_score` is such a score; of a `name`, a `version` and a `known_command`
--- it is any.
+-- it is any; that of a `list_commands` names each command that every engine has.
 abbrev pub Says : RightEngine → CheckCommand → Choice → Bool → List ℕ → Type 0
 Says engine (Match command) choice ok text = SaysTo engine.game command choice ok text
 Says engine FinalScore choice true text = SaysScore engine (score_of_text text)
@@ -89,6 +90,10 @@ Says engine FinalScore choice false text = Unit {0}
 Says engine Name choice ok text = Unit {0}
 Says engine Version choice ok text = Unit {0}
 Says engine (KnownCommand known) choice ok text = Unit {0}
+Says engine ListCommands choice true text = lists_required (reply_words text) ≡ true
+Says engine ListCommands choice false text = Unit {0}
+Says engine (PlayInFull move) choice ok text = SaysTo engine.game (Play move) choice ok text
+Says engine (GenmoveInFull colour) choice ok text = SaysTo engine.game (Genmove colour) choice ok text
 
 -- The reply is an answer by the table to the command, and leaves this engine after: it has the command's id, and for
 -- some choice, which is lawful where a policy is asked for one, it has the status that the table answers in the game
@@ -129,6 +134,9 @@ MayRefuse engine FinalScore = Unit {0}
 MayRefuse engine Name = Unit {0}
 MayRefuse engine Version = Unit {0}
 MayRefuse engine (KnownCommand known) = Unit {0}
+MayRefuse engine ListCommands = ⊥
+MayRefuse engine (PlayInFull move) = MayRefuseTo engine (Play move)
+MayRefuse engine (GenmoveInFull colour) = MayRefuseTo engine (Genmove colour)
 
 -- The engine once it has refused such a command: as it was. Its komi is the last that was asked, whatever came of it.
 abbrev pub after_refusal : RightEngine → CheckCommand → RightEngine
@@ -144,6 +152,9 @@ after_refusal engine FinalScore = engine
 after_refusal engine Name = engine
 after_refusal engine Version = engine
 after_refusal engine (KnownCommand known) = engine
+after_refusal engine ListCommands = engine
+after_refusal engine (PlayInFull move) = engine
+after_refusal engine (GenmoveInFull colour) = engine
 
 -- The reply refuses such a command: it has the command's id, it is a failure, and the engine stays as it is.
 pub record IsRefusal (before : RightEngine) (entry : Asked) (reply : Reply) (after : RightEngine) : Type 0 where
@@ -244,7 +255,8 @@ pub record DiffersFromOpinion (before : RightEngine) (text : List ℕ) : Type 0 
 -- it may not be refused, and this one failed; every right answer is a failure, for this cause, and this one
 -- succeeded; the words aren't the points that are due; a `genmove` failed; or it succeeded, and said nothing that is
 -- a choice, or a vertex that is refused for this cause; a `final_score` said what is no score, or one that differs from
--- what the engine said twice by more than the komis do; or the id is missing or another.
+-- what the engine said twice by more than the komis do; a `list_commands` left out a command that every engine has; or
+-- the id is missing or another.
 abbrev pub KindIsTrue : RightEngine → Asked → Reply → Kind → Type 0
 KindIsTrue before entry reply Refused =
     (reply.ok ≡ false) × ((choice : Choice) → (answer before.game (line_of_asked entry) choice).ok ≡ true)
@@ -269,6 +281,8 @@ KindIsTrue before entry reply NoScore =
 KindIsTrue before entry reply OtherScore =
     (reply.ok ≡ true) × (entry.due ≡ Scores before.game.size before.game.komi)
     × DiffersFromOpinion before reply.text.items
+KindIsTrue before entry reply Unlisted =
+    (reply.ok ≡ true) × (entry.due ≡ Lists) × (lists_required (reply_words reply.text.items) ≡ false)
 KindIsTrue before entry reply WrongId = reply.id ≢ Some entry.id
 KindIsTrue before entry reply Unasked = ⊥
 KindIsTrue before entry reply NoStatus = ⊥
@@ -328,29 +342,29 @@ AskedCommandsAreLines = (old new : Exam) (command : CheckCommand) (later : List 
 
 -- The move is legal in the game. Its success is due, and a right engine has made it by then, so that an `undo` after it
 -- has to succeed.
-pub record IsPlayed (old : Exam) (move : Move) (new : Exam) : Type 0 where
+pub record IsPlayed (old : Exam) (command : CheckCommand) (move : Move) (new : Exam) : Type 0 where
   pub legal : IsLegal old.game move.colour move.vertex
   pub asked : new.unanswered ≡ old.unanswered
-      ++ record { id = old.sent + 1; command = Match (Play move); due = Succeeds } ∷ []
+      ++ record { id = old.sent + 1; command = command; due = Succeeds } ∷ []
   pub goes_on : new.game ≡ with_move old.game move.colour move.vertex
   pub moved : new.undone ≡ false
 
 -- A probe: the move breaks this rule in the game, so that a right engine has to refuse it. Its failure is due, for
 -- that rule, and the game stays, and what an `undo` may do.
-pub record IsProbe (old : Exam) (move : Move) (new : Exam) : Type 0 where
+pub record IsProbe (old : Exam) (command : CheckCommand) (move : Move) (new : Exam) : Type 0 where
   pub fault : PlayFault
   pub refused : RefusesVertex old.game move.colour move.vertex fault
   pub asked : new.unanswered ≡ old.unanswered
-      ++ record { id = old.sent + 1; command = Match (Play move); due = Fails (BadMove fault) } ∷ []
+      ++ record { id = old.sent + 1; command = command; due = Fails (BadMove fault) } ∷ []
   pub stays : new.game ≡ old.game
   pub unmoved : new.undone ≡ old.undone
 
--- A `play` is asked only where the record has room. It is legal in the game that a right engine has by then, or it is a
--- probe.
+-- A `play`, however its colour is written, is asked only where the record has room. It is legal in the game that a right
+-- engine has by then, or it is a probe.
 abbrev pub PlaysAreLegalOrProbes : Type 0
-PlaysAreLegalOrProbes = (old new : Exam) (move : Move)
-    → HasRoomFor old (Match (Play move)) → Asks old (Match (Play move)) new
-    → HasRoom old.game × (IsPlayed old move new ⊎ IsProbe old move new)
+PlaysAreLegalOrProbes = (old new : Exam) (command : CheckCommand) (move : Move)
+    → IsPlayOf move command → HasRoomFor old command → Asks old command new
+    → HasRoom old.game × (IsPlayed old command move new ⊎ IsProbe old command move new)
 
 -- ---- no right engine is blamed
 

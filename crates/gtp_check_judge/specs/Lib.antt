@@ -4,6 +4,7 @@ pub mod Asking
 pub mod Setups
 pub mod Skills
 pub mod Opinions
+pub mod Listings
 pub mod RightEngine
 pub mod Dues
 pub mod Judging

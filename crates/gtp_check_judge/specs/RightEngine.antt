@@ -12,7 +12,7 @@ use Rattle.gtp_wire.specs.declared.replies.Reply.{Reply}
 use Rattle.gtp_wire.specs.ReplyWords.{choice_of_text}
 use Rattle.gtp_check_judge.specs.declared.asking.CheckCommand.{CheckCommand}
 use Rattle.gtp_check_judge.specs.declared.asking.CheckCommand.TheVariants.{Match, FinalScore, Name, Version}
-use Rattle.gtp_check_judge.specs.declared.asking.CheckCommand.TheVariants.{KnownCommand}
+use Rattle.gtp_check_judge.specs.declared.asking.CheckCommand.TheVariants.{KnownCommand, PlayInFull, GenmoveInFull, ListCommands}
 use Rattle.gtp_check_judge.specs.declared.scores.SaidScore.{SaidScore}
 use Rattle.gtp_check_judge.specs.declared.opinions.View.{View}
 use Rattle.gtp_check_judge.specs.declared.opinions.Opinion.{Opinion}
@@ -56,6 +56,11 @@ undone_after undone FinalScore reply = undone
 undone_after undone Name reply = undone
 undone_after undone Version reply = undone
 undone_after undone (KnownCommand known) reply = undone
+undone_after undone ListCommands reply = undone
+undone_after undone (PlayInFull move) reply =
+    if reply.ok then undone_by undone (Play move) (choice_of_text reply.text.items) else undone
+undone_after undone (GenmoveInFull colour) reply =
+    if reply.ok then undone_by undone (Genmove colour) (choice_of_text reply.text.items) else undone
 
 -- ---- what it thinks of an empty board
 
@@ -85,3 +90,6 @@ opinion_after engine (Match command) reply = engine.opinion
 opinion_after engine Name reply = engine.opinion
 opinion_after engine Version reply = engine.opinion
 opinion_after engine (KnownCommand known) reply = engine.opinion
+opinion_after engine ListCommands reply = engine.opinion
+opinion_after engine (PlayInFull move) reply = engine.opinion
+opinion_after engine (GenmoveInFull colour) reply = engine.opinion

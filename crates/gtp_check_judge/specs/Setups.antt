@@ -8,7 +8,7 @@ use Rattle.gtp_wire.specs.declared.commands.Command.TheVariants.{Boardsize, Komi
 use Rattle.gtp_wire.specs.declared.commands.Command.TheVariants.{Genmove, Undo, Quit}
 use Rattle.gtp_check_judge.specs.declared.asking.CheckCommand.{CheckCommand}
 use Rattle.gtp_check_judge.specs.declared.asking.CheckCommand.TheVariants.{Match, FinalScore, Name, Version}
-use Rattle.gtp_check_judge.specs.declared.asking.CheckCommand.TheVariants.{KnownCommand}
+use Rattle.gtp_check_judge.specs.declared.asking.CheckCommand.TheVariants.{KnownCommand, PlayInFull, GenmoveInFull, ListCommands}
 use Rattle.gtp_check_judge.specs.declared.setups.Board.{Board}
 use Rattle.gtp_check_judge.specs.declared.setups.Board.TheVariants.{Unknown, Sized, Cleared}
 use Rattle.gtp_check_judge.specs.Komis.{is_exact_komi}
@@ -26,6 +26,9 @@ is_clear_board FinalScore = false
 is_clear_board Name = false
 is_clear_board Version = false
 is_clear_board (KnownCommand known) = false
+is_clear_board ListCommands = false
+is_clear_board (PlayInFull move) = false
+is_clear_board (GenmoveInFull colour) = false
 
 -- whether the last komi that was asked is exact, once a command was asked, where it was before: by a `komi` it hangs on
 -- that one, and by other commands it stays
@@ -42,6 +45,9 @@ komi_after is_set FinalScore = is_set
 komi_after is_set Name = is_set
 komi_after is_set Version = is_set
 komi_after is_set (KnownCommand known) = is_set
+komi_after is_set ListCommands = is_set
+komi_after is_set (PlayInFull move) = is_set
+komi_after is_set (GenmoveInFull colour) = is_set
 
 abbrev pub is_final_score : CheckCommand → Bool
 is_final_score FinalScore = true
@@ -49,6 +55,9 @@ is_final_score (Match command) = false
 is_final_score Name = false
 is_final_score Version = false
 is_final_score (KnownCommand known) = false
+is_final_score ListCommands = false
+is_final_score (PlayInFull move) = false
+is_final_score (GenmoveInFull colour) = false
 
 -- what is due to it hangs on the board
 abbrev pub is_board_of : Command → Bool
@@ -67,6 +76,9 @@ needs_board FinalScore = true
 needs_board Name = false
 needs_board Version = false
 needs_board (KnownCommand known) = false
+needs_board ListCommands = false
+needs_board (PlayInFull move) = is_board_of (Play move)
+needs_board (GenmoveInFull colour) = is_board_of (Genmove colour)
 
 -- what is known of the board once a command was asked that clears it or doesn't
 abbrev pub board_after : Board → Bool → Board

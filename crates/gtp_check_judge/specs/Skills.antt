@@ -12,7 +12,7 @@ use Rattle.gtp_check_judge.specs.declared.asking.Known.{Known}
 use Rattle.gtp_check_judge.specs.declared.asking.Known.TheVariants as known
 use Rattle.gtp_check_judge.specs.declared.asking.CheckCommand.{CheckCommand}
 use Rattle.gtp_check_judge.specs.declared.asking.CheckCommand.TheVariants.{Match, FinalScore, Name, Version}
-use Rattle.gtp_check_judge.specs.declared.asking.CheckCommand.TheVariants.{KnownCommand}
+use Rattle.gtp_check_judge.specs.declared.asking.CheckCommand.TheVariants.{KnownCommand, PlayInFull, GenmoveInFull, ListCommands}
 use Rattle.gtp_check_judge.specs.declared.skills.Skill.{Skill}
 use Rattle.gtp_check_judge.specs.declared.skills.Skill.TheVariants.{Unasked, Has, Lacks}
 use Rattle.gtp_check_judge.specs.declared.skills.Skills.{Skills}
@@ -35,6 +35,9 @@ needed_skill FinalScore = Some known.FinalScore
 needed_skill Name = None
 needed_skill Version = None
 needed_skill (KnownCommand asked) = None
+needed_skill ListCommands = None
+needed_skill (PlayInFull move) = None
+needed_skill (GenmoveInFull colour) = None
 
 -- before any `known_command`
 abbrev pub none_asked : Skills
@@ -69,3 +72,6 @@ learned skills (Match command) reply = skills
 learned skills FinalScore reply = skills
 learned skills Name reply = skills
 learned skills Version reply = skills
+learned skills ListCommands reply = skills
+learned skills (PlayInFull move) reply = skills
+learned skills (GenmoveInFull colour) reply = skills

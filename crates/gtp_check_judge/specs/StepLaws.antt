@@ -7,22 +7,24 @@ use Rattle.go_base.specs.declared.vertices.Vertex.TheVariants.{Pass}
 use Rattle.go_board.specs.Game.{GameRecord}
 use Rattle.go_board.specs.Refusals.{IsTouched, RefusesHandicap}
 use Rattle.go_board.specs.declared.faults.HandicapFault.{HandicapFault}
-use Rattle.gtp_wire.specs.declared.commands.Command.TheVariants.{FixedHandicap, Genmove, Quit}
+use Rattle.gtp_wire.specs.declared.commands.Command.TheVariants.{FixedHandicap, Quit}
 use Rattle.gtp_wire.specs.declared.replies.Reply.{Reply}
 use Rattle.gtp_wire.specs.declared.replies.ReplyFault.{ReplyFault}
+use Rattle.gtp_check_judge.specs.declared.asking.CheckCommand.{CheckCommand}
 use Rattle.gtp_check_judge.specs.declared.asking.CheckCommand.TheVariants.{Match}
 use Rattle.gtp_check_judge.specs.declared.dues.Due.TheVariants.{Fails, Places}
 use Rattle.gtp_check_judge.specs.declared.dues.Cause.TheVariants.{BadHandicap}
 use Rattle.gtp_check_judge.specs.declared.unanswered.Asked.{Asked}
 use Rattle.gtp_check_judge.specs.declared.exam.Exam.{Exam}
 use Rattle.gtp_check_judge.specs.declared.exam.Finding.{Finding}
+use Rattle.gtp_check_judge.specs.Asking.{IsGenmoveOf}
 use Rattle.gtp_check_judge.specs.Judging.{oldest}
 use Rattle.gtp_check_judge.specs.Exam.{Asks, HasRoomFor, answered_by}
 
 -- No `genmove` is asked after two passes, and no `quit` ever.
 pub record NoneAfterTheEnd : Type 0 where
-  pub passes : (exam : Exam) (colour one other : Colour) (earlier : List Move)
-      → HasRoomFor exam (Match (Genmove colour))
+  pub passes : (exam : Exam) (command : CheckCommand) (colour one other : Colour) (earlier : List Move)
+      → IsGenmoveOf colour command → HasRoomFor exam command
       → exam.game.moves
       ≢ earlier ++ record { colour = one; vertex = Pass } ∷ record { colour = other; vertex = Pass } ∷ []
   pub quits : (exam : Exam) → ¬ HasRoomFor exam (Match Quit)

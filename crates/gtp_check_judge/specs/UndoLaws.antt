@@ -5,7 +5,7 @@ use Rattle.go_base.specs.declared.colours.Colour.{Colour}
 use Rattle.go_base.specs.declared.moves.Move.{Move}
 use Rattle.go_base.specs.declared.vertices.Vertex.{Vertex}
 use Rattle.go_board.specs.declared.rules.KoRule.{KoRule}
-use Rattle.gtp_wire.specs.declared.commands.Command.TheVariants.{Play, Genmove, Undo}
+use Rattle.gtp_wire.specs.declared.commands.Command.TheVariants.{Undo}
 use Rattle.gtp_wire.specs.declared.replies.Reply.{Reply}
 use Rattle.gtp_wire.specs.ReplyWords.{choice_of_text}
 use Rattle.gtp_check_judge.specs.declared.asking.CheckCommand.TheVariants.{Match}
@@ -13,6 +13,7 @@ use Rattle.gtp_check_judge.specs.declared.judging.Kind.TheVariants.{Refused}
 use Rattle.gtp_check_judge.specs.declared.unanswered.Asked.{Asked}
 use Rattle.gtp_check_judge.specs.declared.exam.Exam.{Exam}
 use Rattle.gtp_check_judge.specs.declared.exam.Finding.{Finding}
+use Rattle.gtp_check_judge.specs.Asking.{IsPlayOf, IsGenmoveOf}
 use Rattle.gtp_check_judge.specs.RightEngine.{RightEngine, fresh_engine}
 use Rattle.gtp_check_judge.specs.Judging.{oldest}
 use Rattle.gtp_check_judge.specs.Exam.{Hears}
@@ -22,9 +23,9 @@ use Rattle.gtp_check_judge.specs.Laws.{Exchange, AllRight, Talks}
 
 -- the exchange made a move: a success to a `play`, or to a `genmove` that says a vertex
 pub data MakesMove (exchange : Exchange) : Type 0 where
-  plays : (move : Move) → exchange.entry.command ≡ Match (Play move) → exchange.reply.ok ≡ true
+  plays : (move : Move) → IsPlayOf move exchange.entry.command → exchange.reply.ok ≡ true
       → MakesMove exchange
-  chooses : (colour : Colour) (vertex : Vertex) → exchange.entry.command ≡ Match (Genmove colour)
+  chooses : (colour : Colour) (vertex : Vertex) → IsGenmoveOf colour exchange.entry.command
       → exchange.reply.ok ≡ true → choice_of_text exchange.reply.text.items ≡ Some (choice.Play vertex)
       → MakesMove exchange
 

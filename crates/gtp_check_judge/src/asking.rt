@@ -3,10 +3,11 @@ ghost use Rattle.std.specs.Prelude.{◌≡◌, ◌≤◌, ◌∷◌, ◌++◌, [
 ghost use Rattle.std.specs.List.{join_with_byte};
 ghost use Rattle.go_base.specs.Bytes.{newline, space};
 ghost use Rattle.go_base.specs.Int.{most_int, written_int};
-ghost use Rattle.gtp_check_judge.specs.Asking.{known_name, written_check, IsCheckWritable};
+ghost use Rattle.go_base.specs.Vertex.{written_vertex};
+ghost use Rattle.gtp_check_judge.specs.Asking.{known_name, written_check, IsCheckWritable, colour_in_full};
 
 use arrayvec::ArrayVec;
-use go_base::write_int;
+use go_base::{Colour, Move, push, write_int};
 use gtp_wire::{Command, CommandText, write_command};
 
 /// A command that an engine may be without.
@@ -33,6 +34,12 @@ pub enum CheckCommand {
     Version,
     /// Asks whether the engine knows this command.
     KnownCommand(Known),
+    /// Asks which commands the engine knows.
+    ListCommands,
+    /// A `play` of a match whose colour is written in full, as `black` or `white`.
+    PlayInFull(Move),
+    /// A `genmove` of a match whose colour is written in full.
+    GenmoveInFull(Colour),
 }
 
 /// Writes a command as a line with this id.
@@ -47,6 +54,9 @@ pub(crate) fn write_check(id: u32, command: &CheckCommand) -> CommandText
         CheckCommand::Name => write_line(id, b"name"),
         CheckCommand::Version => write_line(id, b"version"),
         CheckCommand::KnownCommand(known) => write_line(id, known_text(*known)),
+        CheckCommand::ListCommands => write_line(id, b"list_commands"),
+        CheckCommand::PlayInFull(made) => write_line(id, &play_text(*made)),
+        CheckCommand::GenmoveInFull(colour) => write_line(id, genmove_text(*colour)),
     }
 }
 
@@ -60,6 +70,40 @@ fn known_text(known: Known) -> &'static [u8]
         Known::FixedHandicap => b"known_command fixed_handicap",
         Known::Undo => b"known_command undo",
         Known::FinalScore => b"known_command final_score",
+    }
+}
+
+/// The words of a `genmove` whose colour is written in full.
+fn genmove_text(colour: Colour) -> &'static [u8]
+    ensures text { result.now
+        ≡ join_with_byte space (codes "genmove" ∷ colour_in_full colour ∷ []) }
+    ensures few { length result.now ≤ 40 }
+{
+    match colour {
+        Colour::Black => b"genmove black",
+        Colour::White => b"genmove white",
+    }
+}
+
+/// The words of a `play` whose colour is written in full.
+fn play_text(made: Move) -> ArrayVec<u8, 40>
+    ensures text { result.items ≡ join_with_byte space
+        (codes "play" ∷ colour_in_full made.colour ∷ written_vertex made.vertex ∷ []) }
+{
+    let mut text = ArrayVec::new();
+    push(&mut text, play_start(made.colour));
+    push(&mut text, &made.vertex.write());
+    text
+}
+
+/// What is before the vertex.
+fn play_start(colour: Colour) -> &'static [u8]
+    ensures text { result.now ≡ codes "play" ++ space ∷ (colour_in_full colour ++ space ∷ []) }
+    ensures few { length result.now ≤ 30 }
+{
+    match colour {
+        Colour::Black => b"play black ",
+        Colour::White => b"play white ",
     }
 }
 

@@ -45,6 +45,8 @@ pub enum Due {
     Chooses(Colour),
     /// A success, by which the last move is taken back; or a failure, by which nothing changes.
     MayUndo,
+    /// A success that lists commands. Each that the standard requires of every engine is among them.
+    Lists,
 }
 
 /// The greatest int of the protocol.
@@ -58,7 +60,12 @@ pub(crate) fn may_be_asked(game: &Game, command: &CheckCommand) -> bool
     match command {
         CheckCommand::Match(command) => may_be_said(game, command),
         CheckCommand::FinalScore => game.moves().len() == 0 && game.handicap() == 0,
-        CheckCommand::Name | CheckCommand::Version | CheckCommand::KnownCommand(_) => true,
+        CheckCommand::Name
+        | CheckCommand::Version
+        | CheckCommand::KnownCommand(_)
+        | CheckCommand::ListCommands => true,
+        CheckCommand::PlayInFull(made) => may_be_said(game, &Command::Play(*made)),
+        CheckCommand::GenmoveInFull(colour) => may_be_said(game, &Command::Genmove(*colour)),
     }
 }
 
@@ -82,7 +89,7 @@ pub(crate) fn is_open(due: &Due) -> bool
 {
     match due {
         Due::Chooses(_) | Due::Resizes(_) | Due::MayUndo | Due::Scores(..) => true,
-        Due::Succeeds | Due::Fails(_) | Due::Places(..) | Due::AnyReply => false,
+        Due::Succeeds | Due::Fails(_) | Due::Places(..) | Due::AnyReply | Due::Lists => false,
     }
 }
 
@@ -101,7 +108,12 @@ pub(crate) fn is_awaited(
     match command {
         CheckCommand::Match(command) => leaves_open(game, undone, opinion, command),
         CheckCommand::FinalScore => true,
-        CheckCommand::Name | CheckCommand::Version | CheckCommand::KnownCommand(_) => false,
+        CheckCommand::GenmoveInFull(_) => true,
+        CheckCommand::Name
+        | CheckCommand::Version
+        | CheckCommand::KnownCommand(_)
+        | CheckCommand::ListCommands
+        | CheckCommand::PlayInFull(_) => false,
     }
 }
 
@@ -152,6 +164,9 @@ pub(crate) fn due_to(
             Due::Scores(game.size(), game.komi())
         }
         CheckCommand::Name | CheckCommand::Version | CheckCommand::KnownCommand(_) => Due::AnyReply,
+        CheckCommand::ListCommands => Due::Lists,
+        CheckCommand::PlayInFull(made) => play_due(game, *made),
+        CheckCommand::GenmoveInFull(colour) => Due::Chooses(*colour),
     }
 }
 
@@ -167,7 +182,8 @@ pub(crate) fn undone_due(undone: bool, command: &CheckCommand, due: &Due) -> boo
         | Due::Scores(..)
         | Due::AnyReply
         | Due::Chooses(_)
-        | Due::MayUndo => undone,
+        | Due::MayUndo
+        | Due::Lists => undone,
     }
 }
 
@@ -177,7 +193,7 @@ fn undone_once(undone: bool, command: &CheckCommand) -> bool
 {
     match command {
         CheckCommand::Match(Command::Undo) => true,
-        CheckCommand::Match(Command::Play(_)) => false,
+        CheckCommand::Match(Command::Play(_)) | CheckCommand::PlayInFull(_) => false,
         _ => undone,
     }
 }

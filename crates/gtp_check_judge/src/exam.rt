@@ -335,7 +335,10 @@ fn in_limits(game: &Game, command: &CheckCommand)
         CheckCommand::FinalScore
         | CheckCommand::Name
         | CheckCommand::Version
-        | CheckCommand::KnownCommand(_) => {}
+        | CheckCommand::KnownCommand(_)
+        | CheckCommand::ListCommands
+        | CheckCommand::GenmoveInFull(_) => {}
+        CheckCommand::PlayInFull(made) => vertex_in_limits(made.vertex),
     }
 }
 

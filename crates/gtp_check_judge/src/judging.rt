@@ -7,8 +7,11 @@ ghost use Rattle.gtp_check_judge.specs.Scores.{score_of_text};
 ghost use Rattle.gtp_check_judge.specs.Judging.{Judged, ChoiceJudged, SaidJudged, VertexJudged, score_judged};
 ghost use Rattle.gtp_check_judge.specs.Judging.{view_judged, MayBeJudged, has_id, success_judged};
 ghost use Rattle.gtp_check_judge.specs.Judging.{failure_judged, size_judged, undo_judged, points_judged, refused_by};
+ghost use Rattle.gtp_check_judge.specs.Judging.{list_judged};
+ghost use Rattle.gtp_check_judge.specs.Listings.{lists_required};
 
 use crate::dues::{Cause, Due};
+use crate::listings::lists_required;
 use crate::opinions::{Opinion, View, agrees, opinion_with, view_of};
 use crate::scores::read_score;
 use go_base::{Choice, Colour, Komi, Size, Vertex, handicap};
@@ -30,6 +33,8 @@ pub enum Kind {
     NoVertex,
     /// It answered a `genmove` by a move that isn't legal, for this cause.
     Unlawful(PlayFault),
+    /// It answered a `list_commands` by a list that lacks a command that the standard requires of every engine.
+    Unlisted,
     /// It answered a `final_score` by a success that is no score.
     NoScore,
     /// It answered a `final_score` by a score that differs from one that it said twice by more than the komis do.
@@ -97,6 +102,7 @@ pub(crate) fn judge(game: &Game, opinion: &Opinion, due: Due, reply: &Reply) -> 
         Due::AnyReply => Judgement::Right,
         Due::Chooses(colour) => choice_judged(game, colour, reply),
         Due::MayUndo => undo_judged(reply.ok),
+        Due::Lists => list_judged(reply),
     }
 }
 
@@ -134,7 +140,8 @@ pub(crate) fn refused_by(due: Due, ok: bool) -> Option<Refusal>
         | Due::Places(..)
         | Due::Scores(..)
         | Due::AnyReply
-        | Due::Chooses(_) => None,
+        | Due::Chooses(_)
+        | Due::Lists => None,
     }
 }
 
@@ -183,6 +190,21 @@ fn are_points(size: Size, stones: u32, reply: &Reply) -> bool
     match handicap(size, stones) {
         None => false,
         Some(points) => names_points(&reply.text, &points),
+    }
+}
+
+/// A reply to a `list_commands`.
+fn list_judged(reply: &Reply) -> Judgement
+    ensures { result
+        ≡ list_judged (lists_required (reply_words reply.now.text.items)) reply.now.ok }
+{
+    if !reply.ok {
+        return Judgement::Wrong(Kind::Refused);
+    }
+    if lists_required(&reply.text) {
+        Judgement::Right
+    } else {
+        Judgement::Wrong(Kind::Unlisted)
     }
 }
 

@@ -12,6 +12,7 @@ ghost use Rattle.gtp_check_judge.specs.HistoryLaws.{ReadyEnginesMayBeAsked, Know
 ghost use Rattle.gtp_check_judge.specs.ConversationLaws.{EachStartBeginsAnew, ConversationsShowFindings};
 ghost use Rattle.gtp_check_judge.specs.ConversationLaws.{NoRightEngineWroteIt};
 ghost use Rattle.gtp_check_judge.specs.AnswerLaws.{ScoresAreRead, SomeKomisMayBeRefused, RefusalsAreReported};
+ghost use Rattle.gtp_check_judge.specs.AnswerLaws.{ListsNameEachCommand};
 ghost use Rattle.gtp_check_judge.specs.UndoLaws.{UndoneIsWhatWasSaid, FirstUndosHaveToSucceed};
 ghost use Rattle.gtp_check_judge.specs.ScoreLaws.{ScoresAreOfEmptyBoards, ScoresDifferAsKomis};
 ghost use Rattle.gtp_check_judge.specs.StepLaws.{NoneAfterTheEnd, HandicapsArePlacedOrProbes, RightAnswersAreReported};
@@ -100,8 +101,8 @@ pub fn some_are_asked_alone()
 {}
 
 /// Of an engine that is up, owes fewer than eight answers and none to a `genmove`, a `boardsize`, an `undo` that may
-/// fail or a `final_score`, a `komi`, a `clear_board`, a `name`, a `version` and a `known_command` may be asked, as
-/// long as there are ids; and a `boardsize` where it owes nothing.
+/// fail or a `final_score`, a `komi`, a `clear_board`, a `name`, a `version`, a `known_command` and a
+/// `list_commands` may be asked, as long as there are ids; and a `boardsize` where it owes nothing.
 pub fn ready_engines_may_be_asked()
     ensures { ReadyEnginesMayBeAsked }
 {}
@@ -123,7 +124,8 @@ pub fn asked_commands_are_lines()
     ensures { AskedCommandsAreLines }
 {}
 
-/// A move that is asked is legal in the game that a right engine has by then, or it is a probe, which it has to refuse.
+/// A move that is asked, however its colour is written, is legal in the game that a right engine has by then, or it is a
+/// probe, which it has to refuse.
 pub fn plays_are_legal_or_probes()
     ensures { PlaysAreLegalOrProbes }
 {}
@@ -150,6 +152,12 @@ pub fn scores_are_read()
 /// where it failed and might. Neither is a finding.
 pub fn refusals_are_reported()
     ensures { RefusalsAreReported }
+{}
+
+/// A success to a `list_commands` is found wrong exactly where a command that the standard requires of every engine isn't
+/// one of its words.
+pub fn lists_name_each_command()
+    ensures { ListsNameEachCommand }
 {}
 
 /// Whether an `undo` may fail hangs on what was said: one has succeeded since the last move, or none has.

@@ -14,6 +14,7 @@ mod examiner;
 mod judging;
 mod komis;
 pub mod laws;
+mod listings;
 mod opinions;
 mod scores;
 mod setups;

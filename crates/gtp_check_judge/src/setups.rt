@@ -56,8 +56,12 @@ pub(crate) fn needs_board(command: &CheckCommand) -> bool
 {
     match command {
         CheckCommand::Match(command) => is_board_of(command),
-        CheckCommand::FinalScore => true,
-        CheckCommand::Name | CheckCommand::Version | CheckCommand::KnownCommand(_) => false,
+        CheckCommand::FinalScore | CheckCommand::PlayInFull(_) | CheckCommand::GenmoveInFull(_) =>
+            true,
+        CheckCommand::Name
+        | CheckCommand::Version
+        | CheckCommand::KnownCommand(_)
+        | CheckCommand::ListCommands => false,
     }
 }
 

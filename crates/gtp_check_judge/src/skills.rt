@@ -72,7 +72,12 @@ fn needed_skill(command: &CheckCommand) -> Option<Known>
     match command {
         CheckCommand::Match(command) => skill_of(command),
         CheckCommand::FinalScore => Some(Known::FinalScore),
-        CheckCommand::Name | CheckCommand::Version | CheckCommand::KnownCommand(_) => None,
+        CheckCommand::Name
+        | CheckCommand::Version
+        | CheckCommand::KnownCommand(_)
+        | CheckCommand::ListCommands
+        | CheckCommand::PlayInFull(_)
+        | CheckCommand::GenmoveInFull(_) => None,
     }
 }
 
@@ -114,7 +119,10 @@ pub(crate) fn learned(skills: &Skills, command: &CheckCommand, reply: &Reply) ->
         CheckCommand::Match(_)
         | CheckCommand::FinalScore
         | CheckCommand::Name
-        | CheckCommand::Version => *skills,
+        | CheckCommand::Version
+        | CheckCommand::ListCommands
+        | CheckCommand::PlayInFull(_)
+        | CheckCommand::GenmoveInFull(_) => *skills,
     }
 }
 

@@ -5,7 +5,7 @@ use Rattle.gtp_check_questions.specs.Laws.{EachKoIsAnswered}
 use Rattle.gtp_check_questions.specs.Questions.{act_asked, answer_asked}
 
 pub each_ko : EachKoIsAnswered
-each_ko board act is = record {
+each_ko part board act is = record {
   number = 45;
   acts = stretch.Act;
   has_acts = refl;

@@ -16,7 +16,7 @@ use Rattle.gtp_check_questions.specs.Scenes.{Acts, acts_if, captures_scenes, joi
 use Rattle.gtp_check_questions.specs.Scenes.{suicide_scenes, turned, ways}
 
 -- no scene has more moves than a stretch of moves has steps
-abbrev AreShort : List Acts → Type 0
+abbrev pub AreShort : List Acts → Type 0
 AreShort [] = Unit {0}
 AreShort (acts ∷ others) = (length acts ≤ 12) × AreShort others
 
@@ -26,7 +26,7 @@ short_at (acts ∷ others) zero short = short.0
 short_at (acts ∷ others) (suc number) short = short_at others number short.1
 
 -- what is at a place of a list is within it
-within : (acts : Acts) (number : ℕ) (act : Colour × ℕ × ℕ) → slice_get acts number ≡ Some act → number < length acts
+pub within : (acts : Acts) (number : ℕ) (act : Colour × ℕ × ℕ) → slice_get acts number ≡ Some act → number < length acts
 within [] number act is = absurd (cc)
 within (first ∷ acts) zero act is = omega arith
 within (first ∷ acts) (suc number) act is = let less = within acts number act is in omega arith
@@ -61,18 +61,18 @@ module _ (board : Board) (short : length board.scene.now ≤ 12) where
       probed White number (2 * number + 1) act less (omega arith) (omega arith) (grind (arith, nat_tests)) is
 
 -- a board of a part has no more moves either
-short_board : (scenes : List Acts) (part : ℕ) (board : Board) → AreShort scenes
+pub short_board : (scenes : List Acts) (part : ℕ) (board : Board) → AreShort scenes
     → board.scene.now ≡ acts_if (slice_get scenes (part / ways)) → length board.scene.now ≤ 12
 short_board scenes part board short is =
     let few = short_at scenes (part / ways) short in omega (arith, ap length is)
 
 -- the three stretches come one after the other, from this one on
-probes_after : (number : ℕ) (lesson : Lesson) (board : Board) → length board.scene.now ≤ 12
-    → slice_get (stretches_of lesson) number ≡ Some stretch.Moves
-    → slice_get (stretches_of lesson) (number + 1) ≡ Some stretch.Clear
-    → slice_get (stretches_of lesson) (number + 2) ≡ Some stretch.Own
-    → ProbesClearedBoard lesson board
-probes_after number lesson board short has_moves has_clear has_own = record {
+probes_after : (number : ℕ) (lesson : Lesson) (part : ℕ) (board : Board) → length board.scene.now ≤ 12
+    → slice_get (stretches_of lesson part) number ≡ Some stretch.Moves
+    → slice_get (stretches_of lesson part) (number + 1) ≡ Some stretch.Clear
+    → slice_get (stretches_of lesson part) (number + 2) ≡ Some stretch.Own
+    → ProbesClearedBoard lesson part board
+probes_after number lesson part board short has_moves has_clear has_own = record {
   number = number;
   moves = stretch.Moves;
   has_moves = has_moves;
@@ -85,7 +85,7 @@ probes_after number lesson board short has_moves has_clear has_own = record {
   probes = points board short;
 }
 
-ko_short : AreShort ko_scenes
+pub ko_short : AreShort ko_scenes
 ko_short = search rules
 
 captures_short : AreShort captures_scenes
@@ -99,11 +99,11 @@ joining_short = search rules
 
 pub each_board : EachClearedBoardIsProbed
 each_board = record {
-  ko = λ part board is. probes_after 30 Ko board (short_board ko_scenes part board ko_short is) refl refl refl;
+  ko = λ part board is. probes_after 30 Ko part board (short_board ko_scenes part board ko_short is) refl refl refl;
   captures = λ part board is.
-      probes_after 31 Captures board (short_board captures_scenes part board captures_short is) refl refl refl;
+      probes_after 31 Captures part board (short_board captures_scenes part board captures_short is) refl refl refl;
   suicide = λ part board is.
-      probes_after 28 Suicide board (short_board suicide_scenes part board suicide_short is) refl refl refl;
+      probes_after 28 Suicide part board (short_board suicide_scenes part board suicide_short is) refl refl refl;
   joining = λ part board is.
-      probes_after 31 Joining board (short_board joining_scenes part board joining_short is) refl refl refl;
+      probes_after 31 Joining part board (short_board joining_scenes part board joining_short is) refl refl refl;
 }

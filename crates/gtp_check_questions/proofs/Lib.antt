@@ -8,3 +8,5 @@ pub mod ClearedBoard
 pub mod NoSuicide
 pub mod SoughtSizes
 pub mod AnsweredKos
+pub mod SentPieces
+pub mod WrittenInFull

@@ -1,11 +1,17 @@
 -- Where suicide isn't asked, no `play` that is asked is one.
-use Rattle.std.proofs.Common.{◌≡◌, ℕ, List, Option, refl, ap, ◌∙◌, inl, inr}
+use Rattle.std.proofs.Common.{◌≡◌, ℕ, List, Option, refl, sym, ap, subst, ◌∙◌, inl, inr}
+use Rattle.go_base.specs.declared.moves.Move.{Move}
+use Rattle.go_board.specs.Game.{GameRecord}
+use Rattle.go_board.specs.Refusals.{RefusesVertex}
+use Rattle.go_board.specs.declared.faults.PlayFault.TheVariants.{Suicide as SuicideFault}
+use Rattle.gtp_check_judge.specs.Asking.{IsPlayOf}
+use Rattle.gtp_check_judge.specs.declared.asking.CheckCommand.{CheckCommand}
 use Rattle.gtp_check_judge.specs.declared.exam.Exam.{Exam}
 use Rattle.gtp_check_questions.specs.declared.actions.Action.{Action}
 use Rattle.gtp_check_questions.specs.declared.actions.Action.TheVariants.{Start, Restart, Kill, Ask, Wait, Skip, Done}
 use Rattle.gtp_check_questions.specs.declared.lessons.Lesson.{Lesson}
 use Rattle.gtp_check_questions.specs.declared.suicides.Suicide.{Suicide}
-use Rattle.gtp_check_questions.specs.Course.{Course, GoesTo, Leaves}
+use Rattle.gtp_check_questions.specs.Course.{Course, GoesTo, IsSuicide, Leaves}
 use Rattle.gtp_check_questions.specs.Laws.{Walks}
 
 -- a call keeps whether it is asked
@@ -21,6 +27,12 @@ kept old new exam Done goes = ap (λ (c : Course). c.suicide) goes.1
 left : (old new : Course) → Leaves old new → new.suicide ≡ old.suicide
 left old new (inl over) = ap (λ (c : Course). c.suicide) over.1
 left old new (inr on) = on.suicide
+
+-- a `play` that the rules refuse as suicide is one, however its colour is written
+pub is_suicide : (game : GameRecord) (command : CheckCommand) (move : Move) → IsPlayOf move command
+    → RefusesVertex game move.colour move.vertex SuicideFault → IsSuicide game command
+is_suicide game command move (inl is) refuses = subst (IsSuicide game) (sym is) refuses
+is_suicide game command move (inr is) refuses = subst (IsSuicide game) (sym is) refuses
 
 -- so does each walk
 pub of_walk : (lessons : List Lesson) (scene_size : Option ℕ) (seed : ℕ) (suicide : Suicide) (asked started : ℕ)

@@ -16,7 +16,7 @@ use Rattle.gtp_check_questions.specs.Boards.{IsBoard}
 use Rattle.gtp_check_questions.specs.Course.{Course}
 use Rattle.gtp_check_questions.specs.Draws.{generator_of_step}
 use Rattle.gtp_check_questions.specs.Questions.{IsDrawnMove, IsFirstLegal, IsProbe, IsQuestion, Step, act_asked}
-use Rattle.gtp_check_questions.specs.Questions.{actor_pass_asked, answer_asked, sealed_asked}
+use Rattle.gtp_check_questions.specs.Questions.{act_in_full, actor_pass_asked, answer_asked, sealed_asked}
 use Rattle.gtp_check_questions.specs.Questions.{drawn_colour, elsewhere_asked, last_of, own_asked, pass_asked, plays}
 use Rattle.gtp_check_questions.specs.Questions.{probes, retaken, waits_asked}
 
@@ -66,6 +66,8 @@ of_scene (stretch.Drawn steps) step board other game question same is = is
 of_scene (stretch.Probed steps) step board other game question same is = is
 of_scene stretch.Moves step board other game question same is =
     is ∙ ap (λ acts. act_asked board (slice_get acts step.number)) same
+of_scene stretch.MovesInFull step board other game question same is =
+    is ∙ ap (λ acts. act_in_full board (slice_get acts step.number)) same
 of_scene stretch.Own step board other game question same is =
     is ∙ ap (λ acts. own_asked board step.number (slice_get acts (step.number / 2))) same
 of_scene stretch.Pass step board other game question same is =

@@ -40,7 +40,7 @@ IsStepOf lesson course game (Some stretch) question =
 -- what the step is in which the course is
 abbrev pub IsStep : Lesson → Course → GameRecord → Question → Type 0
 IsStep lesson course game question =
-    IsStepOf lesson course game (slice_get (stretches_of lesson) course.place.stretch) question
+    IsStepOf lesson course game (slice_get (stretches_of lesson course.place.part) course.place.stretch) question
 
 abbrev pub undo : CheckCommand
 undo = Match command.Undo

@@ -7,7 +7,8 @@ use Rattle.go_board.specs.declared.faults.PlayFault.TheVariants.{Suicide as Suic
 use Rattle.gtp_wire.specs.declared.commands.Command.TheVariants as command
 use Rattle.gtp_check_judge.specs.declared.asking.CheckCommand.{CheckCommand}
 use Rattle.gtp_check_judge.specs.declared.asking.CheckCommand.TheVariants.{Match, FinalScore, Name, Version}
-use Rattle.gtp_check_judge.specs.declared.asking.CheckCommand.TheVariants.{KnownCommand}
+use Rattle.gtp_check_judge.specs.declared.asking.CheckCommand.TheVariants.{KnownCommand, PlayInFull, GenmoveInFull}
+use Rattle.gtp_check_judge.specs.declared.asking.CheckCommand.TheVariants.{ListCommands}
 use Rattle.gtp_check_judge.specs.declared.exam.Exam.{Exam}
 use Rattle.gtp_check_judge.specs.Exam.{HasRoomFor}
 use Rattle.gtp_check_questions.specs.declared.lessons.Lesson.{Lesson}
@@ -93,13 +94,13 @@ part_over lesson course =
 
 abbrev pub has_next_step : Lesson → Place → Bool
 has_next_step lesson place =
-    nat_lt (place.step + 1) (steps_if (slice_get (stretches_of lesson) place.stretch))
+    nat_lt (place.step + 1) (steps_if (slice_get (stretches_of lesson place.part) place.stretch))
 
 -- The step is over: the next one of its stretch comes, or the next stretch, or the part is over too.
 abbrev pub step_over : Lesson → Course → Course
 step_over lesson course =
     if has_next_step lesson course.place then record course { place = next_step course.place }
-    else if nat_lt (course.place.stretch + 1) (length (stretches_of lesson))
+    else if nat_lt (course.place.stretch + 1) (length (stretches_of lesson course.place.part))
     then record course { place = next_stretch course.place }
     else part_over lesson course
 
@@ -131,6 +132,9 @@ IsSuicide game FinalScore = ⊥
 IsSuicide game Name = ⊥
 IsSuicide game Version = ⊥
 IsSuicide game (KnownCommand known) = ⊥
+IsSuicide game ListCommands = ⊥
+IsSuicide game (PlayInFull move) = RefusesVertex game move.colour move.vertex SuicideFault
+IsSuicide game (GenmoveInFull colour) = ⊥
 
 -- A command is left out in this game: it is suicide, and that isn't asked. (Rule sets differ in whether it is legal.)
 pub record IsLeftOut (suicide : Suicide) (game : GameRecord) (command : CheckCommand) : Type 0 where

@@ -10,13 +10,17 @@ use Rattle.go_board.specs.Refusals.{RefusesVertex}
 use Rattle.go_board.specs.declared.faults.PlayFault.TheVariants.{Suicide as SuicideFault}
 use Rattle.gtp_wire.specs.declared.commands.Command.TheVariants as command
 use Rattle.gtp_check_judge.specs.declared.asking.CheckCommand.{CheckCommand}
-use Rattle.gtp_check_judge.specs.declared.asking.CheckCommand.TheVariants.{KnownCommand, Match}
+use Rattle.gtp_check_judge.specs.declared.asking.CheckCommand.TheVariants.{KnownCommand, ListCommands}
+use Rattle.gtp_check_judge.specs.declared.asking.CheckCommand.TheVariants.{PlayInFull, GenmoveInFull}
+use Rattle.gtp_check_judge.specs.Asking.{IsPlayOf}
 use Rattle.gtp_check_judge.specs.declared.asking.Known.{Known}
 use Rattle.gtp_check_judge.specs.declared.exam.Exam.{Exam}
 use Rattle.gtp_check_questions.specs.declared.actions.Action.{Action}
 use Rattle.gtp_check_questions.specs.declared.actions.Action.TheVariants.{Start, Restart, Kill, Ask, Wait, Skip, Done}
 use Rattle.gtp_check_questions.specs.declared.actions.Question.{Question}
 use Rattle.gtp_check_questions.specs.declared.actions.Question.TheVariants.{Found}
+use Rattle.gtp_check_questions.specs.declared.actions.Question.TheVariants.{Ask as Asks}
+use Rattle.gtp_check_questions.specs.declared.actions.Question.TheVariants.{Restart as NewStart}
 use Rattle.gtp_check_questions.specs.declared.boards.Board.{Board}
 use Rattle.gtp_check_questions.specs.declared.draws.Draws.{Draws}
 use Rattle.gtp_check_questions.specs.declared.lessons.Lesson.{Lesson}
@@ -29,7 +33,7 @@ use Rattle.gtp_check_questions.specs.declared.suicides.Suicide.TheVariants.{Unas
 use Rattle.gtp_check_questions.specs.Asking.{IsStep}
 use Rattle.gtp_check_questions.specs.Boards.{inexact_komi_of, komi_of}
 use Rattle.gtp_check_questions.specs.Course.{Course, GoesTo, IsIn, Leaves, begun, with_finding}
-use Rattle.gtp_check_questions.specs.Lessons.{parts_of, stretches_of}
+use Rattle.gtp_check_questions.specs.Lessons.{is_in_pieces, parts_of, stretches_of}
 use Rattle.gtp_check_questions.specs.Openings.{opening_next}
 use Rattle.gtp_check_questions.specs.Questions.{IsQuestion, asks, last_of, probes}
 use Rattle.gtp_check_questions.specs.Scenes.{scene_of, scenes_of, turned, turned_act, turned_colour, ways}
@@ -81,11 +85,12 @@ EveryCourseIsBounded = (lessons : List Lesson) (scene_size : Option ℕ) (seed :
 
 -- ---- suicide
 
--- Where suicide isn't asked, no `play` that is asked is one in the examiner's game, by the rules of that.
+-- Where suicide isn't asked, no `play` that is asked is one in the examiner's game, by the rules of that, however its
+-- colour is written.
 abbrev pub NoSuicideIsAsked : Type 0
 NoSuicideIsAsked = (lessons : List Lesson) (scene_size : Option ℕ) (seed asked started : ℕ) (old new : Course)
-    (exam : Exam) (move : Move) → Walks lessons scene_size seed Unasked asked started old
-    → GoesTo old exam (Ask (Match (command.Play move))) new
+    (exam : Exam) (command : CheckCommand) (move : Move) → Walks lessons scene_size seed Unasked asked started old
+    → IsPlayOf move command → GoesTo old exam (Ask command) new
     → ¬ RefusesVertex exam.game move.colour move.vertex SuicideFault
 
 -- ---- each scene is asked
@@ -123,23 +128,23 @@ ProbesEachPoint stretch board = (number : ℕ) (act : Colour × ℕ × ℕ) (col
     → slice_get board.scene.now number ≡ Some act
     → (step : ℕ) × AsksAt stretch board step (probes colour (turned board.way act.1 act.2 board.size))
 
--- Three stretches of the lesson come one after the other: the moves of the scene, a `clear_board`, and probes of the
+-- Three stretches of the part come one after the other: the moves of the scene, a `clear_board`, and probes of the
 -- points of these moves.
-pub record ProbesClearedBoard (lesson : Lesson) (board : Board) : Type 0 where
+pub record ProbesClearedBoard (lesson : Lesson) (part : ℕ) (board : Board) : Type 0 where
   pub number : ℕ
   pub moves : Stretch
-  pub has_moves : slice_get (stretches_of lesson) number ≡ Some moves
+  pub has_moves : slice_get (stretches_of lesson part) number ≡ Some moves
   pub plays : PlaysEachMove moves board
   pub clear : Stretch
-  pub has_clear : slice_get (stretches_of lesson) (number + 1) ≡ Some clear
+  pub has_clear : slice_get (stretches_of lesson part) (number + 1) ≡ Some clear
   pub clears : AsksAt clear board 0 (asks command.ClearBoard)
   pub points : Stretch
-  pub has_points : slice_get (stretches_of lesson) (number + 2) ≡ Some points
+  pub has_points : slice_get (stretches_of lesson part) (number + 2) ≡ Some points
   pub probes : ProbesEachPoint points board
 
 abbrev pub ProbesEachClearedBoard : Lesson → Type 0
 ProbesEachClearedBoard lesson =
-    (part : ℕ) (board : Board) → board.scene.now ≡ scene_of lesson part → ProbesClearedBoard lesson board
+    (part : ℕ) (board : Board) → board.scene.now ≡ scene_of lesson part → ProbesClearedBoard lesson part board
 
 -- In each part of a lesson of scenes the points of the scene's moves are asked once the board was cleared.
 pub record EachClearedBoardIsProbed : Type 0 where
@@ -150,19 +155,20 @@ pub record EachClearedBoardIsProbed : Type 0 where
 
 -- ---- the size of scenes is sought
 
--- The first stretch of the lesson asks for this size, and then looks whether it was taken.
-pub record SeeksSize (lesson : Lesson) (board : Board) (size : ℕ) : Type 0 where
+-- The first stretch of the part asks for this size, and then looks whether it was taken.
+pub record SeeksSize (lesson : Lesson) (part : ℕ) (board : Board) (size : ℕ) : Type 0 where
   pub first : Stretch
-  pub has_first : slice_get (stretches_of lesson) 0 ≡ Some first
+  pub has_first : slice_get (stretches_of lesson part) 0 ≡ Some first
   pub step : ℕ
   pub asks_size : AsksAt first board step (asks (command.Boardsize size))
   pub looks : AsksAt first board (step + 1) (Found size)
 
 abbrev pub SeeksEachSize : Lesson → Type 0
 SeeksEachSize lesson =
-    (board : Board) (size : ℕ) → board.is_sought ≡ true → 5 ≤ size → size ≤ most_size → SeeksSize lesson board size
+    (part : ℕ) (board : Board) (size : ℕ) → board.is_sought ≡ true → 5 ≤ size → size ≤ most_size
+    → SeeksSize lesson part board size
 
--- Each lesson whose boards have the size of scenes asks for each from 5 to 25 first, while none is known.
+-- Each part of a lesson whose boards have the size of scenes asks for each from 5 to 25 first, while none is known.
 pub record EachSizeIsSought : Type 0 where
   pub start : SeeksEachSize lesson.Start
   pub ko : SeeksEachSize lesson.Ko
@@ -173,22 +179,67 @@ pub record EachSizeIsSought : Type 0 where
 
 -- ---- each ko is answered
 
--- A stretch of the lesson asks this act alone, and the next one asks for a move of the other colour.
-pub record AsksForAnswer (lesson : Lesson) (board : Board) (act : Colour × ℕ × ℕ) : Type 0 where
+-- A stretch of the part asks this act alone, and the next one asks for a move of the other colour.
+pub record AsksForAnswer (lesson : Lesson) (part : ℕ) (board : Board) (act : Colour × ℕ × ℕ) : Type 0 where
   pub number : ℕ
   pub acts : Stretch
-  pub has_acts : slice_get (stretches_of lesson) number ≡ Some acts
+  pub has_acts : slice_get (stretches_of lesson part) number ≡ Some acts
   pub alone : steps_of acts ≡ 1
   pub plays : AsksAt acts board 0 (asks (command.Play (turned_act board.way act board.size)))
   pub chooses : Stretch
-  pub has_chooses : slice_get (stretches_of lesson) (number + 1) ≡ Some chooses
+  pub has_chooses : slice_get (stretches_of lesson part) (number + 1) ≡ Some chooses
   pub answers : AsksAt chooses board 0 (asks (command.Genmove (other (turned_colour board.way act.0))))
 
 -- In each part of the lesson of kos a move of the other colour is asked for right after the act, which is the last
 -- move of the scene.
 abbrev pub EachKoIsAnswered : Type 0
-EachKoIsAnswered = (board : Board) (act : Colour × ℕ × ℕ) → last_of board.scene.now ≡ Some act
-    → AsksForAnswer lesson.Ko board act
+EachKoIsAnswered = (part : ℕ) (board : Board) (act : Colour × ℕ × ℕ) → last_of board.scene.now ≡ Some act
+    → AsksForAnswer lesson.Ko part board act
+
+-- ---- commands in pieces
+
+-- A step of a stretch of the part asks this, whatever is drawn, and whatever the game is.
+pub record AsksIn (lesson : Lesson) (part : ℕ) (board : Board) (question : Question) : Type 0 where
+  pub number : ℕ
+  pub stretch : Stretch
+  pub has : slice_get (stretches_of lesson part) number ≡ Some stretch
+  pub step : ℕ
+  pub asks : AsksAt stretch board step question
+
+-- The lines of one part of the lesson of the start are sent in pieces, and of no other part of a lesson. In it the
+-- engine is started anew, and then a `boardsize`, a `komi`, a `clear_board`, the first move of a scene and an `undo` are
+-- asked.
+pub record PiecesAreSent : Type 0 where
+  pub part : ℕ
+  pub few : part < parts_of lesson.Start
+  pub in_pieces : is_in_pieces lesson.Start part ≡ true
+  pub alone : (now : Lesson) (number : ℕ) → is_in_pieces now number ≡ true → (now ≡ lesson.Start) × (number ≡ part)
+  pub starts : (board : Board) → AsksIn lesson.Start part board NewStart
+  pub size : (board : Board) → AsksIn lesson.Start part board (asks (command.Boardsize board.size))
+  pub komi : (board : Board) → AsksIn lesson.Start part board (asks (command.Komi board.komi))
+  pub clear : (board : Board) → AsksIn lesson.Start part board (asks command.ClearBoard)
+  pub play : (board : Board) (act : Colour × ℕ × ℕ) → slice_get board.scene.now 0 ≡ Some act
+      → AsksIn lesson.Start part board (asks (command.Play (turned_act board.way act board.size)))
+  pub undo : (board : Board) → AsksIn lesson.Start part board (asks command.Undo)
+
+-- ---- colours that are written in full, and a list of commands
+
+-- In one part of the lesson of the start each move of its scene is asked with its colour written in full, and then a
+-- move of the engine's own of each colour, written so too.
+pub record ColoursAreInFull : Type 0 where
+  pub part : ℕ
+  pub few : part < parts_of lesson.Start
+  pub plays : (board : Board) (number : ℕ) (act : Colour × ℕ × ℕ) → board.scene.now ≡ scene_of lesson.Start part
+      → slice_get board.scene.now number ≡ Some act
+      → AsksIn lesson.Start part board (Asks (PlayInFull (turned_act board.way act board.size)))
+  pub chooses : (board : Board) (colour : Colour)
+      → AsksIn lesson.Start part board (Asks (GenmoveInFull (turned_colour board.way colour)))
+
+-- In one part of the lesson of the start the engine is asked to list its commands.
+pub record ListIsAskedFor : Type 0 where
+  pub part : ℕ
+  pub few : part < parts_of lesson.Start
+  pub asks : (board : Board) → AsksIn lesson.Start part board (Asks ListCommands)
 
 -- ---- each command that an engine may lack is asked for
 

@@ -1,5 +1,6 @@
--- What the lessons of a course ask: how many parts each has, and the stretches of each part. How a user names them.
-use Rattle.std.specs.Prelude.{ℕ, List, [], ◌∷◌, codes}
+-- What the lessons of a course ask: how many parts each has, the stretches of each part, and whether its lines are sent
+-- in pieces. How a user names them.
+use Rattle.std.specs.Prelude.{ℕ, ◌==◌, Bool, false, if◌then◌else◌, List, [], ◌∷◌, codes}
 use Rattle.go_base.specs.declared.colours.Colour.TheVariants.{Black, White}
 use Rattle.gtp_check_questions.specs.declared.lessons.Lesson.{Lesson}
 use Rattle.gtp_check_questions.specs.declared.lessons.Lesson.TheVariants.{Start, Sizes, Ko, Captures, Suicide, Joining}
@@ -47,10 +48,10 @@ number_of Genmoves = 10
 number_of Games = 11
 number_of Restarts = 12
 
--- the parts: one of the start; each size; each scene in its sixteen ways; each size with each number of handicap stones
--- up to 11; and so on
+-- the parts: four of the start, the second in pieces; each size; each scene in its sixteen ways; each size with each
+-- number of handicap stones up to 11; and so on
 abbrev pub parts_of : Lesson → ℕ
-parts_of Start = 1
+parts_of Start = 4
 parts_of Sizes = 25
 parts_of Ko = 96
 parts_of Captures = 128
@@ -169,18 +170,47 @@ restarts_stretches =
     stretch.Size ∷ stretch.Taken ∷ stretch.Komi ∷ stretch.Clear ∷ stretch.Undo ∷ stretch.Own ∷ stretch.Score ∷
     stretch.Score ∷ stretch.OtherKomi ∷ stretch.Score ∷ []
 
--- the stretches of each part, one after the other
-abbrev pub stretches_of : Lesson → List Stretch
-stretches_of Start = start_stretches
-stretches_of Sizes = sizes_stretches
-stretches_of Ko = ko_stretches
-stretches_of Captures = scene_stretches
-stretches_of Suicide = refused_stretches
-stretches_of Joining = scene_stretches
-stretches_of Handicaps = handicaps_stretches
-stretches_of Komi = komi_stretches
-stretches_of Drawn = drawn_stretches
-stretches_of Record = record_stretches
-stretches_of Genmoves = genmoves_stretches
-stretches_of Games = games_stretches
-stretches_of Restarts = restarts_stretches
+-- The part of the start whose lines are sent in pieces. The engine is started anew, so all that it is asked comes so.
+abbrev pub pieces_stretches : List Stretch
+pieces_stretches =
+    stretch.Seek ∷ stretch.Restart ∷ stretch.Size ∷ stretch.Taken ∷ stretch.Komi ∷ stretch.Clear ∷ stretch.Moves ∷
+    stretch.Undo ∷ []
+
+-- the part of the start in which colours are written in full
+abbrev pub in_full_stretches : List Stretch
+in_full_stretches =
+    stretch.Seek ∷ stretch.Size ∷ stretch.Taken ∷ stretch.Komi ∷ stretch.Clear ∷ stretch.MovesInFull ∷ stretch.Own ∷
+    stretch.ChosenInFull White ∷ stretch.ChosenInFull Black ∷ stretch.Own ∷ []
+
+-- the part of the start in which the engine lists its commands
+abbrev pub list_stretches : List Stretch
+list_stretches = stretch.Seek ∷ stretch.List ∷ []
+
+abbrev pub start_parts : ℕ → List Stretch
+start_parts part =
+    if part == 1 then pieces_stretches
+    else if part == 2 then in_full_stretches
+    else if part == 3 then list_stretches
+    else start_stretches
+
+-- the stretches of a part, one after the other
+abbrev pub stretches_of : Lesson → ℕ → List Stretch
+stretches_of Start part = start_parts part
+stretches_of Sizes part = sizes_stretches
+stretches_of Ko part = ko_stretches
+stretches_of Captures part = scene_stretches
+stretches_of Suicide part = refused_stretches
+stretches_of Joining part = scene_stretches
+stretches_of Handicaps part = handicaps_stretches
+stretches_of Komi part = komi_stretches
+stretches_of Drawn part = drawn_stretches
+stretches_of Record part = record_stretches
+stretches_of Genmoves part = genmoves_stretches
+stretches_of Games part = games_stretches
+stretches_of Restarts part = restarts_stretches
+
+-- Whether the lines of a part are sent in pieces: the line of each of its commands comes in two. (The standard's topic
+-- command structure: a command ends with a newline. So a right engine waits for that, however the bytes come.)
+abbrev pub is_in_pieces : Lesson → ℕ → Bool
+is_in_pieces Start part = part == 1
+is_in_pieces _ part = false

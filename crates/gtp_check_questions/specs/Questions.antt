@@ -13,7 +13,8 @@ use Rattle.go_base.specs.declared.vertices.Vertex.TheVariants.{Pass, At}
 use Rattle.go_board.specs.Game.{GameRecord, IsLegal}
 use Rattle.gtp_wire.specs.declared.commands.Command.{Command}
 use Rattle.gtp_wire.specs.declared.commands.Command.TheVariants as command
-use Rattle.gtp_check_judge.specs.declared.asking.CheckCommand.TheVariants.{Match, FinalScore}
+use Rattle.gtp_check_judge.specs.declared.asking.CheckCommand.TheVariants.{Match, FinalScore, ListCommands}
+use Rattle.gtp_check_judge.specs.declared.asking.CheckCommand.TheVariants.{PlayInFull, GenmoveInFull}
 use Rattle.gtp_check_questions.specs.declared.actions.Question.{Question}
 use Rattle.gtp_check_questions.specs.declared.actions.Question.TheVariants.{Ask, Probe, Size, Found, Restart, Kill}
 use Rattle.gtp_check_questions.specs.declared.actions.Question.TheVariants.{Nothing}
@@ -178,6 +179,17 @@ genmove_asked step moves =
 abbrev pub choice_asked : Board → Colour → Question
 choice_asked board colour = asks (command.Genmove (turned_colour board.way colour))
 
+-- ---- colours that are written in full (the standard's topic color: it is one of white, w, black and b)
+
+-- the move of an act, if there is one
+abbrev pub act_in_full : Board → Option (Colour × ℕ × ℕ) → Question
+act_in_full board None = Nothing
+act_in_full board (Some act) = Ask (PlayInFull (turned_act board.way act board.size))
+
+-- a move of the engine's own, of the colour that plays this one's moves
+abbrev pub choice_in_full : Board → Colour → Question
+choice_in_full board colour = Ask (GenmoveInFull (turned_colour board.way colour))
+
 -- ---- full boards
 
 -- One stone of White is in the corner, and Black has all points but three: the point beside it, and two corners. Beside
@@ -309,6 +321,8 @@ IsQuestion stretch.OtherKomi step board game question = question ≡ asks (comma
 IsQuestion stretch.Inexact step board game question = question ≡ asks (command.Komi board.inexact_komi)
 IsQuestion stretch.Clear step board game question = question ≡ asks command.ClearBoard
 IsQuestion stretch.Moves step board game question = question ≡ act_asked board (slice_get board.scene.now step.number)
+IsQuestion stretch.MovesInFull step board game question =
+    question ≡ act_in_full board (slice_get board.scene.now step.number)
 IsQuestion stretch.Own step board game question =
     question ≡ own_asked board step.number (slice_get board.scene.now (step.number / 2))
 IsQuestion stretch.Corner step board game question = question ≡ corner_asked board step.number
@@ -346,5 +360,7 @@ IsQuestion stretch.Filled step board game question = question ≡ act_asked boar
 IsQuestion stretch.Gaps step board game question = question ≡ act_asked board (Some (gap_act step.number board.size))
 IsQuestion stretch.Swept step board game question = question ≡ act_asked board (Some (swept_act step.number board.size))
 IsQuestion (stretch.Chosen colour) step board game question = question ≡ choice_asked board colour
+IsQuestion (stretch.ChosenInFull colour) step board game question = question ≡ choice_in_full board colour
+IsQuestion stretch.List step board game question = question ≡ Ask ListCommands
 IsQuestion stretch.Restart step board game question = question ≡ Restart
 IsQuestion stretch.Kill step board game question = question ≡ Kill

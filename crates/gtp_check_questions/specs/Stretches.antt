@@ -16,6 +16,7 @@ steps_of stretch.OtherKomi = 1
 steps_of stretch.Inexact = 1
 steps_of stretch.Clear = 1
 steps_of stretch.Moves = 12
+steps_of stretch.MovesInFull = 12
 steps_of stretch.Own = 24
 steps_of stretch.Corner = 72
 steps_of stretch.Pass = 1
@@ -44,6 +45,8 @@ steps_of stretch.Answer = 1
 steps_of stretch.Swept = 4
 steps_of stretch.Gaps = 3
 steps_of (stretch.Chosen colour) = 1
+steps_of (stretch.ChosenInFull colour) = 1
+steps_of stretch.List = 1
 steps_of stretch.Restart = 1
 steps_of stretch.Kill = 1
 

@@ -198,14 +198,17 @@ impl Course {
 
     /// The stretch in which the course is.
     fn stretch(&self, lesson: Lesson) -> Option<Stretch>
-        ensures { result ≡ slice_get (stretches_of lesson) self.now.place.stretch }
+        ensures { result
+            ≡ slice_get (stretches_of lesson self.now.place.part) self.now.place.stretch }
     {
-        lesson.stretches().get(self.place.stretch).copied()
+        let stretches = lesson.stretches(self.place.part);
+        stretches.get(self.place.stretch).copied()
     }
 
     /// How many steps that has.
     fn steps(&self, lesson: Lesson) -> u32
-        ensures steps { result ≡ steps_if (slice_get (stretches_of lesson) self.now.place.stretch) }
+        ensures steps { result ≡ steps_if
+            (slice_get (stretches_of lesson self.now.place.part) self.now.place.stretch) }
         ensures few { result ≤ most_steps }
     {
         match self.stretch(lesson) {
@@ -389,7 +392,7 @@ impl Course {
     {
         if self.place.step + 1 < self.steps(lesson) {
             self.place = self.place.next_step();
-        } else if self.place.stretch + 1 < lesson.stretches().len() {
+        } else if self.place.stretch + 1 < lesson.stretches(self.place.part).len() {
             self.place = self.place.next_stretch();
         } else {
             self.end_part(lesson);

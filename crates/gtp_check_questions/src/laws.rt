@@ -1,7 +1,8 @@
 //! Laws of the course. Each is the contract of a function that does nothing.
 ghost use Rattle.gtp_check_questions.specs.Laws.{EveryCourseIsBounded, EachSceneIsAsked, EachStepAsksOneQuestion};
+ghost use Rattle.gtp_check_questions.specs.Laws.{ColoursAreInFull, ListIsAskedFor};
 ghost use Rattle.gtp_check_questions.specs.Laws.{EachClearedBoardIsProbed, EachLackIsAskedFor, EachKomiIsExact};
-ghost use Rattle.gtp_check_questions.specs.Laws.{EachKoIsAnswered, EachSizeIsSought, NoSuicideIsAsked};
+ghost use Rattle.gtp_check_questions.specs.Laws.{EachKoIsAnswered, EachSizeIsSought, NoSuicideIsAsked, PiecesAreSent};
 
 /// Whatever is answered, and whenever a part is left: commands that are asked, steps that are passed over and engines
 /// that are ended are together at most 57,600,000 for each lesson and once more, and five after each start.
@@ -37,12 +38,24 @@ pub fn each_komi_is_exact()
     ensures { EachKomiIsExact }
 {}
 
-/// Where suicide isn't asked, no `play` that is asked is one in the examiner's game.
+/// In one part of the lesson of the start each move of its scene is asked with its colour written in full, and then a
+/// move of the engine's own of each colour.
+pub fn colours_are_in_full()
+    ensures { ColoursAreInFull }
+{}
+
+/// In one part of the lesson of the start the engine is asked to list its commands.
+pub fn list_is_asked_for()
+    ensures { ListIsAskedFor }
+{}
+
+/// Where suicide isn't asked, no `play` that is asked is one in the examiner's game, however its colour is written.
 pub fn no_suicide_is_asked()
     ensures { NoSuicideIsAsked }
 {}
 
-/// Each lesson whose boards have the size of scenes asks for each size from 5 to 25 first, while none is known.
+/// Each part of a lesson whose boards have the size of scenes asks for each size from 5 to 25 first, while none is
+/// known.
 pub fn each_size_is_sought()
     ensures { EachSizeIsSought }
 {}
@@ -50,4 +63,10 @@ pub fn each_size_is_sought()
 /// In each part of the lesson of kos a move of the other colour is asked for right after the act.
 pub fn each_ko_is_answered()
     ensures { EachKoIsAnswered }
+{}
+
+/// The lines of one part of the lesson of the start are sent in pieces, and of no other part of a lesson. In it the
+/// engine is started anew, and then a `boardsize`, a `komi`, a `clear_board`, a `play` and an `undo` are asked.
+pub fn pieces_are_sent()
+    ensures { PiecesAreSent }
 {}

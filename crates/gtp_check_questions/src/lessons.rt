@@ -1,7 +1,8 @@
 //! The lessons of a course.
 ghost use Rattle.std.specs.Prelude.{◌≡◌, ◌≤◌, length, map};
 ghost use Rattle.gtp_check_questions.specs.Places.{most_parts, most_stretches};
-ghost use Rattle.gtp_check_questions.specs.Lessons.{name_of, number_of, parts_of, stretches_of};
+ghost use Rattle.gtp_check_questions.specs.Lessons.{is_in_pieces, name_of, number_of, parts_of};
+ghost use Rattle.gtp_check_questions.specs.Lessons.{start_parts, stretches_of};
 ghost use Rattle.gtp_check_questions.specs.Scenes.{scenes_of};
 
 use crate::scenes::{CAPTURES, JOINING, KO, SUICIDE, Scene, WAYS};
@@ -19,7 +20,8 @@ pub type Lessons = ArrayVec<Lesson, ALL>;
 #[derive(Clone, Copy, Debug, PartialEq, Eq)]
 pub enum Lesson {
     /// Some moves of the engine's own on the smallest board from 5x5 on that it takes, and that board after a new
-    /// start.
+    /// start. Then a few commands whose lines come in two pieces each, some moves whose colours are written in full, and
+    /// `list_commands`.
     Start,
     /// Each size from 1 to 25: whether it is taken, each of its points, and two that it doesn't have. Then the capture
     /// of all stones of a full board, which is taken back with the moves before it, on some sizes with all of them.
@@ -128,7 +130,7 @@ impl Lesson {
         ensures few { result ≤ most_parts }
     {
         match self {
-            Lesson::Start => 1,
+            Lesson::Start => 4,
             Lesson::Sizes => 25,
             Lesson::Ko => 6 * WAYS,
             Lesson::Captures => 8 * WAYS,
@@ -143,13 +145,24 @@ impl Lesson {
         }
     }
 
-    /// What is asked in each of its parts.
-    pub(crate) fn stretches(self) -> &'static [Stretch]
-        ensures stretches { result.now ≡ stretches_of self }
+    /// Whether the line of each command of this part, counted from 0, is sent in two pieces. A right engine waits for
+    /// its newline.
+    pub fn is_in_pieces(self, part: u32) -> bool
+        ensures { result ≡ is_in_pieces self part }
+    {
+        match self {
+            Lesson::Start => part == 1,
+            _ => false,
+        }
+    }
+
+    /// What is asked in this part of it, counted from 0.
+    pub(crate) fn stretches(self, part: u32) -> &'static [Stretch]
+        ensures stretches { result.now ≡ stretches_of self part }
         ensures few { length result.now ≤ most_stretches }
     {
         match self {
-            Lesson::Start => &tables::START,
+            Lesson::Start => start_parts(part),
             Lesson::Sizes => &tables::SIZES,
             Lesson::Ko => &tables::KO,
             Lesson::Captures | Lesson::Joining => &tables::SCENE,
@@ -174,5 +187,18 @@ impl Lesson {
             Lesson::Joining => &JOINING,
             _ => &KO,
         }
+    }
+}
+
+/// What is asked in this part of the first lesson.
+fn start_parts(part: u32) -> &'static [Stretch]
+    ensures stretches { result.now ≡ start_parts part }
+    ensures few { length result.now ≤ most_stretches }
+{
+    match part {
+        1 => &tables::PIECES,
+        2 => &tables::IN_FULL,
+        3 => &tables::LIST,
+        _ => &tables::START,
     }
 }

@@ -15,6 +15,7 @@ pub mod lessons;
 mod openings;
 mod places;
 pub mod scenes;
+mod spellings;
 pub mod stretches;
 mod suicides;
 mod sweeps;

@@ -14,6 +14,7 @@ use crate::boards::Board;
 use crate::draws::{Draws, drawn_move, probed};
 use crate::kos::{actor_pass, answer, sealed};
 use crate::scenes::crossing;
+use crate::spellings::{choose_in_full, play_in_full};
 use crate::sweeps::{all_back, emptied, points, waits};
 use arrayvec::ArrayVec;
 use go_base::{Colour, Move, Point, Size, Vertex, handicap};
@@ -59,6 +60,9 @@ pub enum Stretch {
     Clear,
     /// The moves of the scene.
     Moves,
+    /// The moves of the scene, their colours written in full. (The standard's topic color: it is one of white, w, black
+    /// and b. The tournament writes one letter, so a mistake can't spoil a match of it.)
+    MovesInFull,
     /// Probes of the points of the scene's moves, in both colours.
     Own,
     /// Probes of the points of the scene's corner, in both colours.
@@ -114,6 +118,11 @@ pub enum Stretch {
     Swept,
     /// A move of the engine's own, of the colour that plays this one's moves.
     Chosen(Colour),
+    /// The same, with the colour written in full.
+    ChosenInFull(Colour),
+    /// `list_commands`. (The standard's topic list_commands: it lists all known commands, one a row, and each engine
+    /// has eleven of them. The tournament doesn't ask it, so a mistake can't spoil a match.)
+    List,
     /// The colour that acts fills the board beside a ko, so that hardly a point is legal for the other colour.
     Sealed,
     /// A move of the engine's own, of the colour that didn't act: it may not retake a ko. (The standard's topic
@@ -149,11 +158,13 @@ impl Stretch {
             | Stretch::Stones(_)
             | Stretch::Score
             | Stretch::Chosen(_)
+            | Stretch::ChosenInFull(_)
+            | Stretch::List
             | Stretch::Answer
             | Stretch::Restart
             | Stretch::Kill => 1,
             Stretch::Seek => 2 * SIZES_OF_SCENES,
-            Stretch::Moves => 12,
+            Stretch::Moves | Stretch::MovesInFull => 12,
             Stretch::Own => 24,
             Stretch::Corner => 2 * LINES * LINES,
             Stretch::Edges => 6,
@@ -195,7 +206,10 @@ impl Stretch {
             Stretch::Restart => Question::Restart,
             Stretch::Kill => Question::Kill,
             Stretch::Chosen(colour) => ask(Command::Genmove(board.way.colour(colour))),
+            Stretch::ChosenInFull(colour) => choose_in_full(colour, board),
+            Stretch::List => Question::Ask(CheckCommand::ListCommands),
             Stretch::Moves => play_act(act_of(step as usize, board), board),
+            Stretch::MovesInFull => play_in_full(act_of(step as usize, board), board),
             Stretch::Act => play_act(last_of(board), board),
             Stretch::Filled => play_act(filled_act(step, board.size.get()), board),
             Stretch::Gaps => play_act(Some(gap_act(step, board.size.get())), board),

@@ -21,7 +21,7 @@ pub(crate) fn is_suicide(game: &Game, command: CheckCommand) -> bool
     ensures only { IsSuicide game.now command → result ≡ true }
 {
     match command {
-        CheckCommand::Match(Command::Play(made)) => {
+        CheckCommand::Match(Command::Play(made)) | CheckCommand::PlayInFull(made) => {
             matches!(
                 game.refusal(made.colour, made.vertex),
                 Some(PlayFault::Suicide)

@@ -163,6 +163,36 @@ pub(crate) static START: [Stretch; 23] = [
     Stretch::Own,
 ];
 
+/// A few commands after a new start, whose lines are sent in pieces. (The standard's topic command structure: a command
+/// ends with a newline. A mistake can spoil a match: the system may hand on the bytes of a line in pieces.)
+pub(crate) static PIECES: [Stretch; 8] = [
+    Stretch::Seek,
+    Stretch::Restart,
+    Stretch::Size,
+    Stretch::Taken,
+    Stretch::Komi,
+    Stretch::Clear,
+    Stretch::Moves,
+    Stretch::Undo,
+];
+
+/// Some moves whose colours are written in full, the points of them, and moves of the engine's own.
+pub(crate) static IN_FULL: [Stretch; 10] = [
+    Stretch::Seek,
+    Stretch::Size,
+    Stretch::Taken,
+    Stretch::Komi,
+    Stretch::Clear,
+    Stretch::MovesInFull,
+    Stretch::Own,
+    Stretch::ChosenInFull(Colour::White),
+    Stretch::ChosenInFull(Colour::Black),
+    Stretch::Own,
+];
+
+/// The list of the engine's commands.
+pub(crate) static LIST: [Stretch; 2] = [Stretch::Seek, Stretch::List];
+
 /// Each point of a size. Then a full board, of which all is taken at once.
 pub(crate) static SIZES: [Stretch; 18] = [
     Stretch::Size,

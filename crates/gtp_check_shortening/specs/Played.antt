@@ -7,7 +7,8 @@ use Rattle.gtp_wire.specs.declared.commands.Command.TheVariants.{Boardsize, Komi
 use Rattle.gtp_wire.specs.declared.commands.Command.TheVariants.{Genmove, Undo, Quit}
 use Rattle.gtp_check_judge.specs.declared.asking.CheckCommand.{CheckCommand}
 use Rattle.gtp_check_judge.specs.declared.asking.CheckCommand.TheVariants.{Match, FinalScore, Name, Version}
-use Rattle.gtp_check_judge.specs.declared.asking.CheckCommand.TheVariants.{KnownCommand}
+use Rattle.gtp_check_judge.specs.declared.asking.CheckCommand.TheVariants.{KnownCommand, PlayInFull, GenmoveInFull}
+use Rattle.gtp_check_judge.specs.declared.asking.CheckCommand.TheVariants.{ListCommands}
 use Rattle.gtp_check_shortening.specs.declared.talk.Said.{Said}
 
 -- What a command of a match did, where this one was asked next, with the game as it was then: a `genmove` made a move,
@@ -24,13 +25,17 @@ done_by (FixedHandicap stones) said next = Some (FixedHandicap stones)
 done_by (Play move) said next = Some (Play move)
 done_by Quit said next = Some Quit
 
--- the same of each command that a check asks: the others stay
+-- The same of each command that a check asks: where a colour was written in full it stays so, and the others stay.
 abbrev pub asked_as : CheckCommand → Said → Said → Option CheckCommand
 asked_as (Match command) said next = option_map (λ done. Match done) (done_by command said next)
 asked_as FinalScore said next = Some FinalScore
 asked_as Name said next = Some Name
 asked_as Version said next = Some Version
 asked_as (KnownCommand known) said next = Some (KnownCommand known)
+asked_as ListCommands said next = Some ListCommands
+asked_as (PlayInFull move) said next = Some (PlayInFull move)
+asked_as (GenmoveInFull colour) said next =
+    if nat_lt said.moves next.moves then option_map (λ move. PlayInFull move) next.last else None
 
 -- one with this command in place of its own, if there is one
 abbrev pub said_as : Said → Option CheckCommand → List Said

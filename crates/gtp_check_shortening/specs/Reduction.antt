@@ -7,7 +7,8 @@ use Rattle.gtp_wire.specs.declared.commands.Command.TheVariants.{Boardsize, Komi
 use Rattle.gtp_wire.specs.declared.commands.Command.TheVariants.{Genmove, Undo, Quit}
 use Rattle.gtp_check_judge.specs.declared.asking.CheckCommand.{CheckCommand}
 use Rattle.gtp_check_judge.specs.declared.asking.CheckCommand.TheVariants.{Match, FinalScore, Name, Version}
-use Rattle.gtp_check_judge.specs.declared.asking.CheckCommand.TheVariants.{KnownCommand}
+use Rattle.gtp_check_judge.specs.declared.asking.CheckCommand.TheVariants.{KnownCommand, PlayInFull, GenmoveInFull}
+use Rattle.gtp_check_judge.specs.declared.asking.CheckCommand.TheVariants.{ListCommands}
 use Rattle.gtp_check_shortening.specs.declared.parts.Part.{Part}
 use Rattle.gtp_check_shortening.specs.declared.limits.Limits.{Limits}
 
@@ -35,6 +36,9 @@ is_setup FinalScore = false
 is_setup Name = false
 is_setup Version = false
 is_setup (KnownCommand asked) = true
+is_setup ListCommands = false
+is_setup (PlayInFull move) = false
+is_setup (GenmoveInFull colour) = false
 
 -- how many such commands the conversation begins with
 abbrev pub setup_len : List CheckCommand → ℕ

@@ -8,7 +8,8 @@ use Rattle.gtp_wire.specs.declared.commands.Command.TheVariants.{Boardsize, Komi
 use Rattle.gtp_wire.specs.declared.commands.Command.TheVariants.{Genmove, Undo, Quit}
 use Rattle.gtp_check_judge.specs.declared.asking.CheckCommand.{CheckCommand}
 use Rattle.gtp_check_judge.specs.declared.asking.CheckCommand.TheVariants.{Match, FinalScore, Name, Version}
-use Rattle.gtp_check_judge.specs.declared.asking.CheckCommand.TheVariants.{KnownCommand}
+use Rattle.gtp_check_judge.specs.declared.asking.CheckCommand.TheVariants.{KnownCommand, PlayInFull, GenmoveInFull}
+use Rattle.gtp_check_judge.specs.declared.asking.CheckCommand.TheVariants.{ListCommands}
 use Rattle.gtp_check_judge.specs.declared.asking.Known.{Known}
 use Rattle.gtp_check_judge.specs.declared.asking.Known.TheVariants as known
 use Rattle.gtp_check_shortening.specs.declared.flat.Role.{Role}
@@ -38,6 +39,9 @@ command_role FinalScore refused = role.Nothing
 command_role Name refused = role.Nothing
 command_role Version refused = role.Nothing
 command_role (KnownCommand asked) refused = role.Nothing
+command_role ListCommands refused = role.Nothing
+command_role (PlayInFull move) refused = match_role (Play move) refused
+command_role (GenmoveInFull colour) refused = match_role (Genmove colour) refused
 
 abbrev pub role_of : Said → Role
 role_of said = command_role said.command said.is_illegal

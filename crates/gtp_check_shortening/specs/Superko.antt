@@ -11,7 +11,8 @@ use Rattle.go_board.specs.declared.rules.KoRule.{KoRule}
 use Rattle.go_board.specs.declared.rules.KoRule.TheVariants.{Positional}
 use Rattle.gtp_check_judge.specs.declared.asking.CheckCommand.{CheckCommand}
 use Rattle.gtp_check_judge.specs.declared.asking.CheckCommand.TheVariants.{Match, FinalScore, Name, Version}
-use Rattle.gtp_check_judge.specs.declared.asking.CheckCommand.TheVariants.{KnownCommand}
+use Rattle.gtp_check_judge.specs.declared.asking.CheckCommand.TheVariants.{KnownCommand, PlayInFull, GenmoveInFull}
+use Rattle.gtp_check_judge.specs.declared.asking.CheckCommand.TheVariants.{ListCommands}
 use Rattle.gtp_wire.specs.declared.commands.Command.{Command}
 use Rattle.gtp_wire.specs.declared.commands.Command.TheVariants.{Boardsize, Komi, ClearBoard, FixedHandicap, Play}
 use Rattle.gtp_wire.specs.declared.commands.Command.TheVariants.{Genmove, Undo, Quit}
@@ -52,6 +53,9 @@ after_asked game FinalScore = Some game
 after_asked game Name = Some game
 after_asked game Version = Some game
 after_asked game (KnownCommand known) = Some game
+after_asked game ListCommands = Some game
+after_asked game (PlayInFull move) = after_match game (Play move)
+after_asked game (GenmoveInFull colour) = after_match game (Genmove colour)
 
 -- the game after these commands, if it is known
 unfoldable pub after_all : GameRecord → List Said → Option GameRecord
@@ -72,6 +76,12 @@ game_before rule talk =
     (after_all (fresh_game_under rule) (take (length talk - 1) talk)))
     (slice_get talk (length talk - 1))
 
+-- the move of a `play`, if it is one, its colour written in one letter or in full
+abbrev pub play_of : CheckCommand → Option Move
+play_of (Match (Play move)) = Some move
+play_of (PlayInFull move) = Some move
+play_of _ = None
+
 -- The last command is a `play` that positional ko forbids in the game of the commands before it, under that rule, on
 -- the board that it was asked on. Where the engine made a move of its own among them this isn't so.
 pub record IsPositional (talk : List Said) : Type 0 where
@@ -80,7 +90,7 @@ pub record IsPositional (talk : List Said) : Type 0 where
   pub move : Move
   pub game : GameRecord
   pub ends : talk ≡ before ++ last ∷ []
-  pub plays : last.command ≡ Match (Play move)
+  pub plays : play_of last.command ≡ Some move
   pub known : after_all (fresh_game_under Positional) before ≡ Some game
   pub size : game.size ≡ last.size
   pub forbids : RefusesVertex game move.colour move.vertex Ko

@@ -317,10 +317,13 @@ fn role_of(said: &Said) -> Role
 {
     match said.command {
         CheckCommand::Match(command) => match_role(&command, said.is_illegal),
+        CheckCommand::PlayInFull(made) => match_role(&Command::Play(made), said.is_illegal),
+        CheckCommand::GenmoveInFull(_) => Role::Move,
         CheckCommand::FinalScore
         | CheckCommand::Name
         | CheckCommand::Version
-        | CheckCommand::KnownCommand(_) => Role::Nothing,
+        | CheckCommand::KnownCommand(_)
+        | CheckCommand::ListCommands => Role::Nothing,
     }
 }
 

@@ -93,7 +93,12 @@ fn is_setup(command: &CheckCommand) -> bool
     match command {
         CheckCommand::Match(command) => sets_game_up(command),
         CheckCommand::KnownCommand(_) => true,
-        CheckCommand::FinalScore | CheckCommand::Name | CheckCommand::Version => false,
+        CheckCommand::FinalScore
+        | CheckCommand::Name
+        | CheckCommand::Version
+        | CheckCommand::ListCommands
+        | CheckCommand::PlayInFull(_)
+        | CheckCommand::GenmoveInFull(_) => false,
     }
 }
 

@@ -1,6 +1,7 @@
 //! What was done in a conversation.
 ghost use Rattle.std.specs.Prelude.{◌≡◌, ◌++◌, IfOk, OnOk, option_map};
 ghost use Rattle.gtp_wire.specs.declared.commands.Command.TheVariants as command;
+ghost use Rattle.gtp_check_judge.specs.declared.asking.CheckCommand.TheVariants.{PlayInFull};
 ghost use Rattle.gtp_check_shortening.specs.Played.{asked_as, done_before, done_by, played, said_as};
 
 use crate::talk::Said;
@@ -56,6 +57,8 @@ fn asked_as(said: &Said, next: &Said) -> Option<CheckCommand>
             Some(done) => Some(CheckCommand::Match(done)),
             None => None,
         },
+        CheckCommand::GenmoveInFull(_) if said.moves < next.moves => chosen_in_full(next.last),
+        CheckCommand::GenmoveInFull(_) => None,
         other => Some(*other),
     }
 }
@@ -72,6 +75,16 @@ fn done_by(command: &Command, said: &Said, next: &Said) -> Option<Command>
             (next.size == *size && next.moves == 0).then_some(Command::Boardsize(*size))
         }
         other => Some(*other),
+    }
+}
+
+/// The `play` of a move whose colour is written in full, if there is one.
+fn chosen_in_full(made: Option<Move>) -> Option<CheckCommand>
+    ensures { result ≡ option_map (λ move. PlayInFull move) made }
+{
+    match made {
+        Some(made) => Some(CheckCommand::PlayInFull(made)),
+        None => None,
     }
 }
 

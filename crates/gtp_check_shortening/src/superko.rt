@@ -5,7 +5,7 @@ ghost use Rattle.go_board.specs.declared.faults.PlayFault.TheVariants as fault;
 ghost use Rattle.go_board.specs.declared.rules.KoRule.TheVariants as rule;
 ghost use Rattle.go_board.specs.Game.{fresh_game_under, without_last};
 ghost use Rattle.gtp_check_shortening.specs.Superko.{IsPositional, after_all, after_asked, after_match, after_play, game_before};
-ghost use Rattle.gtp_check_shortening.specs.Superko.{after_stones};
+ghost use Rattle.gtp_check_shortening.specs.Superko.{after_stones, play_of};
 
 use crate::talk::Said;
 use go_base::Move;
@@ -21,12 +21,22 @@ pub fn is_positional(talk: &[Said]) -> bool
     let Some((last, before)) = talk.split_last() else {
         return false;
     };
-    let CheckCommand::Match(Command::Play(made)) = last.command else {
+    let Some(made) = play_of(&last.command) else {
         return false;
     };
     match game_after(before, KoRule::Positional) {
         Some(game) => game.size() == last.size && is_ko(&game, made),
         None => false,
+    }
+}
+
+/// The move of a `play`, if it is one.
+fn play_of(command: &CheckCommand) -> Option<Move>
+    ensures { result ≡ play_of command.now }
+{
+    match command {
+        CheckCommand::Match(Command::Play(made)) | CheckCommand::PlayInFull(made) => Some(*made),
+        _ => None,
     }
 }
 
@@ -70,10 +80,13 @@ fn follow(game: &mut Game, command: &CheckCommand) -> bool
 {
     match command {
         CheckCommand::Match(command) => follow_match(game, command),
+        CheckCommand::PlayInFull(made) => follow_match(game, &Command::Play(*made)),
+        CheckCommand::GenmoveInFull(_) => false,
         CheckCommand::FinalScore
         | CheckCommand::Name
         | CheckCommand::Version
-        | CheckCommand::KnownCommand(_) => true,
+        | CheckCommand::KnownCommand(_)
+        | CheckCommand::ListCommands => true,
     }
 }
 

@@ -1,3 +1,5 @@
 mod Conversations
+mod Illegal
+mod Pieces
 mod Talks
 mod Trials

@@ -3,7 +3,7 @@ use Rattle.std.proofs.Common.{◌≡◌, ◌∙◌, ℕ, Bool, true, false, List
 use Rattle.std.proofs.Common.{Option, None, Some, Result, Ok, Err, append_assoc, take-append-drop}
 use Rattle.std.proofs.lemmas.List.{append-nil, nil_from_length}
 use Rattle.std.specs.Io.KnownBytes.{Appends, Keeps}
-use Rattle.std.proofs.KnownBytes.{Appends-kept, Appends-nil, Appends-trans, Keeps-refl}
+use Rattle.std.proofs.KnownBytes.{Appends-kept, Appends-nil, Appends-trans, Keeps-refl, Keeps-trans}
 use Rattle.go_board.specs.declared.rules.KoRule.{KoRule}
 use Rattle.gtp_wire.specs.declared.replies.Reply.{Reply}
 use Rattle.gtp_wire.specs.declared.replies.ReplyFault.{ReplyFault}
@@ -20,8 +20,8 @@ use Rattle.gtp_check_judge.specs.Laws.{Exchange, FindingsAreJustified, Talks, ex
 use Rattle.gtp_check_texts.specs.declared.fault.Fault.{Fault}
 use Rattle.gtp_check_texts.specs.declared.fault.Fault.TheVariants.{Wrote}
 use Rattle.gtp_check_talks.specs.declared.notes.Notes.{Notes}
-use Rattle.gtp_check_talks.specs.Dialogues.{AreHeard, Converses, Dialogue, EndsWrong, IsExchanged, IsHeard}
-use Rattle.gtp_check_talks.specs.Dialogues.{IsRead, IsSent, begun_with}
+use Rattle.gtp_check_talks.specs.Dialogues.{AreHeard, AreTaken, Converses, Dialogue, EndsWrong, IsExchanged, IsHeard}
+use Rattle.gtp_check_talks.specs.Dialogues.{IsRead, IsSent, begun_with, ends_in_pieces}
 use Rattle.gtp_check_talks.specs.Laws.{IsWronglyWritten}
 
 -- what is wrong with what was written is of one kind
@@ -92,12 +92,12 @@ pub record IsTalk {P : Type 0} (known : Ghosts P) (rule : KoRule) (process : P) 
 
 module _ {P : Type 0} (known : Ghosts P) (rule : KoRule) (process : P) (first : Notes) where
   -- it was sent what waits, and gave nothing
-  sent_gave : (lines : List ℕ) (before after : P) → IsSent known lines before after
+  sent_gave : {pieces : List (List ℕ)} {before after : P} → AreTaken known pieces before after
       → Keeps (known.given before) (known.given after)
-  sent_gave lines before after (IsSent.no_line none same) =
-      subst (λ (p : P). Keeps (known.given before) (known.given p)) (sym same) (Keeps-refl (known.given before))
-  sent_gave lines before after (IsSent.whole some taken unbroken flushed given) = given
-  sent_gave lines before after (IsSent.part some taken cut given) = given
+  sent_gave (AreTaken.no_piece {before = before}) = Keeps-refl (known.given before)
+  sent_gave (AreTaken.whole {before = before} {mid = mid} {after = after} piece taken more) =
+      Keeps-trans (known.given before) (known.given mid) (known.given after) taken.given (sent_gave more)
+  sent_gave (AreTaken.part piece cut) = cut.given
 
   -- bytes were heard without a finding
   quiet_talk : (bytes : List ℕ) (old : Exam) (before : Dialogue P) (new : Exam) (after : Dialogue P) (came : List ℕ)
@@ -138,13 +138,13 @@ module _ {P : Type 0} (known : Ghosts P) (rule : KoRule) (process : P) (first : 
 
   -- what waits was sent
   sent_talk : (old : Exam) (before : Dialogue P) (next : P) → IsTalk known rule process old before
-      → IsSent known before.waiting before.process next
+      → IsSent known (ends_in_pieces before.talk) before.waiting before.process next
       → IsTalk known rule process old (record before { process = next; waiting = [] })
   sent_talk old before next talk sent = record {
     came = talk.came;
     goes = talk.goes;
     gave = Appends-kept (known.given process) (known.given before.process) (known.given next)
-        (talk.came ++ before.held) talk.gave (sent_gave before.waiting before.process next sent);
+        (talk.came ++ before.held) talk.gave (sent_gave sent);
   }
 
   converses_talk : {exam : Exam} {now : Dialogue P}

@@ -1,6 +1,8 @@
 -- What is said with an engine since it was started: what it is asked, what it writes, and what is found. (Own.)
 use Rattle.std.specs.Prelude.{◌≡◌, ℕ, ◌+◌, ◌<◌, Bool, true, false, List, [], ◌∷◌, ◌++◌, length, take, drop}
 use Rattle.std.specs.Prelude.{◌-◌, ◌==◌, ◌&&◌, slice_get, Option, None, Some, is_some, option_map, if◌then◌else◌}
+use Rattle.std.specs.List.{position_or_len}
+use Rattle.std.specs.Option.{option_map_or}
 use Rattle.std.specs.Prelude.{Result, Ok, Err, IsTrue, ◌↔◌, All}
 use Rattle.std.specs.Io.KnownBytes.{Appends, Keeps}
 use Rattle.byte_streams.specs.Parts.{TakesPart}
@@ -19,7 +21,7 @@ use Rattle.gtp_process.specs.declared.starter.StartReason.{StartReason}
 use Rattle.gtp_process.specs.Starts.{Attempts, Text, Tries}
 use Rattle.gtp_process.specs.Pipes.{IsCutOff, IsUnbroken, OutputEnded}
 use Rattle.gtp_check_judge.specs.declared.asking.CheckCommand.{CheckCommand}
-use Rattle.gtp_check_judge.specs.declared.asking.CheckCommand.TheVariants.{Match}
+use Rattle.gtp_check_judge.specs.declared.asking.CheckCommand.TheVariants.{Match, PlayInFull}
 use Rattle.gtp_check_judge.specs.declared.exam.Exam.{Exam}
 use Rattle.gtp_check_judge.specs.declared.exam.Finding.{Finding}
 use Rattle.gtp_check_judge.specs.declared.skills.Skills.{Skills}
@@ -28,11 +30,12 @@ use Rattle.gtp_check_judge.specs.Asking.{written_check}
 use Rattle.gtp_check_judge.specs.Judging.{oldest, refused_by}
 use Rattle.gtp_check_judge.specs.Check.{Check, after_loss, started, with_exam}
 use Rattle.gtp_check_questions.specs.declared.lessons.Lesson.TheVariants as lesson
-use Rattle.gtp_check_questions.specs.Lessons.{number_of}
+use Rattle.gtp_check_questions.specs.Lessons.{is_in_pieces}
 use Rattle.gtp_check_judge.specs.Exam.{Asks, HasRoomFor, Hears, HearsDown}
 use Rattle.gtp_check_talks.specs.declared.engine.Engine.{Engine}
 use Rattle.gtp_check_texts.specs.declared.fault.Fault.{Fault}
 use Rattle.gtp_check_texts.specs.declared.fault.Fault.TheVariants.{CutOff, Wrote}
+use Rattle.gtp_check_texts.specs.Lines.{is_newline}
 use Rattle.gtp_check_talks.specs.declared.notes.Notes.{Notes}
 use Rattle.gtp_check_shortening.specs.declared.talk.Purpose.{Purpose}
 use Rattle.gtp_check_shortening.specs.declared.talk.Said.{Said}
@@ -82,17 +85,29 @@ begun_with process notes = record {
 -- a `play` that isn't legal in this game: a right engine refuses it
 abbrev pub IsIllegal : GameRecord → CheckCommand → Type 0
 IsIllegal game (Match (Play move)) = ¬ IsLegal game move.colour move.vertex
+IsIllegal game (PlayInFull move) = ¬ IsLegal game move.colour move.vertex
 IsIllegal game _ = ⊥
 
 -- the last move of a game, if it has one
 abbrev pub last_move : GameRecord → Option Move
 last_move game = slice_get game.moves (length game.moves - 1)
 
+-- whether the line of the command that was asked last is sent in two pieces: so are those of its part
+abbrev pub ends_in_pieces : List Said → Bool
+ends_in_pieces talk =
+    option_map_or (λ said. is_in_pieces said.purpose.lesson said.purpose.part) (slice_get talk (length talk - 1)) false
+
+-- Another line may follow the lines that wait: none of them is sent in two pieces. So a line that is sent in pieces is
+-- the last of those that are sent with it.
+abbrev pub MayFollow : List Said → List ℕ → Type 0
+MayFollow talk waiting = ends_in_pieces talk ≡ true → waiting ≡ []
+
 -- A command is asked, for this purpose: it may be asked, and its line is joined to what the engine was asked and to
--- what is sent next. It is counted.
+-- what is sent next, which it may follow. It is counted.
 pub record IsAsked {P : Type 0} (purpose : Purpose) (old : Exam) (before : Dialogue P) (command : CheckCommand)
     (new : Exam) (after : Dialogue P) : Type 0 where
   pub may : HasRoomFor old command
+  pub follows : MayFollow before.talk before.waiting
   pub asks : Asks old command new
   pub is_illegal : Bool
   pub illegal : IsTrue is_illegal ↔ IsIllegal old.game command
@@ -150,13 +165,19 @@ pub record IsHeardQuietly (bytes : List ℕ) (first last : Listener) (left : Lis
   pub notes : last.notes ≡ noted_of_read first.notes (oldest first.exam.unanswered) read last.exam.skills
   pub rest : left ≡ drop used bytes
 
--- In the bytes something wrong was found.
+-- The bytes up to the end of the line in which the last of so many is, with its newline, as far as they are there. Where
+-- that byte is the newline at the end of a reply, these are just so many; and where it shows that this is no reply, the
+-- rest of its line is among them.
+abbrev pub through_line : ℕ → List ℕ → List ℕ
+through_line used bytes = take (used - 1 + (position_or_len is_newline (drop (used - 1) bytes) + 1)) bytes
+
+-- In the bytes something wrong was found. What is kept of them goes to the end of the line in which it was.
 pub record IsFoundIn (bytes : List ℕ) (first last : Listener) (fault : Fault) : Type 0 where
   pub used : ℕ
   pub read : Option (Result Reply ReplyFault)
   pub finding : Finding
   pub found : IsHeard first.exam bytes used read (Some finding) last.exam
-  pub wrote : last.wrote ≡ take most_shown (first.wrote ++ take used bytes)
+  pub wrote : last.wrote ≡ take most_shown (first.wrote ++ through_line used bytes)
   pub notes : last.notes ≡ first.notes
   pub kind : fault ≡ Wrote finding.kind
 
@@ -171,18 +192,45 @@ AreHeard bytes old before (Some fault) new after =
 
 -- ---- an exchange
 
--- A process was sent lines, if there were any: it took them whole, and nothing waits to go out. Or it was cut off, and
--- took a beginning of them.
-pub data IsSent {P : Type 0} (known : Ghosts P) (lines : List ℕ) (before after : P) : Type 0 where
-  no_line : lines ≡ [] → after ≡ before → IsSent known lines before after
-  whole : 0 < length lines → Appends (known.taken before) (known.taken after) lines
-      → IsUnbroken known.fails known.succeeds before after → known.flushed after
-      → Keeps (known.given before) (known.given after)
-      → IsSent known lines before after
-  part : 0 < length lines → TakesPart lines (known.taken before) (known.taken after)
-      → IsCutOff known.fails known.succeeds before after
-      → Keeps (known.given before) (known.given after)
-      → IsSent known lines before after
+-- a process took this piece whole, and nothing waits to go out
+pub record IsTaken {P : Type 0} (known : Ghosts P) (piece : List ℕ) (before after : P) : Type 0 where
+  pub taken : Appends (known.taken before) (known.taken after) piece
+  pub unbroken : IsUnbroken known.fails known.succeeds before after
+  pub flushed : known.flushed after
+  pub given : Keeps (known.given before) (known.given after)
+
+-- it was cut off, and took a beginning of the piece
+pub record IsTakenInPart {P : Type 0} (known : Ghosts P) (piece : List ℕ) (before after : P) : Type 0 where
+  pub taken : TakesPart piece (known.taken before) (known.taken after)
+  pub cut_off : IsCutOff known.fails known.succeeds before after
+  pub given : Keeps (known.given before) (known.given after)
+
+-- A process was sent pieces, one after the other. It took each of them whole. Or it was cut off in one, and was sent
+-- none after that.
+pub data AreTaken {P : Type 0} (known : Ghosts P) : List (List ℕ) → P → P → Type 0 where
+  no_piece : {before : P} → AreTaken known [] before before
+  whole : {pieces : List (List ℕ)} {before mid after : P} (piece : List ℕ) → IsTaken known piece before mid
+      → AreTaken known pieces mid after → AreTaken known (piece ∷ pieces) before after
+  part : {pieces : List (List ℕ)} {before after : P} (piece : List ℕ) → IsTakenInPart known piece before after
+      → AreTaken known (piece ∷ pieces) before after
+
+-- how many bytes are sent later, where the last line is sent in two pieces: its newline, and the byte before that
+abbrev pub later_bytes : ℕ
+later_bytes = 2
+
+-- all lines at once, or all but the last two bytes of them, and then these
+abbrev pub two_pieces : List ℕ → List (List ℕ)
+two_pieces lines = take (length lines - later_bytes) lines ∷ drop (length lines - later_bytes) lines ∷ []
+
+abbrev pub pieces_of : Bool → List ℕ → List (List ℕ)
+pieces_of in_pieces [] = []
+pieces_of in_pieces (byte ∷ more) =
+    if in_pieces then two_pieces (byte ∷ more) else (byte ∷ more) ∷ []
+
+-- A process was sent lines, if there were any: at once, or the last of them in two pieces. Before the second piece it
+-- had time to read the first.
+abbrev pub IsSent : {P : Type 0} → Ghosts P → Bool → List ℕ → P → P → Type 0
+IsSent known in_pieces lines before after = AreTaken known (pieces_of in_pieces lines) before after
 
 -- An engine was read. What its process gives, a byte at least, is heard. Or its output ended, or it was cut off, and it
 -- gave nothing. It was sent nothing.
@@ -209,14 +257,16 @@ pub data IsRead {P : Type 0} (known : Ghosts P) (old : Exam) (before : Dialogue 
 -- waits is sent, and the engine is read. One that owes nothing isn't read.
 pub data IsExchanged {P : Type 0} (known : Ghosts P) (old : Exam) (before : Dialogue P)
     : Option Fault → Exam → Dialogue P → Type 0 where
-  owes_nothing : (process : P) → length old.unanswered ≡ 0 → IsSent known before.waiting before.process process
+  owes_nothing : (process : P) → length old.unanswered ≡ 0
+      → IsSent known (ends_in_pieces before.talk) before.waiting before.process process
       → IsExchanged known old before None old (record before { process = process; waiting = [] })
   held : {fault : Option Fault} {new : Exam} {after : Dialogue P} → 0 < length old.unanswered
       → 0 < length before.held
       → AreHeard before.held old (record before { held = [] }) fault new after
       → IsExchanged known old before fault new after
   reads : {fault : Option Fault} {new : Exam} {after : Dialogue P} (process : P) → 0 < length old.unanswered
-      → length before.held ≡ 0 → IsSent known before.waiting before.process process
+      → length before.held ≡ 0
+      → IsSent known (ends_in_pieces before.talk) before.waiting before.process process
       → IsRead known old (record before { process = process; waiting = [] }) fault new after
       → IsExchanged known old before fault new after
 

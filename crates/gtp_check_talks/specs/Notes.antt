@@ -6,7 +6,8 @@ use Rattle.gtp_check_questions.specs.Lessons.{all_lessons}
 use Rattle.gtp_check_questions.specs.declared.lessons.Lesson.{Lesson}
 use Rattle.gtp_check_judge.specs.declared.asking.CheckCommand.{CheckCommand}
 use Rattle.gtp_check_judge.specs.declared.asking.CheckCommand.TheVariants.{Match, FinalScore, Name, Version}
-use Rattle.gtp_check_judge.specs.declared.asking.CheckCommand.TheVariants.{KnownCommand}
+use Rattle.gtp_check_judge.specs.declared.asking.CheckCommand.TheVariants.{KnownCommand, PlayInFull, GenmoveInFull}
+use Rattle.gtp_check_judge.specs.declared.asking.CheckCommand.TheVariants.{ListCommands}
 use Rattle.gtp_check_judge.specs.declared.judging.Refusal.{Refusal}
 use Rattle.gtp_check_judge.specs.declared.judging.Refusal.TheVariants as refusal
 use Rattle.gtp_check_judge.specs.declared.judging.Refusal.TheVariants.{Size}
@@ -56,13 +57,16 @@ is_move (Genmove colour) = true
 is_move Undo = false
 is_move Quit = false
 
--- the same of any command
+-- the same of any command, however a colour is written
 abbrev pub asks_for_move : CheckCommand → Bool
 asks_for_move (Match command) = is_move command
 asks_for_move FinalScore = false
 asks_for_move Name = false
 asks_for_move Version = false
 asks_for_move (KnownCommand known) = false
+asks_for_move ListCommands = false
+asks_for_move (PlayInFull move) = true
+asks_for_move (GenmoveInFull colour) = true
 
 -- a move was asked in the lesson, which is noted once
 abbrev pub with_lesson : Lesson → Notes → Notes
@@ -146,6 +150,9 @@ noted_of Version reply skills notes = record notes { version = Some (record { it
 noted_of (KnownCommand known) reply skills notes = with_lacks notes skills
 noted_of (Match command) reply skills notes = with_match notes command reply.ok
 noted_of FinalScore reply skills notes = notes
+noted_of ListCommands reply skills notes = notes
+noted_of (PlayInFull move) reply skills notes = with_match notes (Play move) reply.ok
+noted_of (GenmoveInFull colour) reply skills notes = with_match notes (Genmove colour) reply.ok
 
 -- the size was refused before
 abbrev pub is_refused : Notes → ℕ → Bool

@@ -1,2 +1,3 @@
 -- What nobody has to check: no public clause speaks of it.
 pub mod Hearing
+pub mod Illegal

@@ -1,30 +1,37 @@
 //! An engine that was started: what it is asked, and what it writes.
-ghost use Rattle.std.specs.Prelude.{◌≡◌, ◌↔◌, ◌+◌, ◌-◌, ◌++◌, ◌≤◌, ◌<◌, true, [], length, drop, take};
+ghost use Rattle.std.specs.Prelude.{◌≡◌, ◌↔◌, ◌⊎◌, ◌+◌, ◌-◌, ◌++◌, ◌≤◌, ◌<◌, true, [], ◌∷◌, length, drop, take};
 ghost use Rattle.std.specs.Prelude.{IsTrue, OnOk, false};
 ghost use Rattle.arrayvec.specs.ArrayVec.{array_vec_len};
 ghost use Rattle.gtp_wire.specs.Replies.{most_shown};
 ghost use Rattle.gtp_check_judge.specs.Asking.{written_check};
 ghost use Rattle.gtp_check_judge.specs.Check.{with_exam};
-ghost use Rattle.gtp_check_judge.specs.Exam.{HasRoomFor};
+ghost use Rattle.gtp_check_judge.specs.Exam.{Asks, HasRoomFor};
 ghost use Rattle.gtp_check_talks.specs.declared.notes.Notes.{Notes};
-ghost use Rattle.gtp_check_talks.specs.Dialogues.{AreHeard, IsAsked, IsRead, IsExchanged, IsSent, begun_with, dialogue};
-ghost use Rattle.gtp_check_talks.specs.Dialogues.{IsIllegal, kept_after, last_move, listener};
+ghost use Rattle.gtp_check_talks.specs.Dialogues.{AreHeard, AreTaken, IsAsked, IsRead, IsExchanged, IsSent};
+ghost use Rattle.gtp_check_talks.specs.Dialogues.{begun_with, dialogue, two_pieces};
+ghost use Rattle.gtp_check_talks.specs.Dialogues.{IsIllegal, IsTaken, IsTakenInPart, MayFollow, ends_in_pieces};
+ghost use Rattle.gtp_check_talks.specs.Dialogues.{kept_after, last_move, listener, through_line};
 ghost use Rattle.gtp_check_talks.specs.private.Hearing.{IsHeardBy};
+ghost use Rattle.gtp_check_talks.specs.private.Illegal.{is_bad_move};
 
 use crate::held::Held;
 use crate::notes::{Beginning, Notes};
 use arrayvec::ArrayVec;
 use go_base::{Move, push};
 use go_board::Game;
-use gtp_check_judge::{CheckCommand, Examiner};
+use gtp_check_judge::{Cause, CheckCommand, Due, Examiner};
 use gtp_check_shortening::talk::{Purpose, Said};
 use gtp_check_texts::fault::Fault;
+use gtp_check_texts::line_len;
 use gtp_process::{CutOff, Ending, PipeCause, Process, READ_ROOM, read_some, write_whole};
-use gtp_wire::{Command, MOST_COMMAND_BYTES, MOST_SHOWN, Reply};
+use gtp_wire::{CommandText, MOST_COMMAND_BYTES, MOST_SHOWN, Reply};
 use std::alloc::{AllocError, Global};
 
 /// The room for the lines of commands that are sent at once.
 pub const LINES_ROOM: usize = 16 * MOST_COMMAND_BYTES;
+
+/// How many bytes are sent later, where a line is sent in two pieces: its newline, and the byte before that.
+const LATER_BYTES: usize = 2;
 
 /// The lines of commands that are sent at once.
 pub type Lines = ArrayVec<u8, LINES_ROOM>;
@@ -79,12 +86,16 @@ impl<P: Process> Engine<P> {
         }
     }
 
-    /// Whether another line can wait to be sent.
+    /// Whether another line can wait to be sent. It can't follow one that is sent in two pieces.
     pub fn has_room(&self) -> bool
         ensures room { result ≡ true → array_vec_len self.now.waiting + 64 ≤ LINES_ROOM }
-        ensures full { result ≡ false → LINES_ROOM < array_vec_len self.now.waiting + 64 }
+        ensures follows { result ≡ true
+            → MayFollow self.now.talk.items self.now.waiting.items }
+        ensures full { result ≡ false → (LINES_ROOM < array_vec_len self.now.waiting + 64)
+            ⊎ ((ends_in_pieces self.now.talk.items ≡ true) × (0 < length self.now.waiting.items)) }
     {
-        self.waiting.len() + MOST_COMMAND_BYTES <= LINES_ROOM
+        let is_cut = !self.waiting.is_empty() && ends_in_pieces(&self.talk);
+        !is_cut && self.waiting.len() + MOST_COMMAND_BYTES <= LINES_ROOM
     }
 
     /// The engine is asked a command, whose line is joined to those that are sent next.
@@ -101,27 +112,27 @@ impl<P: Process> Engine<P> {
     ) -> Result<(), AllocError>
         requires may { HasRoomFor examiner.old.exam command }
         requires room { array_vec_len self.old.waiting + 64 ≤ LINES_ROOM }
+        requires follows { MayFollow self.old.talk.items self.old.waiting.items }
         ensures asked { OnOk result (IsAsked purpose examiner.old.exam
             (dialogue self.old notes.old) command examiner.new.exam (dialogue self.new notes.new)) }
         ensures process { self.new.process ≡ self.old.process }
         ensures check { examiner.new ≡ with_exam examiner.old examiner.new.exam }
     {
-        let is_illegal = is_illegal(examiner, &command);
         let size = examiner.game().size();
         let moves = examiner.game().moves().len();
         let last = last_move(examiner.game());
-        let line = examiner.ask(command).text;
-        self.sent.extend_from_slice(line.as_slice())?;
+        let line = line_of(examiner, command);
+        self.sent.extend_from_slice(line.text.as_slice())?;
         self.talk.extend_from_slice(&[Said {
             command,
             purpose,
-            is_illegal,
+            is_illegal: line.is_illegal,
             size,
             moves,
             last,
             end: self.sent.len(),
         }])?;
-        push(&mut self.waiting, line.as_slice());
+        push(&mut self.waiting, line.text.as_slice());
         notes.count(purpose.lesson, &command);
         Ok(())
     }
@@ -152,13 +163,15 @@ impl<P: Process> Engine<P> {
         self.read(examiner, room, notes)
     }
 
-    /// What waits is sent.
+    /// What waits is sent, and the last line of it in two pieces where that is asked for.
     fn send_waiting(&mut self)
-        ensures sent { IsSent P.Process self.old.waiting.items self.old.process self.new.process }
+        ensures sent { IsSent P.Process (ends_in_pieces self.old.talk.items) self.old.waiting.items
+            self.old.process self.new.process }
         ensures rest { (notes : Notes) → dialogue self.new notes
             ≡ record (dialogue self.old notes) { process = self.new.process; waiting = [] } }
     {
-        send(&mut self.process, self.waiting.as_slice());
+        let in_pieces = ends_in_pieces(&self.talk);
+        send(&mut self.process, self.waiting.as_slice(), in_pieces);
         self.waiting.clear();
     }
 
@@ -267,7 +280,7 @@ struct Hearing {
 }
 
 /// What an engine wrote is heard, up to the end of one reply, or to something wrong. The beginning of what it wrote
-/// since its last whole reply is kept.
+/// since its last whole reply is kept, where something is wrong up to the end of its line.
 fn hear(
     bytes: &[u8],
     wrote: &mut Beginning,
@@ -284,7 +297,7 @@ fn hear(
     let heard = examiner.heard(bytes, reply);
     let used = heard.used;
     if let Some(finding) = heard.finding {
-        keep(wrote, &bytes[..used]);
+        keep(wrote, through_line(bytes, used));
         return Hearing {
             used,
             fault: Some(Fault::Wrote(finding.kind)),
@@ -293,6 +306,16 @@ fn hear(
     keep_since(wrote, &bytes[..used], heard.read.is_some());
     notes.take(&heard, reply, examiner);
     Hearing { used, fault: None }
+}
+
+/// The bytes up to the end of the line in which the last of so many is, with its newline, as far as they are there.
+fn through_line(bytes: &[u8], used: usize) -> &[u8]
+    requires { used ≤ length bytes.now }
+    ensures { result.now ≡ through_line used bytes.entry.now }
+{
+    let before = used.saturating_sub(1);
+    let end = before + line_len(&bytes[before..]) + 1;
+    &bytes[..end.min(bytes.len())]
 }
 
 /// The beginning of what an engine wrote since its last whole reply is kept: nothing where these bytes end one.
@@ -314,27 +337,92 @@ fn keep(wrote: &mut Beginning, bytes: &[u8])
     push(wrote, &bytes[..room.min(bytes.len())]);
 }
 
-/// The lines are sent, if there are any. Where a process is cut off then, what it wrote before is heard still, up to
-/// the end of its output.
-fn send<P: Process>(process: &mut P, lines: &[u8])
-    ensures { IsSent P.Process lines.now process.old process.new }
+/// Whether the line of the command that was asked last is sent in two pieces.
+fn ends_in_pieces(talk: &[Said]) -> bool
+    ensures { result ≡ ends_in_pieces talk.now }
+{
+    match talk {
+        [.., last] => last.purpose.lesson.is_in_pieces(last.purpose.part),
+        [] => false,
+    }
+}
+
+/// The lines are sent, if there are any: at once, or all but the last bytes, and these a moment later. Where a process
+/// is cut off then, what it wrote before is heard still, up to the end of its output.
+fn send<P: Process>(process: &mut P, lines: &[u8], in_pieces: bool)
+    ensures { IsSent P.Process in_pieces lines.now process.old process.new }
 {
     if lines.is_empty() {
         return;
     }
-    match write_whole(process, lines) {
-        Ok(()) | Err(CutOff) => {}
+    if in_pieces {
+        send_in_two(process, lines);
+    } else {
+        send_at_once(process, lines);
     }
 }
 
-/// Whether a command is a `play` that isn't legal.
-fn is_illegal(examiner: &Examiner, command: &CheckCommand) -> bool
-    ensures { IsTrue result ↔ IsIllegal examiner.now.exam.game command.now }
+/// All but the last bytes are sent, and these a moment later.
+fn send_in_two<P: Process>(process: &mut P, lines: &[u8])
+    ensures { AreTaken P.Process (two_pieces lines.now) process.old process.new }
 {
-    match command {
-        CheckCommand::Match(Command::Play(made)) => {
-            !examiner.game().legal(made.colour, made.vertex)
-        }
+    let (first, second) = lines.split_at(lines.len().saturating_sub(LATER_BYTES));
+    if !is_taken(process, first) {
+        return;
+    }
+    process.let_read();
+    send_at_once(process, second);
+}
+
+/// A piece is sent.
+fn send_at_once<P: Process>(process: &mut P, piece: &[u8])
+    ensures { AreTaken P.Process (piece.now ∷ []) process.old process.new }
+{
+    let _ = is_taken(process, piece);
+}
+
+/// A piece is sent. Returns whether the process took it whole.
+fn is_taken<P: Process>(process: &mut P, piece: &[u8]) -> bool
+    ensures whole { result ≡ true → IsTaken P.Process piece.now process.old process.new }
+    ensures part { result ≡ false → IsTakenInPart P.Process piece.now process.old process.new }
+{
+    match write_whole(process, piece) {
+        Ok(()) => true,
+        Err(CutOff) => false,
+    }
+}
+
+/// A command that is asked.
+#[derive(Drop)]
+struct Line {
+    /// The bytes of its line.
+    text: CommandText,
+    /// Whether it is a `play` that isn't legal.
+    is_illegal: bool,
+}
+
+/// The examiner asks a command. What is due to it says whether it is a `play` that isn't legal.
+fn line_of(examiner: &mut Examiner, command: CheckCommand) -> Line
+    requires may { HasRoomFor examiner.old.exam command }
+    ensures asks { Asks examiner.old.exam command examiner.new.exam }
+    ensures check { examiner.new ≡ with_exam examiner.old examiner.new.exam }
+    ensures text { result.text.items ≡ written_check examiner.new.exam.sent command }
+    ensures illegal { IsTrue result.is_illegal ↔ IsIllegal examiner.old.exam.game command }
+{
+    let asking = examiner.ask(command);
+    let is_illegal = is_bad_move(&asking.due);
+    Line {
+        text: asking.text,
+        is_illegal,
+    }
+}
+
+/// Whether a failure is due, since a move isn't legal.
+fn is_bad_move(due: &Due) -> bool
+    ensures { result ≡ is_bad_move due.now }
+{
+    match due {
+        Due::Fails(Cause::BadMove(_)) => true,
         _ => false,
     }
 }

@@ -131,7 +131,11 @@ impl Notes {
             CheckCommand::Version => self.version = Some(beginning_of(reply)),
             CheckCommand::KnownCommand(_) => self.take_skills(skills),
             CheckCommand::Match(command) => self.take_match(command, reply.ok),
-            CheckCommand::FinalScore => {}
+            CheckCommand::PlayInFull(made) => self.take_match(&Command::Play(*made), reply.ok),
+            CheckCommand::GenmoveInFull(colour) => {
+                self.take_match(&Command::Genmove(*colour), reply.ok);
+            }
+            CheckCommand::FinalScore | CheckCommand::ListCommands => {}
         }
     }
 
@@ -233,10 +237,12 @@ fn asks_for_move(command: &CheckCommand) -> bool
 {
     match command {
         CheckCommand::Match(command) => is_move(command),
+        CheckCommand::PlayInFull(_) | CheckCommand::GenmoveInFull(_) => true,
         CheckCommand::FinalScore
         | CheckCommand::Name
         | CheckCommand::Version
-        | CheckCommand::KnownCommand(_) => false,
+        | CheckCommand::KnownCommand(_)
+        | CheckCommand::ListCommands => false,
     }
 }
 

@@ -8,7 +8,7 @@ use Rattle.std.specs.List.{concat}
 use Rattle.std.specs.Option.{option_map_or}
 use Rattle.std.specs.Prelude.{option_map}
 use Rattle.go_base.specs.Bytes.{newline}
-use Rattle.gtp_check_questions.specs.Lessons.{name_of}
+use Rattle.gtp_check_questions.specs.Lessons.{is_in_pieces, name_of}
 use Rattle.gtp_process.specs.Shown.{ending_text, quoted}
 use Rattle.gtp_process.specs.declared.starter.Ending.{Ending}
 use Rattle.gtp_wire.specs.Replies.{most_shown}
@@ -123,14 +123,25 @@ ahead_text false = codes "# asked before this answer was read:\n"
 abbrev pub ahead_lines : List ℕ → List ℕ
 ahead_lines lines = ahead_text (length lines == 0) ++ lines
 
+-- that the line of the command came in two pieces, which is not to be seen in the block
+abbrev pub pieces_text : Bool → List ℕ
+pieces_text true = codes "# that line came in two pieces: a right engine waits for its newline\n"
+pieces_text false = []
+
+abbrev pub pieces_line : Option Said → List ℕ
+pieces_line None = []
+pieces_line (Some said) = pieces_text (is_in_pieces said.purpose.lesson said.purpose.part)
+
 -- that the refusal is right under the other ko rule
 abbrev pub ko_line : Bool → List ℕ
 ko_line true = codes "# under positional ko the refusal is right: try --ko positional\n"
 ko_line false = []
 
--- what the engine was asked: the lines before the command, the board, and the command
+-- what the engine was asked: the lines before the command, the board, the command, and that it came in pieces
 abbrev pub asked_lines : Complaint → List ℕ
-asked_lines complaint = before_lines complaint ++ (board_lines complaint.game ++ asked_line complaint)
+asked_lines complaint =
+    before_lines complaint
+    ++ (board_lines complaint.game ++ (asked_line complaint ++ pieces_line (faulty_said complaint)))
 
 -- The block of a complaint: its head, what the engine was asked, what it wrote then, what is right, what was on its way,
 -- a hint, and an empty line.

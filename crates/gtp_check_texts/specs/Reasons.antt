@@ -9,7 +9,8 @@ use Rattle.go_base.specs.declared.vertices.Vertex.{Vertex}
 use Rattle.go_board.specs.Game.{GameRecord}
 use Rattle.gtp_check_judge.specs.declared.asking.CheckCommand.{CheckCommand}
 use Rattle.gtp_check_judge.specs.declared.asking.CheckCommand.TheVariants.{Match, FinalScore, Name, Version}
-use Rattle.gtp_check_judge.specs.declared.asking.CheckCommand.TheVariants.{KnownCommand}
+use Rattle.gtp_check_judge.specs.declared.asking.CheckCommand.TheVariants.{KnownCommand, PlayInFull, GenmoveInFull}
+use Rattle.gtp_check_judge.specs.declared.asking.CheckCommand.TheVariants.{ListCommands}
 use Rattle.gtp_check_judge.specs.declared.dues.Cause.TheVariants.{BadMove}
 use Rattle.gtp_check_judge.specs.declared.judging.Kind.{Kind}
 use Rattle.gtp_check_judge.specs.declared.judging.Kind.TheVariants as kind
@@ -18,7 +19,7 @@ use Rattle.gtp_wire.specs.declared.commands.Command.TheVariants.{Boardsize, Komi
 use Rattle.gtp_wire.specs.declared.commands.Command.TheVariants.{Genmove, Undo, Quit}
 use Rattle.gtp_check_texts.specs.Illegal.{illegal_text, last_move}
 use Rattle.gtp_check_texts.specs.Plays.{legal_text}
-use Rattle.gtp_check_texts.specs.Sentences.{command_sentence, kind_sentence}
+use Rattle.gtp_check_texts.specs.Sentences.{command_sentence, kind_sentence, no_move_sentence, other_sentence}
 
 -- ---- a refusal of what a right engine does
 
@@ -47,10 +48,7 @@ refused_match game Quit = command_sentence Quit
 -- why a right engine takes a command
 abbrev pub refused_text : GameRecord → CheckCommand → List ℕ
 refused_text game (Match command) = refused_match game command
-refused_text game FinalScore = codes "the command succeeds"
-refused_text game Name = codes "the command succeeds"
-refused_text game Version = codes "the command succeeds"
-refused_text game (KnownCommand asked) = codes "the command succeeds"
+refused_text game other = other_sentence other
 
 -- ---- a move that was made
 
@@ -73,6 +71,9 @@ move_of FinalScore chosen = None
 move_of Name chosen = None
 move_of Version chosen = None
 move_of (KnownCommand asked) chosen = None
+move_of ListCommands chosen = None
+move_of (PlayInFull move) chosen = Some move
+move_of (GenmoveInFull c) chosen = chosen_by c chosen
 
 -- ---- all kinds
 
@@ -82,4 +83,5 @@ abbrev pub reason : GameRecord → CheckCommand → Kind → Option Vertex → L
 reason game command kind.Refused chosen = refused_text game command
 reason game command (kind.Took (BadMove fault)) chosen = illegal_text game (move_of command chosen) fault
 reason game command (kind.Unlawful fault) chosen = illegal_text game (move_of command chosen) fault
+reason game command kind.NoMove chosen = no_move_sentence command
 reason game command other chosen = kind_sentence other

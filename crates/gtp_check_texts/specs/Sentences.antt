@@ -1,6 +1,8 @@
 -- What is right, in sentences that hang on neither board nor vertex. (Own.)
 use Rattle.std.specs.Prelude.{ℕ, List, codes}
 use Rattle.go_board.specs.declared.faults.HandicapFault.TheVariants.{NotEmpty, BadNumber}
+use Rattle.gtp_check_judge.specs.declared.asking.CheckCommand.{CheckCommand}
+use Rattle.gtp_check_judge.specs.declared.asking.CheckCommand.TheVariants.{PlayInFull, GenmoveInFull, ListCommands}
 use Rattle.gtp_check_judge.specs.declared.dues.Cause.{Cause}
 use Rattle.gtp_check_judge.specs.declared.dues.Cause.TheVariants.{BadMove, BadHandicap, NoMoves}
 use Rattle.gtp_check_judge.specs.declared.judging.Kind.{Kind}
@@ -21,6 +23,14 @@ command_sentence (Genmove colour) = codes "the command succeeds"
 command_sentence Undo = codes "the command succeeds"
 command_sentence Quit = codes "the command succeeds"
 
+-- Why a right engine takes a command that isn't one of a match. (The standard: a colour is one of white, w, black and b;
+-- and it requires `list_commands` of every engine.)
+abbrev pub other_sentence : CheckCommand → List ℕ
+other_sentence (PlayInFull move) = codes "a colour may be written in full: black for b, and white for w"
+other_sentence (GenmoveInFull colour) = codes "a colour may be written in full: black for b, and white for w"
+other_sentence ListCommands = codes "each engine has list_commands"
+other_sentence _ = codes "the command succeeds"
+
 -- why a right engine refuses a command
 abbrev pub cause_sentence : Cause → List ℕ
 cause_sentence (BadMove fault) = codes "the move isn't legal"
@@ -36,6 +46,8 @@ kind_sentence kind.OtherPoints = codes "the points of a handicap are fixed by th
 kind_sentence kind.NoMove = codes "a genmove succeeds; a player who has no move passes or resigns"
 kind_sentence kind.NoVertex = codes "a genmove answers a vertex of the board, pass, or resign"
 kind_sentence (kind.Unlawful fault) = codes "the move isn't legal"
+kind_sentence kind.Unlisted =
+    codes "each of these is listed: protocol_version name version known_command list_commands quit boardsize clear_board komi play genmove"
 kind_sentence kind.NoScore = codes "a score is B+ or W+ and the points, or 0"
 kind_sentence kind.OtherScore =
     codes "it scored this board twice alike under another komi: scores differ as the komis do"
@@ -43,3 +55,8 @@ kind_sentence kind.WrongId = codes "a reply has the id of the oldest unanswered 
 kind_sentence kind.Unasked = codes "each command has one reply"
 kind_sentence kind.NoStatus = codes "a reply begins with = or ?, and ends with two newlines"
 kind_sentence kind.Overlong = codes "a reply ends with two newlines"
+
+-- why a right engine answers a `genmove` by a success: it reads the colour, and has always a move or resigns
+abbrev pub no_move_sentence : CheckCommand → List ℕ
+no_move_sentence (GenmoveInFull colour) = other_sentence (GenmoveInFull colour)
+no_move_sentence _ = kind_sentence kind.NoMove

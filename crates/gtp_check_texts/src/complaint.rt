@@ -8,7 +8,8 @@ ghost use Rattle.gtp_check_texts.specs.Answers.{before_rule};
 ghost use Rattle.gtp_check_texts.specs.Complaints.{after_lines, ahead_lines, ahead_text, answer_of, asked_line, asked_lines};
 ghost use Rattle.gtp_check_texts.specs.Complaints.{before_lines, board_lines, complaint_lines, conversation, ended_text};
 ghost use Rattle.gtp_check_texts.specs.Complaints.{faulty_line, faulty_said, head_line, is_within, ko_line};
-ghost use Rattle.gtp_check_texts.specs.Complaints.{line_end, line_start, rule_line, rule_of, within_text, wrote_line};
+ghost use Rattle.gtp_check_texts.specs.Complaints.{line_end, line_start, pieces_line, pieces_text, rule_line, rule_of};
+ghost use Rattle.gtp_check_texts.specs.Complaints.{within_text, wrote_line};
 ghost use Rattle.gtp_check_texts.specs.Rules.{rule_text};
 
 use crate::answers::{ANSWER_ROOM, right_answer};
@@ -132,6 +133,16 @@ impl<'t> Complaint<'t> {
         &self.sent[end.min(self.sent.len())..]
     }
 
+    /// That the line of the faulty command came in two pieces, where it did.
+    fn pieces_line(&self) -> &'static [u8]
+        ensures { result.now ≡ pieces_line (faulty_said self.now) }
+    {
+        match self.talk.get(self.answered) {
+            Some(said) => pieces_text(said.purpose.lesson.is_in_pieces(said.purpose.part)),
+            None => b"",
+        }
+    }
+
     /// Whether its output ended within a reply.
     fn is_within(&self) -> bool
         ensures { result ≡ is_within self.now.fault self.now.wrote.now }
@@ -203,6 +214,17 @@ fn add_head(text: &mut Vec<u8>, complaint: &Complaint<'_>) -> Result<(), AllocEr
     )
 }
 
+/// That a line came in two pieces, where it did.
+fn pieces_text(in_pieces: bool) -> &'static [u8]
+    ensures { result.now ≡ pieces_text in_pieces }
+{
+    if in_pieces {
+        b"# that line came in two pieces: a right engine waits for its newline\n"
+    } else {
+        b""
+    }
+}
+
 /// That its output ended within a reply.
 fn within_text(is_within: bool) -> &'static [u8]
     ensures { result.now ≡ within_text is_within }
@@ -246,13 +268,13 @@ fn beginning(wrote: &[u8]) -> &[u8]
     &wrote[..MOST_SHOWN.min(wrote.len())]
 }
 
-/// What the engine was asked: the lines before the faulty command, the board, and that command.
+/// What the engine was asked: the lines before the faulty command, the board, that command, and that it came in pieces.
 fn add_asked(text: &mut Vec<u8>, complaint: &Complaint<'_>) -> Result<(), AllocError>
     ensures { OnOk result (text.new.items ≡ text.old.items ++ asked_lines complaint.now) }
 {
     text.extend_from_slice(complaint.before_lines())?;
     add_board_if(text, complaint.game)?;
-    text.extend_from_slice(complaint.asked_line())
+    add_all(text, &[complaint.asked_line(), complaint.pieces_line()])
 }
 
 /// The board of a game, where it is known.

@@ -21,4 +21,5 @@ pub mod texts;
 
 pub use board::add_board;
 pub use junk::first_line;
+pub use lines::line_len;
 pub use reasons::add_reason;

@@ -4,7 +4,7 @@ ghost use Rattle.std.specs.List.{position_or_len};
 ghost use Rattle.gtp_check_texts.specs.Lines.{is_newline, lines_of};
 
 /// How many bytes are before the first newline.
-pub(crate) fn line_len(text: &[u8]) -> usize
+pub fn line_len(text: &[u8]) -> usize
     ensures value { result ≡ position_or_len is_newline text.now }
     ensures within { result ≤ length text.now }
 {

@@ -5,7 +5,7 @@ ghost use Rattle.gtp_check_texts.specs.Reasons.{undo_text};
 
 use crate::illegal::{add_illegal, last_move};
 use crate::plays::add_legal;
-use crate::sentences::{command_sentence, kind_sentence};
+use crate::sentences::{command_sentence, kind_sentence, no_move_sentence, other_sentence};
 use crate::texts::add_all;
 use go_base::{Colour, Move, Vertex};
 use go_board::Game;
@@ -38,6 +38,7 @@ pub fn add_reason(
             add_illegal(text, game, move_of(command, chosen), fault)
         }
         Kind::Unlawful(fault) => add_illegal(text, game, move_of(command, chosen), fault),
+        Kind::NoMove => text.extend_from_slice(no_move_sentence(command)),
         _ => text.extend_from_slice(kind_sentence(kind)),
     }
 }
@@ -48,7 +49,7 @@ fn add_refused(text: &mut Vec<u8>, game: &Game, command: &CheckCommand) -> Resul
 {
     match command {
         CheckCommand::Match(command) => add_refused_match(text, game, command),
-        _ => text.extend_from_slice(b"the command succeeds"),
+        _ => text.extend_from_slice(other_sentence(command)),
     }
 }
 
@@ -96,8 +97,10 @@ fn move_of(command: &CheckCommand, chosen: Option<Vertex>) -> Option<Move>
     ensures { result ≡ move_of command.now chosen }
 {
     match command {
-        CheckCommand::Match(Command::Play(made)) => Some(*made),
-        CheckCommand::Match(Command::Genmove(colour)) => chosen_by(*colour, chosen),
+        CheckCommand::Match(Command::Play(made)) | CheckCommand::PlayInFull(made) => Some(*made),
+        CheckCommand::Match(Command::Genmove(colour)) | CheckCommand::GenmoveInFull(colour) => {
+            chosen_by(*colour, chosen)
+        }
         _ => None,
     }
 }

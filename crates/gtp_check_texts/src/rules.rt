@@ -1,9 +1,9 @@
 //! What is right, where the game isn't known, and where an answer was lost.
 ghost use Rattle.std.specs.Prelude.{◌≡◌};
-ghost use Rattle.gtp_check_texts.specs.Rules.{lost_rule, refused_rule, rule_text};
+ghost use Rattle.gtp_check_texts.specs.Rules.{lost_rule, no_move_rule, refused_rule, rule_text};
 
 use crate::fault::Fault;
-use crate::sentences::{command_sentence, kind_sentence};
+use crate::sentences::{command_sentence, kind_sentence, no_move_sentence, other_sentence};
 use gtp_check_judge::{CheckCommand, Kind};
 use gtp_process::Ending;
 
@@ -17,6 +17,7 @@ pub fn rule_text(fault: Fault, ending: Ending, command: Option<CheckCommand>) ->
     match fault {
         Fault::CutOff(_) => lost_rule(ending),
         Fault::Wrote(Kind::Refused) => refused_rule(command),
+        Fault::Wrote(Kind::NoMove) => no_move_rule(command),
         Fault::Wrote(kind) => kind_sentence(kind),
     }
 }
@@ -33,12 +34,23 @@ fn lost_rule(ending: Ending) -> &'static [u8]
     }
 }
 
+/// Why a right engine answers a `genmove` by a success.
+fn no_move_rule(command: Option<CheckCommand>) -> &'static [u8]
+    ensures { result.now ≡ no_move_rule command }
+{
+    match command {
+        Some(command) => no_move_sentence(&command),
+        None => kind_sentence(Kind::NoMove),
+    }
+}
+
 /// Why a right engine takes a command.
 fn refused_rule(command: Option<CheckCommand>) -> &'static [u8]
     ensures { result.now ≡ refused_rule command }
 {
     match command {
         Some(CheckCommand::Match(command)) => command_sentence(&command),
-        _ => b"the command succeeds",
+        Some(command) => other_sentence(&command),
+        None => b"the command succeeds",
     }
 }

@@ -1,9 +1,10 @@
 //! What is right, in sentences that hang on neither board nor vertex.
 ghost use Rattle.std.specs.Prelude.{◌≡◌};
-ghost use Rattle.gtp_check_texts.specs.Sentences.{cause_sentence, command_sentence, kind_sentence};
+ghost use Rattle.gtp_check_texts.specs.Sentences.{cause_sentence, command_sentence, kind_sentence, other_sentence};
+ghost use Rattle.gtp_check_texts.specs.Sentences.{no_move_sentence};
 
 use go_board::HandicapFault;
-use gtp_check_judge::{Cause, Kind};
+use gtp_check_judge::{Cause, CheckCommand, Kind};
 use gtp_wire::Command;
 
 /// Why a right engine takes a command of a match.
@@ -21,6 +22,29 @@ pub(crate) fn command_sentence(command: &Command) -> &'static [u8]
         | Command::Genmove(_)
         | Command::Undo
         | Command::Quit => b"the command succeeds",
+    }
+}
+
+/// Why a right engine takes a command that isn't one of a match.
+pub(crate) fn other_sentence(command: &CheckCommand) -> &'static [u8]
+    ensures { result.now ≡ other_sentence command.now }
+{
+    match command {
+        CheckCommand::PlayInFull(_) | CheckCommand::GenmoveInFull(_) => {
+            b"a colour may be written in full: black for b, and white for w"
+        }
+        CheckCommand::ListCommands => b"each engine has list_commands",
+        _ => b"the command succeeds",
+    }
+}
+
+/// Why a right engine answers a `genmove` by a success.
+pub(crate) fn no_move_sentence(command: &CheckCommand) -> &'static [u8]
+    ensures { result.now ≡ no_move_sentence command.now }
+{
+    match command {
+        CheckCommand::GenmoveInFull(_) => other_sentence(command),
+        _ => kind_sentence(Kind::NoMove),
     }
 }
 
@@ -51,6 +75,9 @@ pub(crate) fn kind_sentence(kind: Kind) -> &'static [u8]
         Kind::NoMove => b"a genmove succeeds; a player who has no move passes or resigns",
         Kind::NoVertex => b"a genmove answers a vertex of the board, pass, or resign",
         Kind::Unlawful(_) => b"the move isn't legal",
+        Kind::Unlisted => {
+            b"each of these is listed: protocol_version name version known_command list_commands quit boardsize clear_board komi play genmove"
+        }
         Kind::NoScore => b"a score is B+ or W+ and the points, or 0",
         Kind::OtherScore => {
             b"it scored this board twice alike under another komi: scores differ as the komis do"

@@ -121,6 +121,9 @@ pub trait Process {
     /// Lets the process run before it is read, where that saves time. What it was sent and what it gave stay.
     fn let_run_first(&self);
 
+    /// Waits a moment, in which the process can read what it was sent. What it was sent and what it gave stay.
+    fn let_read(&self);
+
     /// Kills the process if it still runs, closes the pipes, waits for it, and returns how it ended. Where its output
     /// ended, or another call of a pipe broke, it first has a short time to end by itself.
     fn end(self) -> Ending

@@ -31,6 +31,9 @@ const MOST_PAUSES: u32 = 200;
 /// How many milliseconds a pause has.
 const PAUSE_MILLISECONDS: u64 = 1;
 
+/// How many milliseconds a process has to read what it was sent, before it is sent more.
+const READ_MILLISECONDS: u64 = 10;
+
 /// Starts processes of the operating system. Their standard error is the program's own.
 #[derive(Drop)]
 pub struct SystemStarter<'r, R> {
@@ -204,6 +207,10 @@ impl<P: OpenProcess + Drop, C: Clock + Drop> Process for SystemProcess<P, C> {
     fn let_run_first(&self) {
         let next = self.precedence.get().let_run_first(&self.clock);
         self.precedence.set(next);
+    }
+
+    fn let_read(&self) {
+        self.clock.sleep(Duration::from_millis(READ_MILLISECONDS));
     }
 
     fn end(self) -> Ending {

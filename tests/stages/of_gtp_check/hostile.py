@@ -5,9 +5,9 @@ which finds the size of scenes, `boardsize 5`, `komi 6.5`, `clear_board`, and th
 `play w F1`, which is off that board. In the lesson of its own moves it is asked `genmove b` after `clear_board`, and then `genmove w`;
 with `--size` no size of scenes is sought. With `--singly` each is asked once the one before is answered.
 
-The lesson of the start has one part, and is over where something was found. In the other lessons the engine is started again then, the
-next part begins, and a check goes on to the end of `--restarts 3`, with four starts. Where an engine gives no right answer, or is lost
-three times in a lesson, it has three.
+In the lesson of the start a check is over where something was found, by `--restarts 0`. In the other lessons the engine is started again
+then, the next part begins, and a check goes on to the end of `--restarts 3`, with four starts. Where an engine gives no right answer, or
+is lost three times in a lesson, it has three.
 """
 import tempfile
 from pathlib import Path
@@ -15,7 +15,7 @@ from pathlib import Path
 from .running import AHEAD, TOP, checked, read
 
 HOSTILE = f"{TOP}/tests/engines/hostile/engine"
-START = ("--only", "start", "--restarts", "3", "--singly")
+START = ("--only", "start", "--restarts", "0", "--singly")
 KOMI = ("--only", "komi", "--restarts", "3", "--singly")
 OWN = ("--only", "genmoves", "--size", "5", "--restarts", "3", "--singly")
 NAME = "1 name"
@@ -99,8 +99,8 @@ def rows():
     # No answer comes: the program waits, and what stands before the engine ends it. Its status is 124 then.
     yield "silent, under timeout", (*KOMI[:-1],), "silent", (NAME, ENDED + "exit status 124", 3, 15)
     yield "silent, under patience", (*KOMI[:-1],), "silent", (NAME, ENDED + "exit status 124", 3, 15)
-    # It refuses the name, and each size from 5 on, which an engine may: 5 commands, 21 sizes, and 5 again. So no pass is earned.
-    yield "refuses", ("--only", "start", "--restarts", "3"), "refuses", (None, None, 1, 27)
+    # It refuses the name, and in each of 16 parts each size from 5 on, and 5 again, which an engine may. So no pass is earned.
+    yield "refuses", ("--only", "komi", "--restarts", "3"), "refuses", (None, None, 1, 5 + 16 * 22)
 
 
 def faults(row):
@@ -177,18 +177,21 @@ def gone_after_its_first_start(folder):
 
 
 def refusing(kind):
-    """What is odd about a whole check of an engine that refuses each size: nothing is found, and no pass is earned. The commands are five
-    of its start, one for each part of a lesson, and in those that seek the size of scenes 21 more."""
-    parts = dict(start=1, sizes=25, ko=6 * 16, captures=8 * 16, suicide=5 * 16, joining=4 * 16, handicaps=25 * 12, komi=16, drawn=11,
+    """What is odd about a whole check of an engine that refuses all: it may refuse each size, so no move is asked, but not `list_commands`.
+    That is the last part of the lesson of the start; the part in pieces, the second, has a start of its own. The commands are five of each
+    start, one for each part of a lesson, and in those that seek the size of scenes 21 more."""
+    parts = dict(start=4, sizes=25, ko=6 * 16, captures=8 * 16, suicide=5 * 16, joining=4 * 16, handicaps=25 * 12, komi=16, drawn=11,
                  record=3, genmoves=9, games=5, restarts=5)  # fmt: skip
-    commands = 5 + sum(count if lesson in ("sizes", "handicaps") else 22 * count for lesson, count in parts.items())
+    commands = 3 * 5 + sum(count if lesson in ("sizes", "handicaps") else 22 * count for lesson, count in parts.items())
     unasked = "".join(f"check: {lesson}: no play and no genmove was asked on any board of it\n" for lesson in parts)
     sizes = " ".join(map(str, [*range(5, 26), *range(1, 5)]))
-    wanted = f"{unasked}check: it refuses the sizes {sizes}\ncheck: {commands} commands, 1 start, 0 complaints\n"
+    wanted = f"{unasked}check: it refuses the sizes {sizes}\ncheck: {commands} commands, 3 starts, 1 complaint\n"
     with tempfile.TemporaryDirectory() as folder:
-        result = checked((), command(kind, folder), folder=folder)
-    output = result.output.partition("\n")[2]
-    return None if (result.status, output, result.errors) == (4, wanted, "") else result
+        result = checked(("--trials", "0"), command(kind, folder), folder=folder)
+    report = read(result.output)
+    found = [(it.command, it.fault) for it in getattr(report, "complaints", ())]
+    same = (result.status, found, result.errors) == (1, [("50 list_commands", "it was refused")], "")
+    return None if same and result.output.endswith(f"\n{wanted}") else result
 
 
 def is_waiting(folder):

@@ -19,6 +19,7 @@ FIRST = re.compile(r'check: (?:".*"|an engine without a name), version (?:".*"|u
 HEAD = re.compile(r'# (\d+) (\w+): "(.*)": (.*)')
 LAST = re.compile(r"check: (\d+) commands?, (\d+) starts?, (\d+) complaints?")
 HIDDEN = re.compile(r"check: \w+: more complaints, of kinds that were shown three times: (\d+)")
+PIECES = "# that line came in two pieces: a right engine waits for its newline"
 AHEAD = re.compile(r"# .*\bcommands?\b.* sent .*\n")  # how many commands were on their way already
 
 
@@ -33,6 +34,7 @@ class Complaint:
     lines: tuple  # the conversation, up to and with that command
     wrote: str  # a character for each byte
     right: str
+    in_pieces: bool = False  # whether that line came in two
 
     @property
     def is_shortened(self):
@@ -90,8 +92,10 @@ def block_read(lines):
     head = HEAD.fullmatch(lines[0])
     end = next((at for at, it in enumerate(lines) if it.startswith("# it wrote: ")), len(lines))
     talk = [it for it in lines[1:end] if not it.startswith("#")]
-    board = lines[len(talk) : end - 1]
-    if not head or not talk or talk[-1] != head[3] or lines[1:end] != [*talk[:-1], *board, talk[-1]] or not (not board or is_board(board)):
+    pieces = [it for it in lines[end - 1 : end] if it == PIECES]
+    board = lines[len(talk) : end - 1 - len(pieces)]
+    asked = [*talk[:-1], *board, *talk[-1:], *pieces]
+    if not head or not talk or talk[-1] != head[3] or lines[1:end] != asked or not (not board or is_board(board)):
         return f"no block of a complaint: {lines}"
     rest = lines[end:]
     if len(rest) < 2 or not re.fullmatch('# it wrote: ".*"', rest[0]) or not rest[1].startswith("# right: "):
@@ -99,7 +103,7 @@ def block_read(lines):
     more = rest[2:-1] if rest[-1].startswith("# under positional ko") else rest[2:]
     if more and (more[0] != "# asked before this answer was read:" or len(more) == 1 or any(it.startswith("#") for it in more[1:])):
         return f"other lines at the end of a complaint: {rest}"
-    return Complaint(int(head[1]), head[2], head[3], head[4], tuple(talk), quoted(rest[0][13:-1]), rest[1][9:])
+    return Complaint(int(head[1]), head[2], head[3], head[4], tuple(talk), quoted(rest[0][13:-1]), rest[1][9:], bool(pieces))
 
 
 def read(output):

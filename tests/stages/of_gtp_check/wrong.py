@@ -12,6 +12,7 @@ from bugs import BUGS  # noqa: E402
 
 OF_A_SUBJECT = 8  # bugs that ./test tries of each subject, at most
 ENGINE = PYTHON + " tests/engines/wrong/engine"
+PIECES = PYTHON + " tests/engines/wrong/pieces"
 QUICKLY = ("--only", "start", "--only", "komi", "--only", "games", "--only", "restarts")  # for the unnoticed ones, where not all are tried
 
 
@@ -106,6 +107,18 @@ def unnoticed(name, is_all):
         return f"{report}: {result}"
     is_noticed = (result.status, report.count) != (0, 0)
     return f"it is noticed: of_gtp_check/table.py is to be changed\n{result.output[:1500]}" if is_noticed else None
+
+
+def pieces():
+    """What is odd about the check of an engine that takes each piece of a line for a line: the part of the start that is sent in pieces
+    notices it, and nothing else does. The complaint says that its line came so."""
+    result = checked(("--only", "start"), PIECES)
+    report = read(result.output)
+    others = checked(("--quick", "--skip", "start"), PIECES)
+    if isinstance(report, str) or (result.status, result.errors, others.status, others.errors) != (1, "", 0, ""):
+        return f"{report}: {result}, {others}"
+    found = [(it.lesson, it.fault, it.in_pieces) for it in report.complaints]
+    return None if found == [("start", "a reply without the id of the command", True)] else f"{found}: {result.output}"
 
 
 def odd_table():

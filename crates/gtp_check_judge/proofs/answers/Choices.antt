@@ -8,22 +8,20 @@ use Rattle.go_board.specs.Game.{GameRecord}
 use Rattle.go_board.specs.Refusals.{RefusesVertex}
 use Rattle.go_board.specs.declared.faults.PlayFault.{PlayFault}
 use Rattle.gtp_check_judge.specs.declared.asking.CheckCommand.{CheckCommand}
-use Rattle.gtp_check_judge.specs.declared.asking.CheckCommand.TheVariants.{Match}
 use Rattle.gtp_wire.specs.declared.commands.Command.TheVariants.{Genmove}
 use Rattle.gtp_wire.specs.declared.replies.Reply.{Reply}
 use Rattle.gtp_session.specs.Policy.{IsLawful}
 use Rattle.gtp_session.specs.Commands.{Answer, answer, asked, answer_choice}
-use Rattle.gtp_session.proofs.engines.Sent.{genmove_answer, genmove_asks}
 use Rattle.gtp_check_judge.specs.declared.dues.Due.TheVariants.{Chooses}
 use Rattle.gtp_check_judge.specs.declared.judging.Judgement.{Judgement}
 use Rattle.gtp_check_judge.specs.declared.judging.Judgement.TheVariants.{Right, Plays, Resized, Undone, Opines, Wrong}
 use Rattle.gtp_check_judge.specs.declared.judging.Kind.TheVariants.{Refused, Took, OtherPoints, NoMove, NoVertex}
 use Rattle.gtp_check_judge.specs.declared.judging.Kind.TheVariants.{Unlawful, NoScore, OtherScore, WrongId, Unasked}
-use Rattle.gtp_check_judge.specs.declared.judging.Kind.TheVariants.{NoStatus, Overlong}
+use Rattle.gtp_check_judge.specs.declared.judging.Kind.TheVariants.{NoStatus, Overlong, Unlisted}
 use Rattle.gtp_check_judge.specs.declared.opinions.Opinion.{Opinion}
 use Rattle.gtp_check_judge.specs.declared.unanswered.Asked.{Asked}
 use Rattle.gtp_wire.specs.ReplyWords.{choice_of_text}
-use Rattle.gtp_check_judge.specs.Asking.{line_of_check}
+use Rattle.gtp_check_judge.specs.Asking.{IsGenmoveOf}
 use Rattle.gtp_check_judge.specs.RightEngine.{RightEngine, undone_after, undone_by, opinion_after}
 use Rattle.gtp_check_judge.specs.Dues.{IsDue}
 use Rattle.gtp_check_judge.specs.Judging.{ChoiceJudged, SaidJudged, VertexJudged}
@@ -34,11 +32,13 @@ use Rattle.gtp_check_judge.proofs.answers.Statuses.{opinion_kept}
 use Rattle.gtp_check_judge.proofs.answers.Statuses.{wrong_status}
 use Rattle.gtp_check_judge.proofs.answers.Table.{vertex_unlawful}
 use Rattle.gtp_check_judge.proofs.answers.Texts.{chooses_genmove}
+use Rattle.gtp_check_judge.proofs.commands.InFull.{genmove_asked, genmove_given, genmove_said, genmove_says}
+use Rattle.gtp_check_judge.proofs.commands.InFull.{genmove_undone}
 
 -- what is known of a `genmove`
 pub record IsGenmove (before : RightEngine) (entry : Asked) (colour : Colour) : Type 0 where
   pub due : entry.due ≡ Chooses colour
-  pub command : entry.command ≡ Match (Genmove colour)
+  pub command : IsGenmoveOf colour entry.command
   pub given : (ch : Choice) → answer before.game (line_of_asked entry) ch ≡ answer_choice before.game colour ch
   pub asks : asked before.game (line_of_asked entry) ≡ Some colour
   pub is_due : IsDue before entry.command (Chooses colour)
@@ -50,12 +50,8 @@ asks_of before entry colour is due =
     record {
       due = is;
       command = e.0;
-      given = λ ch.
-          ap (λ (k : CheckCommand). answer before.game (line_of_check entry.id k) ch) e.0
-          ∙ genmove_answer before.game (Some entry.id) colour ch e.1;
-      asks =
-          ap (λ (k : CheckCommand). asked before.game (line_of_check entry.id k)) e.0
-          ∙ genmove_asks before.game (Some entry.id) colour e.1;
+      given = λ ch. genmove_given before.game entry.id entry.command colour ch e.0 e.1;
+      asks = genmove_asked before.game entry.id entry.command colour e.0 e.1;
       is_due = due;
     }
 
@@ -74,7 +70,7 @@ right_choice : (before : RightEngine) (entry : Asked) (reply : Reply) (colour : 
     → IsGenmove before entry colour → reply.ok ≡ true → (right : IsByTable before entry reply after)
     → choice_of_text reply.text.items ≡ Some right.choice
 right_choice before entry reply colour after a ok right =
-    subst (λ (k : CheckCommand). Says before k right.choice true reply.text.items) a.command
+    genmove_said before entry.command colour right.choice reply.text.items a.command
     (subst (λ (b : Bool). Says before entry.command right.choice b reply.text.items) ok right.says)
 
 right_lawful : (before : RightEngine) (entry : Asked) (reply : Reply) (colour : Colour) (after : RightEngine)
@@ -85,10 +81,10 @@ right_lawful before entry reply colour after a right =
 
 -- whether an `undo` has succeeded since the last move, once this was chosen
 undone_chosen : (undone : Bool) (command : CheckCommand) (reply : Reply) (colour : Colour) (ch : Choice)
-    → command ≡ Match (Genmove colour) → reply.ok ≡ true → choice_of_text reply.text.items ≡ Some ch
+    → IsGenmoveOf colour command → reply.ok ≡ true → choice_of_text reply.text.items ≡ Some ch
     → undone_after undone command reply ≡ undone_by undone (Genmove colour) (Some ch)
 undone_chosen undone command reply colour ch is ok said =
-    ap (λ (k : CheckCommand). undone_after undone k reply) is
+    genmove_undone undone command colour reply is
     ∙ if_true reply.ok (undone_by undone (Genmove colour) (choice_of_text reply.text.items)) undone ok
     ∙ ap (undone_by undone (Genmove colour)) said
 
@@ -112,7 +108,7 @@ chosen_right before entry reply colour ch a id ok said lawful =
       status = ok ∙ sym (ap (λ (x : Answer). x.ok) (a.given ch) ∙ choice_ok before.game colour ch);
       says =
           subst (λ (b : Bool). Says before entry.command ch b reply.text.items) (sym ok)
-          (subst (λ (k : CheckCommand). Says before k ch true reply.text.items) (sym a.command) said);
+          (genmove_says before entry.command colour ch reply.text.items a.command said);
       leaves =
           ap (λ (x : Answer). engine_with x.game (undone_after before.undone entry.command reply)
           (opinion_after before entry.command reply)) (sym (a.given ch));
@@ -155,6 +151,7 @@ vertex_holds before entry reply colour v (Wrong WrongId) a id ok said j = absurd
 vertex_holds before entry reply colour v (Wrong Unasked) a id ok said j = absurd j
 vertex_holds before entry reply colour v (Wrong NoStatus) a id ok said j = absurd j
 vertex_holds before entry reply colour v (Wrong Overlong) a id ok said j = absurd j
+vertex_holds before entry reply colour v (Wrong Unlisted) a id ok said j = absurd j
 
 no_choice : (before : RightEngine) (entry : Asked) (reply : Reply) (colour : Colour)
     → IsGenmove before entry colour → reply.ok ≡ true → choice_of_text reply.text.items ≡ None

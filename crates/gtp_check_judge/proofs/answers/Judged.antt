@@ -4,15 +4,18 @@ use Rattle.go_base.specs.Size.{IsSize}
 use Rattle.gtp_wire.specs.declared.replies.Reply.{Reply}
 use Rattle.gtp_check_judge.specs.declared.dues.Due.{Due}
 use Rattle.gtp_check_judge.specs.declared.dues.Due.TheVariants.{Succeeds, Fails, Places, Resizes, Scores, AnyReply}
-use Rattle.gtp_check_judge.specs.declared.dues.Due.TheVariants.{Chooses, MayUndo}
+use Rattle.gtp_check_judge.specs.declared.dues.Due.TheVariants.{Chooses, MayUndo, Lists}
 use Rattle.gtp_check_judge.specs.declared.judging.Judgement.{Judgement}
 use Rattle.gtp_check_judge.specs.declared.unanswered.Asked.{Asked}
 use Rattle.gtp_check_judge.specs.RightEngine.{RightEngine}
 use Rattle.gtp_check_judge.specs.Dues.{IsDue}
 use Rattle.gtp_check_judge.specs.Judging.{Judged}
 use Rattle.gtp_check_judge.specs.Judging.{are_points}
+use Rattle.gtp_check_judge.specs.Listings.{lists_required}
+use Rattle.gtp_wire.specs.Words.{reply_words}
 use Rattle.gtp_check_judge.specs.Laws.{IsAsked}
 use Rattle.gtp_check_judge.proofs.answers.Choices.{asks_of, choice_holds}
+use Rattle.gtp_check_judge.proofs.answers.Lists.{list_holds}
 use Rattle.gtp_check_judge.proofs.answers.Numbers.{any_holds, score_holds}
 use Rattle.gtp_check_judge.proofs.answers.Statuses.{HoldsOf, failure_holds, points_hold, size_holds, success_holds}
 use Rattle.gtp_check_judge.proofs.answers.Statuses.{undo_holds}
@@ -46,6 +49,10 @@ judged_holds before entry MayUndo reply got is size a id j =
     let due = subst (IsDue before entry.command) is a.is_due in
     undo_holds before entry reply reply.ok got due is
     (λ ch. due_answered before entry.id entry.command MayUndo ch size a.writable a.limits due) id refl j
+judged_holds before entry Lists reply got is size a id j =
+    let due = subst (IsDue before entry.command) is a.is_due in
+    list_holds before entry reply (lists_required (reply_words reply.text.items)) reply.ok got due is
+    (λ ch. due_answered before entry.id entry.command Lists ch size a.writable a.limits due) id refl refl j
 judged_holds before entry (Places s n) reply got is size a id j =
     let due = subst (IsDue before entry.command) is a.is_due in
     points_hold before entry reply s n reply.ok (are_points s n reply) got due is

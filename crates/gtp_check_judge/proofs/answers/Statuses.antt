@@ -7,7 +7,7 @@ use Rattle.go_base.specs.declared.vertices.Vertex.{Vertex}
 use Rattle.go_board.specs.Game.{GameRecord, with_move, without_last}
 use Rattle.gtp_check_judge.specs.declared.asking.CheckCommand.{CheckCommand}
 use Rattle.gtp_check_judge.specs.declared.asking.CheckCommand.TheVariants.{Match, FinalScore, Name, Version}
-use Rattle.gtp_check_judge.specs.declared.asking.CheckCommand.TheVariants.{KnownCommand}
+use Rattle.gtp_check_judge.specs.declared.asking.CheckCommand.TheVariants.{KnownCommand, PlayInFull, GenmoveInFull, ListCommands}
 use Rattle.go_base.specs.declared.moves.Move.{Move}
 use Rattle.gtp_wire.specs.declared.commands.Command.TheVariants.{Boardsize, Komi, ClearBoard, FixedHandicap, Play}
 use Rattle.gtp_wire.specs.declared.commands.Command.TheVariants.{Genmove, Undo, Quit}
@@ -17,7 +17,7 @@ use Rattle.gtp_session.specs.CommandAnswers.{after_command}
 use Rattle.gtp_check_judge.specs.declared.dues.Cause.{Cause}
 use Rattle.gtp_check_judge.specs.declared.dues.Due.{Due}
 use Rattle.gtp_check_judge.specs.declared.dues.Due.TheVariants.{Succeeds, Fails, Places, Resizes, Scores, AnyReply}
-use Rattle.gtp_check_judge.specs.declared.dues.Due.TheVariants.{Chooses, MayUndo}
+use Rattle.gtp_check_judge.specs.declared.dues.Due.TheVariants.{Chooses, MayUndo, Lists}
 use Rattle.gtp_check_judge.specs.declared.judging.Judgement.{Judgement}
 use Rattle.gtp_check_judge.specs.declared.judging.Judgement.TheVariants.{Right, Plays, Resized, Undone, Opines, Wrong}
 use Rattle.gtp_check_judge.specs.declared.opinions.Opinion.{Opinion}
@@ -110,6 +110,9 @@ undone_done engine FinalScore reply h ok = refl
 undone_done engine Name reply h ok = refl
 undone_done engine Version reply h ok = refl
 undone_done engine (KnownCommand k) reply h ok = refl
+undone_done engine ListCommands reply h ok = refl
+undone_done engine (PlayInFull move) reply h ok = if_true reply.ok false engine.undone ok
+undone_done engine (GenmoveInFull colour) reply h ok = absurd (cc (h.0))
 
 -- a failure leaves it
 pub undone_failed : (undone : Bool) (command : CheckCommand) (reply : Reply) → reply.ok ≡ false
@@ -119,8 +122,11 @@ undone_failed undone FinalScore reply ok = refl
 undone_failed undone Name reply ok = refl
 undone_failed undone Version reply ok = refl
 undone_failed undone (KnownCommand k) reply ok = refl
+undone_failed undone ListCommands reply ok = refl
+undone_failed undone (PlayInFull move) reply ok = if_false reply.ok _ undone ok
+undone_failed undone (GenmoveInFull colour) reply ok = if_false reply.ok _ undone ok
 
--- and so does what names points, a size, a score or any text
+-- and so does what names points, a size, a score, a list or any text
 abbrev pub IsStill : Due → Type 0
 IsStill (Places size stones) = Unit {0}
 IsStill (Resizes size) = Unit {0}
@@ -130,6 +136,7 @@ IsStill Succeeds = ⊥
 IsStill (Fails cause) = ⊥
 IsStill (Chooses colour) = ⊥
 IsStill MayUndo = ⊥
+IsStill Lists = Unit {0}
 
 play_stirs : (game : GameRecord) (move : Move) (due : Due) → PlayDue game move due → IsStill due → ⊥
 play_stirs game move (Places size stones) h still = h
@@ -140,6 +147,7 @@ play_stirs game move Succeeds h still = still
 play_stirs game move (Fails cause) h still = still
 play_stirs game move (Chooses colour) h still = still
 play_stirs game move MayUndo h still = still
+play_stirs game move Lists h still = h
 
 undo_stirs : (engine : RightEngine) (due : Due) → UndoDue engine due → IsStill due → ⊥
 undo_stirs engine (Places size stones) h still = h
@@ -150,6 +158,7 @@ undo_stirs engine Succeeds h still = still
 undo_stirs engine (Fails cause) h still = still
 undo_stirs engine (Chooses colour) h still = still
 undo_stirs engine MayUndo h still = still
+undo_stirs engine Lists h still = h
 
 pub undone_still : (engine : RightEngine) (command : CheckCommand) (due : Due) (reply : Reply)
     → IsDue engine command due → IsStill due → undone_after engine.undone command reply ≡ engine.undone
@@ -165,6 +174,9 @@ undone_still engine FinalScore due reply h still = refl
 undone_still engine Name due reply h still = refl
 undone_still engine Version due reply h still = refl
 undone_still engine (KnownCommand k) due reply h still = refl
+undone_still engine ListCommands due reply h still = refl
+undone_still engine (PlayInFull move) due reply h still = absurd (play_stirs engine.game move due h still)
+undone_still engine (GenmoveInFull colour) due reply h still = absurd (subst IsStill h.0 still)
 
 -- ---- what the engine thinks of an empty board
 
@@ -178,6 +190,7 @@ IsNoScore Succeeds = Unit {0}
 IsNoScore (Fails cause) = Unit {0}
 IsNoScore (Chooses colour) = Unit {0}
 IsNoScore MayUndo = Unit {0}
+IsNoScore Lists = Unit {0}
 
 pub opinion_kept : (engine : RightEngine) (command : CheckCommand) (due : Due) (reply : Reply)
     → IsDue engine command due → IsNoScore due → opinion_after engine command reply ≡ engine.opinion
@@ -186,6 +199,9 @@ opinion_kept engine FinalScore due reply h other = absurd (subst IsNoScore h.0 o
 opinion_kept engine Name due reply h other = refl
 opinion_kept engine Version due reply h other = refl
 opinion_kept engine (KnownCommand k) due reply h other = refl
+opinion_kept engine ListCommands due reply h other = refl
+opinion_kept engine (PlayInFull move) due reply h other = refl
+opinion_kept engine (GenmoveInFull colour) due reply h other = refl
 
 -- ---- statuses
 

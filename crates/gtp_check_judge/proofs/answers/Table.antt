@@ -1,6 +1,6 @@
 -- What is due is what the table of the engine's commands answers.
 use Rattle.std.proofs.Common.{◌≡◌, ℕ, true, false, List, length, Option, Some, refl, sym, ap, subst}
-use Rattle.std.proofs.Common.{arith}
+use Rattle.std.proofs.Common.{arith, ◌∙◌}
 use Rattle.std.specs.Prelude.{codes}
 use Rattle.go_base.specs.Size.{IsSize}
 use Rattle.go_base.specs.Vertex.{IsVertex}
@@ -20,7 +20,7 @@ use Rattle.go_board.specs.declared.faults.HandicapFault.TheVariants.{NotEmpty, B
 use Rattle.gtp_wire.specs.declared.commands.Command.{Command}
 use Rattle.gtp_check_judge.specs.declared.asking.CheckCommand.{CheckCommand}
 use Rattle.gtp_check_judge.specs.declared.asking.CheckCommand.TheVariants.{Match, FinalScore, Name, Version}
-use Rattle.gtp_check_judge.specs.declared.asking.CheckCommand.TheVariants.{KnownCommand}
+use Rattle.gtp_check_judge.specs.declared.asking.CheckCommand.TheVariants.{KnownCommand, PlayInFull, GenmoveInFull, ListCommands}
 use Rattle.gtp_wire.specs.declared.commands.Command.TheVariants.{Boardsize, Komi, ClearBoard, FixedHandicap, Play}
 use Rattle.gtp_wire.specs.declared.commands.Command.TheVariants.{Genmove, Undo, Quit}
 use Rattle.gtp_wire.specs.Commands.{IsWritable, IsInLimits}
@@ -34,12 +34,13 @@ use Rattle.gtp_session.specs.CommandAnswers.{line_of_command, after_command, Goe
 use Rattle.gtp_session.proofs.engines.Sent.{well_answer, undo_answer}
 use Rattle.gtp_check_judge.specs.declared.dues.Due.{Due}
 use Rattle.gtp_check_judge.specs.declared.dues.Due.TheVariants.{Succeeds, Fails, Places, Resizes, Scores, AnyReply}
-use Rattle.gtp_check_judge.specs.declared.dues.Due.TheVariants.{Chooses, MayUndo}
+use Rattle.gtp_check_judge.specs.declared.dues.Due.TheVariants.{Chooses, MayUndo, Lists}
 use Rattle.gtp_check_judge.specs.declared.dues.Cause.TheVariants.{BadMove, BadHandicap, NoMoves}
 use Rattle.gtp_check_judge.specs.Asking.{line_of_check, IsCheckWritable, IsCheckInLimits}
 use Rattle.gtp_check_judge.specs.RightEngine.{RightEngine}
 use Rattle.gtp_check_judge.specs.Dues.{IsDue, IsDueTo, after_check}
 use Rattle.gtp_session.specs.declared.commands.CommandName.TheVariants as name
+use Rattle.gtp_check_judge.proofs.commands.InFull.{play_answer, genmove_answer_in_full}
 use Rattle.gtp_check_judge.proofs.commands.Komis.{of_komi}
 
 -- ---- a move that is refused is not legal
@@ -77,6 +78,7 @@ AnswersTo game command (Resizes size) given = (given.ok ≡ true) × (given.game
 AnswersTo game command (Scores s k) given = (given.ok ≡ true) × (given.game ≡ game)
 AnswersTo game command AnyReply given = (given.ok ≡ true) × (given.game ≡ after_command game command)
 AnswersTo game command MayUndo given = (given.ok ≡ true) × (given.game ≡ after_command game command)
+AnswersTo game command Lists given = (given.ok ≡ true) × (given.game ≡ game)
 AnswersTo game command (Chooses colour) given = Unit {0}
 
 well : (game : GameRecord) (id : Option ℕ) (command : Command) (ch : Choice) → GoesWell game command
@@ -145,6 +147,7 @@ match_answered engine id (Boardsize size) (Fails cause) ch is w l h = absurd (cc
 match_answered engine id (Boardsize size) (Places s n) ch is w l h = absurd (cc (h.0))
 match_answered engine id (Boardsize size) (Chooses c) ch is w l h = tt
 match_answered engine id (Boardsize size) MayUndo ch is w l h = absurd (cc (h.0))
+match_answered engine id (Boardsize size) Lists ch is w l h = absurd (cc (h.0))
 match_answered engine id (Komi komi) Succeeds ch is w l h = well engine.game id (Komi komi) ch h.1
 match_answered engine id (Komi komi) (Fails cause) ch is w l h = absurd (of_komi komi (Fails cause) h.0)
 match_answered engine id (Komi komi) (Places s n) ch is w l h = absurd (of_komi komi (Places s n) h.0)
@@ -153,6 +156,7 @@ match_answered engine id (Komi komi) (Scores s k) ch is w l h = absurd (of_komi 
 match_answered engine id (Komi komi) AnyReply ch is w l h = well engine.game id (Komi komi) ch h.1
 match_answered engine id (Komi komi) (Chooses c) ch is w l h = tt
 match_answered engine id (Komi komi) MayUndo ch is w l h = absurd (of_komi komi MayUndo h.0)
+match_answered engine id (Komi komi) Lists ch is w l h = absurd (of_komi komi Lists h.0)
 match_answered engine id ClearBoard Succeeds ch is w l h = well engine.game id ClearBoard ch tt
 match_answered engine id ClearBoard (Fails cause) ch is w l h = absurd (cc h)
 match_answered engine id ClearBoard (Places s n) ch is w l h = absurd (cc h)
@@ -161,6 +165,7 @@ match_answered engine id ClearBoard (Scores s k) ch is w l h = absurd (cc h)
 match_answered engine id ClearBoard AnyReply ch is w l h = absurd (cc h)
 match_answered engine id ClearBoard (Chooses c) ch is w l h = tt
 match_answered engine id ClearBoard MayUndo ch is w l h = absurd (cc h)
+match_answered engine id ClearBoard Lists ch is w l h = absurd (cc h)
 match_answered engine id (FixedHandicap stones) (Places size count) ch is w l h =
     well engine.game id (FixedHandicap stones) ch (h.2, (h.3, is))
 match_answered engine id (FixedHandicap stones) (Fails (BadHandicap fault)) ch is w l h =
@@ -173,6 +178,7 @@ match_answered engine id (FixedHandicap stones) (Scores s k) ch is w l h = absur
 match_answered engine id (FixedHandicap stones) AnyReply ch is w l h = absurd h
 match_answered engine id (FixedHandicap stones) (Chooses c) ch is w l h = tt
 match_answered engine id (FixedHandicap stones) MayUndo ch is w l h = absurd h
+match_answered engine id (FixedHandicap stones) Lists ch is w l h = absurd h
 match_answered engine id (Play move) Succeeds ch is w l h = well engine.game id (Play move) ch (h.1, (h.0, is))
 match_answered engine id (Play move) (Fails (BadMove fault)) ch is w l h =
     refused_play engine.game id move ch l (move_unlawful engine.game move.colour move.vertex fault h)
@@ -184,6 +190,7 @@ match_answered engine id (Play move) (Scores s k) ch is w l h = absurd h
 match_answered engine id (Play move) AnyReply ch is w l h = absurd h
 match_answered engine id (Play move) (Chooses c) ch is w l h = tt
 match_answered engine id (Play move) MayUndo ch is w l h = absurd h
+match_answered engine id (Play move) Lists ch is w l h = absurd h
 match_answered engine id (Genmove colour) Succeeds ch is w l h = absurd (cc (h.0))
 match_answered engine id (Genmove colour) (Fails cause) ch is w l h = absurd (cc (h.0))
 match_answered engine id (Genmove colour) (Places s n) ch is w l h = absurd (cc (h.0))
@@ -192,10 +199,12 @@ match_answered engine id (Genmove colour) (Scores s k) ch is w l h = absurd (cc 
 match_answered engine id (Genmove colour) AnyReply ch is w l h = absurd (cc (h.0))
 match_answered engine id (Genmove colour) (Chooses c) ch is w l h = tt
 match_answered engine id (Genmove colour) MayUndo ch is w l h = absurd (cc (h.0))
+match_answered engine id (Genmove colour) Lists ch is w l h = absurd (cc (h.0))
 match_answered engine id Undo Succeeds ch is w l h =
     let e = undo_answer engine.game id ch h.1 in (ap (λ (a : Answer). a.ok) e, ap (λ (a : Answer). a.game) e)
 match_answered engine id Undo MayUndo ch is w l h =
     let e = undo_answer engine.game id ch h.1 in (ap (λ (a : Answer). a.ok) e, ap (λ (a : Answer). a.game) e)
+match_answered engine id Undo Lists ch is w l h = absurd h
 match_answered engine id Undo (Fails NoMoves) ch is w l h =
     undo_nothing engine.game id ch (ap length h)
 match_answered engine id Undo (Fails (BadMove fault)) ch is w l h = absurd h
@@ -216,25 +225,29 @@ AnswersSo game command (Resizes size) given = (given.ok ≡ true) × (given.game
 AnswersSo game command (Scores s k) given = (given.ok ≡ true) × (given.game ≡ game)
 AnswersSo game command AnyReply given = (given.ok ≡ true) × (given.game ≡ after_check game command)
 AnswersSo game command MayUndo given = (given.ok ≡ true) × (given.game ≡ after_check game command)
+AnswersSo game command Lists given = (given.ok ≡ true) × (given.game ≡ game)
 AnswersSo game command (Chooses colour) given = Unit {0}
 
-match_so : (game : GameRecord) (command : Command) (due : Due) (given : Answer) → AnswersTo game command due given
-    → AnswersSo game (Match command) due given
-match_so game command Succeeds given h = h
-match_so game command (Places size stones) given h = h
-match_so game command (Fails cause) given h = h
-match_so game command (Resizes size) given h = h
-match_so game command (Scores s k) given h = h
-match_so game command AnyReply given h = h
-match_so game command MayUndo given h = h
-match_so game command (Chooses colour) given h = h
+-- the command is of a match, or does the same
+match_so : (game : GameRecord) (command : Command) (check : CheckCommand) (due : Due) (given : Answer)
+    → after_check game check ≡ after_command game command → AnswersTo game command due given
+    → AnswersSo game check due given
+match_so game command check Succeeds given same h = (h.0, h.1 ∙ sym same)
+match_so game command check (Places size stones) given same h = (h.0, h.1 ∙ sym same)
+match_so game command check (Fails cause) given same h = h
+match_so game command check (Resizes size) given same h = (h.0, h.1 ∙ sym same)
+match_so game command check (Scores s k) given same h = h
+match_so game command check AnyReply given same h = (h.0, h.1 ∙ sym same)
+match_so game command check MayUndo given same h = (h.0, h.1 ∙ sym same)
+match_so game command check Lists given same h = h
+match_so game command check (Chooses colour) given same h = h
 
 pub due_answered : (engine : RightEngine) (id : ℕ) (command : CheckCommand) (due : Due) (ch : Choice)
     → IsSize engine.game.size
     → IsCheckWritable command → IsCheckInLimits command → IsDue engine command due
     → AnswersSo engine.game command due (answer engine.game (line_of_check id command) ch)
 due_answered engine id (Match command) due ch is w l h =
-    match_so engine.game command due (answer engine.game (line_of_command (Some id) command) ch)
+    match_so engine.game command (Match command) due (answer engine.game (line_of_command (Some id) command) ch) refl
     (match_answered engine (Some id) command due ch is w l h)
 due_answered engine id FinalScore due ch is w l h =
     subst (λ (d : Due). AnswersSo engine.game FinalScore d (answer engine.game (line_of_check id FinalScore) ch))
@@ -250,3 +263,16 @@ due_answered engine id (KnownCommand k) due ch is w l h =
     subst (λ (d : Due). AnswersSo engine.game (KnownCommand k) d (answer engine.game (line_of_check id
     (KnownCommand k)) ch)) (sym h)
     (refl, refl)
+due_answered engine id ListCommands due ch is w l h =
+    subst (λ (d : Due). AnswersSo engine.game ListCommands d (answer engine.game (line_of_check id
+    ListCommands) ch)) (sym h)
+    (refl, refl)
+due_answered engine id (PlayInFull move) due ch is w l h =
+    subst (AnswersSo engine.game (PlayInFull move) due) (sym (play_answer engine.game id move ch))
+    (match_so engine.game (Play move) (PlayInFull move) due (answer engine.game (line_of_command (Some id) (Play move)) ch)
+    refl (match_answered engine (Some id) (Play move) due ch is w l h))
+due_answered engine id (GenmoveInFull colour) due ch is w l h =
+    subst (AnswersSo engine.game (GenmoveInFull colour) due) (sym (genmove_answer_in_full engine.game id colour ch))
+    (match_so engine.game (Genmove colour) (GenmoveInFull colour) due
+    (answer engine.game (line_of_command (Some id) (Genmove colour)) ch) refl
+    (match_answered engine (Some id) (Genmove colour) due ch is w l h))

@@ -1,6 +1,6 @@
 -- What the text of a right answer has to say.
 use Rattle.std.proofs.Common.{◌≡◌, ℕ, length, arith, ◌∙◌, Bool, true, false, List, Option, Some, None, refl, sym, ap}
-use Rattle.std.proofs.Common.{subst}
+use Rattle.std.proofs.Common.{subst, inl, inr}
 use Rattle.std.specs.Prelude.{IfSome, ℤ}
 use Rattle.go_base.specs.Handicap.{handicap_points}
 use Rattle.go_base.specs.declared.colours.Colour.{Colour}
@@ -9,7 +9,7 @@ use Rattle.go_board.specs.Game.{GameRecord, HasRoom}
 use Rattle.gtp_wire.specs.declared.commands.Command.{Command}
 use Rattle.gtp_check_judge.specs.declared.asking.CheckCommand.{CheckCommand}
 use Rattle.gtp_check_judge.specs.declared.asking.CheckCommand.TheVariants.{Match, FinalScore, Name, Version}
-use Rattle.gtp_check_judge.specs.declared.asking.CheckCommand.TheVariants.{KnownCommand}
+use Rattle.gtp_check_judge.specs.declared.asking.CheckCommand.TheVariants.{KnownCommand, PlayInFull, GenmoveInFull, ListCommands}
 use Rattle.gtp_wire.specs.declared.commands.Command.TheVariants.{Boardsize, Komi, ClearBoard, FixedHandicap, Play}
 use Rattle.gtp_wire.specs.declared.commands.Command.TheVariants.{Genmove, Undo, Quit}
 use Rattle.gtp_wire.specs.Words.{reply_words}
@@ -17,8 +17,9 @@ use Rattle.gtp_session.specs.Policy.{IsLawful}
 use Rattle.gtp_check_judge.specs.declared.dues.Cause.TheVariants.{BadMove, BadHandicap, NoMoves}
 use Rattle.gtp_check_judge.specs.declared.dues.Due.{Due}
 use Rattle.gtp_check_judge.specs.declared.dues.Due.TheVariants.{Succeeds, Fails, Places, Resizes, Scores, AnyReply}
-use Rattle.gtp_check_judge.specs.declared.dues.Due.TheVariants.{Chooses, MayUndo}
+use Rattle.gtp_check_judge.specs.declared.dues.Due.TheVariants.{Chooses, MayUndo, Lists}
 use Rattle.gtp_wire.specs.ReplyWords.{names_points}
+use Rattle.gtp_check_judge.specs.Asking.{IsGenmoveOf}
 use Rattle.gtp_check_judge.specs.RightEngine.{RightEngine}
 use Rattle.gtp_check_judge.specs.Dues.{IsDue, IsDueTo, IsFresh, UndoDue, engine_after}
 use Rattle.gtp_check_judge.specs.Laws.{Says, SaysTo, MayFailToUndo, MayRefuse, after_refusal}
@@ -44,6 +45,9 @@ says_success engine FinalScore ch ok text h = absurd (cc (h.0))
 says_success engine Name ch ok text h = tt
 says_success engine Version ch ok text h = tt
 says_success engine (KnownCommand k) ch ok text h = tt
+says_success engine ListCommands ch ok text h = absurd (cc h)
+says_success engine (PlayInFull move) ch ok text h = says_success_to engine (Play move) ch ok text h
+says_success engine (GenmoveInFull colour) ch ok text h = says_success_to engine (Genmove colour) ch ok text h
 
 -- nor does a failure
 says_failure_to : (game : GameRecord) (command : Command) (ch : Choice) (text : List ℕ)
@@ -64,6 +68,9 @@ says_failure engine FinalScore ch text = tt
 says_failure engine Name ch text = tt
 says_failure engine Version ch text = tt
 says_failure engine (KnownCommand k) ch text = tt
+says_failure engine ListCommands ch text = tt
+says_failure engine (PlayInFull move) ch text = says_failure_to engine.game (Play move) ch text
+says_failure engine (GenmoveInFull colour) ch text = says_failure_to engine.game (Genmove colour) ch text
 
 -- the points of a handicap that are due are those that the text has to name
 says_points_to : (engine : RightEngine) (command : Command) (size stones : ℕ) (ch : Choice) (text : List ℕ)
@@ -89,6 +96,11 @@ says_points engine FinalScore size stones ch text h named = absurd (cc (h.0))
 says_points engine Name size stones ch text h named = absurd (cc h)
 says_points engine Version size stones ch text h named = absurd (cc h)
 says_points engine (KnownCommand k) size stones ch text h named = absurd (cc h)
+says_points engine ListCommands size stones ch text h named = absurd (cc h)
+says_points engine (PlayInFull move) size stones ch text h named =
+    says_points_to engine (Play move) size stones ch text h named
+says_points engine (GenmoveInFull colour) size stones ch text h named =
+    says_points_to engine (Genmove colour) size stones ch text h named
 
 points_said_to : (engine : RightEngine) (command : Command) (size stones : ℕ) (ch : Choice) (text : List ℕ)
     → IsDueTo engine command (Places size stones)
@@ -112,6 +124,9 @@ points_said engine FinalScore size stones ch text h said = absurd (cc (h.0))
 points_said engine Name size stones ch text h said = absurd (cc h)
 points_said engine Version size stones ch text h said = absurd (cc h)
 points_said engine (KnownCommand k) size stones ch text h said = absurd (cc h)
+points_said engine ListCommands size stones ch text h said = absurd (cc h)
+points_said engine (PlayInFull move) size stones ch text h said = points_said_to engine (Play move) size stones ch text h said
+points_said engine (GenmoveInFull colour) size stones ch text h said = points_said_to engine (Genmove colour) size stones ch text h said
 
 -- a choice is due to a `genmove` of that colour alone, where the record has room
 chooses_genmove_to : (engine : RightEngine) (command : Command) (colour : Colour)
@@ -127,13 +142,17 @@ chooses_genmove_to engine Undo colour h = absurd h
 chooses_genmove_to engine Quit colour h = absurd h
 
 pub chooses_genmove : (engine : RightEngine) (command : CheckCommand) (colour : Colour)
-    → IsDue engine command (Chooses colour) → (command ≡ Match (Genmove colour)) × HasRoom engine.game
+    → IsDue engine command (Chooses colour) → IsGenmoveOf colour command × HasRoom engine.game
 chooses_genmove engine (Match command) colour h =
-    let is = chooses_genmove_to engine command colour h in (ap Match is.0, is.1)
+    let is = chooses_genmove_to engine command colour h in (inl (ap Match is.0), is.1)
 chooses_genmove engine FinalScore colour h = absurd (cc (h.0))
 chooses_genmove engine Name colour h = absurd (cc h)
 chooses_genmove engine Version colour h = absurd (cc h)
 chooses_genmove engine (KnownCommand k) colour h = absurd (cc h)
+chooses_genmove engine ListCommands colour h = absurd (cc h)
+chooses_genmove engine (PlayInFull move) colour h = absurd h
+chooses_genmove engine (GenmoveInFull c) colour h =
+    (let e : c ≡ colour = cc (h.0) in inr (ap GenmoveInFull e), h.1)
 
 pub resign_lawful : (game : GameRecord) (o : Option Colour) → IfSome o (λ c. IsLawful game c choice.Resign)
 resign_lawful game None = tt
@@ -158,6 +177,9 @@ resizes_boardsize engine FinalScore size h = absurd (cc (h.0))
 resizes_boardsize engine Name size h = absurd (cc h)
 resizes_boardsize engine Version size h = absurd (cc h)
 resizes_boardsize engine (KnownCommand k) size h = absurd (cc h)
+resizes_boardsize engine ListCommands size h = absurd (cc h)
+resizes_boardsize engine (PlayInFull move) size h = absurd h
+resizes_boardsize engine (GenmoveInFull colour) size h = absurd (cc (h.0))
 
 -- and where an `undo` may fail, to an `undo` alone
 pub undos_undo : (engine : RightEngine) (command : CheckCommand) → IsDue engine command MayUndo
@@ -174,6 +196,9 @@ undos_undo engine FinalScore h = absurd (cc (h.0))
 undos_undo engine Name h = absurd (cc h)
 undos_undo engine Version h = absurd (cc h)
 undos_undo engine (KnownCommand k) h = absurd (cc h)
+undos_undo engine ListCommands h = absurd (cc h)
+undos_undo engine (PlayInFull move) h = absurd h
+undos_undo engine (GenmoveInFull colour) h = absurd (cc (h.0))
 
 -- a score is due to a `final_score` alone, and it is one of the empty board
 pub record IsScored (engine : RightEngine) (command : CheckCommand) (size : ℕ) (komi : ℤ) : Type 0 where
@@ -197,6 +222,30 @@ scores_final engine FinalScore s k h =
 scores_final engine Name s k h = absurd (cc h)
 scores_final engine Version s k h = absurd (cc h)
 scores_final engine (KnownCommand known) s k h = absurd (cc h)
+scores_final engine ListCommands s k h = absurd (cc h)
+scores_final engine (PlayInFull move) s k h = absurd h
+scores_final engine (GenmoveInFull colour) s k h = absurd (cc (h.0))
+
+-- a list is due to a `list_commands` alone
+lists_list_to : (engine : RightEngine) (command : Command) → IsDueTo engine command Lists → ⊥
+lists_list_to engine (Boardsize size) h = cc (h.0)
+lists_list_to engine (Komi komi) h = of_komi komi Lists h.0
+lists_list_to engine ClearBoard h = cc h
+lists_list_to engine (FixedHandicap stones) h = h
+lists_list_to engine (Play move) h = h
+lists_list_to engine (Genmove colour) h = cc (h.0)
+lists_list_to engine Undo h = h
+lists_list_to engine Quit h = h
+
+pub lists_list : (engine : RightEngine) (command : CheckCommand) → IsDue engine command Lists → command ≡ ListCommands
+lists_list engine (Match command) h = absurd (lists_list_to engine command h)
+lists_list engine FinalScore h = absurd (cc (h.0))
+lists_list engine Name h = absurd (cc h)
+lists_list engine Version h = absurd (cc h)
+lists_list engine (KnownCommand known) h = absurd (cc h)
+lists_list engine ListCommands h = refl
+lists_list engine (PlayInFull move) h = absurd h
+lists_list engine (GenmoveInFull colour) h = absurd (cc (h.0))
 
 -- what may be refused, and what may say anything
 pub any_free : (engine : RightEngine) (command : CheckCommand) → IsDue engine command AnyReply
@@ -213,6 +262,9 @@ any_free engine FinalScore h = absurd (cc (h.0))
 any_free engine Name h = tt
 any_free engine Version h = tt
 any_free engine (KnownCommand k) h = tt
+any_free engine ListCommands h = absurd (cc h)
+any_free engine (PlayInFull move) h = absurd h
+any_free engine (GenmoveInFull colour) h = absurd (cc (h.0))
 
 pub any_refused : (engine : RightEngine) (command : CheckCommand) → IsDue engine command AnyReply
     → engine_after engine command AnyReply ≡ after_refusal engine command
@@ -228,6 +280,9 @@ any_refused engine FinalScore h = absurd (cc (h.0))
 any_refused engine Name h = refl
 any_refused engine Version h = refl
 any_refused engine (KnownCommand k) h = refl
+any_refused engine ListCommands h = absurd (cc h)
+any_refused engine (PlayInFull move) h = absurd h
+any_refused engine (GenmoveInFull colour) h = absurd (cc (h.0))
 
 pub says_anything : (engine : RightEngine) (command : CheckCommand) (ch : Choice) (ok : Bool) (text : List ℕ)
     → IsDue engine command AnyReply → Says engine command ch ok text
@@ -243,6 +298,9 @@ says_anything engine FinalScore ch ok text h = absurd (cc (h.0))
 says_anything engine Name ch ok text h = tt
 says_anything engine Version ch ok text h = tt
 says_anything engine (KnownCommand k) ch ok text h = tt
+says_anything engine ListCommands ch ok text h = absurd (cc h)
+says_anything engine (PlayInFull move) ch ok text h = absurd h
+says_anything engine (GenmoveInFull colour) ch ok text h = absurd (cc (h.0))
 
 -- A right engine may refuse it: then a size is due, a score, an `undo` that may fail, or any text.
 abbrev pub MayFail : Due → Type 0
@@ -253,10 +311,12 @@ MayFail MayUndo = Unit {0}
 MayFail Succeeds = ⊥
 MayFail (Fails cause) = ⊥
 MayFail (Places size stones) = ⊥
+MayFail Lists = ⊥
 MayFail (Chooses colour) = ⊥
 
 undo_fails : (engine : RightEngine) (due : Due) → MayFailToUndo engine → UndoDue engine due → MayFail due
 undo_fails engine MayUndo may h = tt
+undo_fails engine Lists may h = absurd h
 undo_fails engine Succeeds may h = absurd (let e : true ≡ false = sym may.undone ∙ h.0 in cc e)
 undo_fails engine (Fails NoMoves) may h =
     absurd (let none : length engine.game.moves ≡ 0 = ap length h in omega (arith, may.moves, none))
@@ -283,3 +343,6 @@ free_fails engine FinalScore due may h = subst MayFail (sym h.0) tt
 free_fails engine Name due may h = subst MayFail (sym h) tt
 free_fails engine Version due may h = subst MayFail (sym h) tt
 free_fails engine (KnownCommand k) due may h = subst MayFail (sym h) tt
+free_fails engine ListCommands due may h = absurd may
+free_fails engine (PlayInFull move) due may h = absurd may
+free_fails engine (GenmoveInFull colour) due may h = absurd may

@@ -5,7 +5,7 @@ use Rattle.gtp_wire.specs.declared.commands.Command.TheVariants.{FixedHandicap}
 use Rattle.gtp_check_judge.specs.declared.asking.CheckCommand.TheVariants.{Match}
 use Rattle.gtp_check_judge.specs.declared.dues.Due.{Due}
 use Rattle.gtp_check_judge.specs.declared.dues.Due.TheVariants.{Succeeds, Fails, Places, Resizes, Scores, AnyReply}
-use Rattle.gtp_check_judge.specs.declared.dues.Due.TheVariants.{Chooses, MayUndo}
+use Rattle.gtp_check_judge.specs.declared.dues.Due.TheVariants.{Chooses, MayUndo, Lists}
 use Rattle.gtp_check_judge.specs.declared.dues.Cause.TheVariants.{BadMove, BadHandicap, NoMoves}
 use Rattle.gtp_check_judge.specs.declared.unanswered.Asked.{Asked}
 use Rattle.gtp_check_judge.specs.declared.exam.Exam.{Exam}
@@ -26,6 +26,7 @@ due_of game stones (Scores s k) asked is h = absurd h
 due_of game stones AnyReply asked is h = absurd h
 due_of game stones (Chooses colour) asked is h = absurd h
 due_of game stones MayUndo asked is h = absurd h
+due_of game stones Lists asked is h = absurd h
 
 pub placed_or_probe : HandicapsArePlacedOrProbes
 placed_or_probe old new stones asks =

@@ -5,7 +5,7 @@ use Rattle.std.proofs.lemmas.Bool.Decides.{nat_tests}
 use Rattle.std.proofs.lemmas.Int.{ints}
 use Rattle.gtp_check_judge.specs.declared.dues.Due.{Due}
 use Rattle.gtp_check_judge.specs.declared.dues.Due.TheVariants.{Succeeds, Fails, Places, Resizes, Scores, AnyReply}
-use Rattle.gtp_check_judge.specs.declared.dues.Due.TheVariants.{Chooses, MayUndo}
+use Rattle.gtp_check_judge.specs.declared.dues.Due.TheVariants.{Chooses, MayUndo, Lists}
 use Rattle.gtp_check_judge.specs.Dues.{komi_due}
 use Rattle.gtp_check_judge.specs.Judging.{is_open}
 use Rattle.gtp_check_judge.specs.Komis.{is_exact_komi, HasToBeTaken}
@@ -32,6 +32,7 @@ OfKomi (Resizes size) = ⊥
 OfKomi (Scores s k) = ⊥
 OfKomi (Chooses colour) = ⊥
 OfKomi MayUndo = ⊥
+OfKomi Lists = ⊥
 
 pub of_komi : (komi : ℤ) (due : Due) → due ≡ komi_due komi → OfKomi due
 of_komi komi due h = by (komi_dues komi due h)

@@ -5,17 +5,23 @@ use Rattle.std.specs.Prelude.{codes}
 use Rattle.std.specs.List.{join_with_byte}
 use Rattle.std.proofs.lemmas.Fmt.{length-decimal-le}
 use Rattle.go_base.specs.Int.{most_int, int_of, written_int}
+use Rattle.go_base.specs.Point.{row_of}
+use Rattle.go_base.specs.Vertex.{IsVertex, written_vertex}
+use Rattle.go_base.specs.declared.colours.Colour.{Colour}
+use Rattle.go_base.specs.declared.colours.Colour.TheVariants.{Black, White}
+use Rattle.go_base.specs.declared.vertices.Vertex.{Vertex}
+use Rattle.go_base.specs.declared.vertices.Vertex.TheVariants.{Pass, At}
 use Rattle.gtp_wire.specs.declared.lines.Line.{Line}
 use Rattle.gtp_wire.specs.Words.{id_words}
 use Rattle.gtp_wire.specs.Lines.{lines}
-use Rattle.gtp_wire.proofs.written.OneLine.{AreWords, one_word, words_are_read}
-use Rattle.gtp_wire.proofs.written.CommandWords.{commands_are_lines}
+use Rattle.gtp_wire.proofs.written.OneLine.{AreWords, IsWord, one_word, words_are_read}
+use Rattle.gtp_wire.proofs.written.CommandWords.{commands_are_lines, vertex_word}
 use Rattle.gtp_wire.proofs.line_reading.OneAfterOther.{lines_anew}
 use Rattle.gtp_check_judge.specs.declared.asking.Known.{Known}
 use Rattle.gtp_check_judge.specs.declared.asking.CheckCommand.{CheckCommand}
 use Rattle.gtp_check_judge.specs.declared.asking.CheckCommand.TheVariants.{Match, FinalScore, Name, Version}
-use Rattle.gtp_check_judge.specs.declared.asking.CheckCommand.TheVariants.{KnownCommand}
-use Rattle.gtp_check_judge.specs.Asking.{known_name, written_check, line_of_check, IsCheckWritable, IsCheckInLimits}
+use Rattle.gtp_check_judge.specs.declared.asking.CheckCommand.TheVariants.{KnownCommand, PlayInFull, GenmoveInFull, ListCommands}
+use Rattle.gtp_check_judge.specs.Asking.{colour_in_full, known_name, written_check, line_of_check, IsCheckWritable, IsCheckInLimits}
 use Rattle.gtp_check_judge.specs.declared.exam.Exam.{Exam}
 use Rattle.gtp_check_judge.specs.Exam.{Asks}
 use Rattle.gtp_check_judge.specs.Exam.{HasRoomFor}
@@ -52,6 +58,24 @@ known_short known.FixedHandicap = omega arith
 known_short known.Undo = omega arith
 known_short known.FinalScore = omega arith
 
+full_word : (c : Colour) → IsWord (colour_in_full c)
+full_word Black = one_word (codes "black") refl
+full_word White = one_word (codes "white") refl
+
+vertex_short : (v : Vertex) → IsVertex v → length (written_vertex v) ≤ 20
+vertex_short Pass on = omega arith
+vertex_short (At p) on =
+    omega (arith, length-decimal-le 2 (row_of p) (omega arith) (omega (arith, on.top)) (omega (arith, on.top)))
+
+play_short : (c : Colour) (v : Vertex) → IsVertex v
+    → length (join_with_byte 32 (codes "play" ∷ colour_in_full c ∷ written_vertex v ∷ [])) ≤ 40
+play_short Black v on = omega (arith, vertex_short v on)
+play_short White v on = omega (arith, vertex_short v on)
+
+genmove_short : (c : Colour) → length (join_with_byte 32 (codes "genmove" ∷ colour_in_full c ∷ [])) ≤ 40
+genmove_short Black = omega arith
+genmove_short White = omega arith
+
 pub checks_are_lines : (id : ℕ) (command : CheckCommand) (later : List ℕ) → id ≤ most_int → IsCheckWritable command
     → IsCheckInLimits command → lines (written_check id command ++ later) ≡ line_of_check id command ∷ lines later
 checks_are_lines id (Match command) later fits w l = commands_are_lines (Some id) command later fits w l
@@ -63,6 +87,15 @@ checks_are_lines id Version later fits w l =
     words_are_lines id (codes "version") [] later fits refl (one_word (codes "version") refl, tt) (omega arith)
 checks_are_lines id (KnownCommand k) later fits w l =
     words_are_lines id (codes "known_command") (known_name k ∷ []) later fits refl (known_words k) (known_short k)
+checks_are_lines id ListCommands later fits w l =
+    words_are_lines id (codes "list_commands") [] later fits refl (one_word (codes "list_commands") refl, tt) (omega arith)
+checks_are_lines id (PlayInFull move) later fits w l =
+    words_are_lines id (codes "play") (colour_in_full move.colour ∷ written_vertex move.vertex ∷ []) later fits refl
+    (one_word (codes "play") refl, (full_word move.colour, (vertex_word move.vertex l, tt)))
+    (play_short move.colour move.vertex l)
+checks_are_lines id (GenmoveInFull colour) later fits w l =
+    words_are_lines id (codes "genmove") (colour_in_full colour ∷ []) later fits refl
+    (one_word (codes "genmove") refl, (full_word colour, tt)) (genmove_short colour)
 
 pub asked_line : (old new : Exam) (command : CheckCommand) (later : List ℕ) → HasRoomFor old command
     → Asks old command new

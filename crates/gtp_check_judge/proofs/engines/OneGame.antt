@@ -15,6 +15,7 @@ use Rattle.gtp_check_judge.specs.Laws.{line_of_asked, Says, IsByTable, IsRefusal
 use Rattle.gtp_check_judge.specs.RightEngine.{RightEngine, undone_after, opinion_after}
 use Rattle.gtp_check_judge.specs.Laws.{Exchange, AllRight}
 use Rattle.gtp_check_judge.proofs.answers.Statuses.{engine_with}
+use Rattle.gtp_check_judge.proofs.commands.InFull.{genmove_said}
 use Rattle.gtp_check_judge.proofs.engines.Says.{asked_genmove, choice_succeeds, never_refused}
 
 -- ---- right answers, from the first on
@@ -55,10 +56,10 @@ tabled_game before entry reply a b x y = by (asked before.game (line_of_asked en
         ∙ ap (λ (given : Answer). given.ok) (answer-asked before.game (line_of_asked entry) x.choice colour e)
         ∙ choice_succeeds before.game colour x.choice in
         let one : choice_of_text reply.text.items ≡ Some x.choice =
-        subst (λ (k : CheckCommand). Says before k x.choice true reply.text.items) command.1
+        genmove_said before entry.command command.0 x.choice reply.text.items command.1
         (subst (λ (s : Bool). Says before entry.command x.choice s reply.text.items) ok x.says) in
         let two : choice_of_text reply.text.items ≡ Some y.choice =
-        subst (λ (k : CheckCommand). Says before k y.choice true reply.text.items) command.1
+        genmove_said before entry.command command.0 y.choice reply.text.items command.1
         (subst (λ (s : Bool). Says before entry.command y.choice s reply.text.items) ok y.says) in
         let both : Some x.choice ≡ Some y.choice = sym one ∙ two in
         let same : x.choice ≡ y.choice = cc both in

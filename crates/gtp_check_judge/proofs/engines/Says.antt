@@ -1,6 +1,6 @@
 -- What an engine answers says what it has to.
 use Rattle.std.proofs.Common.{◌≡◌, ℕ, ◌≤◌, Bool, true, false, List, Option, Some}
-use Rattle.std.proofs.Common.{None, refl, sym, ◌∙◌, ap, subst, arith}
+use Rattle.std.proofs.Common.{None, refl, sym, ◌∙◌, ap, subst, arith, inl, inr}
 use Rattle.std.specs.Prelude.{IfSome, All}
 use Rattle.go_base.specs.Handicap.{AllowsHandicap, handicap_points}
 use Rattle.go_base.specs.Point.{IsOn}
@@ -13,7 +13,7 @@ use Rattle.go_board.specs.Game.{GameRecord}
 use Rattle.gtp_wire.specs.declared.commands.Command.{Command}
 use Rattle.gtp_check_judge.specs.declared.asking.CheckCommand.{CheckCommand}
 use Rattle.gtp_check_judge.specs.declared.asking.CheckCommand.TheVariants.{Match, FinalScore, Name, Version}
-use Rattle.gtp_check_judge.specs.declared.asking.CheckCommand.TheVariants.{KnownCommand}
+use Rattle.gtp_check_judge.specs.declared.asking.CheckCommand.TheVariants.{KnownCommand, PlayInFull, GenmoveInFull, ListCommands}
 use Rattle.gtp_wire.specs.declared.commands.Command.TheVariants.{Boardsize, Komi, ClearBoard, FixedHandicap, Play}
 use Rattle.gtp_wire.specs.declared.commands.Command.TheVariants.{Genmove, Undo, Quit}
 use Rattle.gtp_wire.specs.declared.replies.Reply.{Reply}
@@ -41,7 +41,11 @@ use Rattle.std.specs.Prelude.{if◌then◌else◌}
 use Rattle.gtp_wire.proofs.texts.ReadBack.{vertex_is_read, resign_is_read, points_are_named}
 use Rattle.go_base.specs.declared.choices.Choice.TheVariants as choice
 use Rattle.gtp_check_judge.specs.declared.dues.Due.TheVariants as due
+use Rattle.gtp_check_judge.specs.Asking.{IsGenmoveOf}
+use Rattle.go_base.specs.declared.colours.Colour.TheVariants.{Black, White}
 use Rattle.gtp_check_judge.proofs.answers.Table.{match_answered}
+use Rattle.gtp_check_judge.proofs.commands.InFull.{genmove_said}
+use Rattle.gtp_check_judge.proofs.engines.ListOfCommands.{all_listed}
 use Rattle.gtp_check_judge.proofs.scoring.Even.{IsEven, even_said, even_says, even_then}
 
 on_largest : (size : ℕ) (points : List ℕ) → size ≤ most_size → All (IsOn size) points → All (IsOn most_size) points
@@ -72,7 +76,7 @@ says_choice game colour ch most lawful =
 
 -- the colour that is asked for is the one of a `genmove`
 pub asked_genmove : (game : GameRecord) (id : ℕ) (command : CheckCommand) (colour : Colour)
-    → asked game (line_of_check id command) ≡ Some colour → (c : Colour) × (command ≡ Match (Genmove c))
+    → asked game (line_of_check id command) ≡ Some colour → (c : Colour) × IsGenmoveOf c command
 asked_genmove game id FinalScore colour e = absurd (cc e)
 asked_genmove game id Name colour e = absurd (cc e)
 asked_genmove game id Version colour e = absurd (cc e)
@@ -82,9 +86,12 @@ asked_genmove game id (Match (Komi komi)) colour e = absurd (cc e)
 asked_genmove game id (Match ClearBoard) colour e = absurd (cc e)
 asked_genmove game id (Match (FixedHandicap stones)) colour e = absurd (cc e)
 asked_genmove game id (Match (Play move)) colour e = absurd (cc e)
-asked_genmove game id (Match (Genmove c)) colour e = (c, refl)
+asked_genmove game id (Match (Genmove c)) colour e = (c, inl refl)
 asked_genmove game id (Match Undo) colour e = absurd (cc e)
 asked_genmove game id (Match Quit) colour e = absurd (cc e)
+asked_genmove game id ListCommands colour e = absurd (cc e)
+asked_genmove game id (PlayInFull move) colour e = absurd (cc e)
+asked_genmove game id (GenmoveInFull c) colour e = (c, inr refl)
 
 -- an answer by the table that an engine gave leaves the engine's game
 tabled_after : (before : RightEngine) (entry : Asked) (reply : Reply) (after : RightEngine) (ch : Choice)
@@ -110,7 +117,7 @@ tabled_after before entry reply after ch size lawful right is = by (asked before
         let ok : reply.ok ≡ true =
         ap (λ (r : Reply). r.ok) is ∙ ap (λ (a : Answer). a.ok) given ∙ choice_succeeds before.game colour ch in
         let said : choice_of_text reply.text.items ≡ Some right.choice =
-        subst (λ (k : CheckCommand). Says before k right.choice true reply.text.items) command.1
+        genmove_said before entry.command command.0 right.choice reply.text.items command.1
         (subst (λ (b : Bool). Says before entry.command right.choice b reply.text.items) ok right.says) in
         let both : Some right.choice ≡ Some ch =
         sym said ∙ ap choice_of_text text ∙ choice_is_read before.game colour ch size.most fair in
@@ -136,6 +143,9 @@ never_refused engine id FinalScore ch may limits = refl
 never_refused engine id Name ch may limits = refl
 never_refused engine id Version ch may limits = refl
 never_refused engine id (KnownCommand k) ch may limits = refl
+never_refused engine id ListCommands ch may limits = absurd may
+never_refused engine id (PlayInFull move) ch may limits = absurd may
+never_refused engine id (GenmoveInFull colour) ch may limits = absurd may
 
 -- a right answer that an engine gave leaves the engine's game
 pub one_after : (before : RightEngine) (entry : Asked) (reply : Reply) (after : RightEngine) (ch : Choice)
@@ -172,6 +182,9 @@ tabled_even before entry reply ch (Match command) e is even = even
 tabled_even before entry reply ch Name e is even = even
 tabled_even before entry reply ch Version e is even = even
 tabled_even before entry reply ch (KnownCommand k) e is even = even
+tabled_even before entry reply ch ListCommands e is even = even
+tabled_even before entry reply ch (PlayInFull move) e is even = even
+tabled_even before entry reply ch (GenmoveInFull colour) e is even = even
 tabled_even before entry reply ch FinalScore e is even = by reply.ok
   where
     text : reply.text.items ≡ score_text (score before.game)
@@ -234,6 +247,7 @@ match_says engine id (FixedHandicap stones) (Scores s k) ch is w l h lawful = ab
 match_says engine id (FixedHandicap stones) due.AnyReply ch is w l h lawful = absurd h
 match_says engine id (FixedHandicap stones) (Chooses c) ch is w l h lawful = absurd h
 match_says engine id (FixedHandicap stones) due.MayUndo ch is w l h lawful = absurd h
+match_says engine id (FixedHandicap stones) due.Lists ch is w l h lawful = absurd h
 match_says engine id (Play move) due ch is w l h lawful = tt
 match_says engine id (Genmove colour) due ch is w l h lawful =
     by (asked engine.game (line_of_command id (Genmove colour))) refl
@@ -263,3 +277,9 @@ engine_says engine id FinalScore due ch is w l h lawful even = even_says engine 
 engine_says engine id Name due ch is w l h lawful even = tt
 engine_says engine id Version due ch is w l h lawful even = tt
 engine_says engine id (KnownCommand k) due ch is w l h lawful even = tt
+engine_says engine id ListCommands due ch is w l h lawful even = all_listed
+engine_says engine id (PlayInFull move) due ch is w l h lawful even = tt
+engine_says engine id (GenmoveInFull Black) due ch is w l h lawful even =
+    match_says engine (Some id) (Genmove Black) due ch is w l h lawful
+engine_says engine id (GenmoveInFull White) due ch is w l h lawful even =
+    match_says engine (Some id) (Genmove White) due ch is w l h lawful

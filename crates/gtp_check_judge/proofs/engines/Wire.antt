@@ -10,7 +10,7 @@ use Rattle.go_board.specs.Game.{GameRecord}
 use Rattle.go_board.specs.declared.rules.KoRule.{KoRule}
 use Rattle.gtp_check_judge.specs.declared.asking.CheckCommand.{CheckCommand}
 use Rattle.gtp_check_judge.specs.declared.asking.CheckCommand.TheVariants.{Match, FinalScore, Name, Version}
-use Rattle.gtp_check_judge.specs.declared.asking.CheckCommand.TheVariants.{KnownCommand}
+use Rattle.gtp_check_judge.specs.declared.asking.CheckCommand.TheVariants.{KnownCommand, PlayInFull, GenmoveInFull, ListCommands}
 use Rattle.gtp_wire.specs.declared.commands.Command.TheVariants.{Boardsize, Komi, ClearBoard, FixedHandicap, Play}
 use Rattle.gtp_wire.specs.declared.commands.Command.TheVariants.{Genmove, Undo, Quit}
 use Rattle.gtp_wire.specs.declared.lines.Line.{Line}
@@ -53,6 +53,9 @@ goes game id (Match (Play move)) may = refl
 goes game id (Match (Genmove colour)) may = refl
 goes game id (Match Undo) may = refl
 goes game id (Match Quit) may = absurd may
+goes game id ListCommands may = refl
+goes game id (PlayInFull move) may = refl
+goes game id (GenmoveInFull colour) may = refl
 
 abbrev pub bytes_of : List Asked → List ℕ
 bytes_of [] = []

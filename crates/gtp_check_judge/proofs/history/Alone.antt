@@ -8,7 +8,7 @@ use Rattle.gtp_check_judge.specs.declared.asking.CheckCommand.{CheckCommand}
 use Rattle.gtp_check_judge.specs.declared.asking.CheckCommand.TheVariants.{Match}
 use Rattle.gtp_check_judge.specs.declared.dues.Due.{Due}
 use Rattle.gtp_check_judge.specs.declared.dues.Due.TheVariants.{Succeeds, Fails, Places, Resizes, Scores, AnyReply}
-use Rattle.gtp_check_judge.specs.declared.dues.Due.TheVariants.{Chooses, MayUndo}
+use Rattle.gtp_check_judge.specs.declared.dues.Due.TheVariants.{Chooses, MayUndo, Lists}
 use Rattle.gtp_check_judge.specs.declared.unanswered.Asked.{Asked}
 use Rattle.gtp_check_judge.specs.RightEngine.{RightEngine}
 use Rattle.gtp_check_judge.specs.Dues.{IsDue}
@@ -25,6 +25,7 @@ use Rattle.gtp_check_judge.proofs.order.Asked.{may_fail, or_left, or_right}
 awaited : (engine : RightEngine) (command : CheckCommand) → ChangesFreely engine command
     → is_awaited engine command ≡ true
 awaited engine command (ChangesFreely.genmoves colour) = refl
+awaited engine command (ChangesFreely.genmoves_in_full colour) = refl
 awaited engine command (ChangesFreely.sizes size) = refl
 awaited engine command ChangesFreely.scores = refl
 awaited engine command (ChangesFreely.undos may) = may_fail engine.undone engine.game.moves may.undone may.moves
@@ -55,6 +56,7 @@ opened_is entry (Fails cause) is e = absurd (cc e)
 opened_is entry (Places size stones) is e = absurd (cc e)
 opened_is entry (Scores s k) is e = IsAwaited.scores s k is
 opened_is entry AnyReply is e = absurd (cc e)
+opened_is entry Lists is e = absurd (cc e)
 
 none_open : (list : List Asked) → awaits list ≡ false → SomeAwaited list → ⊥
 none_open [] none h = h
@@ -75,6 +77,7 @@ none_awaited (x ∷ xs) none = by (is_open x.due) refl (none_awaited xs (λ h. n
 own_opens : (engine : RightEngine) (command : CheckCommand) (due : Due) → IsDue engine command due
     → IsOwnToSay command → is_open due ≡ true
 own_opens engine command due h (IsOwnToSay.genmoves colour) = ap is_open h.0
+own_opens engine command due h (IsOwnToSay.genmoves_in_full colour) = ap is_open h.0
 own_opens engine command due h (IsOwnToSay.sizes size) = ap is_open h.0
 own_opens engine command due h IsOwnToSay.scores = ap is_open h.0
 

@@ -12,10 +12,10 @@ use Rattle.gtp_wire.specs.declared.replies.ReplyFault.{ReplyFault}
 use Rattle.gtp_session.specs.CommandAnswers.{after_command}
 use Rattle.gtp_check_judge.specs.declared.asking.CheckCommand.{CheckCommand}
 use Rattle.gtp_check_judge.specs.declared.asking.CheckCommand.TheVariants.{Match, FinalScore, Name, Version}
-use Rattle.gtp_check_judge.specs.declared.asking.CheckCommand.TheVariants.{KnownCommand}
+use Rattle.gtp_check_judge.specs.declared.asking.CheckCommand.TheVariants.{KnownCommand, PlayInFull, GenmoveInFull, ListCommands}
 use Rattle.gtp_check_judge.specs.declared.dues.Due.{Due}
 use Rattle.gtp_check_judge.specs.declared.dues.Due.TheVariants.{Succeeds, Fails, Places, Resizes, Scores, AnyReply}
-use Rattle.gtp_check_judge.specs.declared.dues.Due.TheVariants.{Chooses, MayUndo}
+use Rattle.gtp_check_judge.specs.declared.dues.Due.TheVariants.{Chooses, MayUndo, Lists}
 use Rattle.gtp_check_judge.specs.declared.judging.Judgement.{Judgement}
 use Rattle.gtp_check_judge.specs.declared.judging.Judgement.TheVariants.{Right, Plays, Resized, Undone, Opines, Wrong}
 use Rattle.gtp_check_judge.specs.declared.unanswered.Asked.{Asked}
@@ -47,6 +47,9 @@ check_rule game FinalScore = refl
 check_rule game Name = refl
 check_rule game Version = refl
 check_rule game (KnownCommand known) = refl
+check_rule game ListCommands = refl
+check_rule game (PlayInFull move) = command_rule game (Play move)
+check_rule game (GenmoveInFull colour) = command_rule game (Genmove colour)
 
 due_rule : (game : GameRecord) (command : CheckCommand) (due : Due) → (after_due game command due).rule ≡ game.rule
 due_rule game command Succeeds = check_rule game command
@@ -57,6 +60,7 @@ due_rule game command (Scores s k) = refl
 due_rule game command AnyReply = check_rule game command
 due_rule game command (Chooses colour) = refl
 due_rule game command MayUndo = refl
+due_rule game command Lists = refl
 
 judged_rule : (exam : Exam) (got : Judgement) → (after_judged exam got).game.rule ≡ exam.game.rule
 judged_rule exam Right = refl

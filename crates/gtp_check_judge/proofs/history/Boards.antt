@@ -9,9 +9,9 @@ use Rattle.gtp_wire.specs.declared.commands.Command.TheVariants.{Genmove, Undo, 
 use Rattle.gtp_wire.specs.declared.replies.Reply.{Reply}
 use Rattle.gtp_check_judge.specs.declared.asking.CheckCommand.{CheckCommand}
 use Rattle.gtp_check_judge.specs.declared.asking.CheckCommand.TheVariants.{Match, FinalScore, Name, Version}
-use Rattle.gtp_check_judge.specs.declared.asking.CheckCommand.TheVariants.{KnownCommand}
+use Rattle.gtp_check_judge.specs.declared.asking.CheckCommand.TheVariants.{KnownCommand, PlayInFull, GenmoveInFull, ListCommands}
 use Rattle.gtp_check_judge.specs.declared.dues.Due.{Due}
-use Rattle.gtp_check_judge.specs.declared.dues.Due.TheVariants.{Succeeds, Resizes, Scores, AnyReply, Chooses}
+use Rattle.gtp_check_judge.specs.declared.dues.Due.TheVariants.{Succeeds, Resizes, Scores, AnyReply, Chooses, Lists}
 use Rattle.gtp_check_judge.specs.declared.judging.Judgement.{Judgement}
 use Rattle.gtp_check_judge.specs.declared.judging.Judgement.TheVariants.{Right, Plays, Resized, Undone, Opines, Wrong}
 use Rattle.gtp_check_judge.specs.declared.opinions.Opinion.{Opinion}
@@ -72,6 +72,9 @@ clear_is FinalScore e = absurd (cc e)
 clear_is Name e = absurd (cc e)
 clear_is Version e = absurd (cc e)
 clear_is (KnownCommand known) e = absurd (cc e)
+clear_is ListCommands e = absurd (cc e)
+clear_is (PlayInFull move) e = absurd (cc e)
+clear_is (GenmoveInFull colour) e = absurd (cc e)
 
 -- ---- what is known of the board
 
@@ -140,6 +143,11 @@ due_size engine Name due size h e = absurd (let other : AnyReply ≡ Resizes siz
 due_size engine Version due size h e = absurd (let other : AnyReply ≡ Resizes size = sym h ∙ e in cc other)
 due_size engine (KnownCommand known) due size h e =
     absurd (let other : AnyReply ≡ Resizes size = sym h ∙ e in cc other)
+due_size engine ListCommands due size h e =
+    absurd (let other : Lists ≡ Resizes size = sym h ∙ e in cc other)
+due_size engine (PlayInFull move) due size h e = absurd (subst (PlayDue engine.game move) e h)
+due_size engine (GenmoveInFull colour) due size h e =
+    absurd (let other : Chooses colour ≡ Resizes size = sym h.0 ∙ e in cc other)
 
 pub size_due : (engine : RightEngine) (command : CheckCommand) (due : Due) (size : ℕ) → IsDue engine command due
     → command ≡ Match (Boardsize size) → due ≡ Resizes size
@@ -267,6 +275,8 @@ needs : (exam : Exam) (command : CheckCommand) → HangsOnBoard command → HasR
 needs exam command (HangsOnBoard.handicaps stones) room = room.board refl
 needs exam command (HangsOnBoard.plays move) room = room.board refl
 needs exam command (HangsOnBoard.genmoves colour) room = room.board refl
+needs exam command (HangsOnBoard.plays_in_full move) room = room.board refl
+needs exam command (HangsOnBoard.genmoves_in_full colour) room = room.board refl
 needs exam command HangsOnBoard.undos room = room.board refl
 needs exam command HangsOnBoard.scores room = room.board refl
 

@@ -2,11 +2,17 @@
 use Rattle.std.proofs.Common.{◌≡◌, ℕ, ◌+◌, Bool, true, false, List, [], ◌∷◌, ◌++◌, None, refl, sym}
 use Rattle.std.proofs.Common.{◌∙◌, ap, subst, append_assoc, inl, inr}
 use Rattle.std.specs.Prelude.{◌⊎◌, IfSome, drop}
+use Rattle.go_base.specs.declared.colours.Colour.{Colour}
+use Rattle.go_base.specs.declared.moves.Move.{Move}
+use Rattle.go_board.specs.Game.{HasRoom, IsFinished}
 use Rattle.go_board.specs.declared.rules.KoRule.{KoRule}
 use Rattle.gtp_wire.specs.declared.commands.Command.TheVariants.{FixedHandicap, Play}
 use Rattle.gtp_wire.specs.declared.commands.Command.TheVariants.{Genmove, Undo}
 use Rattle.gtp_wire.specs.declared.replies.Reply.{Reply}
+use Rattle.gtp_check_judge.specs.declared.asking.CheckCommand.{CheckCommand}
 use Rattle.gtp_check_judge.specs.declared.asking.CheckCommand.TheVariants.{Match, FinalScore}
+use Rattle.gtp_check_judge.specs.declared.asking.CheckCommand.TheVariants.{PlayInFull, GenmoveInFull}
+use Rattle.gtp_check_judge.specs.Asking.{IsPlayOf, IsGenmoveOf}
 use Rattle.gtp_check_judge.specs.declared.judging.Judgement.{Judgement}
 use Rattle.gtp_check_judge.specs.declared.judging.Judgement.TheVariants.{Right, Plays, Resized, Undone, Opines, Wrong}
 use Rattle.gtp_check_judge.specs.declared.setups.Board.{Board}
@@ -15,11 +21,11 @@ use Rattle.gtp_check_judge.specs.declared.unanswered.Asked.{Asked}
 use Rattle.gtp_check_judge.specs.declared.exam.Exam.{Exam}
 use Rattle.gtp_check_judge.specs.Setups.{is_clear_board, board_after}
 use Rattle.gtp_check_judge.specs.Judging.{oldest, is_open, Judged}
-use Rattle.gtp_check_judge.specs.Exam.{engine_of, after_judged, finding_of, with_learned, with_rest}
+use Rattle.gtp_check_judge.specs.Exam.{HasRoomFor, engine_of, after_judged, finding_of, with_learned, with_rest}
 use Rattle.gtp_check_judge.specs.Exam.{AreOrderly, IsOrderly}
 use Rattle.gtp_check_judge.specs.Laws.{Exchange, Talks}
 use Rattle.gtp_check_judge.specs.HistoryLaws.{SomeAsked, TakesSize, SinceSize, BoardsAreWhatWasSaid}
-use Rattle.gtp_check_judge.specs.HistoryLaws.{KnownEnginesMayBeAsked}
+use Rattle.gtp_check_judge.specs.HistoryLaws.{KnownEnginesMayBeAsked, IsReady}
 use Rattle.gtp_check_judge.proofs.history.Boards.{IsClear, BoardSo, BoardOf, board_so, some_split, takes_none}
 use Rattle.gtp_check_judge.proofs.history.Boards.{takes_one}
 use Rattle.gtp_check_judge.proofs.history.Dues.{IsDueOnce, oldest_due, talk_orderly}
@@ -202,6 +208,25 @@ boards_said rule sent came said exam talk =
 
 -- ---- where a command may be asked
 
+play_asked : (exam : Exam) (command : CheckCommand) (move : Move) → IsPlayOf move command → IsReady exam
+    → exam.board ≡ Cleared → HasRoom exam.game → HasRoomFor exam command
+play_asked exam command move (inl is) ready cleared room =
+    subst (HasRoomFor exam) (sym is)
+    (room_of exam (Match (Play move)) ready (λ e. absurd (cc e)) (λ e. cleared) (λ e. absurd (cc e)) tt room)
+play_asked exam command move (inr is) ready cleared room =
+    subst (HasRoomFor exam) (sym is)
+    (room_of exam (PlayInFull move) ready (λ e. absurd (cc e)) (λ e. cleared) (λ e. absurd (cc e)) tt room)
+
+genmove_asked : (exam : Exam) (command : CheckCommand) (colour : Colour) → IsGenmoveOf colour command → IsReady exam
+    → exam.board ≡ Cleared → exam.unanswered ≡ [] → HasRoom exam.game × (IsFinished exam.game → ⊥)
+    → HasRoomFor exam command
+genmove_asked exam command colour (inl is) ready cleared owes may =
+    subst (HasRoomFor exam) (sym is)
+    (room_of exam (Match (Genmove colour)) ready (λ e. owes) (λ e. cleared) (λ e. absurd (cc e)) tt may)
+genmove_asked exam command colour (inr is) ready cleared owes may =
+    subst (HasRoomFor exam) (sym is)
+    (room_of exam (GenmoveInFull colour) ready (λ e. owes) (λ e. cleared) (λ e. absurd (cc e)) tt may)
+
 pub known_asked : KnownEnginesMayBeAsked
 known_asked rule sent came said exam talk ready board =
     let enough : EnoughOf said exam = enough_so rule sent came said exam talk in
@@ -210,11 +235,9 @@ known_asked rule sent came said exam talk ready board =
       handicaps =
           λ stones int knows. room_of exam (Match (FixedHandicap stones)) ready (λ e. absurd (cc e)) (λ e. cleared)
           (λ e. absurd (cc e)) ((skill_had rule sent came said exam known.FixedHandicap talk).1 knows) int;
-      plays = λ move room. room_of exam (Match (Play move)) ready (λ e. absurd (cc e)) (λ e. cleared)
-          (λ e. absurd (cc e)) tt room;
-      genmoves =
-          λ colour owes room going. room_of exam (Match (Genmove colour)) ready (λ e. owes) (λ e. cleared)
-          (λ e. absurd (cc e)) tt (room, going);
+      plays = λ command move is room. play_asked exam command move is ready cleared room;
+      genmoves = λ command colour is owes room going.
+          genmove_asked exam command colour is ready cleared owes (room, going);
       undos =
           λ knows owes. room_of exam (Match Undo) ready (λ e. owes (undo_may_fail_is (engine_of exam) e))
           (λ e. cleared) (λ e. absurd (cc e))

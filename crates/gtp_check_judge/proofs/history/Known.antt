@@ -9,7 +9,7 @@ use Rattle.gtp_check_judge.specs.declared.asking.Known.{Known}
 use Rattle.gtp_check_judge.specs.declared.asking.Known.TheVariants as known
 use Rattle.gtp_check_judge.specs.declared.asking.CheckCommand.{CheckCommand}
 use Rattle.gtp_check_judge.specs.declared.asking.CheckCommand.TheVariants.{Match, FinalScore, Name, Version}
-use Rattle.gtp_check_judge.specs.declared.asking.CheckCommand.TheVariants.{KnownCommand}
+use Rattle.gtp_check_judge.specs.declared.asking.CheckCommand.TheVariants.{KnownCommand, PlayInFull, GenmoveInFull, ListCommands}
 use Rattle.gtp_check_judge.specs.declared.skills.Skill.{Skill}
 use Rattle.gtp_check_judge.specs.declared.skills.Skill.TheVariants.{Unasked, Has, Lacks}
 use Rattle.gtp_check_judge.specs.declared.skills.Skills.{Skills}
@@ -122,6 +122,9 @@ asks (Match command) known = inr (λ e. cc e, λ skills reply. refl)
 asks FinalScore known = inr (λ e. cc e, λ skills reply. refl)
 asks Name known = inr (λ e. cc e, λ skills reply. refl)
 asks Version known = inr (λ e. cc e, λ skills reply. refl)
+asks ListCommands known = inr (λ e. cc e, λ skills reply. refl)
+asks (PlayInFull move) known = inr (λ e. cc e, λ skills reply. refl)
+asks (GenmoveInFull colour) known = inr (λ e. cc e, λ skills reply. refl)
 asks (KnownCommand asked) known = by (asks_that asked known)
   where
     by : (asked ≡ known) ⊎ ((asked ≡ known → ⊥) × ((skills : Skills) (reply : Reply)

@@ -7,7 +7,7 @@ use Rattle.gtp_wire.specs.declared.commands.Command.TheVariants.{Boardsize, Komi
 use Rattle.gtp_wire.specs.declared.commands.Command.TheVariants.{Genmove, Undo, Quit}
 use Rattle.gtp_check_judge.specs.declared.asking.CheckCommand.{CheckCommand}
 use Rattle.gtp_check_judge.specs.declared.asking.CheckCommand.TheVariants.{Match, FinalScore, Name, Version}
-use Rattle.gtp_check_judge.specs.declared.asking.CheckCommand.TheVariants.{KnownCommand}
+use Rattle.gtp_check_judge.specs.declared.asking.CheckCommand.TheVariants.{KnownCommand, PlayInFull, GenmoveInFull, ListCommands}
 use Rattle.gtp_check_judge.specs.declared.unanswered.Asked.{Asked}
 use Rattle.gtp_check_judge.specs.declared.exam.Exam.{Exam}
 use Rattle.gtp_check_judge.specs.Komis.{HasToBeTaken}
@@ -40,6 +40,9 @@ sets_so FinalScore = Sets.leaves (λ komi e. cc e) (λ is_set. refl)
 sets_so Name = Sets.leaves (λ komi e. cc e) (λ is_set. refl)
 sets_so Version = Sets.leaves (λ komi e. cc e) (λ is_set. refl)
 sets_so (KnownCommand known) = Sets.leaves (λ komi e. cc e) (λ is_set. refl)
+sets_so ListCommands = Sets.leaves (λ komi e. cc e) (λ is_set. refl)
+sets_so (PlayInFull move) = Sets.leaves (λ komi e. cc e) (λ is_set. refl)
+sets_so (GenmoveInFull colour) = Sets.leaves (λ komi e. cc e) (λ is_set. refl)
 
 -- ---- the last komi
 

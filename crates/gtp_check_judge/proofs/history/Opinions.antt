@@ -11,7 +11,7 @@ use Rattle.go_board.specs.declared.rules.KoRule.{KoRule}
 use Rattle.gtp_wire.specs.declared.replies.Reply.{Reply}
 use Rattle.gtp_check_judge.specs.declared.dues.Due.{Due}
 use Rattle.gtp_check_judge.specs.declared.dues.Due.TheVariants.{Succeeds, Fails, Places, Resizes, Scores, AnyReply}
-use Rattle.gtp_check_judge.specs.declared.dues.Due.TheVariants.{Chooses, MayUndo}
+use Rattle.gtp_check_judge.specs.declared.dues.Due.TheVariants.{Chooses, MayUndo, Lists}
 use Rattle.gtp_check_judge.specs.declared.exam.Exam.{Exam}
 use Rattle.gtp_check_judge.specs.declared.exam.Finding.{Finding}
 use Rattle.gtp_check_judge.specs.declared.judging.Judgement.{Judgement}
@@ -277,6 +277,7 @@ effect game opinion entry reply got AnyReply is j none = other_effect game opini
 effect game opinion entry reply got (Chooses colour) is j none =
     other_effect game opinion entry reply got (Chooses colour) is tt j
 effect game opinion entry reply got MayUndo is j none = other_effect game opinion entry reply got MayUndo is tt j
+effect game opinion entry reply got Lists is j none = other_effect game opinion entry reply got Lists is tt j
 
 -- ---- an exchange more
 

@@ -4,6 +4,7 @@ use Rattle.std.specs.Prelude.{IfSome}
 use Rattle.gtp_wire.specs.declared.commands.Command.TheVariants.{Boardsize, Komi, ClearBoard}
 use Rattle.gtp_check_judge.specs.declared.asking.CheckCommand.{CheckCommand}
 use Rattle.gtp_check_judge.specs.declared.asking.CheckCommand.TheVariants.{Match, Name, Version, KnownCommand}
+use Rattle.gtp_check_judge.specs.declared.asking.CheckCommand.TheVariants.{ListCommands}
 use Rattle.gtp_check_judge.specs.declared.setups.Board.TheVariants.{Cleared}
 use Rattle.gtp_check_judge.specs.declared.skills.Skill.TheVariants.{Has}
 use Rattle.gtp_check_judge.specs.declared.exam.Exam.{Exam}
@@ -50,4 +51,5 @@ ready_asked exam ready = record {
   names = free_room exam Name ready (λ e. absurd (cc e)) refl refl tt tt;
   versions = free_room exam Version ready (λ e. absurd (cc e)) refl refl tt tt;
   knows = λ known. free_room exam (KnownCommand known) ready (λ e. absurd (cc e)) refl refl tt tt;
+  lists = free_room exam ListCommands ready (λ e. absurd (cc e)) refl refl tt tt;
 }

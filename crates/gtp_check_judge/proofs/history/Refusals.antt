@@ -5,7 +5,7 @@ use Rattle.gtp_wire.specs.declared.replies.Reply.{Reply}
 use Rattle.gtp_wire.specs.declared.replies.ReplyFault.{ReplyFault}
 use Rattle.gtp_check_judge.specs.declared.dues.Due.{Due}
 use Rattle.gtp_check_judge.specs.declared.dues.Due.TheVariants.{Succeeds, Fails, Places, Resizes, Scores, AnyReply}
-use Rattle.gtp_check_judge.specs.declared.dues.Due.TheVariants.{Chooses, MayUndo}
+use Rattle.gtp_check_judge.specs.declared.dues.Due.TheVariants.{Chooses, MayUndo, Lists}
 use Rattle.gtp_check_judge.specs.declared.unanswered.Asked.{Asked}
 use Rattle.gtp_check_judge.specs.declared.exam.Finding.{Finding}
 use Rattle.gtp_check_judge.specs.Judging.{oldest, refused_by}
@@ -38,6 +38,7 @@ refused_due (Fails cause) ok refused e = absurd (cc e)
 refused_due (Places s n) ok refused e = absurd (cc e)
 refused_due (Scores s k) ok refused e = absurd (cc e)
 refused_due AnyReply ok refused e = absurd (cc e)
+refused_due Lists ok refused e = absurd (cc e)
 refused_due (Chooses colour) ok refused e = absurd (cc e)
 
 -- what is due shows what was asked for

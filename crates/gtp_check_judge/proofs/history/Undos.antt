@@ -14,15 +14,17 @@ use Rattle.gtp_wire.specs.declared.replies.Reply.{Reply}
 use Rattle.gtp_wire.specs.ReplyWords.{choice_of_text}
 use Rattle.gtp_check_judge.specs.declared.asking.CheckCommand.{CheckCommand}
 use Rattle.gtp_check_judge.specs.declared.asking.CheckCommand.TheVariants.{Match, FinalScore, Name, Version}
-use Rattle.gtp_check_judge.specs.declared.asking.CheckCommand.TheVariants.{KnownCommand}
+use Rattle.gtp_check_judge.specs.declared.asking.CheckCommand.TheVariants.{KnownCommand, PlayInFull, GenmoveInFull, ListCommands}
 use Rattle.gtp_check_judge.specs.declared.dues.Cause.TheVariants.{BadMove, BadHandicap, NoMoves}
 use Rattle.gtp_check_judge.specs.declared.dues.Due.{Due}
 use Rattle.gtp_check_judge.specs.declared.dues.Due.TheVariants.{Succeeds, Fails, Places, Resizes, Scores, AnyReply}
-use Rattle.gtp_check_judge.specs.declared.dues.Due.TheVariants.{Chooses, MayUndo}
+use Rattle.gtp_check_judge.specs.declared.dues.Due.TheVariants.{Chooses, MayUndo, Lists}
 use Rattle.gtp_check_judge.specs.declared.judging.Kind.TheVariants.{Refused}
 use Rattle.gtp_check_judge.specs.declared.unanswered.Asked.{Asked}
 use Rattle.gtp_check_judge.specs.declared.exam.Exam.{Exam}
 use Rattle.gtp_check_judge.specs.declared.exam.Finding.{Finding}
+use Rattle.go_base.specs.declared.moves.Move.{Move}
+use Rattle.gtp_check_judge.specs.Asking.{IsPlayOf, IsGenmoveOf}
 use Rattle.gtp_check_judge.specs.RightEngine.{RightEngine, fresh_engine, undone_after, undone_by}
 use Rattle.gtp_check_judge.specs.Dues.{IsDue, UndoDue}
 use Rattle.gtp_check_judge.specs.Judging.{Judged, success_judged}
@@ -69,37 +71,79 @@ IsIdle FinalScore = Unit {0}
 IsIdle Name = Unit {0}
 IsIdle Version = Unit {0}
 IsIdle (KnownCommand known) = Unit {0}
+IsIdle ListCommands = Unit {0}
+IsIdle (PlayInFull move) = ⊥
+IsIdle (GenmoveInFull colour) = ⊥
+
+not_play : (move : Move) (command : CheckCommand) → IsPlayOf move command → IsIdle command → ⊥
+not_play move command (inl is) still = subst IsIdle is still
+not_play move command (inr is) still = subst IsIdle is still
+
+not_genmove : (colour : Colour) (command : CheckCommand) → IsGenmoveOf colour command → IsIdle command → ⊥
+not_genmove colour command (inl is) still = subst IsIdle is still
+not_genmove colour command (inr is) still = subst IsIdle is still
+
+play_not_undo : (move : Move) (command : CheckCommand) → IsPlayOf move command → command ≡ Match Undo → ⊥
+play_not_undo move command (inl is) undo = let e : Match (Play move) ≡ Match Undo = sym is ∙ undo in cc e
+play_not_undo move command (inr is) undo = let e : PlayInFull move ≡ Match Undo = sym is ∙ undo in cc e
+
+genmove_not_undo : (colour : Colour) (command : CheckCommand) → IsGenmoveOf colour command → command ≡ Match Undo → ⊥
+genmove_not_undo colour command (inl is) undo = let e : Match (Genmove colour) ≡ Match Undo = sym is ∙ undo in cc e
+genmove_not_undo colour command (inr is) undo = let e : GenmoveInFull colour ≡ Match Undo = sym is ∙ undo in cc e
+
+genmove_not_play : (colour : Colour) (move : Move) (command : CheckCommand) → IsGenmoveOf colour command
+    → IsPlayOf move command → ⊥
+genmove_not_play colour move command (inl is) (inl at) =
+    let e : Match (Genmove colour) ≡ Match (Play move) = sym is ∙ at in cc e
+genmove_not_play colour move command (inl is) (inr at) =
+    let e : Match (Genmove colour) ≡ PlayInFull move = sym is ∙ at in cc e
+genmove_not_play colour move command (inr is) (inl at) =
+    let e : GenmoveInFull colour ≡ Match (Play move) = sym is ∙ at in cc e
+genmove_not_play colour move command (inr is) (inr at) =
+    let e : GenmoveInFull colour ≡ PlayInFull move = sym is ∙ at in cc e
 
 idle : (x : Exchange) (undone : Bool) (command : CheckCommand) → x.entry.command ≡ command → IsIdle command
     → Does x undone undone
 idle x undone command is still = Does.rests by (λ t. subst IsIdle (sym is ∙ t.asks) still) refl
   where
     by : MakesMove x → ⊥
-    by (MakesMove.plays move at ok) = subst IsIdle (sym is ∙ at) still
-    by (MakesMove.chooses colour v at ok said) = subst IsIdle (sym is ∙ at) still
+    by (MakesMove.plays move at ok) = not_play move x.entry.command at (subst IsIdle (sym is) still)
+    by (MakesMove.chooses colour v at ok said) = not_genmove colour x.entry.command at (subst IsIdle (sym is) still)
 
 -- a `genmove` makes a move where it says a vertex
-silent : (x : Exchange) (undone : Bool) (colour : Colour) → x.entry.command ≡ Match (Genmove colour)
+silent : (x : Exchange) (undone : Bool) (colour : Colour) → IsGenmoveOf colour x.entry.command
     → ((v : Vertex) → choice_of_text x.reply.text.items ≡ Some (choice.Play v) → ⊥) → Does x undone undone
 silent x undone colour is none =
-    Does.rests by (λ t. let e : Match (Genmove colour) ≡ Match Undo = sym is ∙ t.asks in cc e) refl
+    Does.rests by (λ t. genmove_not_undo colour x.entry.command is t.asks) refl
   where
     by : MakesMove x → ⊥
-    by (MakesMove.plays move at ok) =
-        let e : Match (Genmove colour) ≡ Match (Play move) = sym is ∙ at in cc e
+    by (MakesMove.plays move at ok) = genmove_not_play colour move x.entry.command is at
     by (MakesMove.chooses c v at ok said) = none v said
 
 choosing : (x : Exchange) (undone : Bool) (colour : Colour) (said : Option Choice)
-    → x.entry.command ≡ Match (Genmove colour) → x.reply.ok ≡ true → choice_of_text x.reply.text.items ≡ said
+    → IsGenmoveOf colour x.entry.command → x.reply.ok ≡ true → choice_of_text x.reply.text.items ≡ said
     → Does x undone (undone_by undone (Genmove colour) said)
 choosing x undone colour (Some (choice.Play v)) is ok said =
     Does.made (MakesMove.chooses colour v is ok said)
-    (λ t. let e : Match (Genmove colour) ≡ Match Undo = sym is ∙ t.asks in cc e) refl
+    (λ t. genmove_not_undo colour x.entry.command is t.asks) refl
 choosing x undone colour (Some choice.Resign) is ok said =
     silent x undone colour is
     (λ v e. let other : Some choice.Resign ≡ Some (choice.Play v) = sym said ∙ e in cc other)
 choosing x undone colour None is ok said =
     silent x undone colour is (λ v e. let other : None ≡ Some (choice.Play v) = sym said ∙ e in cc other)
+
+-- a `play` with this status, and a `genmove`
+playing : (x : Exchange) (undone : Bool) (move : Move) (ok : Bool) → IsPlayOf move x.entry.command → x.reply.ok ≡ ok
+    → Does x undone (if ok then undone_by undone (Play move) (choice_of_text x.reply.text.items) else undone)
+playing x undone move false is fails = failing x undone fails
+playing x undone move true is ok =
+    Does.made (MakesMove.plays move is ok) (λ t. play_not_undo move x.entry.command is t.asks) refl
+
+choosing_so : (x : Exchange) (undone : Bool) (colour : Colour) (ok : Bool) → IsGenmoveOf colour x.entry.command
+    → x.reply.ok ≡ ok
+    → Does x undone (if ok then undone_by undone (Genmove colour) (choice_of_text x.reply.text.items) else undone)
+choosing_so x undone colour false is fails = failing x undone fails
+choosing_so x undone colour true is ok = choosing x undone colour (choice_of_text x.reply.text.items) is ok refl
 
 -- a command of a match with this status
 answered : (x : Exchange) (undone : Bool) (command : Command) (ok : Bool) → x.entry.command ≡ Match command
@@ -107,11 +151,9 @@ answered : (x : Exchange) (undone : Bool) (command : Command) (ok : Bool) → x.
     → Does x undone (if ok then undone_by undone command (choice_of_text x.reply.text.items) else undone)
 answered x undone command false is fails = failing x undone fails
 answered x undone Undo true is ok = Does.took (record { asks = is; succeeds = ok }) refl
-answered x undone (Play move) true is ok =
-    Does.made (MakesMove.plays move is ok)
-    (λ t. let e : Match (Play move) ≡ Match Undo = sym is ∙ t.asks in cc e) refl
+answered x undone (Play move) true is ok = playing x undone move true (inl is) ok
 answered x undone (Genmove colour) true is ok =
-    choosing x undone colour (choice_of_text x.reply.text.items) is ok refl
+    choosing x undone colour (choice_of_text x.reply.text.items) (inl is) ok refl
 answered x undone (Boardsize size) true is ok = idle x undone (Match (Boardsize size)) is tt
 answered x undone (Komi komi) true is ok = idle x undone (Match (Komi komi)) is tt
 answered x undone ClearBoard true is ok = idle x undone (Match ClearBoard) is tt
@@ -125,6 +167,9 @@ does x undone FinalScore is = idle x undone FinalScore is tt
 does x undone Name is = idle x undone Name is tt
 does x undone Version is = idle x undone Version is tt
 does x undone (KnownCommand known) is = idle x undone (KnownCommand known) is tt
+does x undone ListCommands is = idle x undone ListCommands is tt
+does x undone (PlayInFull move) is = playing x undone move x.reply.ok (inr is) refl
+does x undone (GenmoveInFull colour) is = choosing_so x undone colour x.reply.ok (inr is) refl
 
 -- ---- what was taken back
 
@@ -170,6 +215,9 @@ refusal_undone engine FinalScore = refl
 refusal_undone engine Name = refl
 refusal_undone engine Version = refl
 refusal_undone engine (KnownCommand known) = refl
+refusal_undone engine ListCommands = refl
+refusal_undone engine (PlayInFull move) = refl
+refusal_undone engine (GenmoveInFull colour) = refl
 
 -- each right answer leaves it so
 right_undone : (before : RightEngine) (entry : Asked) (reply : Reply) (after : RightEngine)
@@ -209,6 +257,7 @@ first_due : (engine : RightEngine) (due : Due) → UndoDue engine due → (engin
     → 0 < length engine.game.moves → due ≡ Succeeds
 first_due engine Succeeds h first moves = refl
 first_due engine MayUndo h first moves = absurd (first h.0)
+first_due engine Lists h first moves = absurd h
 first_due engine (Fails NoMoves) h first moves =
     absurd (let none : length engine.game.moves ≡ 0 = ap length h in omega (arith, moves, none))
 first_due engine (Fails (BadMove fault)) h first moves = absurd h

@@ -7,12 +7,12 @@ use Rattle.go_base.specs.declared.moves.Move.{Move}
 use Rattle.go_board.specs.Game.{GameRecord}
 use Rattle.gtp_check_judge.specs.declared.asking.CheckCommand.{CheckCommand}
 use Rattle.gtp_check_judge.specs.declared.asking.CheckCommand.TheVariants.{Match, FinalScore, Name, Version}
-use Rattle.gtp_check_judge.specs.declared.asking.CheckCommand.TheVariants.{KnownCommand}
+use Rattle.gtp_check_judge.specs.declared.asking.CheckCommand.TheVariants.{KnownCommand, PlayInFull, GenmoveInFull, ListCommands}
 use Rattle.gtp_wire.specs.declared.commands.Command.TheVariants.{Boardsize, Komi, ClearBoard, FixedHandicap, Play}
 use Rattle.gtp_wire.specs.declared.commands.Command.TheVariants.{Genmove, Undo, Quit}
 use Rattle.gtp_check_judge.specs.declared.dues.Due.{Due}
 use Rattle.gtp_check_judge.specs.declared.dues.Due.TheVariants.{Succeeds, Fails, Places, Resizes, Scores, AnyReply}
-use Rattle.gtp_check_judge.specs.declared.dues.Due.TheVariants.{Chooses, MayUndo}
+use Rattle.gtp_check_judge.specs.declared.dues.Due.TheVariants.{Chooses, MayUndo, Lists}
 use Rattle.gtp_check_judge.specs.declared.unanswered.Asked.{Asked}
 use Rattle.gtp_check_judge.specs.declared.exam.Exam.{Exam}
 use Rattle.gtp_check_judge.specs.RightEngine.{RightEngine}
@@ -49,6 +49,7 @@ due_taken engine (Match (Boardsize size)) (Scores s k) h = absurd (cc (h.0))
 due_taken engine (Match (Boardsize size)) AnyReply h = absurd (cc (h.0))
 due_taken engine (Match (Boardsize size)) (Chooses c) h = absurd (cc (h.0))
 due_taken engine (Match (Boardsize size)) MayUndo h = absurd (cc (h.0))
+due_taken engine (Match (Boardsize size)) Lists h = absurd (cc (h.0))
 due_taken engine (Match (Komi komi)) Succeeds h = tt
 due_taken engine (Match (Komi komi)) (Fails cause) h = absurd (of_komi komi (Fails cause) h.0)
 due_taken engine (Match (Komi komi)) (Places s n) h = absurd (of_komi komi (Places s n) h.0)
@@ -57,6 +58,7 @@ due_taken engine (Match (Komi komi)) (Scores s k) h = absurd (of_komi komi (Scor
 due_taken engine (Match (Komi komi)) AnyReply h = tt
 due_taken engine (Match (Komi komi)) (Chooses c) h = absurd (of_komi komi (Chooses c) h.0)
 due_taken engine (Match (Komi komi)) MayUndo h = absurd (of_komi komi MayUndo h.0)
+due_taken engine (Match (Komi komi)) Lists h = absurd (of_komi komi Lists h.0)
 due_taken engine (Match ClearBoard) Succeeds h = tt
 due_taken engine (Match ClearBoard) (Fails cause) h = absurd (cc h)
 due_taken engine (Match ClearBoard) (Places s n) h = absurd (cc h)
@@ -65,6 +67,7 @@ due_taken engine (Match ClearBoard) (Scores s k) h = absurd (cc h)
 due_taken engine (Match ClearBoard) AnyReply h = absurd (cc h)
 due_taken engine (Match ClearBoard) (Chooses c) h = absurd (cc h)
 due_taken engine (Match ClearBoard) MayUndo h = absurd (cc h)
+due_taken engine (Match ClearBoard) Lists h = absurd (cc h)
 due_taken engine (Match (FixedHandicap stones)) (Places size count) h =
     subst (λ (s : ℕ). AllowsHandicap s count) (sym h.0)
     (subst (λ (n : ℕ). AllowsHandicap engine.game.size n) (sym h.1) h.3)
@@ -75,6 +78,7 @@ due_taken engine (Match (FixedHandicap stones)) (Scores s k) h = absurd h
 due_taken engine (Match (FixedHandicap stones)) AnyReply h = absurd h
 due_taken engine (Match (FixedHandicap stones)) (Chooses c) h = absurd h
 due_taken engine (Match (FixedHandicap stones)) MayUndo h = absurd h
+due_taken engine (Match (FixedHandicap stones)) Lists h = absurd h
 due_taken engine (Match (Play move)) Succeeds h = tt
 due_taken engine (Match (Play move)) (Fails cause) h = tt
 due_taken engine (Match (Play move)) (Places s n) h = absurd h
@@ -83,6 +87,7 @@ due_taken engine (Match (Play move)) (Scores s k) h = absurd h
 due_taken engine (Match (Play move)) AnyReply h = absurd h
 due_taken engine (Match (Play move)) (Chooses c) h = absurd h
 due_taken engine (Match (Play move)) MayUndo h = absurd h
+due_taken engine (Match (Play move)) Lists h = absurd h
 due_taken engine (Match (Genmove colour)) Succeeds h = absurd (cc (h.0))
 due_taken engine (Match (Genmove colour)) (Fails cause) h = absurd (cc (h.0))
 due_taken engine (Match (Genmove colour)) (Places s n) h = absurd (cc (h.0))
@@ -91,6 +96,7 @@ due_taken engine (Match (Genmove colour)) (Scores s k) h = absurd (cc (h.0))
 due_taken engine (Match (Genmove colour)) AnyReply h = absurd (cc (h.0))
 due_taken engine (Match (Genmove colour)) (Chooses c) h = h.1
 due_taken engine (Match (Genmove colour)) MayUndo h = absurd (cc (h.0))
+due_taken engine (Match (Genmove colour)) Lists h = absurd (cc (h.0))
 due_taken engine (Match Undo) Succeeds h = tt
 due_taken engine (Match Undo) (Fails cause) h = tt
 due_taken engine (Match Undo) (Places s n) h = absurd h
@@ -99,6 +105,7 @@ due_taken engine (Match Undo) (Scores s k) h = absurd h
 due_taken engine (Match Undo) AnyReply h = absurd h
 due_taken engine (Match Undo) (Chooses c) h = absurd h
 due_taken engine (Match Undo) MayUndo h = h.1
+due_taken engine (Match Undo) Lists h = absurd h
 due_taken engine (Match Quit) due h = absurd h
 due_taken engine FinalScore due h =
     subst (λ (d : Due). MayBeTaken (after_due engine.game FinalScore d) d) (sym h.0) tt
@@ -106,6 +113,26 @@ due_taken engine Name due h = subst (λ (d : Due). MayBeTaken (after_due engine.
 due_taken engine Version due h = subst (λ (d : Due). MayBeTaken (after_due engine.game Version d) d) (sym h) tt
 due_taken engine (KnownCommand k) due h =
     subst (λ (d : Due). MayBeTaken (after_due engine.game (KnownCommand k) d) d) (sym h) tt
+due_taken engine ListCommands due h =
+    subst (λ (d : Due). MayBeTaken (after_due engine.game ListCommands d) d) (sym h) tt
+due_taken engine (PlayInFull move) Succeeds h = tt
+due_taken engine (PlayInFull move) (Fails cause) h = tt
+due_taken engine (PlayInFull move) (Places s n) h = absurd h
+due_taken engine (PlayInFull move) (Resizes s) h = absurd h
+due_taken engine (PlayInFull move) (Scores s k) h = absurd h
+due_taken engine (PlayInFull move) AnyReply h = absurd h
+due_taken engine (PlayInFull move) (Chooses c) h = absurd h
+due_taken engine (PlayInFull move) MayUndo h = absurd h
+due_taken engine (PlayInFull move) Lists h = absurd h
+due_taken engine (GenmoveInFull colour) Succeeds h = absurd (cc (h.0))
+due_taken engine (GenmoveInFull colour) (Fails cause) h = absurd (cc (h.0))
+due_taken engine (GenmoveInFull colour) (Places s n) h = absurd (cc (h.0))
+due_taken engine (GenmoveInFull colour) (Resizes s) h = absurd (cc (h.0))
+due_taken engine (GenmoveInFull colour) (Scores s k) h = absurd (cc (h.0))
+due_taken engine (GenmoveInFull colour) AnyReply h = absurd (cc (h.0))
+due_taken engine (GenmoveInFull colour) (Chooses c) h = h.1
+due_taken engine (GenmoveInFull colour) MayUndo h = absurd (cc (h.0))
+due_taken engine (GenmoveInFull colour) Lists h = absurd (cc (h.0))
 
 -- ---- what is awaited
 
@@ -119,6 +146,7 @@ handicap_closed game stones (Scores s k) h = absurd h
 handicap_closed game stones AnyReply h = refl
 handicap_closed game stones (Chooses c) h = absurd h
 handicap_closed game stones MayUndo h = absurd h
+handicap_closed game stones Lists h = absurd h
 
 play_closed : (game : GameRecord) (move : Move) (due : Due) → PlayDue game move due → is_open due ≡ false
 play_closed game move Succeeds h = refl
@@ -129,6 +157,7 @@ play_closed game move (Scores s k) h = absurd h
 play_closed game move AnyReply h = refl
 play_closed game move (Chooses c) h = absurd h
 play_closed game move MayUndo h = absurd h
+play_closed game move Lists h = absurd h
 
 never : (due : Due) → is_open due ≡ false → is_open due ≡ true → ⊥
 never due closed opens = let e : true ≡ false = sym opens ∙ closed in cc e
@@ -141,6 +170,7 @@ may_fail undone (move ∷ later) is some = is
 undo_awaited : (engine : RightEngine) (due : Due) → UndoDue engine due → is_open due ≡ true
     → undo_may_fail engine.undone engine.game.moves ≡ true
 undo_awaited engine MayUndo h e = may_fail engine.undone engine.game.moves h.0 h.1
+undo_awaited engine Lists h e = absurd h
 undo_awaited engine Succeeds h e = absurd (cc e)
 undo_awaited engine (Fails cause) h e = absurd (cc e)
 undo_awaited engine (Places s n) h e = absurd h
@@ -165,6 +195,9 @@ open_awaited engine FinalScore due h e = refl
 open_awaited engine Name due h e = absurd (never due (ap is_open h) e)
 open_awaited engine Version due h e = absurd (never due (ap is_open h) e)
 open_awaited engine (KnownCommand k) due h e = absurd (never due (ap is_open h) e)
+open_awaited engine ListCommands due h e = absurd (never due (ap is_open h) e)
+open_awaited engine (PlayInFull move) due h e = absurd (never due (play_closed engine.game move due h) e)
+open_awaited engine (GenmoveInFull colour) due h e = refl
 
 -- ---- a command more
 
@@ -180,6 +213,7 @@ taken_anywhere old new (asked ∷ later) none all = (
     one : (due : Due) → is_open due ≡ false → MayBeTaken old due → MayBeTaken new due
     one (Chooses c) isnt h = absurd (cc isnt)
     one MayUndo isnt h = absurd (cc isnt)
+    one Lists isnt h = tt
     one (Places size stones) isnt h = h
     one (Resizes size) isnt h = h
     one Succeeds isnt h = tt

@@ -14,7 +14,7 @@ use Rattle.gtp_wire.specs.ReplyWords.{choice_of_text}
 use Rattle.gtp_check_judge.specs.Scores.{score_of_text}
 use Rattle.gtp_check_judge.specs.declared.dues.Due.{Due}
 use Rattle.gtp_check_judge.specs.declared.dues.Due.TheVariants.{Succeeds, Fails, Places, Resizes, Scores, AnyReply}
-use Rattle.gtp_check_judge.specs.declared.dues.Due.TheVariants.{Chooses, MayUndo}
+use Rattle.gtp_check_judge.specs.declared.dues.Due.TheVariants.{Chooses, MayUndo, Lists}
 use Rattle.gtp_check_judge.specs.declared.judging.Judgement.{Judgement}
 use Rattle.gtp_check_judge.specs.declared.judging.Judgement.TheVariants.{Right, Plays, Resized, Undone, Opines, Wrong}
 use Rattle.gtp_check_judge.specs.declared.judging.Kind.TheVariants.{OtherScore}
@@ -27,7 +27,7 @@ use Rattle.gtp_check_judge.specs.declared.exam.Exam.{Exam}
 use Rattle.gtp_check_judge.specs.declared.exam.Finding.{Finding}
 use Rattle.gtp_check_judge.specs.Judging.{oldest, awaits, is_open, has_id, Judged, success_judged, failure_judged}
 use Rattle.gtp_check_judge.specs.Judging.{size_judged, undo_judged, points_judged, ChoiceJudged, view_judged}
-use Rattle.gtp_check_judge.specs.Judging.{score_judged}
+use Rattle.gtp_check_judge.specs.Judging.{score_judged, list_judged}
 use Rattle.gtp_check_judge.specs.Exam.{Hears, Leaves, ReplyLeaves, IdLeaves, after_judged, with_learned, with_rest}
 use Rattle.gtp_check_judge.specs.Exam.{MayApply, MayBeTaken, MayReply, MayAllBeTaken, AreOrderly, IsOrderly}
 use Rattle.go_base.specs.declared.choices.Choice.TheVariants as choice
@@ -111,6 +111,12 @@ plays_chosen game opinion Succeeds reply colour v j = absurd (never reply.ok j)
 plays_chosen game opinion (Scores s k) reply colour v j =
     absurd (of_score opinion s k reply.ok (score_of_text reply.text.items) (Plays colour v) j)
 plays_chosen game opinion AnyReply reply colour v j = absurd (cc j)
+plays_chosen game opinion Lists reply colour v j = absurd (never _ reply.ok j)
+  where
+    never : (n b : Bool) → Plays colour v ≡ list_judged n b → ⊥
+    never n false e = cc e
+    never true true e = cc e
+    never false true e = cc e
 plays_chosen game opinion MayUndo reply colour v j = absurd (never reply.ok j)
   where
     never : (b : Bool) → Plays colour v ≡ undo_judged b → ⊥
@@ -158,6 +164,12 @@ resized_due game opinion Succeeds reply size j = absurd (never reply.ok j)
 resized_due game opinion (Scores s k) reply size j =
     absurd (of_score opinion s k reply.ok (score_of_text reply.text.items) (Resized size) j)
 resized_due game opinion AnyReply reply size j = absurd (cc j)
+resized_due game opinion Lists reply size j = absurd (never _ reply.ok j)
+  where
+    never : (n b : Bool) → Resized size ≡ list_judged n b → ⊥
+    never n false e = cc e
+    never true true e = cc e
+    never false true e = cc e
 resized_due game opinion MayUndo reply size j = absurd (never reply.ok j)
   where
     never : (b : Bool) → Resized size ≡ undo_judged b → ⊥
@@ -185,6 +197,12 @@ resized_due game opinion (Chooses colour) reply size j = absurd (never reply.ok 
 -- and a move is taken back only by an `undo` that may fail
 pub undone_by_undo : (game : GameRecord) (opinion : Opinion) (due : Due) (reply : Reply)
     → Judged game opinion due reply Undone → (due ≡ MayUndo) × (reply.ok ≡ true)
+undone_by_undo game opinion Lists reply j = absurd (never _ reply.ok j)
+  where
+    never : (n b : Bool) → Undone ≡ list_judged n b → ⊥
+    never n false e = cc e
+    never true true e = cc e
+    never false true e = cc e
 undone_by_undo game opinion MayUndo reply j = by reply.ok j
   where
     by : (b : Bool) → Undone ≡ undo_judged b → (MayUndo ≡ MayUndo) × (b ≡ true)
@@ -232,6 +250,12 @@ opines_scores game opinion Succeeds reply new j = absurd (never reply.ok j)
     never true e = cc e
     never false e = cc e
 opines_scores game opinion AnyReply reply new j = absurd (cc j)
+opines_scores game opinion Lists reply new j = absurd (never _ reply.ok j)
+  where
+    never : (n b : Bool) → Opines new ≡ list_judged n b → ⊥
+    never n false e = cc e
+    never true true e = cc e
+    never false true e = cc e
 opines_scores game opinion MayUndo reply new j = absurd (never reply.ok j)
   where
     never : (b : Bool) → Opines new ≡ undo_judged b → ⊥

@@ -8,7 +8,7 @@ use Rattle.go_base.specs.Size.{IsSize}
 use Rattle.go_board.specs.declared.rules.KoRule.{KoRule}
 use Rattle.gtp_check_judge.specs.declared.asking.CheckCommand.{CheckCommand}
 use Rattle.gtp_check_judge.specs.declared.asking.CheckCommand.TheVariants.{Match, FinalScore, Name, Version}
-use Rattle.gtp_check_judge.specs.declared.asking.CheckCommand.TheVariants.{KnownCommand}
+use Rattle.gtp_check_judge.specs.declared.asking.CheckCommand.TheVariants.{KnownCommand, PlayInFull, GenmoveInFull, ListCommands}
 use Rattle.gtp_wire.specs.declared.commands.Command.TheVariants.{Boardsize, Komi, ClearBoard, FixedHandicap, Play}
 use Rattle.gtp_wire.specs.declared.commands.Command.TheVariants.{Genmove, Undo, Quit}
 use Rattle.gtp_wire.specs.declared.replies.Reply.{Reply}
@@ -16,7 +16,7 @@ use Rattle.gtp_wire.specs.declared.replies.ReplyFault.{ReplyFault}
 use Rattle.gtp_session.proofs.reply_texts.Spoken.{answer_good}
 use Rattle.gtp_check_judge.specs.declared.dues.Due.{Due}
 use Rattle.gtp_check_judge.specs.declared.dues.Due.TheVariants.{Succeeds, Fails, Places, Resizes, Scores, AnyReply}
-use Rattle.gtp_check_judge.specs.declared.dues.Due.TheVariants.{Chooses, MayUndo}
+use Rattle.gtp_check_judge.specs.declared.dues.Due.TheVariants.{Chooses, MayUndo, Lists}
 use Rattle.gtp_check_judge.specs.declared.judging.Judgement.{Judgement}
 use Rattle.gtp_check_judge.specs.declared.judging.Judgement.TheVariants.{Right, Plays, Resized, Undone, Opines, Wrong}
 use Rattle.gtp_check_judge.specs.declared.unanswered.Asked.{Asked}
@@ -108,6 +108,7 @@ judged_before before ahead sent entry later (Scores s k) reply got is o h j =
     (alone before ahead sent entry later (Scores s k) is refl refl o h).here j
 judged_before before ahead sent entry later AnyReply reply got is o h j = j
 judged_before before ahead sent entry later MayUndo reply got is o h j = j
+judged_before before ahead sent entry later Lists reply got is o h j = j
 judged_before before ahead sent entry later (Chooses colour) reply got is o h j =
     subst (λ (g : RightEngine). Judged g.game g.opinion (Chooses colour) reply got)
     (alone before ahead sent entry later (Chooses colour) is refl refl o h).here j
@@ -138,6 +139,9 @@ refusal_size engine FinalScore = refl
 refusal_size engine Name = refl
 refusal_size engine Version = refl
 refusal_size engine (KnownCommand known) = refl
+refusal_size engine ListCommands = refl
+refusal_size engine (PlayInFull move) = refl
+refusal_size engine (GenmoveInFull colour) = refl
 
 right_size : (before : RightEngine) (entry : Asked) (reply : Reply) (after : RightEngine) → IsSize before.game.size
     → IsRight before entry reply after → IsSize after.game.size

@@ -14,12 +14,15 @@ fn whole(text: &str) -> Option<CheckCommand> {
         "known_command fixed_handicap" => Some(CheckCommand::KnownCommand(Known::FixedHandicap)),
         "known_command undo" => Some(CheckCommand::KnownCommand(Known::Undo)),
         "known_command final_score" => Some(CheckCommand::KnownCommand(Known::FinalScore)),
+        "list_commands" => Some(CheckCommand::ListCommands),
         "clear_board" => Some(CheckCommand::Match(Command::ClearBoard)),
         "undo" => Some(CheckCommand::Match(Command::Undo)),
         "fixed_handicap 2" => Some(CheckCommand::Match(Command::FixedHandicap(2))),
         "fixed_handicap 3" => Some(CheckCommand::Match(Command::FixedHandicap(3))),
         "genmove b" => Some(CheckCommand::Match(Command::Genmove(Colour::Black))),
         "genmove w" => Some(CheckCommand::Match(Command::Genmove(Colour::White))),
+        "genmove black" => Some(CheckCommand::GenmoveInFull(Colour::Black)),
+        "genmove white" => Some(CheckCommand::GenmoveInFull(Colour::White)),
         _ => None,
     }
 }
@@ -33,17 +36,24 @@ pub fn command(rt: &impl Abort, text: &str) -> CheckCommand {
         panic!(rt; "no command");
     };
     let argument = argument.as_bytes();
-    CheckCommand::Match(match name {
-        "boardsize" => Command::Boardsize(some(rt, Size::new(some(rt, read_int(argument))))),
-        "komi" => Command::Komi(some(rt, Komi::read(argument))),
-        "play b" | "play w" => Command::Play(Move {
-            colour: if name == "play b" {
-                Colour::Black
-            } else {
-                Colour::White
-            },
-            vertex: some(rt, Vertex::read(argument)),
-        }),
+    match name {
+        "boardsize" => {
+            let size = some(rt, Size::new(some(rt, read_int(argument))));
+            CheckCommand::Match(Command::Boardsize(size))
+        }
+        "komi" => CheckCommand::Match(Command::Komi(some(rt, Komi::read(argument)))),
+        "play b" => CheckCommand::Match(Command::Play(move_to(rt, Colour::Black, argument))),
+        "play w" => CheckCommand::Match(Command::Play(move_to(rt, Colour::White, argument))),
+        "play black" => CheckCommand::PlayInFull(move_to(rt, Colour::Black, argument)),
+        "play white" => CheckCommand::PlayInFull(move_to(rt, Colour::White, argument)),
         _ => panic!(rt; "no command"),
-    })
+    }
+}
+
+/// The move of a colour to the vertex of this text.
+fn move_to(rt: &impl Abort, colour: Colour, text: &[u8]) -> Move {
+    Move {
+        colour,
+        vertex: some(rt, Vertex::read(text)),
+    }
 }

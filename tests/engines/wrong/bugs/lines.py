@@ -1,4 +1,5 @@
 """The reading of lines and of their words."""
+from right import Failure
 from rules import BLACK, WHITE
 from talks import instead_of, on, patch
 
@@ -48,6 +49,14 @@ def lines_of_thirty_one(self, right, data):
     """A line has room for 31 characters with its newline, and what comes after them is the next line."""
     starts = [(line, start) for line in right(data) for start in range(0, max(len(line), 1), 31)]
     return [line[start : start + 31] for line, start in starts]
+
+
+@instead_of("do_genmove", on(5, "", "genmove white"), "but")
+def genmove_reads_a_letter(self, right, arguments):
+    """`genmove` reads its colour by itself, as `b` or `w` alone."""
+    if arguments and len(arguments[0]) > 1:
+        raise Failure("syntax error")
+    return right(arguments)
 
 
 @instead_of("read_colour", on(5, "white A1 b A2 b B1", "play b A1"), "=")

@@ -1,4 +1,5 @@
-use Rattle.std.proofs.Common.{◌≡◌, ◌∙◌, Bool, true, false, rules, refl, sym, Option, None, Some, Result, Ok, Err}
+use Rattle.std.proofs.Common.{◌≡◌, ◌∙◌, ◌++◌, Bool, true, false, rules, refl, sym, ap, Option, None, Some, Result, Ok, Err}
+use Rattle.std.proofs.Common.{ℕ, List, take}
 use Rattle.std.specs.Prelude.{is_some, option_map}
 use Rattle.gtp_wire.specs.declared.replies.Reply.{Reply}
 use Rattle.gtp_wire.specs.declared.replies.ReplyFault.{ReplyFault}
@@ -55,7 +56,7 @@ returns-in-Some-clause-heard c = record {
     up = rw c.in-Some.is at c.heard-heard.ensures.up;
     down = rw c.in-Some.is at c.heard-heard.ensures.down;
   };
-  wrote = c.keep.ensures;
+  wrote = c.keep.ensures ∙ ap (λ (line : List ℕ). take 80 (c.args.wrote.now.items ++ line)) c.through_line.ensures;
   notes = refl;
   kind = search rules;
 }

@@ -5,7 +5,7 @@ use go_board::{Game, KoRule};
 use gtp_check_judge::{Cause, Kind};
 use gtp_check_questions::Lesson;
 use gtp_check_shortening::superko::game_before;
-use gtp_check_shortening::talk::Said;
+use gtp_check_shortening::talk::{Purpose, Said};
 use gtp_check_texts::complaint::{Complaint, complaint_text};
 use gtp_check_texts::fault::Fault;
 use gtp_process::{Ending, PipeCause};
@@ -28,7 +28,7 @@ struct Row {
     text: &'static str,
 }
 
-static ROWS: [Row; 8] = [
+static ROWS: [Row; 11] = [
     // It can be pasted into an engine.
     Row {
         head: (
@@ -137,6 +137,67 @@ static ROWS: [Row; 8] = [
         text: "# 1 komi: \"\": a score that doesn't differ from its others as the komis do
 # it wrote: \"=\\n\\n\"
 # right: it scored this board twice alike under another komi: scores differ as the komis do
+
+",
+    },
+    // A colour in full isn't read.
+    Row {
+        head: (
+            1,
+            Lesson::Start,
+            Fault::Wrote(Kind::Refused),
+            Ending::Running,
+        ),
+        commands: &[("clear_board", 14), ("play black C3", 30)],
+        answered: 1,
+        sent: b"1 clear_board\n2 play black C3\n",
+        wrote: b"?2 syntax error\n\n",
+        is_positional: false,
+        text: "# 1 start: \"2 play black C3\": it was refused
+1 clear_board
+2 play black C3
+# it wrote: \"?2 syntax error\\n\\n\"
+# right: a colour may be written in full: black for b, and white for w
+
+",
+    },
+    Row {
+        head: (
+            1,
+            Lesson::Start,
+            Fault::Wrote(Kind::NoMove),
+            Ending::Running,
+        ),
+        commands: &[("clear_board", 14), ("genmove white", 30)],
+        answered: 1,
+        sent: b"1 clear_board\n2 genmove white\n",
+        wrote: b"?2 syntax error\n\n",
+        is_positional: false,
+        text: "# 1 start: \"2 genmove white\": no move: the genmove failed
+1 clear_board
+2 genmove white
+# it wrote: \"?2 syntax error\\n\\n\"
+# right: a colour may be written in full: black for b, and white for w
+
+",
+    },
+    // A list lacks a command.
+    Row {
+        head: (
+            4,
+            Lesson::Start,
+            Fault::Wrote(Kind::Unlisted),
+            Ending::Running,
+        ),
+        commands: &[("list_commands", 16)],
+        answered: 0,
+        sent: b"1 list_commands\n",
+        wrote: b"=1 play\n\n",
+        is_positional: false,
+        text: "# 4 start: \"1 list_commands\": a list without a command that each engine has
+1 list_commands
+# it wrote: \"=1 play\\n\\n\"
+# right: each of these is listed: protocol_version name version known_command list_commands quit boardsize clear_board komi play genmove
 
 ",
     },
@@ -265,5 +326,41 @@ fn a_complaint_has_the_conversation_and_what_is_right(rt: HostRuntime) -> Result
         let text = complaint_text(rt.alloc(), &complaint_of(row, &asked))?;
         assert_equal_for(&rt, row.commands, text_of(&rt, text.as_slice()), row.text);
     }
+    Ok(())
+}
+
+#[test]
+fn a_complaint_says_that_a_line_came_in_two_pieces(rt: HostRuntime) -> Result<(), Fail> {
+    let mut talk = talk_of(&rt, 9, &[("name", 7), ("version", 17)]);
+    talk[1].purpose = Purpose {
+        lesson: Lesson::Start,
+        part: 1,
+    };
+    let complaint = Complaint {
+        number: 1,
+        lesson: Lesson::Start,
+        fault: Fault::Wrote(Kind::WrongId),
+        sent: b"1 name\n2 version\n",
+        talk: talk.as_slice(),
+        answered: 1,
+        wrote: b"? unknown command\n\n",
+        ending: Ending::Running,
+        is_positional: false,
+        game: None,
+    };
+    let text = complaint_text(rt.alloc(), &complaint)?;
+    assert_equal_for(
+        &rt,
+        complaint.number,
+        text_of(&rt, text.as_slice()),
+        "# 1 start: \"2 version\": a reply without the id of the command
+1 name
+2 version
+# that line came in two pieces: a right engine waits for its newline
+# it wrote: \"? unknown command\\n\\n\"
+# right: a reply has the id of the oldest unanswered command
+
+",
+    );
     Ok(())
 }

@@ -54,12 +54,13 @@ fn answered(
     assert_equal(rt, examiner.unanswered(), 0);
 }
 
-/// What a session is asked: what it knows, a board of 9x9 with a score and a handicap, moves of both colours, a move
-/// that is taken back, and two passes.
-static COURSE: [&str; 27] = [
+/// What a session is asked: what it knows, and the list of that; a board of 9x9 with a score and a handicap, moves of both colours, a move
+/// that is taken back, and two passes. Some colours are written in full.
+static COURSE: [&str; 31] = [
     "known_command fixed_handicap",
     "known_command undo",
     "known_command final_score",
+    "list_commands",
     "boardsize 9",
     "komi -6.5",
     "clear_board",
@@ -81,6 +82,9 @@ static COURSE: [&str; 27] = [
     "genmove w",
     "genmove b",
     "play w A1",
+    "undo",
+    "genmove black",
+    "play white A1",
     "undo",
     "play w pass",
     "play b pass",

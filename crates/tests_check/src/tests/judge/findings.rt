@@ -7,7 +7,7 @@ use gtp_check_judge::{Cause, CheckCommand, Examiner, Kind, MOST_UNANSWERED, Refu
 use gtp_wire::Reply;
 
 /// The board's size, the commands that are asked on it, what is heard, and what is found.
-static ANSWERS: [(&str, &[&str], &str, Option<Kind>); 15] = [
+static ANSWERS: [(&str, &[&str], &str, Option<Kind>); 24] = [
     // What a right engine does may not be refused.
     (
         "1 boardsize 5\n",
@@ -67,6 +67,54 @@ static ANSWERS: [(&str, &[&str], &str, Option<Kind>); 15] = [
         &["6 genmove b\n"],
         "=6 F1\n\n",
         Some(Kind::Unlawful(PlayFault::OffBoard)),
+    ),
+    // A colour may be written in full.
+    ("1 boardsize 5\n", &["6 play black C3\n"], "=6\n\n", None),
+    (
+        "1 boardsize 5\n",
+        &["6 play black C3\n"],
+        "?6 syntax error\n\n",
+        Some(Kind::Refused),
+    ),
+    (
+        "1 boardsize 5\n",
+        &["6 play black C3\n", "7 play white C3\n"],
+        "=6\n\n=7\n\n",
+        Some(Kind::Took(Cause::BadMove(PlayFault::Occupied))),
+    ),
+    ("1 boardsize 5\n", &["6 genmove black\n"], "=6 a1\n\n", None),
+    (
+        "1 boardsize 5\n",
+        &["6 genmove white\n"],
+        "=6 F1\n\n",
+        Some(Kind::Unlawful(PlayFault::OffBoard)),
+    ),
+    // A list has eleven commands, in any order, and any others.
+    (
+        "1 boardsize 5\n",
+        &["6 list_commands\n"],
+        "=6 genmove\nplay\nundo\nkomi\nclear_board\nboardsize\nquit\nlist_commands\nknown_command\n\
+            version\nname\nprotocol_version\n\n",
+        None,
+    ),
+    (
+        "1 boardsize 5\n",
+        &["6 list_commands\n"],
+        "=6 reg_genmove\nplay\nundo\nkomi\nclear_board\nboardsize\nquit\nlist_commands\nknown_command\n\
+            version\nname\nprotocol_version\n\n",
+        Some(Kind::Unlisted),
+    ),
+    (
+        "1 boardsize 5\n",
+        &["6 list_commands\n"],
+        "=6\n\n",
+        Some(Kind::Unlisted),
+    ),
+    (
+        "1 boardsize 5\n",
+        &["6 list_commands\n"],
+        "?6 unknown command\n\n",
+        Some(Kind::Refused),
     ),
     // Replies have the form and the id.
     (

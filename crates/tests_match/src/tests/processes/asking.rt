@@ -63,6 +63,8 @@ impl Process for Canned {
 
     fn let_run_first(&self) {}
 
+    fn let_read(&self) {}
+
     fn end(self) -> Ending {
         let Canned { text: _, read: _ } = self;
         Ending::Status(0)

@@ -205,6 +205,8 @@ impl Process for Talk {
         add(&self.log.let_run_first, 1);
     }
 
+    fn let_read(&self) {}
+
     fn end(self) -> Ending {
         let Talk {
             engine,

@@ -1,0 +1,26 @@
+-- Pieces that a process was sent.
+use Rattle.std.proofs.Common.{◌≡◌, ◌<◌, ℕ, Bool, true, false, List, [], ◌∷◌, length, refl, arith}
+use Rattle.gtp_process.specs.declared.starter.Process.{Ghosts}
+use Rattle.gtp_check_talks.specs.Dialogues.{AreTaken, IsSent, IsTaken, IsTakenInPart, no_piece, part, two_pieces, whole}
+
+-- one piece, which the process took whole or in part
+pub one_piece : {P : Type 0} (known : Ghosts P) (piece : List ℕ) (before after : P) (is_whole : Bool)
+    → (is_whole ≡ true → IsTaken known piece before after) → (is_whole ≡ false → IsTakenInPart known piece before after)
+    → AreTaken known (piece ∷ []) before after
+one_piece known piece before after true taken cut = whole piece (taken refl) no_piece
+one_piece known piece before after false taken cut = part piece (cut refl)
+
+-- lines that are there are sent at once, or in two pieces
+pub lines_sent : {P : Type 0} (known : Ghosts P) (in_pieces : Bool) (lines : List ℕ) (before after : P)
+    → 0 < length lines → (in_pieces ≡ false → AreTaken known (lines ∷ []) before after)
+    → (in_pieces ≡ true → AreTaken known (two_pieces lines) before after)
+    → IsSent known in_pieces lines before after
+lines_sent known in_pieces [] before after some at_once in_two = absurd (omega (arith, some))
+lines_sent known true (byte ∷ more) before after some at_once in_two = in_two refl
+lines_sent known false (byte ∷ more) before after some at_once in_two = at_once refl
+
+-- where there is no line, nothing is sent
+pub none_sent : {P : Type 0} (known : Ghosts P) (in_pieces : Bool) (lines : List ℕ) (before : P) → length lines ≡ 0
+    → IsSent known in_pieces lines before before
+none_sent known in_pieces [] before none = no_piece
+none_sent known in_pieces (byte ∷ more) before none = absurd (omega (arith, none))
