@@ -274,7 +274,8 @@ fn add_asked(text: &mut Vec<u8>, complaint: &Complaint<'_>) -> Result<(), AllocE
 {
     text.extend_from_slice(complaint.before_lines())?;
     add_board_if(text, complaint.game)?;
-    add_all(text, &[complaint.asked_line(), complaint.pieces_line()])
+    text.extend_from_slice(complaint.asked_line())?;
+    text.extend_from_slice(complaint.pieces_line())
 }
 
 /// The board of a game, where it is known.
