@@ -56,10 +56,10 @@ of_play game move Lists room is = absurd is
 
 -- another command has no bad move
 none : (due : Due) → is_bad_move due ≡ false → IsTrue (is_bad_move due) ↔ ⊥
-none due no = (λ yes. cc (yes, no), λ never. absurd never)
+none due is_none = (λ yes. cc (yes, is_none), λ never. absurd never)
 
 no_move : (due other : Due) → due ≡ other → is_bad_move other ≡ false → IsTrue (is_bad_move due) ↔ ⊥
-no_move due other is no = none due (ap is_bad_move is ∙ no)
+no_move due other is is_none = none due (ap is_bad_move is ∙ is_none)
 
 of_handicap : (game : GameRecord) (stones : ℕ) (due : Due) → HandicapDue game stones due → is_bad_move due ≡ false
 of_handicap game stones (Places size count) is = refl

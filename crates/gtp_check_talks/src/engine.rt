@@ -314,7 +314,8 @@ fn through_line(bytes: &[u8], used: usize) -> &[u8]
     ensures { result.now ≡ through_line used bytes.entry.now }
 {
     let before = used.saturating_sub(1);
-    let end = before + line_len(&bytes[before..]) + 1;
+    let (_front, rest) = bytes.split_at(before);
+    let end = before + line_len(rest) + 1;
     &bytes[..end.min(bytes.len())]
 }
 
