@@ -1,3 +1,6 @@
 mod Conversations
+mod Fruitless
+mod Rules
+mod Silence
 mod Talks
 mod Trials
