@@ -1,5 +1,5 @@
 -- What is noted of starts without a right answer.
-use Rattle.std.proofs.Common.{◌≡◌, ◌∙◌, ◌≤◌, ◌<◌, arith, refl, sym, ap, ℕ, Bool, true, false, List, [], length}
+use Rattle.std.proofs.Common.{◌≡◌, ◌∙◌, ◌≤◌, ◌<◌, arith, refl, ap, ℕ, Bool, true, false, List, [], length}
 use Rattle.std.proofs.Common.{Option, None, Some, Result, Ok, Err}
 use Rattle.std.specs.Prelude.{if◌then◌else◌, ◌||◌, is_some}
 use Rattle.go_board.specs.declared.rules.KoRule.{KoRule}
@@ -23,8 +23,8 @@ use Rattle.gtp_check_texts.specs.declared.fault.Fault.{Fault}
 use Rattle.gtp_check_talks.specs.Among.{is_among}
 use Rattle.gtp_check_talks.specs.Counts.{one_more, with_more}
 use Rattle.gtp_check_talks.specs.declared.notes.Notes.{Notes}
-use Rattle.gtp_check_talks.specs.Dialogues.{AreHeard, Converses, Dialogue, EndsSo, EndsWrong, IsAsked, IsExchanged}
-use Rattle.gtp_check_talks.specs.Dialogues.{IsHeardQuietly, IsRead, Listener, begun_with, listener, noted_of_read}
+use Rattle.gtp_check_talks.specs.Dialogues.{AreHeard, Converses, Dialogue, EndsSo, IsAsked, IsExchanged}
+use Rattle.gtp_check_talks.specs.Dialogues.{IsRead, begun_with, noted_of_read}
 use Rattle.gtp_check_talks.specs.Laws.{RightAnswersEndStartsInVain}
 use Rattle.gtp_check_talks.specs.Notes.{asks_for_move, counted, is_refused, is_taken, noted, noted_of, taken_by}
 use Rattle.gtp_check_talks.specs.Notes.{undos_after, with_answer, with_lesson, with_most_undos, with_refusal, with_size}

@@ -1,5 +1,5 @@
 -- What is complained of is wrong, what a right engine writes is never complained of. (Own.)
-use Rattle.std.specs.Prelude.{◌≡◌, ◌≤◌, ◌<◌, ◌↔◌, ◌⊎◌, ℕ, true, List, ◌++◌, length, Option, None, Some, Result}
+use Rattle.std.specs.Prelude.{◌≡◌, ◌≤◌, ◌<◌, ℕ, true, List, ◌++◌, length, Option, None, Some, Result}
 use Rattle.std.specs.Io.KnownBytes.{Appends}
 use Rattle.go_board.specs.declared.rules.KoRule.{KoRule}
 use Rattle.gtp_wire.specs.declared.replies.Reply.{Reply}
