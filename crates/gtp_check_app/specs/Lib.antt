@@ -3,6 +3,7 @@ pub mod Laws
 pub mod Options
 pub mod Plans
 pub mod Progress
+pub mod RunLaws
 pub mod Status
 pub mod Summary
 pub mod Tally

@@ -1,6 +1,13 @@
 //! Laws of the check. Each is the contract of a function that does nothing.
 ghost use Rattle.gtp_check_app.specs.Laws.{APassIsEarned, NoChosenSuicideIsBlamed};
+ghost use Rattle.gtp_check_app.specs.RunLaws.{EachComplaintIsJust, QuitGoesToWhoOwesNothing, SilentChecksAreRight};
+ghost use Rattle.gtp_check_app.specs.RunLaws.{StatusesSay, ThreeStartsInVainEndIt, known_of};
 
+use byte_streams::WriteOnce;
+use gtp_check_talks::laws::{
+    complaints_are_justified, ko_rules_stay, losses_are_no_wrong_answers,
+    right_answers_end_starts_in_vain, silent_conversations_are_right,
+};
 use gtp_process::Process;
 
 /// Where suicide isn't asked, no complaint is about a suicide that a `genmove` chose: it is counted, and nothing else.
@@ -13,3 +20,61 @@ pub fn no_chosen_suicide_is_blamed<P: Process>()
 pub fn a_pass_is_earned<P: Process>()
     ensures { APassIsEarned P.Process }
 {}
+
+/// Where nothing was found so far, nothing was wrong in any turn. And at each point of a check, each answer that was
+/// heard of its engine is a right one.
+pub fn silent_checks_are_right<P: Process, O: WriteOnce, E: WriteOnce>()
+    ensures { SilentChecksAreRight (known_of P.Process O.WriteOnce E.WriteOnce) }
+{
+    complaints_are_justified::<P>();
+    ko_rules_stay::<P>();
+    losses_are_no_wrong_answers::<P>();
+    silent_conversations_are_right::<P>();
+    right_answers_end_starts_in_vain::<P>();
+}
+
+/// Each complaint is of a conversation that ended with a wrong answer, or in which the engine was lost.
+pub fn each_complaint_is_just<P: Process, O: WriteOnce, E: WriteOnce>()
+    ensures { EachComplaintIsJust (known_of P.Process O.WriteOnce E.WriteOnce) }
+{
+    complaints_are_justified::<P>();
+    ko_rules_stay::<P>();
+    losses_are_no_wrong_answers::<P>();
+    silent_conversations_are_right::<P>();
+    right_answers_end_starts_in_vain::<P>();
+}
+
+/// `quit` goes only to an engine that owes no answer.
+pub fn quit_goes_to_who_owes_nothing<P: Process, O: WriteOnce, E: WriteOnce>()
+    ensures { QuitGoesToWhoOwesNothing (known_of P.Process O.WriteOnce E.WriteOnce) }
+{
+    complaints_are_justified::<P>();
+    ko_rules_stay::<P>();
+    losses_are_no_wrong_answers::<P>();
+    silent_conversations_are_right::<P>();
+    right_answers_end_starts_in_vain::<P>();
+}
+
+/// Three starts in a row without a right answer end the check, and no engine is started a fourth time.
+pub fn three_starts_in_vain_end_it<P: Process, O: WriteOnce, E: WriteOnce>()
+    ensures { ThreeStartsInVainEndIt (known_of P.Process O.WriteOnce E.WriteOnce) }
+{
+    complaints_are_justified::<P>();
+    ko_rules_stay::<P>();
+    losses_are_no_wrong_answers::<P>();
+    silent_conversations_are_right::<P>();
+    right_answers_end_starts_in_vain::<P>();
+}
+
+/// A run whose status is 1 wrote a complaint; one whose status is 0 passed the engine, or was asked for a text alone;
+/// and in one whose status is 4 nothing was wrong, and the engine hasn't passed.
+pub fn statuses_say<P: Process, O: WriteOnce, E: WriteOnce>()
+    ensures { StatusesSay (known_of P.Process O.WriteOnce E.WriteOnce) }
+{
+    a_pass_is_earned::<P>();
+    complaints_are_justified::<P>();
+    ko_rules_stay::<P>();
+    losses_are_no_wrong_answers::<P>();
+    silent_conversations_are_right::<P>();
+    right_answers_end_starts_in_vain::<P>();
+}

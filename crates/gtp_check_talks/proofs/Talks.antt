@@ -137,7 +137,7 @@ module _ {P : Type 0} (known : Ghosts P) (rule : KoRule) (process : P) (first : 
       (read_gave talk.came before.held bytes before.process next none talk.gave gave) heard
 
   -- what waits was sent
-  sent_talk : (old : Exam) (before : Dialogue P) (next : P) → IsTalk known rule process old before
+  pub sent_talk : (old : Exam) (before : Dialogue P) (next : P) → IsTalk known rule process old before
       → IsSent known (ends_in_pieces before.talk) before.waiting before.process next
       → IsTalk known rule process old (record before { process = next; waiting = [] })
   sent_talk old before next talk sent = record {
@@ -147,7 +147,7 @@ module _ {P : Type 0} (known : Ghosts P) (rule : KoRule) (process : P) (first : 
         (talk.came ++ before.held) talk.gave (sent_gave sent);
   }
 
-  converses_talk : {exam : Exam} {now : Dialogue P}
+  pub converses_talk : {exam : Exam} {now : Dialogue P}
       → Converses known (begun rule true) (begun_with process first) exam now
       → IsTalk known rule process exam now
   converses_talk Converses.begins = record {

@@ -1,20 +1,26 @@
 -- What is complained of is wrong, what a right engine writes is never complained of. (Own.)
-use Rattle.std.specs.Prelude.{◌≡◌, ◌≤◌, ◌<◌, ◌↔◌, ◌⊎◌, ℕ, true, List, ◌++◌, Option, Some, Result}
+use Rattle.std.specs.Prelude.{◌≡◌, ◌≤◌, ◌<◌, ℕ, true, List, ◌++◌, length, Option, None, Some, Result}
 use Rattle.std.specs.Io.KnownBytes.{Appends}
 use Rattle.go_board.specs.declared.rules.KoRule.{KoRule}
 use Rattle.gtp_wire.specs.declared.replies.Reply.{Reply}
 use Rattle.gtp_wire.specs.declared.replies.ReplyFault.{ReplyFault}
+use Rattle.gtp_process.specs.declared.causes.PipeCause.{PipeCause}
+use Rattle.gtp_process.specs.declared.causes.PipeCause.TheVariants.{Ended, Reading}
 use Rattle.gtp_process.specs.declared.starter.Process.{Ghosts}
+use Rattle.gtp_process.specs.Pipes.{IsCutOff, OutputEnded}
 use Rattle.gtp_session.specs.Policy.{May}
 use Rattle.gtp_session.specs.Engine.{Engine, Engages, fresh_under}
+use Rattle.gtp_check_judge.specs.declared.asking.CheckCommand.{CheckCommand}
 use Rattle.gtp_check_judge.specs.declared.exam.Exam.{Exam}
 use Rattle.gtp_check_judge.specs.declared.exam.Finding.{Finding}
 use Rattle.gtp_check_judge.specs.declared.judging.Kind.{Kind}
 use Rattle.gtp_check_judge.specs.Exam.{Hears, begun}
-use Rattle.gtp_check_judge.specs.Laws.{Exchange, IsJustified, Talks}
-use Rattle.gtp_check_texts.specs.declared.fault.Fault.TheVariants.{Wrote}
+use Rattle.gtp_check_judge.specs.Laws.{Exchange, IsJustified, IsRightSoFar, Talks}
+use Rattle.gtp_check_shortening.specs.declared.talk.Purpose.{Purpose}
+use Rattle.gtp_check_texts.specs.declared.fault.Fault.{Fault}
+use Rattle.gtp_check_texts.specs.declared.fault.Fault.TheVariants.{CutOff, Wrote}
 use Rattle.gtp_check_talks.specs.declared.notes.Notes.{Notes}
-use Rattle.gtp_check_talks.specs.Dialogues.{Dialogue, EndsWrong, begun_with}
+use Rattle.gtp_check_talks.specs.Dialogues.{Converses, Dialogue, EndsSo, EndsWrong, IsAsked, IsExchanged, begun_with}
 
 -- What was found in what an engine wrote. What it was asked and what was heard are a talk in which all answers were
 -- right; then what was heard is a wrong answer, of this kind, and the finding is justified. What was heard is a front
@@ -51,3 +57,70 @@ NoRightEngineIsComplainedOf {P} {Q} known may = (rule : KoRule) (policy : Q) (en
     → known.given process ≡ Some before → known.given after.process ≡ Some (before ++ gave)
     → Engages may (fresh_under rule policy) after.sent engine out → out ≡ gave ++ later
     → ⊥
+
+-- ---- a conversation in which nothing was found
+
+-- What is said with an engine that was started under this ko rule, as long as nothing is found. The engine is up. What
+-- it was asked and what was heard are a talk in which each answer is a right one of the engine that those before it
+-- leave, and what is unanswered was asked of the engine after them. What was heard, and then what is held, are all that
+-- the process gave since its start.
+pub record IsRightlyAnswered {P : Type 0} (known : Ghosts P) (rule : KoRule) (process : P) (exam : Exam)
+    (now : Dialogue P) : Type 0 where
+  pub up : exam.up ≡ true
+  pub came : List ℕ
+  pub said : List Exchange
+  pub talks : Talks rule now.sent came said exam
+  pub right : IsRightSoFar rule said exam
+  pub gave : Appends (known.given process) (known.given now.process) (came ++ now.held)
+
+abbrev pub SilenceSaysAllIsRight : {P : Type 0} → Ghosts P → Type 0
+SilenceSaysAllIsRight {P} known = (rule : KoRule) (process : P) (first : Notes) (exam : Exam) (now : Dialogue P)
+    → Converses known (begun rule true) (begun_with process first) exam now
+    → IsRightlyAnswered known rule process exam now
+
+-- ---- a loss
+
+-- the last read of a process: its output ended at it, or the process was cut off
+pub data BreaksOff {P : Type 0} (known : Ghosts P) (before after : P) : PipeCause → Type 0 where
+  ended : OutputEnded known.fails known.succeeds known.runs_out before after → BreaksOff known before after Ended
+  broke : IsCutOff known.fails known.succeeds before after → BreaksOff known before after Reading
+
+-- An engine was lost while it owed an answer: then its output ended, or it was cut off. Each answer that it gave until
+-- then was right. So a loss shows nothing wrong in what the engine wrote.
+pub record IsLost {P : Type 0} (known : Ghosts P) (rule : KoRule) (process : P) (cause : PipeCause) (exam : Exam)
+    (after : Dialogue P) : Type 0 where
+  pub right : IsRightlyAnswered known rule process exam after
+  pub owes : 0 < length exam.unanswered
+  pub last : P
+  pub breaks : BreaksOff known last after.process cause
+
+abbrev pub LossesAreNoWrongAnswers : {P : Type 0} → Ghosts P → Type 0
+LossesAreNoWrongAnswers {P} known = (rule : KoRule) (process : P) (first : Notes) (cause : PipeCause) (new : Exam)
+    (after : Dialogue P) → EndsWrong known (begun rule true) (begun_with process first) (CutOff cause) new after
+    → IsLost known rule process cause new after
+
+-- ---- the ko rule
+
+-- whatever is said with an engine, its ko rule stays
+abbrev pub KoRulesStay : {P : Type 0} → Ghosts P → Type 0
+KoRulesStay {P} known = (first new : Exam) (start after : Dialogue P) (fault : Option Fault)
+    → EndsSo known first start fault new after → new.game.rule ≡ first.game.rule
+
+-- ---- starts in vain
+
+-- What becomes of the number of starts since the last right answer. A command that is asked leaves it. What is heard of
+-- an engine that is up never makes it more; and it is none once a right answer was heard, after which fewer are
+-- unanswered.
+pub record RightAnswersEndStartsInVain {P : Type 0} (known : Ghosts P) : Type 0 where
+  pub asked : (purpose : Purpose) (old : Exam) (before : Dialogue P) (command : CheckCommand) (new : Exam)
+      (after : Dialogue P) → IsAsked purpose old before command new after
+      → after.notes.fruitless ≡ before.notes.fruitless
+  pub heard : (old : Exam) (before : Dialogue P) (fault : Option Fault) (new : Exam) (after : Dialogue P)
+      → old.up ≡ true → IsExchanged known old before fault new after
+      → after.notes.fruitless ≤ before.notes.fruitless
+  pub answered : (old : Exam) (before : Dialogue P) (new : Exam) (after : Dialogue P)
+      → old.up ≡ true → IsExchanged known old before None new after
+      → length new.unanswered < length old.unanswered → after.notes.fruitless ≡ 0
+  pub talked : (rule : KoRule) (process : P) (first : Notes) (fault : Option Fault) (new : Exam) (after : Dialogue P)
+      → EndsSo known (begun rule true) (begun_with process first) fault new after
+      → after.notes.fruitless ≤ first.fruitless

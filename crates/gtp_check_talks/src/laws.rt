@@ -1,7 +1,11 @@
 //! Laws of what is said with an engine. Each is the contract of a function that does nothing.
 ghost use Rattle.gtp_check_talks.specs.Laws.{ComplaintsAreJustified, NoRightEngineIsComplainedOf};
+ghost use Rattle.gtp_check_talks.specs.Laws.{KoRulesStay, LossesAreNoWrongAnswers, RightAnswersEndStartsInVain};
+ghost use Rattle.gtp_check_talks.specs.Laws.{SilenceSaysAllIsRight};
 
-use gtp_check_judge::laws::{findings_are_justified, no_right_engine_is_blamed};
+use gtp_check_judge::laws::{
+    findings_are_justified, no_right_engine_is_blamed, silence_says_all_is_right,
+};
 use gtp_process::Process;
 use gtp_session::policy::Policy;
 
@@ -20,3 +24,29 @@ pub fn no_right_engine_is_complained_of<P: Process, Q: Policy>()
     findings_are_justified();
     no_right_engine_is_blamed::<Q>();
 }
+
+/// As long as nothing is found, each answer that was heard of an engine is a right one, and what was heard and is held
+/// is all that it gave.
+pub fn silent_conversations_are_right<P: Process>()
+    ensures { SilenceSaysAllIsRight P.Process }
+{
+    silence_says_all_is_right();
+}
+
+/// An engine that is lost owed an answer, and then its output ended or it was cut off. All that it answered before was
+/// right.
+pub fn losses_are_no_wrong_answers<P: Process>()
+    ensures { LossesAreNoWrongAnswers P.Process }
+{
+    silence_says_all_is_right();
+}
+
+/// Whatever is said with an engine, its ko rule stays.
+pub fn ko_rules_stay<P: Process>()
+    ensures { KoRulesStay P.Process }
+{}
+
+/// A right answer ends the starts in vain, and nothing that is heard makes them more.
+pub fn right_answers_end_starts_in_vain<P: Process>()
+    ensures { RightAnswersEndStartsInVain P.Process }
+{}

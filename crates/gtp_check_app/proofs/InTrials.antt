@@ -1,0 +1,214 @@
+-- What trials leave as it is, and what a trial shows that ended like the conversation that was found.
+use Rattle.std.proofs.Common.{◌≡◌, ◌∙◌, ◌≤◌, arith, refl, ap, subst, sym, true, List, Option, None, Some}
+use Rattle.go_board.specs.declared.rules.KoRule.{KoRule}
+use Rattle.gtp_process.specs.declared.starter.Ending.{Ending}
+use Rattle.gtp_process.specs.declared.starter.Process.{Ghosts}
+use Rattle.gtp_process.specs.Starts.{Attempts, Text}
+use Rattle.gtp_check_judge.specs.declared.asking.CheckCommand.{CheckCommand}
+use Rattle.gtp_check_judge.specs.declared.exam.Exam.{Exam}
+use Rattle.gtp_check_judge.specs.Check.{Check, started}
+use Rattle.gtp_check_judge.specs.Exam.{begun}
+use Rattle.gtp_check_shortening.specs.declared.flat.Shortening.{Shortening}
+use Rattle.gtp_check_shortening.specs.declared.talk.Purpose.{Purpose}
+use Rattle.gtp_check_shortening.specs.Reduction.{Reduction}
+use Rattle.gtp_check_texts.specs.declared.fault.Fault.{Fault}
+use Rattle.gtp_check_texts.specs.declared.fault.Fault.TheVariants.{CutOff, Wrote}
+use Rattle.gtp_check_talks.specs.declared.notes.Notes.{Notes}
+use Rattle.gtp_check_talks.specs.Dialogues.{Dialogue, EndsWrong, IsTrial, Wrong, begun_with, wrong_with}
+use Rattle.gtp_check_talks.specs.Laws.{ComplaintsAreJustified, KoRulesStay, LossesAreNoWrongAnswers}
+use Rattle.gtp_check_talks.specs.Laws.{RightAnswersEndStartsInVain, SilenceSaysAllIsRight}
+use Rattle.gtp_check_app.specs.declared.plan.Plan.{Plan}
+use Rattle.gtp_check_app.specs.RunLaws.{IsGrounded, IsShownBy}
+use Rattle.gtp_check_app.specs.Turns.{IsShortened, IsTried, Reduces, Shortens, State, TriesOne, TriesShorter}
+use Rattle.gtp_check_app.specs.Turns.{or_else}
+
+-- what there is is one thing
+pub one_there : {A : Type 0} {one other : A} → Some one ≡ Some other → one ≡ other
+one_there same = cc same
+
+-- What was found, the engine and the ko rule are as before, and there are no more starts in vain.
+pub record Stays {P : Type 0} (before after : State P) : Type 0 where
+  pub tally : after.tally ≡ before.tally
+  pub engine : after.engine ≡ before.engine
+  pub rule : after.check.exam.game.rule ≡ before.check.exam.game.rule
+  pub fruitless : after.notes.fruitless ≤ before.notes.fruitless
+
+pub unchanged : {P : Type 0} (now : State P) → Stays now now
+unchanged now = record { tally = refl; engine = refl; rule = refl; fruitless = omega arith }
+
+pub both_stay : {P : Type 0} (before mid after : State P) → Stays before mid → Stays mid after → Stays before after
+both_stay before mid after one other = record {
+  tally = other.tally ∙ one.tally;
+  engine = other.engine ∙ one.engine;
+  rule = other.rule ∙ one.rule;
+  fruitless = omega (arith, one.fruitless, other.fruitless);
+}
+
+-- the laws of conversations that are used
+pub record Laws {P : Type 0} (known : Ghosts P) : Type 0 where
+  pub just : ComplaintsAreJustified known
+  pub lost : LossesAreNoWrongAnswers known
+  pub stays : KoRulesStay known
+  pub silent : SilenceSaysAllIsRight known
+  pub vain : RightAnswersEndStartsInVain known
+
+module _ {P : Type 0} (known : Ghosts P) (laws : Laws known) where
+  -- ---- what a conversation shows that ended with something wrong
+
+  shown_by : (rule : KoRule) (process : P) (first : Notes) (fault : Fault) (exam : Exam) (end : Dialogue P)
+      → EndsWrong known (begun rule true) (begun_with process first) fault exam end
+      → IsShownBy known rule process fault exam end
+  shown_by rule process first (Wrote kind) exam end ends = laws.just rule process first kind exam end ends
+  shown_by rule process first (CutOff cause) exam end ends = laws.lost rule process first cause exam end ends
+
+  pub grounded_by : (rule : KoRule) (process : P) (first : Notes) (fault : Fault) (exam : Exam) (end : Dialogue P)
+      (ending : Ending) → EndsWrong known (begun rule true) (begun_with process first) fault exam end
+      → known.leaves end.process ending → IsGrounded known rule (wrong_with fault exam end ending)
+  grounded_by rule process first fault exam end ending ends left = record {
+    process = process;
+    exam = exam;
+    end = end;
+    ending = ending;
+    is = refl;
+    left = left;
+    shown = shown_by rule process first fault exam end ends;
+  }
+
+  -- ---- one trial
+
+  -- what comes of a trial: what was found in it, if anything, has its ground
+  record Comes (rule : KoRule) (before : State P) (result : Option Wrong) (after : State P) : Type 0 where
+    stays : Stays before after
+    grounded : (tried : Wrong) → result ≡ Some tried → IsGrounded known rule tried
+
+  nothing_comes : (rule : KoRule) (now : State P) → Comes rule now None now
+  nothing_comes rule now = record { stays = unchanged now; grounded = λ tried is. absurd (cc is) }
+
+  later : (rule : KoRule) (before mid after : State P) (result : Option Wrong) → Stays before mid
+      → Comes rule mid result after → Comes rule before result after
+  later rule before mid after result one other = record {
+    stays = both_stay before mid after one other.stays;
+    grounded = other.grounded;
+  }
+
+  trial_rule : (line : List Text) (purpose : Purpose) (commands : List CheckCommand) (old : Check)
+      (had : Attempts P) (first : Notes) {result : Option Wrong} {new : Check} {has : Attempts P} {notes : Notes}
+      → IsTrial known line purpose commands old had first result new has notes
+      → new.exam.game.rule ≡ old.exam.game.rule
+  trial_rule line purpose commands old had first (IsTrial.unstarted reason tries) = refl
+  trial_rule line purpose commands old had first
+      (IsTrial.right {exam = exam} {engine = engine} process ending tries converses asks left) =
+      laws.stays (started old).exam exam (begun_with process first) engine None converses
+  trial_rule line purpose commands old had first
+      (IsTrial.wrong {exam = exam} {engine = engine} process ending fault tries ends asks left) =
+      laws.stays (started old).exam exam (begun_with process first) engine (Some fault) ends
+
+  trial_less : (line : List Text) (purpose : Purpose) (commands : List CheckCommand) (old : Check)
+      (had : Attempts P) (first : Notes) {result : Option Wrong} {new : Check} {has : Attempts P} {notes : Notes}
+      → IsTrial known line purpose commands old had first result new has notes → notes.fruitless ≤ first.fruitless
+  trial_less line purpose commands old had first (IsTrial.unstarted reason tries) = omega arith
+  trial_less line purpose commands old had first
+      (IsTrial.right {exam = exam} {engine = engine} process ending tries converses asks left) =
+      laws.vain.talked old.exam.game.rule process first None exam engine converses
+  trial_less line purpose commands old had first
+      (IsTrial.wrong {exam = exam} {engine = engine} process ending fault tries ends asks left) =
+      laws.vain.talked old.exam.game.rule process first (Some fault) exam engine ends
+
+  trial_grounded : (rule : KoRule) (line : List Text) (purpose : Purpose) (commands : List CheckCommand)
+      (old : Check) (had : Attempts P) (first : Notes) {result : Option Wrong} {new : Check} {has : Attempts P}
+      {notes : Notes} → old.exam.game.rule ≡ rule
+      → IsTrial known line purpose commands old had first result new has notes
+      → (tried : Wrong) → result ≡ Some tried → IsGrounded known rule tried
+  trial_grounded rule line purpose commands old had first same (IsTrial.unstarted reason tries) tried is =
+      absurd (cc is)
+  trial_grounded rule line purpose commands old had first same
+      (IsTrial.right process ending tries converses asks left) tried is = absurd (cc is)
+  trial_grounded rule line purpose commands old had first same
+      (IsTrial.wrong {exam = exam} {engine = engine} process ending fault tries ends asks left) tried is =
+      subst (IsGrounded known rule) (one_there is)
+      (subst (λ (r : KoRule). IsGrounded known r (wrong_with fault exam engine ending)) same
+      (grounded_by old.exam.game.rule process first fault exam engine ending ends left))
+
+  module _ (plan : Plan) (found : Wrong) (rule : KoRule) where
+    tried_comes : (commands : List CheckCommand) (before : State P) (had : Attempts P) (result : Option Wrong)
+        (after : State P) (has : Attempts P) → before.check.exam.game.rule ≡ rule
+        → IsTried known plan found commands before had result after has → Comes rule before result after
+    tried_comes commands before had result after has same tried = record {
+      stays = record {
+        tally = ap (λ (s : State P). s.tally) tried.leads;
+        engine = ap (λ (s : State P). s.engine) tried.leads;
+        rule = trial_rule _ _ commands before.check had before.notes tried.trial;
+        fruitless = trial_less _ _ commands before.check had before.notes tried.trial;
+      };
+      grounded = trial_grounded rule _ _ commands before.check had before.notes same tried.trial;
+    }
+
+    one_comes : (commands : List CheckCommand) (before : State P) (had : Attempts P)
+        → before.check.exam.game.rule ≡ rule → {result : Option Wrong} {after : State P} {has : Attempts P}
+        → TriesOne known plan found commands before had result after has → Comes rule before result after
+    one_comes commands before had same (TriesOne.no_start none) = nothing_comes rule before
+    one_comes commands before had same (TriesOne.right {after = after} {has = has} may tried) =
+        tried_comes commands before had None after has same tried
+    one_comes commands before had same (TriesOne.other {tried = one} {after = after} {has = has} may tried unlike) =
+        record {
+          stays = (tried_comes commands before had (Some one) after has same tried).stays;
+          grounded = λ other is. absurd (cc is);
+        }
+    one_comes commands before had same (TriesOne.alike {tried = one} {after = after} {has = has} may tried like) =
+        tried_comes commands before had (Some one) after has same tried
+
+    shorter_comes : (how : Shortening) (before : State P) (had : Attempts P)
+        → before.check.exam.game.rule ≡ rule → {result : Option Wrong} {after : State P} {has : Attempts P}
+        → TriesShorter known plan found how before had result after has → Comes rule before result after
+    shorter_comes how before had same (TriesShorter.left_out none) = nothing_comes rule before
+    shorter_comes how before had same (TriesShorter.tries is_for tries) = one_comes _ before had same tries
+
+    shortens_comes : (before : State P) → before.check.exam.game.rule ≡ rule → {hows : List Shortening}
+        {after : State P} {had has : Attempts P} {result : Option Wrong}
+        → Shortens known plan found hows before had result after has → Comes rule before result after
+    shortens_comes before same Shortens.none_left = nothing_comes rule before
+    shortens_comes before same
+        (Shortens.missed {how = how} {mid = mid} {after = after} {had = had} {result = result} tried more) =
+        let one = shorter_comes how before had same tried in
+        later rule before mid after result one.stays (shortens_comes mid (one.stays.rule ∙ same) more)
+    shortens_comes before same (Shortens.shortened_so {how = how} {had = had} tried) =
+        shorter_comes how before had same tried
+
+    reduces_comes : (first : Reduction) (before : State P) (had : Attempts P) → before.check.exam.game.rule ≡ rule
+        → {now : Reduction} {best : Option Wrong} {after : State P} {has : Attempts P}
+        → Reduces known plan found first before had now best after has → Comes rule before best after
+    reduces_comes first before had same Reduces.begins = nothing_comes rule before
+    reduces_comes first before had same
+        (Reduces.failed {mid = mid} {after = after} {between = between} commands more next tries) =
+        let earlier = reduces_comes first before had same more in
+        let one = one_comes commands mid between (earlier.stays.rule ∙ same) tries in
+        record { stays = both_stay before mid after earlier.stays one.stays; grounded = earlier.grounded }
+    reduces_comes first before had same
+        (Reduces.succeeded {mid = mid} {after = after} {between = between} {tried = one} commands more next tries) =
+        let earlier = reduces_comes first before had same more in
+        later rule before mid after (Some one) earlier.stays
+        (one_comes commands mid between (earlier.stays.rule ∙ same) tries)
+
+  -- ---- what is shown
+
+  -- what is grounded on either way
+  of_either : (rule : KoRule) (best games : Option Wrong)
+      → ((tried : Wrong) → best ≡ Some tried → IsGrounded known rule tried)
+      → ((tried : Wrong) → games ≡ Some tried → IsGrounded known rule tried)
+      → (tried : Wrong) → or_else best games ≡ Some tried → IsGrounded known rule tried
+  of_either rule None games one other tried is = other tried is
+  of_either rule (Some found) games one other tried is = one tried is
+
+  -- a conversation was made shorter, and what ended it then has its ground
+  pub shortened_comes : (plan : Plan) (found : Wrong) (rule : KoRule) (before : State P) (had : Attempts P)
+      (result : Option Wrong) (after : State P) (has : Attempts P) → before.check.exam.game.rule ≡ rule
+      → IsShortened known plan found before had result after has
+      → Stays before after × ((tried : Wrong) → result ≡ Some tried → IsGrounded known rule tried)
+  shortened_comes plan found rule before had result after has same shortened =
+      let games = shortens_comes plan found rule before same shortened.shortens in
+      let best = reduces_comes plan found rule _ shortened.mid shortened.between (games.stays.rule ∙ same)
+      shortened.reduced.reduces in (
+        both_stay before shortened.mid after games.stays best.stays,
+        subst (λ (r : Option Wrong). (tried : Wrong) → r ≡ Some tried → IsGrounded known rule tried) (sym shortened.is)
+            (of_either rule shortened.best shortened.games best.grounded games.grounded),
+      )

@@ -1,0 +1,11 @@
+use Rattle.gtp_check_app.proofs.OverTurns.{just_complaints}
+use Rattle.gtp_check_app.proofs.laws.each_complaint_is_just.Goals as goal
+
+pub returns : goal.returns
+returns g c = just_complaints g.P.Process g.O.WriteOnce g.E.WriteOnce (record {
+  just = c.complaints_are_justified.ensures;
+  lost = c.losses_are_no_wrong_answers.ensures;
+  stays = c.ko_rules_stay.ensures;
+  silent = c.silent_conversations_are_right.ensures;
+  vain = c.right_answers_end_starts_in_vain.ensures;
+})
