@@ -65,7 +65,7 @@ pub struct Engine<P> {
     pub talk: Vec<Said>,
     /// The lines of those that aren't sent yet.
     pub waiting: Lines,
-    /// What it wrote while it owed nothing. That is heard with the next answer.
+    /// What was read of it past the end of one reply. That is heard in the next exchange, before it is read again.
     pub held: Held,
     /// The beginning of what it wrote since its last whole reply.
     pub wrote: Beginning,
