@@ -74,7 +74,7 @@ few_commands = 12
 
 -- so many commands may be asked in trials of a conversation, however short its lesson was
 abbrev pub least_tried : ℕ
-least_tried = 1000
+least_tried = 20000
 
 -- how many commands of the conversation were asked in the lesson in which it ended
 abbrev pub lesson_commands : Wrong → ℕ

@@ -43,7 +43,7 @@ use std::alloc::{AllocError, Global};
 const FEW_COMMANDS: usize = 12;
 
 /// So many commands may be asked in trials of a conversation, however short its lesson was.
-const LEAST_TRIED: usize = 1000;
+const LEAST_TRIED: usize = 20_000;
 
 impl<S: Starter> Check<S> {
     /// Something is wrong with the engine, which is ended. The complaint is written, unless its like was shown often
