@@ -81,7 +81,7 @@ abbrev pub lesson_commands : Wrong → ℕ
 lesson_commands wrong = count_by (λ said. is_same_lesson (wrong_purpose wrong) said.purpose) (wrong_talk wrong)
 
 -- How much may be tried: so many trials as the plan has, where there are more commands than are few; and in all of
--- them together as many commands as this conversation has in the lesson, or a thousand.
+-- them together as many commands as this conversation has in the lesson, or twenty thousand.
 abbrev pub limits_of : Plan → Wrong → Limits
 limits_of plan wrong = record {
   trials = if nat_lt few_commands (length (wrong_talk wrong)) then plan.trials else 0;
