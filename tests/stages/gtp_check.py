@@ -55,6 +55,11 @@ class Free(Checks):
     """Engines that have a freedom: nothing may be found."""
 
 
+@checks.table([it for it in right.FREEDOMS if it in right.SUICIDAL], lambda it: f"suicide is blamed: {it}", right.suicidal)
+class Suicidal(Checks):
+    """Engines whose rules allow suicide, where the check isn't told so: they are blamed for that alone."""
+
+
 @checks.table(list(right.GO_BEYOND), lambda it: f"beyond a freedom: {it}", right.beyond)
 class Beyond(Checks):
     """Engines that go beyond a freedom: something is found."""

@@ -12,4 +12,5 @@ mod Progressing
 mod Running
 mod Settling
 mod Shortening
+mod Suicides
 mod Turning

@@ -1,6 +1,6 @@
 -- What is written after an exchange.
 use Rattle.std.proofs.Common.{◌≡◌, ◌∙◌, ap, refl, sym, subst, Bool, true, false, List, [], ◌∷◌, ◌++◌, ℕ, Option, Some}
-use Rattle.std.specs.Prelude.{is_some, unwrap_or}
+use Rattle.std.specs.Prelude.{not, unwrap_or}
 use Rattle.byte_streams.specs.declared.calls.WriteOnce.{Ghosts as WriterGhosts}
 use Rattle.byte_streams.specs.Writing.{LinesGoOut, line_out, no_line}
 use Rattle.gtp_process.specs.declared.starter.Process.{Ghosts}
@@ -29,7 +29,17 @@ use Rattle.gtp_check_shortening.specs.Reduction.{Reduction}
 use Rattle.gtp_check_app.specs.Turns.{shown, waiting}
 use Rattle.gtp_check_app.specs.private.Steps.{ComplaintGoesOut, ComplaintStops, FirstGoesOut, FirstStops, StopsAfter}
 use Rattle.gtp_check_app.specs.private.Steps.{complaint_broke, complaint_refused, first_broke, first_refused}
+use Rattle.gtp_check_app.specs.Unjudged.{is_blamed}
 use Rattle.gtp_check_app.proofs.Progressing.{both_shown, none_shown}
+
+-- what `not` says of the other
+not-true : (so : Bool) → not so ≡ true → so ≡ false
+not-true true is = absurd (cc is)
+not-true false is = refl
+
+pub not-false : (so : Bool) → not so ≡ false → so ≡ true
+not-false true is = refl
+not-false false is = absurd (cc is)
 
 -- lines went out, and then others
 pub both_out : {W : Type 0} (known : WriterGhosts W) (one other : List (List ℕ)) (before between after : W)
@@ -41,7 +51,8 @@ both_out known one other before between after (line_out {lines = lines} {mid = m
 
 module _ {P : Type 0} (known : Ghosts P) (plan : Plan) (before mid : State P) (had : Attempts P) (fault : Fault)
     (wrong : Wrong) (purpose : Purpose) (tally : Tally) (closes : Closes known fault before wrong mid)
-    (same : purpose ≡ wrong_purpose wrong) (now : tally ≡ found mid.tally purpose.lesson fault) where
+    (judged : is_blamed plan.suicide (Some fault) ≡ true) (same : purpose ≡ wrong_purpose wrong)
+    (now : tally ≡ found mid.tally purpose.lesson fault) where
   found_now : record mid { tally = tally } ≡ found_in mid wrong fault
   found_now =
       ap (λ (t : Tally). record mid { tally = t })
@@ -59,7 +70,7 @@ module _ {P : Type 0} (known : Ghosts P) (plan : Plan) (before mid : State P) (h
       (sym found_now)
       (record {
         said = [];
-        complains = hidden wrong closes
+        complains = hidden wrong (not-true _ judged) closes
             (sym (ap (λ (p : Purpose). is_shown mid.tally p.lesson fault) same) ∙ sym is ∙ so);
         goes_out = no_line;
         shown = none_shown errs progress errors;
@@ -72,7 +83,7 @@ module _ {P : Type 0} (known : Ghosts P) (plan : Plan) (before mid : State P) (h
       → IsComplaint plan.rule after.tally.complaints purpose.lesson (unwrap_or shorter wrong) complaint
       → Complains known plan before had (Some fault) after has (complaint_lines complaint ∷ [])
   complained answer is so {shorter = shorter} {after = after} {has = has} shortens complaint about =
-      shown wrong complaint closes (sym (ap (λ (p : Purpose). is_shown mid.tally p.lesson fault) same) ∙ sym is ∙ so)
+      shown wrong complaint (not-true _ judged) closes (sym (ap (λ (p : Purpose). is_shown mid.tally p.lesson fault) same) ∙ sym is ∙ so)
       (subst (λ (start : State P). IsShortened known plan wrong start had shorter after has)
       found_now shortens)
       (subst (λ (p : Purpose).
@@ -91,7 +102,7 @@ module _ {P O E : Type 0} (known : Ghosts P) (plan : Plan) (outs : WriterGhosts 
 
   -- the first line wasn't written, and so the turn stopped
   pub first_stops : (mid after : State P) (had : Attempts P) (fault : Option Fault) (out written : O) (seen sees : E)
-      (why : Failure) → FirstStops known plan outs errs progress mid (is_some fault) after out written seen sees why
+      (why : Failure) → FirstStops known plan outs errs progress mid (is_blamed plan.suicide fault) after out written seen sees why
       → StopsAfter known plan outs errs progress mid had fault (process_of after.engine) had out written seen sees why
   first_stops mid after had fault out written seen sees why (first_broke first breaks wrote same) =
       λ before errors heard waited.
@@ -104,22 +115,23 @@ module _ {P O E : Type 0} (known : Ghosts P) (plan : Plan) (outs : WriterGhosts 
   -- the complaint wasn't written, and so the turn stopped
   pub complaint_stops : (mid next after : State P) (had has : Attempts P) (fault : Fault) (out between written : O)
       (seen then sees : E) (why : Failure)
-      → FirstGoesOut known plan outs errs progress mid true next out between seen then
+      → is_blamed plan.suicide (Some fault) ≡ true
+      → FirstGoesOut known plan outs errs progress mid (is_blamed plan.suicide (Some fault)) next out between seen then
       → ComplaintStops known plan outs errs progress next had fault after has between written then sees why
       → StopsAfter known plan outs errs progress mid had (Some fault) (process_of after.engine) has
       out written seen sees
       why
-  complaint_stops mid next after had has fault out between written seen then sees why first
+  complaint_stops mid next after had has fault out between written seen then sees why judged first
       (complaint_broke {text = text} complains breaks wrote gone) =
       λ before errors heard waited.
       rw gone
       (turn_complaint_broke heard first.first first.goes_out complains breaks
       (all_shown heard.mid first.line (looking (text ∷ [])) errors seen then sees waited first.shown wrote))
-  complaint_stops mid next after had has fault out between written seen then sees why first
+  complaint_stops mid next after had has fault out between written seen then sees why judged first
       (complaint_refused closes asks is wrote gone) =
       λ before errors heard waited.
       rw (gone, is)
-      (no_memory_to_complain heard first.first first.goes_out closes asks
+      (no_memory_to_complain heard (rw judged at first.first) first.goes_out closes asks
       (all_shown heard.mid first.line (looking_line ∷ []) errors seen then sees waited first.shown wrote))
 
 -- ---- after a complaint the engine is down
@@ -189,9 +201,11 @@ pub complains_down : {P : Type 0} (known : Ghosts P) (plan : Plan) (before : Sta
     → {after : State P} {has : Attempts P} {said : List (List ℕ)} (which : Option Fault) → which ≡ Some fault
     → Complains known plan before had which after has said → after.check.exam.up ≡ false
 complains_down known plan before had fault which is Complains.nothing = absurd (cc is)
-complains_down known plan before had fault which is (Complains.hidden {mid = mid} about closes kept_back) =
+complains_down known plan before had fault which is (Complains.passed_over so passes) =
+    ap {A = State _} (λ now. now.check.exam.up) passes.leads
+complains_down known plan before had fault which is (Complains.hidden {mid = mid} about judged closes kept_back) =
     ap {A = State _} (λ now. now.check.exam.up) closes.leads
 complains_down known plan before had fault which is
-    (Complains.shown {fault = one} {mid = mid} about complaint closes so shortens which_one) =
+    (Complains.shown {fault = one} {mid = mid} about complaint judged closes so shortens which_one) =
     shortened_down known plan about _ _ _ _ _ shortens
     (ap {A = State _} (λ now. now.check.exam.up) closes.leads)

@@ -56,13 +56,14 @@ status_in plan last = status_of last.tally.complaints
     (is_earned plan.lessons.items (missed_from plan last.course.place.lesson) last.notes.asked.items)
 
 -- What the last lines say of a check that is over for this reason: the lessons from the one on in which the course is,
--- what isn't shown, the starts and the complaints.
+-- what isn't shown, the starts, the complaints, and the suicides that weren't judged.
 pub record IsEnding (plan : Plan) (tally : Tally) (lesson starts : ℕ) (why : Over) (ending : Ending) : Type 0 where
   pub over : ending.over.now ≡ why
   pub missed : ending.missed.now ≡ missed_from plan lesson
   pub hidden : ending.hidden.now ≡ tally.hidden
   pub starts_are : ending.starts ≡ starts
   pub complaints : ending.complaints ≡ tally.complaints
+  pub suicides : ending.suicides ≡ tally.suicides
 
 -- the last lines of a check
 pub record AreLastLines {P : Type 0} (plan : Plan) (last : State P) (why : Over) (text : List ℕ) : Type 0 where

@@ -1,13 +1,15 @@
--- A pass is earned. (Own.)
-use Rattle.std.specs.Prelude.{◌≡◌, ◌≤◌, ◌<◌, ◌↔◌, ◌⊎◌, ℕ, true, All, List, ◌++◌, length, Option, Some, Result}
+-- A pass is earned, and suicide isn't judged where it isn't asked. (Own.)
+use Rattle.std.specs.Prelude.{◌≡◌, ◌≤◌, ◌<◌, ◌↔◌, ◌⊎◌, ℕ, true, All, List, [], ◌++◌, length, Option, Some, Result}
 use Rattle.std.specs.Io.KnownBytes.{Appends}
 use Rattle.go_base.specs.declared.colours.Colour.{Colour}
 use Rattle.go_base.specs.declared.moves.Move.{Move}
+use Rattle.go_board.specs.declared.faults.PlayFault.TheVariants.{Suicide}
 use Rattle.go_board.specs.declared.rules.KoRule.{KoRule}
 use Rattle.gtp_wire.specs.declared.commands.Command.TheVariants.{Play, Genmove}
 use Rattle.gtp_wire.specs.declared.replies.Reply.{Reply}
 use Rattle.gtp_wire.specs.declared.replies.ReplyFault.{ReplyFault}
 use Rattle.gtp_process.specs.declared.starter.Process.{Ghosts}
+use Rattle.gtp_process.specs.Starts.{Attempts}
 use Rattle.gtp_session.specs.Policy.{May}
 use Rattle.gtp_session.specs.Engine.{Engine, Engages, fresh_under}
 use Rattle.gtp_check_judge.specs.declared.asking.CheckCommand.{CheckCommand}
@@ -15,11 +17,16 @@ use Rattle.gtp_check_judge.specs.declared.asking.CheckCommand.TheVariants.{Match
 use Rattle.gtp_check_judge.specs.declared.exam.Exam.{Exam}
 use Rattle.gtp_check_judge.specs.declared.exam.Finding.{Finding}
 use Rattle.gtp_check_judge.specs.declared.judging.Kind.{Kind}
+use Rattle.gtp_check_judge.specs.declared.judging.Kind.TheVariants.{Unlawful}
 use Rattle.gtp_check_judge.specs.Exam.{Hears, begun}
 use Rattle.gtp_check_judge.specs.Laws.{Exchange, IsJustified, Talks}
 use Rattle.gtp_check_questions.specs.Lessons.{number_of}
 use Rattle.gtp_check_questions.specs.declared.lessons.Lesson.{Lesson}
+use Rattle.gtp_check_questions.specs.declared.suicides.Suicide.TheVariants.{Unasked}
 use Rattle.cli.specs.Status.{done}
+use Rattle.gtp_check_texts.specs.Complaints.{complaint_lines}
+use Rattle.gtp_check_texts.specs.declared.complaint.Complaint.{Complaint}
+use Rattle.gtp_check_texts.specs.declared.fault.Fault.{Fault}
 use Rattle.gtp_check_texts.specs.declared.fault.Fault.TheVariants.{Wrote}
 use Rattle.gtp_check_talks.specs.declared.notes.Notes.{Notes}
 use Rattle.gtp_check_app.specs.declared.plan.Plan.{Plan}
@@ -28,7 +35,27 @@ use Rattle.gtp_check_talks.specs.Dialogues.{Dialogue, EndsWrong, begun_with}
 use Rattle.gtp_check_talks.specs.Notes.{counted, nothing_noted}
 use Rattle.gtp_check_talks.specs.Among.{is_among}
 use Rattle.gtp_check_app.specs.Status.{not_earned, something_found}
-use Rattle.gtp_check_app.specs.Turns.{State}
+use Rattle.gtp_check_app.specs.Tally.{with_suicide}
+use Rattle.gtp_check_app.specs.Turns.{Complains, State}
+
+-- ---- suicide that isn't judged
+
+-- a text is a complaint, and not about a suicide that a `genmove` chose
+pub record IsOfOther (text : List ℕ) : Type 0 where
+  pub complaint : Complaint
+  pub text_is : text ≡ complaint_lines complaint
+  pub other : complaint.fault ≡ Wrote (Unlawful Suicide) → ⊥
+
+-- Where suicide isn't asked, no complaint that is written is about a suicide that a `genmove` chose. One that was chosen
+-- adds nothing to what was found, and takes no start of those that are left: it is counted alone.
+pub record NoChosenSuicideIsBlamed {P : Type 0} (known : Ghosts P) : Type 0 where
+  pub written : (plan : Plan) (before after : State P) (had has : Attempts P) (fault : Option Fault)
+      (said : List (List ℕ)) → plan.suicide ≡ Unasked → Complains known plan before had fault after has said
+      → All IsOfOther said
+  pub counted : (plan : Plan) (before after : State P) (had has : Attempts P) (fault : Option Fault)
+      (said : List (List ℕ)) → plan.suicide ≡ Unasked → fault ≡ Some (Wrote (Unlawful Suicide))
+      → Complains known plan before had fault after has said
+      → (said ≡ []) × (after.tally ≡ with_suicide before.tally)
 
 -- ---- a pass
 

@@ -8,4 +8,5 @@ pub mod Status
 pub mod Summary
 pub mod Tally
 pub mod Turns
+pub mod Unjudged
 pub mod private

@@ -13,18 +13,22 @@ use Rattle.go_board.specs.declared.rules.KoRule.{KoRule}
 use Rattle.go_board.specs.declared.rules.KoRule.TheVariants.{Simple, Positional}
 use Rattle.gtp_check_questions.specs.Lessons.{all_lessons, name_of}
 use Rattle.gtp_check_questions.specs.declared.lessons.Lesson.{Lesson}
+use Rattle.gtp_check_questions.specs.declared.suicides.Suicide.{Suicide}
+use Rattle.gtp_check_questions.specs.declared.suicides.Suicide.TheVariants.{Forbidden, Unasked}
 use Rattle.gtp_check_app.specs.declared.options.Options.{Options}
 
 -- ---- the options that there are
 
--- the program keeps these lists of names: the ko rules, and the lessons of `--only` and of `--skip`
+-- the program keeps these lists of names: the ko rules, the rules of suicide, and the lessons of `--only` and of `--skip`
 pub record KeptNames : Type 0 where
   pub rules : Bor (List (Bor Text))
+  pub suicides : Bor (List (Bor Text))
   pub only : Bor (List (Bor Text))
   pub skip : Bor (List (Bor Text))
 
 pub record AreKept (names : KeptNames) : Type 0 where
   pub rules : AreNames (codes "simple" ∷ codes "positional" ∷ []) names.rules
+  pub suicides : AreNames (codes "forbidden" ∷ codes "unasked" ∷ []) names.suicides
   pub only : AreNames (map name_of all_lessons) names.only
   pub skip : AreNames (map name_of all_lessons) names.skip
 
@@ -36,12 +40,13 @@ word_rule name = record (new_rule name) { value_names = 1 }
 abbrev pub program : App
 program = with_rule (program_named (codes "gtp_check")) (word_rule (codes "CMD"))
 
--- `[--size N] [--ko simple|positional] [--seed N] [--quick] [--only LESSON].. [--skip LESSON]..`, and
--- `[--list] [--singly] [--restarts N] [--trials N]`
+-- `[--size N] [--ko simple|positional] [--suicide forbidden|unasked] [--seed N] [--quick] [--only LESSON]..`, and
+-- `[--skip LESSON].. [--list] [--singly] [--restarts N] [--trials N]`
 abbrev pub options : KeptNames → List Rule
 options names =
     maybe_number_rule (codes "size") (pos 5) (pos 25)
     ∷ name_rule (codes "ko") names.rules (codes "simple")
+    ∷ name_rule (codes "suicide") names.suicides (codes "forbidden")
     ∷ number_rule (codes "seed") (pos 0) (pos 4294967295) (codes "1")
     ∷ flag_rule (codes "quick")
     ∷ names_rule (codes "only") names.only
@@ -62,6 +67,10 @@ command_line names = with_rules program (options names)
 abbrev pub ko_rule_named : Text → KoRule
 ko_rule_named name = if bytes_eq name (codes "positional") then Positional else Simple
 
+-- what this name says of suicide
+abbrev pub suicide_named : Text → Suicide
+suicide_named name = if bytes_eq name (codes "unasked") then Unasked else Forbidden
+
 -- the lesson's name is among these
 abbrev pub is_named : List Text → Lesson → Bool
 is_named names lesson = list_any (λ name. bytes_eq name (name_of lesson)) names
@@ -75,6 +84,7 @@ pub record Ask (rows : List Row) (options : Options) : Type 0 where
   pub command : options.command.now ≡ option_text (codes "CMD") rows
   pub size : HasNumber (codes "size") rows options.size
   pub rule : options.rule ≡ ko_rule_named (option_text (codes "ko") rows)
+  pub suicide : options.suicide ≡ suicide_named (option_text (codes "suicide") rows)
   pub seed : HasNumber (codes "seed") rows options.seed
   pub quick : HasFlag (codes "quick") rows options.quick
   pub only : options.only.items ≡ lessons_named (option_texts (codes "only") rows)

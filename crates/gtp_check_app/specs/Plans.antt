@@ -62,6 +62,7 @@ pub record IsPlanOf (options : Options) (plan : Plan) : Type 0 where
   pub has_words : words options.command.now ≢ []
   pub scene_size : IsSceneSize options.size plan.scene_size
   pub rule : plan.rule ≡ options.rule
+  pub suicide : plan.suicide ≡ options.suicide
   pub seed : plan.seed ≡ options.seed
   pub lessons : plan.lessons.items ≡ filter (is_chosen options) all_lessons
   pub has_lessons : plan.lessons.items ≢ []

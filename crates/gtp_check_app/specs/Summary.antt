@@ -137,6 +137,16 @@ sizes_line sizes = concat (codes "check: it refuses the sizes" ∷ concat (map s
 abbrev pub refused_line : List ℕ → List ℕ
 refused_line sizes = if length sizes == 0 then [] else sizes_line sizes
 
+-- how many moves that a `genmove` chose were suicide, and that they weren't judged
+abbrev pub suicides_text : ℕ → List ℕ
+suicides_text suicides = concat (
+    codes "check: " ∷ counted_text suicides (codes " suicide") ∷
+    codes " by genmove, not judged, as the options say\n" ∷ [])
+
+-- the same, where there are any
+abbrev pub suicides_line : ℕ → List ℕ
+suicides_line suicides = if suicides == 0 then [] else suicides_text suicides
+
 -- the last line: how many commands, starts and complaints
 abbrev pub counts_line : ℕ → ℕ → ℕ → List ℕ
 counts_line commands starts complaints = concat (
@@ -145,7 +155,7 @@ counts_line commands starts complaints = concat (
     codes ", " ∷ counted_text complaints (codes " complaint") ∷ codes "\n" ∷ [])
 
 -- The last lines: complaints that aren't shown, lessons that weren't asked, those in which no move was asked, what the
--- engine lacks, how far it takes back, what it refuses, and the counts.
+-- engine lacks, how far it takes back, what it refuses, the suicides that weren't judged, and the counts.
 abbrev pub last_lines : Plan → Notes → Ending → List ℕ
 last_lines plan notes ending = concat (
     hidden_lines ending.hidden.now ∷
@@ -153,4 +163,4 @@ last_lines plan notes ending = concat (
     missed_lines ending.over.now ending.missed.now ∷
     unplayed_lines plan.lessons.items ending.missed.now notes.asked.items ∷
     lack_lines notes ∷ undos_line notes.most_undos ∷ refused_line notes.refused.items ∷
-    counts_line notes.commands ending.starts ending.complaints ∷ [])
+    suicides_line ending.suicides ∷ counts_line notes.commands ending.starts ending.complaints ∷ [])

@@ -48,6 +48,7 @@ nothing_found starts_left = record {
   starts_left = starts_left;
   is_after_fault = false;
   has_first_line = false;
+  suicides = 0;
 }
 
 -- what was wrong in another lesson is forgotten
@@ -74,6 +75,11 @@ abbrev pub found : Tally → Lesson → Fault → Tally
 found tally lesson fault =
     if is_shown tally lesson fault then with_known (in_lesson tally lesson) fault
     else with_hidden (with_known (in_lesson tally lesson) fault) lesson
+
+-- A `genmove` was answered with a suicide, which isn't judged. It is counted, and the next start takes none of those that
+-- are left.
+abbrev pub with_suicide : Tally → Tally
+with_suicide tally = record tally { suicides = one_more tally.suicides }
 
 -- one of the starts that are left is taken
 abbrev pub without_start : Tally → Tally

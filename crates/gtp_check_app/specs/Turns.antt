@@ -25,7 +25,6 @@ use Rattle.gtp_check_questions.specs.declared.actions.Action.{Action}
 use Rattle.gtp_check_questions.specs.declared.actions.Action.TheVariants.{Ask, Done, Kill, Restart, Skip, Start}
 use Rattle.gtp_check_questions.specs.declared.lessons.Lesson.{Lesson}
 use Rattle.gtp_check_questions.specs.declared.lessons.Lesson.TheVariants as lesson
-use Rattle.gtp_check_questions.specs.declared.suicides.Suicide.TheVariants.{Forbidden}
 use Rattle.gtp_check_questions.specs.Asking.{IsTurn, Renews, lesson_of}
 use Rattle.gtp_check_questions.specs.Course.{Course, GoesTo, Leaves, begun, part_over, with_finding}
 use Rattle.gtp_check_questions.specs.Course.{IsOver as CourseIsOver}
@@ -58,7 +57,8 @@ use Rattle.gtp_check_shortening.specs.declared.limits.Limits.{Limits}
 use Rattle.gtp_check_app.specs.Summary.{first_line}
 use Rattle.gtp_check_shortening.specs.Played.{played}
 use Rattle.gtp_check_shortening.specs.Superko.{IsPositional, game_before}
-use Rattle.gtp_check_app.specs.Tally.{found, is_shown, nothing_found, started_again, without_start}
+use Rattle.gtp_check_app.specs.Unjudged.{HasPassedOver, is_blamed, is_unjudged, owed_purpose}
+use Rattle.gtp_check_app.specs.Tally.{found, is_shown, nothing_found, started_again, with_suicide, without_start}
 
 -- how many turns a check has at most; no check within the limits has this number
 abbrev pub most_turns : ℕ
@@ -125,7 +125,7 @@ without_engine before = record before { check = after_loss before.check; engine 
 abbrev pub before_all : {P : Type 0} → Plan → State P
 before_all plan = record {
   check = opening plan.rule most_starts;
-  course = begun plan.lessons.items plan.scene_size plan.seed Forbidden;
+  course = begun plan.lessons.items plan.scene_size plan.seed plan.suicide;
   engine = None;
   tally = nothing_found plan.restarts;
   notes = nothing_noted;
@@ -266,6 +266,23 @@ module _ {P : Type 0} (known : Ghosts P) where
     pub notes : HasNoted (wrong_purpose wrong) (is_loss fault) before.course course
     pub leads : after ≡ record before { check = after_loss before.check; course = course; engine = None }
 
+  -- The engine chose a suicide that isn't judged. It was ended, and that is counted. The part is left in which it was
+  -- asked for the move, if the course is in it still.
+  pub record PassesOver (before after : State P) : Type 0 where
+    pub engine : Engine P
+    pub had : before.engine ≡ Some engine
+    pub ending : Ending
+    pub ended : known.leaves engine.process ending
+    pub course : Course
+    pub left : HasPassedOver (is_same_purpose (owed_purpose engine before.check.exam) (purpose_in before.course))
+        before.course course
+    pub leads : after ≡ record before {
+      check = after_loss before.check;
+      course = course;
+      engine = None;
+      tally = with_suicide before.tally;
+    }
+
 module _ {P : Type 0} (known : Ghosts P) (plan : Plan) where
   -- ---- a shorter conversation
 
@@ -357,15 +374,17 @@ module _ {P : Type 0} (known : Ghosts P) (plan : Plan) where
   -- ---- a complaint
 
   -- What is wrong with the engine, if anything, is complained of: with its own conversation, or with a shorter one that
-  -- ended with the same; or not, where its like was shown often enough.
+  -- ended with the same; or not, where its like was shown often enough. A suicide that isn't judged is passed over.
   pub data Complains (before : State P) (had : Attempts P)
       : Option Fault → State P → Attempts P → List (List ℕ) → Type 0 where
     nothing : Complains before had None before had []
-    hidden : {fault : Fault} {mid : State P} (wrong : Wrong) → Closes known fault before wrong mid
-        → is_shown mid.tally (wrong_purpose wrong).lesson fault ≡ false
+    passed_over : {fault : Fault} {after : State P} → is_unjudged plan.suicide fault ≡ true
+        → PassesOver known before after → Complains before had (Some fault) after had []
+    hidden : {fault : Fault} {mid : State P} (wrong : Wrong) → is_unjudged plan.suicide fault ≡ false
+        → Closes known fault before wrong mid → is_shown mid.tally (wrong_purpose wrong).lesson fault ≡ false
         → Complains before had (Some fault) (found_in mid wrong fault) had []
     shown : {fault : Fault} {mid after : State P} {has : Attempts P} {shorter : Option Wrong} (wrong : Wrong)
-        (complaint : Complaint) → Closes known fault before wrong mid
+        (complaint : Complaint) → is_unjudged plan.suicide fault ≡ false → Closes known fault before wrong mid
         → is_shown mid.tally (wrong_purpose wrong).lesson fault ≡ true
         → IsShortened wrong (found_in mid wrong fault) had shorter after has
         → IsComplaint plan.rule after.tally.complaints (wrong_purpose wrong).lesson (unwrap_or shorter wrong) complaint
@@ -409,7 +428,7 @@ module _ {P : Type 0} (known : Ghosts P) (plan : Plan) where
         → IsEnded known (process_of mid.engine)
         → Turn before had (record mid { check = after_loss mid.check; course = course; engine = None }) had [] []
     exchanges : {mid next after : State P} {has : Attempts P} {fault : Option Fault} {line said : List (List ℕ)}
-        → (heard : Exchanges before fault mid) → WritesFirst mid (is_some fault) next line
+        → (heard : Exchanges before fault mid) → WritesFirst mid (is_blamed plan.suicide fault) next line
         → Complains next had fault after has said
         → Turn before had after has (line ++ said) (waiting plan heard.mid ++ (clearing line ++ looking said))
 
@@ -469,13 +488,13 @@ module _ {P : Type 0} (known : Ghosts P) (plan : Plan) where
     pub data StopsIn (before : State P) (had : Attempts P) (out : O) (errors : E)
         : Option P → Attempts P → O → E → Failure → Type 0 where
       first_line_broke : {mid next : State P} {written : O} {sees : E} {fault : Option Fault} {line : List ℕ}
-          → (heard : Exchanges before fault mid) → WritesFirst mid (is_some fault) next (line ∷ [])
+          → (heard : Exchanges before fault mid) → WritesFirst mid (is_blamed plan.suicide fault) next (line ∷ [])
           → BreaksAt outs line out written
           → IsShown errs progress (waiting plan heard.mid ++ cleared ∷ []) errors sees
           → StopsIn before had out errors (process_of mid.engine) had written sees Write
       complaint_broke : {mid next after : State P} {has : Attempts P} {line_out written : O} {sees : E}
           {fault : Option Fault} {line : List (List ℕ)} {text : List ℕ} → (heard : Exchanges before fault mid)
-          → WritesFirst mid (is_some fault) next line → LinesGoOut outs line out line_out
+          → WritesFirst mid (is_blamed plan.suicide fault) next line → LinesGoOut outs line out line_out
           → Complains next had fault after has (text ∷ []) → BreaksAt outs text line_out written
           → IsShown errs progress (waiting plan heard.mid ++ (clearing line ++ looking (text ∷ []))) errors sees
           → StopsIn before had out errors None has written sees Write

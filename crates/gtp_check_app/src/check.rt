@@ -19,10 +19,11 @@ use crate::progress::clear;
 use crate::status::{is_earned, status_of};
 use crate::summary::{Ending, Over, first_line, last_lines};
 use crate::tally::Tally;
+use crate::unjudged::is_blamed;
 use byte_streams::{WriteOnce, write_text};
 use cli::failure::Failure;
 use gtp_check_judge::{CheckCommand, Examiner};
-use gtp_check_questions::{Action, Course, Lesson, Lessons, Suicide};
+use gtp_check_questions::{Action, Course, Lesson, Lessons};
 use gtp_check_shortening::talk::Purpose;
 use gtp_check_talks::engine::{Engine, Room};
 use gtp_check_talks::notes::Notes;
@@ -89,7 +90,7 @@ impl<S: Starter> Check<S> {
                 copied(&plan.lessons),
                 plan.scene_size,
                 plan.seed,
-                Suicide::Forbidden,
+                plan.suicide,
             ),
             engine: None,
             notes: Notes::new(),
@@ -272,7 +273,8 @@ impl<S: Starter> Check<S> {
         self.examiner.may_start() && self.tally.may_start()
     }
 
-    /// What is due after an exchange is written: the first line, and what is wrong.
+    /// What is due after an exchange is written: the first line, and what is wrong. A suicide that isn't judged is
+    /// passed over.
     fn settle<O: WriteOnce, E: WriteOnce>(
         &mut self,
         fault: Option<Fault>,
@@ -294,11 +296,16 @@ impl<S: Starter> Check<S> {
             (S.asked starter.new) output.old output.new errors.old errors.new why) }
         ensures paired { OnOk result (IsPaired (state_of self.new)) }
     {
-        self.write_first(fault.is_some(), plan, progress, output, errors)?;
-        match fault {
-            Some(fault) => self.complain(fault, plan, progress, output, errors, starter),
-            None => Ok(()),
+        let is_wrong = is_blamed(plan.suicide, fault);
+        self.write_first(is_wrong, plan, progress, output, errors)?;
+        let Some(fault) = fault else {
+            return Ok(());
+        };
+        if !is_wrong {
+            self.pass_over();
+            return Ok(());
         }
+        self.complain(fault, plan, progress, output, errors, starter)
     }
 
     /// An engine is started, where one may be.
@@ -461,6 +468,7 @@ fn ending_of<'c>(
         hidden: tally.hidden.as_slice(),
         starts,
         complaints: tally.complaints,
+        suicides: tally.suicides,
     }
 }
 

@@ -1,6 +1,6 @@
 //! Something is wrong with the engine: it is ended, and a complaint is written.
 ghost use Rattle.std.specs.Prelude.{◌≡◌, ◌<◌, ◌≤◌, ◌⊎◌, [], ◌∷◌, true, false, None, IfErr, IfOk, IfSome, IsSome, OnOk};
-ghost use Rattle.std.specs.Prelude.{length};
+ghost use Rattle.std.specs.Prelude.{Some, length};
 ghost use Rattle.std.specs.Prelude.{count_by, option_map};
 ghost use Rattle.byte_streams.specs.Writing.{BreaksAt, GoesOut};
 ghost use Rattle.gtp_process.specs.Starts.{program_line};
@@ -15,6 +15,7 @@ ghost use Rattle.gtp_check_shortening.specs.Played.{played};
 ghost use Rattle.gtp_check_shortening.specs.Reduction.{begun as begun_reduction};
 ghost use Rattle.gtp_check_shortening.specs.Superko.{game_before};
 ghost use Rattle.gtp_check_app.specs.Turns.{state_of};
+ghost use Rattle.gtp_check_app.specs.Unjudged.{is_blamed};
 ghost use Rattle.gtp_check_app.specs.private.Steps.{ComplaintGoesOut, ComplaintStops};
 ghost use Rattle.gtp_check_texts.specs.declared.complaint.Complaint.{Complaint};
 ghost use Rattle.cli.specs.declared.failure.Failure.TheVariants as failure;
@@ -57,7 +58,8 @@ impl<S: Starter> Check<S> {
         errors: &mut E,
         starter: &mut S,
     ) -> Result<(), Failure>
-        requires { IsSome self.old.engine }
+        requires there { IsSome self.old.engine }
+        requires judged { is_blamed plan.now.suicide (Some fault) ≡ true }
         ensures goes_out { OnOk result
             (ComplaintGoesOut S.Process.Process plan.now O.WriteOnce E.WriteOnce progress
             (state_of self.old) (S.asked starter.old) fault

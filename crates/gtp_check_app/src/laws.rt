@@ -1,5 +1,5 @@
 //! Laws of the check. Each is the contract of a function that does nothing.
-ghost use Rattle.gtp_check_app.specs.Laws.{APassIsEarned};
+ghost use Rattle.gtp_check_app.specs.Laws.{APassIsEarned, NoChosenSuicideIsBlamed};
 ghost use Rattle.gtp_check_app.specs.RunLaws.{EachComplaintIsJust, QuitGoesToWhoOwesNothing, SilentChecksAreRight};
 ghost use Rattle.gtp_check_app.specs.RunLaws.{StatusesSay, ThreeStartsInVainEndIt, known_of};
 
@@ -9,6 +9,11 @@ use gtp_check_talks::laws::{
     right_answers_end_starts_in_vain, silent_conversations_are_right,
 };
 use gtp_process::Process;
+
+/// Where suicide isn't asked, no complaint is about a suicide that a `genmove` chose: it is counted, and nothing else.
+pub fn no_chosen_suicide_is_blamed<P: Process>()
+    ensures { NoChosenSuicideIsBlamed P.Process }
+{}
 
 /// The status of a check that is over is 1 exactly where something was found, and 0 exactly where nothing was, each
 /// lesson was asked to its end, and a `play` or a `genmove` was asked in each.

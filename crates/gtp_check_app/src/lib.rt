@@ -17,3 +17,4 @@ pub mod run;
 mod status;
 pub mod summary;
 pub mod tally;
+mod unjudged;

@@ -8,14 +8,14 @@ ghost use Rattle.clap.specs.Words.{app_of, found_of, kind_of, rows_of, rule_of};
 ghost use Rattle.clap.specs.declared.error.kind.ErrorKind.TheVariants.{OutOfMemory};
 ghost use Rattle.cli.specs.Options.{option_texts};
 ghost use Rattle.gtp_check_app.specs.Options.{Ask, AsksFor, HasFault, is_named, ko_rule_named, lessons_named};
-ghost use Rattle.gtp_check_app.specs.Options.{program, word_rule};
+ghost use Rattle.gtp_check_app.specs.Options.{program, suicide_named, word_rule};
 ghost use Rattle.gtp_check_app.specs.private.CommandLine.{IsCommandLine};
 
 use clap::{Arg, ArgMatches, Command, Error};
 use cli::VERSION;
 use cli::options::{OptionRow, Takes, flag_at, number_at, text_at, texts_at, with_options};
 use go_board::KoRule;
-use gtp_check_questions::{LESSONS, Lesson, Lessons};
+use gtp_check_questions::{LESSONS, Lesson, Lessons, Suicide};
 use std::alloc::{AllocError, Global};
 use std::convert::AsStr;
 
@@ -49,6 +49,8 @@ pub struct Options<'a> {
     pub size: u32,
     /// The ko rule; `simple` where the words don't say.
     pub rule: KoRule,
+    /// Whether suicide is asked and judged; it is where the words don't say.
+    pub suicide: Suicide,
     /// The seed of what is drawn; 1 where the words don't say.
     pub seed: u32,
     /// Whether only the lessons up to the scenes are asked.
@@ -68,7 +70,7 @@ pub struct Options<'a> {
 }
 
 /// The options, in the order of the help.
-static OPTIONS: [OptionRow<'static>; 10] = [
+static OPTIONS: [OptionRow<'static>; 11] = [
     OptionRow {
         name: "size",
         takes: Takes::MaybeNumber("N", 5, 25),
@@ -79,6 +81,12 @@ static OPTIONS: [OptionRow<'static>; 10] = [
         name: "ko",
         takes: Takes::Name("RULE", &["simple", "positional"], "simple"),
         help: "Rule of ko: simple or positional",
+    },
+    OptionRow {
+        name: "suicide",
+        takes: Takes::Name("RULE", &["forbidden", "unasked"], "forbidden"),
+        help: "Rule of suicide: forbidden, or unasked: play asks none,\n\
+            and genmove's isn't judged",
     },
     OptionRow {
         name: "seed",
@@ -178,6 +186,7 @@ fn options_of<'a>(matches: &ArgMatches<'a>) -> Options<'a>
         command: text_at(matches, "CMD"),
         size: number_at(matches, "size"),
         rule: ko_rule_named(text_at(matches, "ko")),
+        suicide: suicide_named(text_at(matches, "suicide")),
         seed: number_at(matches, "seed"),
         quick: flag_at(matches, "quick"),
         only: lessons_at(matches, "only"),
@@ -196,6 +205,16 @@ fn ko_rule_named(name: &str) -> KoRule
     match name {
         "positional" => KoRule::Positional,
         _ => KoRule::Simple,
+    }
+}
+
+/// What this name says of suicide.
+fn suicide_named(name: &str) -> Suicide
+    ensures { result ≡ suicide_named name.now }
+{
+    match name {
+        "unasked" => Suicide::Unasked,
+        _ => Suicide::Forbidden,
     }
 }
 

@@ -9,7 +9,7 @@ use crate::options::{Options, add_if};
 use cli::failure::PlanError;
 use go_base::Size;
 use go_board::KoRule;
-use gtp_check_questions::{LESSONS, Lesson, Lessons};
+use gtp_check_questions::{LESSONS, Lesson, Lessons, Suicide};
 use gtp_check_talks::among::is_among;
 use std::alloc::{AllocError, Global};
 
@@ -22,6 +22,8 @@ pub struct Plan<'a> {
     pub scene_size: Option<Size>,
     /// The ko rule of a right engine.
     pub rule: KoRule,
+    /// Whether suicide is asked and judged.
+    pub suicide: Suicide,
     /// The seed of what is drawn.
     pub seed: u32,
     /// The lessons that are asked, in their order.
@@ -57,6 +59,7 @@ pub fn plan_of<'a>(alloc: Global, options: &Options<'a>) -> Result<Plan<'a>, Pla
         words,
         scene_size: scene_size_of(options.size),
         rule: options.rule,
+        suicide: options.suicide,
         seed: options.seed,
         lessons,
         left_out: left_out(options),

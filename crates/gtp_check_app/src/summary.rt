@@ -7,7 +7,7 @@ ghost use Rattle.gtp_check_app.specs.Summary.{hidden_of, ko_text};
 ghost use Rattle.gtp_check_app.specs.Summary.{is_unplayed, unplayed_line, unplayed_lines};
 ghost use Rattle.gtp_check_app.specs.Summary.{lack_line, lack_lines, last_lines, lessons_line, missed_lines, plural};
 ghost use Rattle.gtp_check_app.specs.Summary.{refused_line, shown_or, sizes_line, spaced_name, spaced_size};
-ghost use Rattle.gtp_check_app.specs.Summary.{undos_line, unstarted_line};
+ghost use Rattle.gtp_check_app.specs.Summary.{suicides_line, suicides_text, undos_line, unstarted_line};
 
 use crate::options::add_if;
 use crate::plan::Plan;
@@ -94,6 +94,8 @@ pub struct Ending<'c> {
     pub starts: u32,
     /// How many complaints there are.
     pub complaints: u32,
+    /// How many suicides by `genmove` weren't judged.
+    pub suicides: u32,
 }
 
 /// The last lines: what wasn't shown, what wasn't asked and why, and the counts.
@@ -117,6 +119,7 @@ pub fn last_lines(
     add_lacks(&mut text, notes)?;
     add_most_undos(&mut text, notes.most_undos)?;
     add_refused(&mut text, &notes.refused)?;
+    add_suicides(&mut text, ending.suicides)?;
     add_counts(&mut text, notes.commands, ending.starts, ending.complaints)?;
     Ok(text)
 }
@@ -355,6 +358,27 @@ fn add_size(text: &mut Vec<u8>, size: u32) -> Result<(), AllocError>
 {
     text.extend_from_slice(b" ")?;
     text.extend_from_slice(&write_int(size))?;
+    Ok(())
+}
+
+/// How many moves that a `genmove` chose were suicide and weren't judged, where there are any.
+fn add_suicides(text: &mut Vec<u8>, suicides: u32) -> Result<(), AllocError>
+    ensures { OnOk result (text.new.items ≡ text.old.items ++ suicides_line suicides) }
+{
+    if suicides == 0 {
+        return Ok(());
+    }
+    add_suicides_text(text, suicides)?;
+    Ok(())
+}
+
+/// That so many weren't judged.
+fn add_suicides_text(text: &mut Vec<u8>, suicides: u32) -> Result<(), AllocError>
+    ensures { OnOk result (text.new.items ≡ text.old.items ++ suicides_text suicides) }
+{
+    text.extend_from_slice(b"check: ")?;
+    add_count(text, suicides, b" suicide")?;
+    text.extend_from_slice(b" by genmove, not judged, as the options say\n")?;
     Ok(())
 }
 

@@ -1,7 +1,7 @@
 //! What was found so far.
 ghost use Rattle.std.specs.Prelude.{◌≡◌, ◌-◌, ◌<◌, ◌||◌, nat_lt, not};
 ghost use Rattle.gtp_check_app.specs.Tally.{alike, found, started_again, in_lesson, is_shown, nothing_found};
-ghost use Rattle.gtp_check_app.specs.Tally.{with_hidden};
+ghost use Rattle.gtp_check_app.specs.Tally.{with_hidden, with_suicide};
 
 use arrayvec::ArrayVec;
 use gtp_check_questions::Lesson;
@@ -33,6 +33,8 @@ pub struct Tally {
     pub is_after_fault: bool,
     /// Whether the first line is written.
     pub has_first_line: bool,
+    /// How many suicides by `genmove` weren't judged.
+    pub suicides: u32,
 }
 
 impl Tally {
@@ -48,6 +50,7 @@ impl Tally {
             starts_left,
             is_after_fault: false,
             has_first_line: false,
+            suicides: 0,
         }
     }
 
@@ -91,6 +94,13 @@ impl Tally {
     {
         let index = lesson.number();
         self.hidden[index] = self.hidden[index].saturating_add(1);
+    }
+
+    /// A `genmove` was answered with a suicide, which isn't judged.
+    pub fn count_suicide(&mut self)
+        ensures { self.new ≡ with_suicide self.old }
+    {
+        self.suicides = self.suicides.saturating_add(1);
     }
 
     /// Whether the engine may be started: after something was found only where a start is left.

@@ -157,6 +157,16 @@ impl Course {
         }
     }
 
+    /// The rest of the part is left, and nothing was found in it.
+    pub fn pass_on(&mut self)
+        ensures leaves { Leaves self.old self.new }
+        ensures next { IfSome (lesson_of self.old) (λ lesson. self.new ≡ part_over lesson self.old) }
+    {
+        if let Some(lesson) = self.lesson() {
+            self.end_part(lesson);
+        }
+    }
+
     /// Something was found in an earlier part of the lesson, which may be a loss of the engine. It counts as one that is
     /// found in this part.
     pub fn note_finding(&mut self, is_loss: bool)

@@ -75,11 +75,9 @@ FREEDOMS = {
     "allows_suicide_of_chains": PLAYS,
     "has_all_freedoms": (*PLAYS, *SCORES),
 }
-# Of these gtp_check has to be told that suicide isn't to be asked.
+# Of these gtp_check has to be told that suicide isn't to be asked. Without that it blames them.
 SUICIDAL = {"allows_suicide", "allows_suicide_of_chains", "has_all_freedoms", "suicide_and_no_ko", "captures_are_suicide"}
 UNASKED = ("--suicide", "unasked")
-# Those that gtp_check blames still, though they are right. Once it has their freedom, they go from here.
-AWAITED = {*SUICIDAL}
 # lines on what these engines lack, which depend on what is drawn
 MAY_BE_SAID = re.compile(r"check: it takes back at most \d+ moves? in a row|check: .*\b(?:suicide|score)s?\b.*")
 # engines that go beyond a freedom: the lessons in which this is noticed, and the command that is answered wrongly at first
@@ -112,7 +110,7 @@ def only(lessons):
 
 def told(name):
     """What gtp_check is told of this engine."""
-    return UNASKED if name in SUICIDAL - AWAITED else ()
+    return UNASKED if name in SUICIDAL else ()
 
 
 def free_rows(seeds):
@@ -122,7 +120,7 @@ def free_rows(seeds):
 
 def free(row):
     """What is odd about the check of an engine that has a freedom, by the lessons that ask what it is about, and in each tenth seed by the
-    whole course. Nothing may be found; of those that are awaited, something."""
+    whole course. Nothing may be found."""
     name, seed = row
     rule = ("simple", "positional")[seed % 2]
     lessons = only(FREEDOMS[name]) if seed % 10 else []
@@ -130,12 +128,21 @@ def free(row):
     report = read(result.output)
     if isinstance(report, str):
         return f"{report}: {result}"
-    if name in AWAITED:
-        return None if report.count else "nothing is found: AWAITED in of_gtp_check/right.py is to be changed"
     said = [it for it in report.notes if not it.startswith("check: not asked, as the options say: ") and not MAY_BE_SAID.fullmatch(it)]
     if (result.status, result.errors, report.count, said) != (0, "", 0, []):
         return f"status {result.status}, {report.count} complaints, {said}, standard error {result.errors!r}:\n{result.output[:2000]}"
     return None
+
+
+def suicidal(name):
+    """What is odd about the check of a right engine whose rules allow suicide, where gtp_check isn't told: what it blames is suicide alone, a
+    play that has to be refused or a move that the engine chose."""
+    result = checked(("--restarts", "12", *only(FREEDOMS[name])), FREE.format(name, 1, "simple"))
+    report = read(result.output)
+    if isinstance(report, str) or (result.status, result.errors) != (1, "") or not report.complaints:
+        return f"{report}: {result}"
+    others = [it for it in report.complaints if not it.right.startswith("suicide: ") and it.right != "the move isn't legal"]
+    return f"{others[0]} is no suicide" if others else None
 
 
 def beyond(name):

@@ -1,7 +1,7 @@
 -- What the functions of one turn do.
 use Rattle.std.specs.Prelude.{◌≡◌, ◌⊎◌, ℕ, ◌<◌, Bool, true, false, List, [], ◌∷◌, ◌++◌, length, Option, None, Some}
 use Rattle.std.specs.Prelude.{IsSome}
-use Rattle.std.specs.Prelude.{Ok, Err, is_some}
+use Rattle.std.specs.Prelude.{Ok, Err}
 use Rattle.byte_streams.specs.declared.calls.WriteOnce.{Ghosts as WriterGhosts}
 use Rattle.byte_streams.specs.Writing.{BreaksAt, LinesGoOut}
 use Rattle.gtp_process.specs.declared.starter.Process.{Ghosts}
@@ -27,6 +27,7 @@ use Rattle.gtp_check_app.specs.Progress.{IsShown, cleared, clearing, looking, lo
 use Rattle.gtp_check_app.specs.Tally.{started_again}
 use Rattle.gtp_check_app.specs.Turns.{Asks, Closes, Complains, IsNext, IsOverBy, MayStart, State, WritesFirst}
 use Rattle.gtp_check_app.specs.Turns.{most_fruitless}
+use Rattle.gtp_check_app.specs.Unjudged.{is_blamed}
 use Rattle.gtp_check_app.specs.Turns.{Exchanges, IsOver, StopsIn, Turn, process_of, state, waiting}
 
 -- an engine that is up is there
@@ -127,7 +128,7 @@ module _ {P : Type 0} (known : Ghosts P) (plan : Plan) where
       pub next : State P
       pub line : List (List ℕ)
       pub said : List (List ℕ)
-      pub first : WritesFirst known plan before (is_some fault) next line
+      pub first : WritesFirst known plan before (is_blamed plan.suicide fault) next line
       pub complains : Complains known plan next had fault after has said
       pub goes_out : LinesGoOut outs (line ++ said) out written
       pub shown : IsShown errs progress (clearing line ++ looking said) seen sees

@@ -8,4 +8,5 @@ returns c = record {
   hidden = c.as_slice.ensures;
   starts_are = refl;
   complaints = refl;
+  suicides = refl;
 }

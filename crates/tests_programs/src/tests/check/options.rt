@@ -6,7 +6,7 @@ use go_board::KoRule;
 use gtp_check_app::failure::Mistake;
 use gtp_check_app::options::read_options;
 use gtp_check_app::plan::plan_of;
-use gtp_check_questions::Lesson;
+use gtp_check_questions::{Lesson, Suicide};
 use std::test::Fail;
 
 #[test]
@@ -16,6 +16,7 @@ fn options_have_defaults_and_lessons_are_chosen_in_their_order(
     let words = ["gtp_check", " an  engine "];
     let options = read_options(rt.alloc(), words.as_slice())?;
     assert_equal(&rt, options.rule, KoRule::Simple);
+    assert_equal(&rt, options.suicide, Suicide::Forbidden);
     assert_equal(
         &rt,
         (options.size, options.seed, options.restarts, options.trials),
@@ -42,10 +43,13 @@ fn options_have_defaults_and_lessons_are_chosen_in_their_order(
         "9",
         "--ko",
         "positional",
+        "--suicide",
+        "unasked",
     ];
     let options = read_options(rt.alloc(), words.as_slice())?;
     assert_equal(&rt, options.rule, KoRule::Positional);
     let plan = plan_of(rt.alloc(), &options)?;
+    assert_equal(&rt, plan.suicide, Suicide::Unasked);
     assert_equal(&rt, plan.lessons.as_slice(), [Lesson::Ko].as_slice());
     assert_equal(&rt, plan.left_out.len(), 12);
     assert_equal(&rt, plan.scene_size, Size::new(9));
@@ -82,13 +86,14 @@ fn a_plan_has_a_command_and_a_lesson(rt: HostRuntime) -> Result<(), Fail> {
     Ok(())
 }
 
-/// Words of which one option is out of its limits, or names no lesson.
-static BEYOND: [[&str; 4]; 5] = [
+/// Words of which one option is out of its limits, or has a name that there isn't.
+static BEYOND: [[&str; 4]; 6] = [
     ["gtp_check", "engine", "--size", "4"],
     ["gtp_check", "engine", "--size", "26"],
     ["gtp_check", "engine", "--restarts", "1001"],
     ["gtp_check", "engine", "--trials", "1001"],
     ["gtp_check", "engine", "--only", "nothing"],
+    ["gtp_check", "engine", "--suicide", "allowed"],
 ];
 
 #[test]

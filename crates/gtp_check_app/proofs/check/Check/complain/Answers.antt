@@ -14,7 +14,7 @@ use Rattle.gtp_check_app.proofs.check.Check.complain.Goals as goal
 pub returns-then-not-find-clause-goes_out : goal.returns-then-not-find-clause-goes_out
 returns-then-not-find-clause-goes_out g c =
     is_hidden g.S.Process.Process c.args.plan.now _ _ (g.S.Starter.asked c.args.starter.now) c.args.fault
-    (wrong_of c.in-Some.found) c.purpose-lesson.result c.find.new.self c.in-Some.ensures.closes c.purpose-lesson.ensures
+    (wrong_of c.in-Some.found) c.purpose-lesson.result c.find.new.self c.in-Some.ensures.closes c.requires.judged c.purpose-lesson.ensures
     c.find.ensures.found g.O.WriteOnce g.E.WriteOnce c.args.progress c.find.result c.find.ensures.shown
     c.if-not-find.true c.args.output.now c.args.errors.now
 
@@ -34,7 +34,7 @@ returns-in-Some-2-clause-goes_out g c =
       said = complaint_lines out.0 ∷ [];
       complains = complained g.S.Process.Process c.args.plan.now _ _ (g.S.Starter.asked c.args.starter.now) c.args.fault
           (wrong_of c.in-Some.found) c.purpose-lesson.result c.find.new.self c.in-Some.ensures.closes
-          c.purpose-lesson.ensures c.find.ensures.found c.find.result c.find.ensures.shown c.if-not-find.false
+          c.requires.judged c.purpose-lesson.ensures c.find.ensures.found c.find.result c.find.ensures.shown c.if-not-find.false
           (rw c.in-Some-2.is at c.in_ok-shorter.ensures.shortens) out.0 out.1;
       goes_out = line_out out.2 no_line;
       shown = both_shown g.E.WriteOnce c.args.progress (looking_line ∷ []) (cleared ∷ []) _ _ _
@@ -51,7 +51,7 @@ returns-in-Some-2-clause-stops g c =
           (complaint_broke
           (complained g.S.Process.Process c.args.plan.now _ _ (g.S.Starter.asked c.args.starter.now) c.args.fault
           (wrong_of c.in-Some.found) c.purpose-lesson.result c.find.new.self c.in-Some.ensures.closes
-          c.purpose-lesson.ensures c.find.ensures.found c.find.result c.find.ensures.shown c.if-not-find.false
+          c.requires.judged c.purpose-lesson.ensures c.find.ensures.found c.find.result c.find.ensures.shown c.if-not-find.false
           shortens (broke is).0 (broke is).1)
           (broke is).2
           (both_shown g.E.WriteOnce c.args.progress (looking_line ∷ []) (cleared ∷ []) _ _ _ c.show_looking.ensures
@@ -70,7 +70,7 @@ returns-clause-goes_out g c =
       said = complaint_lines out.0 ∷ [];
       complains = complained g.S.Process.Process c.args.plan.now _ _ (g.S.Starter.asked c.args.starter.now) c.args.fault
           (wrong_of c.in-Some.found) c.purpose-lesson.result c.find.new.self c.in-Some.ensures.closes
-          c.purpose-lesson.ensures c.find.ensures.found c.find.result c.find.ensures.shown c.if-not-find.false
+          c.requires.judged c.purpose-lesson.ensures c.find.ensures.found c.find.result c.find.ensures.shown c.if-not-find.false
           (rw c.in-None.is at c.in_ok-shorter.ensures.shortens) out.0 out.1;
       goes_out = line_out out.2 no_line;
       shown = both_shown g.E.WriteOnce c.args.progress (looking_line ∷ []) (cleared ∷ []) _ _ _
@@ -88,7 +88,7 @@ returns-clause-stops g c =
           (complaint_broke
           (complained g.S.Process.Process c.args.plan.now _ _ (g.S.Starter.asked c.args.starter.now) c.args.fault
           (wrong_of c.in-Some.found) c.purpose-lesson.result c.find.new.self c.in-Some.ensures.closes
-          c.purpose-lesson.ensures c.find.ensures.found c.find.result c.find.ensures.shown c.if-not-find.false
+          c.requires.judged c.purpose-lesson.ensures c.find.ensures.found c.find.result c.find.ensures.shown c.if-not-find.false
           shortens (broke is).0 (broke is).1)
           (broke is).2
           (both_shown g.E.WriteOnce c.args.progress (looking_line ∷ []) (cleared ∷ []) _ _ _ c.show_looking.ensures

@@ -1,0 +1,80 @@
+//! A suicide that a `genmove` chose, where that isn't judged.
+ghost use Rattle.std.specs.Prelude.{◌≡◌, None, IsSome};
+ghost use Rattle.gtp_check_talks.specs.Dialogues.{purpose_of};
+ghost use Rattle.gtp_check_shortening.specs.Purposes.{is_same_purpose};
+ghost use Rattle.gtp_check_app.specs.Turns.{PassesOver, purpose_in, state_of};
+ghost use Rattle.gtp_check_app.specs.Unjudged.{HasPassedOver, is_blamed, is_unjudged};
+
+use crate::check::{Check, purpose_in};
+use go_board::PlayFault;
+use gtp_check_judge::Kind;
+use gtp_check_questions::{Course, Lesson, Suicide};
+use gtp_check_shortening::talk::{Purpose, Said, said_at};
+use gtp_check_texts::fault::Fault;
+use gtp_process::{Process, Starter};
+
+/// Whether something is wrong that is judged.
+pub fn is_blamed(suicide: Suicide, fault: Option<Fault>) -> bool
+    ensures { result ≡ is_blamed suicide fault }
+{
+    match fault {
+        Some(fault) => !is_unjudged(suicide, fault),
+        None => false,
+    }
+}
+
+/// Whether a `genmove` was answered with a suicide, where that isn't judged.
+fn is_unjudged(suicide: Suicide, fault: Fault) -> bool
+    ensures { result ≡ is_unjudged suicide fault }
+{
+    matches!(
+        (suicide, fault),
+        (
+            Suicide::Unasked,
+            Fault::Wrote(Kind::Unlawful(PlayFault::Suicide))
+        )
+    )
+}
+
+impl<S: Starter> Check<S> {
+    /// The engine, which chose a suicide that isn't judged, is ended. That is counted, and the part of the lesson is left.
+    pub fn pass_over(&mut self)
+        requires { IsSome self.old.engine }
+        ensures passes { PassesOver S.Process.Process (state_of self.old) (state_of self.new) }
+        ensures gone { self.new.engine ≡ None }
+    {
+        let Some(engine) = self.engine.take() else {
+            return;
+        };
+        let answered = engine.answered(&self.examiner);
+        let purpose = purpose_of(said_at(engine.talk.as_slice(), answered));
+        self.examiner.lost();
+        let _ = engine.end();
+        leave_part(&mut self.course, purpose);
+        self.tally.count_suicide();
+    }
+}
+
+/// What a command was asked for, if there is one.
+fn purpose_of(said: Option<Said>) -> Purpose
+    ensures { result ≡ purpose_of said }
+{
+    match said {
+        Some(said) => said.purpose,
+        None => Purpose {
+            lesson: Lesson::Start,
+            part: 0,
+        },
+    }
+}
+
+/// The part for which this was asked is left, if the course is in it.
+fn leave_part(course: &mut Course, purpose: Purpose)
+    ensures { HasPassedOver (is_same_purpose purpose (purpose_in course.old))
+        course.old course.new }
+{
+    let now = purpose_in(course);
+    if purpose.is_same(now) {
+        course.pass_on();
+    }
+}
