@@ -21,7 +21,7 @@ use Rattle.gtp_check_app.specs.Turns.{Complains, IsShortened, Reduces, Shortens,
 use Rattle.gtp_check_app.specs.Unjudged.{is_unjudged}
 
 -- a conversation, where there is one, ended with this fault
-HasFault : Fault → Option Wrong → Type 0
+abbrev HasFault : Fault → Option Wrong → Type 0
 HasFault fault result = (tried : Wrong) → result ≡ Some tried → tried.fault ≡ fault
 
 -- the same of one that ended like another
@@ -50,7 +50,8 @@ module _ {P : Type 0} (known : Ghosts P) (plan : Plan) (found : Wrong) where
   of_shortens (how ∷ later) (Shortens.missed one more) = of_shortens later more
   of_shortens (how ∷ later) (Shortens.shortened_so one) = of_shorter one
 
-  of_reduces : {first last : Reduction} {before after : State P} {had has : Attempts P} {best : Option Wrong}
+  of_reduces : {first : Reduction} {before : State P} {had : Attempts P} {last : Reduction} {best : Option Wrong}
+      {after : State P} {has : Attempts P}
       → Reduces known plan found first before had last best after has → HasFault found.fault best
   of_reduces Reduces.begins = by_none found.fault
   of_reduces (Reduces.failed commands so_far is one) = of_reduces so_far
