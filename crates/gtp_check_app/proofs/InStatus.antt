@@ -1,7 +1,7 @@
 -- What the status of a run says of its turns.
 use Rattle.std.proofs.Common.{◌≡◌, ◌∙◌, ◌<◌, ◌+◌, ◌⊎◌, arith, refl, sym, ap, Bool, true, false, List, [], ℕ}
 use Rattle.std.proofs.Common.{Option, None, inl, inr, zero, suc}
-use Rattle.std.specs.Prelude.{if◌then◌else◌, length, is_some, nat_lt}
+use Rattle.std.specs.Prelude.{if◌then◌else◌, length, nat_lt}
 use Rattle.byte_streams.specs.declared.calls.WriteOnce.{Ghosts as WriterGhosts}
 use Rattle.cli.specs.Requests.{Outputs, Shows, Writers, outputs}
 use Rattle.cli.specs.Status.{done}
@@ -21,6 +21,7 @@ use Rattle.gtp_check_app.specs.RunLaws.{HasTurn, IsOverAt, Point, StatusesSay, b
 use Rattle.gtp_check_app.specs.RunLaws.{known_of}
 use Rattle.gtp_check_app.specs.Status.{not_earned, something_found}
 use Rattle.gtp_check_app.specs.Tally.{alike, is_last, is_shown, most_shown_alike, started_again, without_start}
+use Rattle.gtp_check_app.specs.Unjudged.{is_blamed}
 use Rattle.gtp_check_app.specs.Turns.{Complains, IsOver, State, Turn, Turns, TurnsAreOver, WritesFirst, before_all}
 use Rattle.gtp_check_app.specs.Turns.{found_in}
 use Rattle.gtp_check_app.proofs.InTrials.{Laws, shortened_comes}
@@ -67,11 +68,13 @@ module _ {P : Type 0} (known : Ghosts P) (laws : Laws known) (plan : Plan) where
       {has : Attempts P} {said : List (List ℕ)} → Complains known plan before had fault after has said
       → before.tally.faults.items ≡ [] → after.tally.complaints ≡ 0 → after.tally.faults.items ≡ []
   complained_unknown before had Complains.nothing none is = none
-  complained_unknown before had (Complains.hidden {fault = fault} {mid = mid} wrong closes not_shown) none is =
+  complained_unknown before had (Complains.passed_over unjudged passes) none is =
+      ap (λ (s : State P). s.tally.faults.items) passes.leads ∙ none
+  complained_unknown before had (Complains.hidden {fault = fault} {mid = mid} wrong judged closes not_shown) none is =
       absurd (some_found known laws plan mid.tally (wrong_purpose wrong).lesson fault is)
   complained_unknown before had
       (Complains.shown {fault = fault} {mid = mid} {after = after} {has = has} {shorter = shorter} wrong complaint
-      closes shows shortened about) none is =
+      judged closes shows shortened about) none is =
       let start = found_in mid wrong fault in
       let comes = shortened_comes known laws plan wrong start.check.exam.game.rule start had shorter after has refl
       shortened in
@@ -82,11 +85,13 @@ module _ {P : Type 0} (known : Ghosts P) (laws : Laws known) (plan : Plan) where
       {has : Attempts P} {said : List (List ℕ)} → Complains known plan before had fault after has said
       → before.tally.complaints ≡ 0 → before.tally.faults.items ≡ [] → 0 < after.tally.complaints → 0 < length said
   complained_writes before had Complains.nothing nought none some = absurd (omega (arith, nought, some))
-  complained_writes before had (Complains.hidden {fault = fault} {mid = mid} wrong closes not_shown) nought none some =
+  complained_writes before had (Complains.passed_over unjudged passes) nought none some =
+      let same = ap (λ (s : State P). s.tally.complaints) passes.leads in absurd (omega (arith, same, nought, some))
+  complained_writes before had (Complains.hidden {fault = fault} {mid = mid} wrong judged closes not_shown) nought none some =
       let at_mid = ap (λ (s : State P). s.tally.faults.items) closes.leads ∙ none in
       let is = first_is_shown mid.tally (wrong_purpose wrong).lesson fault at_mid in
       absurd (let never : true ≡ false = sym is ∙ not_shown in cc never)
-  complained_writes before had (Complains.shown wrong complaint closes shows shortened about) nought none some =
+  complained_writes before had (Complains.shown wrong complaint judged closes shows shortened about) nought none some =
       omega arith
 
   turn_unknown : (before : State P) (had : Attempts P) {after : State P} {has : Attempts P}
@@ -103,7 +108,7 @@ module _ {P : Type 0} (known : Ghosts P) (laws : Laws known) (plan : Plan) where
     where
       heard_faults : next.tally.faults.items ≡ before.tally.faults.items
       heard_faults =
-          (first_tally mid (is_some fault) first).1
+          (first_tally mid (is_blamed plan.suicide fault) first).1
           ∙ ap (λ (s : State P). s.tally.faults.items) heard.heard.leads
           ∙ ap (λ (t : Tally). t.faults.items) (asked_tally known laws plan before heard.asks)
 
@@ -130,11 +135,11 @@ module _ {P : Type 0} (known : Ghosts P) (laws : Laws known) (plan : Plan) where
 
       heard_complaints : next.tally.complaints ≡ before.tally.complaints
       heard_complaints =
-          (first_tally mid (is_some fault) first).0 ∙ ap (λ (t : Tally). t.complaints) heard_tally
+          (first_tally mid (is_blamed plan.suicide fault) first).0 ∙ ap (λ (t : Tally). t.complaints) heard_tally
 
       heard_faults : next.tally.faults.items ≡ before.tally.faults.items
       heard_faults =
-          (first_tally mid (is_some fault) first).1
+          (first_tally mid (is_blamed plan.suicide fault) first).1
           ∙ ap (λ (t : Tally). t.faults.items) heard_tally
 
 module _ {P O E : Type 0} (known : Ghosts P) (outs : WriterGhosts O) (errs : WriterGhosts E) (laws : Laws known)
@@ -227,7 +232,7 @@ module _ {P O E : Type 0} (known : Ghosts P) (outs : WriterGhosts O) (errs : Wri
         → last.tally.complaints ≡ 0
         → (turn : HasTurn (known_of known outs errs) (beginning plan progress asked (outputs out errors))
         (record { state = over.before; asked = over.had; out = written; errors = sees }))
-        → fault_in turn.is.turn ≡ None
+        → is_blamed plan.suicide (fault_in turn.is.turn) ≡ false
     quiet why last has written sees over none =
         (silent_checks known outs errs laws).no_fault (beginning plan progress asked (outputs out errors))
         (record { state = over.before; asked = over.had; out = written; errors = sees })

@@ -3,7 +3,7 @@ use Rattle.std.proofs.Common.{◌≡◌, ◌∙◌, refl, sym, ap, subst, arith,
 use Rattle.byte_streams.specs.declared.calls.WriteOnce.{Ghosts as WriterGhosts}
 use Rattle.std.proofs.Common.{Option, None, Some}
 use Rattle.std.proofs.lemmas.List.Elements.{All-cons, All-nil}
-use Rattle.std.specs.Prelude.{All, Ok, if◌then◌else◌, is_some, unwrap_or}
+use Rattle.std.specs.Prelude.{All, Ok, if◌then◌else◌, not, unwrap_or}
 use Rattle.go_board.specs.declared.rules.KoRule.{KoRule}
 use Rattle.gtp_process.specs.declared.starter.Process.{Ghosts}
 use Rattle.gtp_process.specs.Starts.{Attempts, Tries, program_line}
@@ -23,6 +23,7 @@ use Rattle.gtp_check_talks.specs.Dialogues.{wrong_purpose}
 use Rattle.gtp_check_app.specs.declared.tally.Tally.{Tally}
 use Rattle.gtp_check_app.specs.Tally.{found, in_lesson, is_shown, started_again, with_hidden, with_known, without_start}
 use Rattle.gtp_check_app.specs.RunLaws.{IsGrounded, IsHeldWith, IsJustComplaint, complaints_in, ended_in, fault_in}
+use Rattle.gtp_check_app.specs.Unjudged.{is_blamed}
 use Rattle.gtp_check_app.specs.Turns.{Asks, Closes, Complains, Exchanges, IsHeardOut, State, Turn, Turns}
 use Rattle.gtp_check_app.specs.Turns.{WritesFirst, before_all, found_in, state}
 use Rattle.gtp_check_app.proofs.InTrials.{Laws, grounded_by, one_there, shortened_comes}
@@ -161,11 +162,14 @@ module _ {P : Type 0} (known : Ghosts P) (laws : Laws known) (plan : Plan) where
       {said : List (List ℕ)} → IsSound fault before had → Complains known plan before had fault after has said
       → IsSound None after has
   complained_sound before had sound Complains.nothing = sound
-  complained_sound before had sound (Complains.hidden {fault = fault} {mid = mid} wrong closes not_shown) =
+  complained_sound before had sound (Complains.passed_over {after = after} unjudged passes) =
+      down after had (ap (λ (s : State P). s.check.exam.game.rule) passes.leads ∙ sound.rule)
+      (ap (λ (s : State P). s.engine) passes.leads)
+  complained_sound before had sound (Complains.hidden {fault = fault} {mid = mid} wrong judged closes not_shown) =
       closed_down fault before wrong mid had had sound closes
   complained_sound before had sound
       (Complains.shown {fault = fault} {mid = mid} {after = after} {has = has} {shorter = shorter} wrong complaint
-      closes shows shortened about) =
+      judged closes shows shortened about) =
       let closed = closed_down fault before wrong mid had had sound closes in
       let comes = shortened_comes known laws plan wrong plan.rule (found_in mid wrong fault) had shorter after has
       closed.rule shortened in
@@ -176,10 +180,12 @@ module _ {P : Type 0} (known : Ghosts P) (laws : Laws known) (plan : Plan) where
       {said : List (List ℕ)} → IsSound fault before had → Complains known plan before had fault after has said
       → All (IsJustComplaint known plan.rule) said
   complained_just before had sound Complains.nothing = All-nil (IsJustComplaint known plan.rule)
-  complained_just before had sound (Complains.hidden wrong closes not_shown) = All-nil (IsJustComplaint known plan.rule)
+  complained_just before had sound (Complains.passed_over unjudged passes) =
+      All-nil (IsJustComplaint known plan.rule)
+  complained_just before had sound (Complains.hidden wrong judged closes not_shown) = All-nil (IsJustComplaint known plan.rule)
   complained_just before had sound
       (Complains.shown {fault = fault} {mid = mid} {after = after} {has = has} {shorter = shorter} wrong complaint
-      closes shows shortened about) =
+      judged closes shows shortened about) =
       let closed = closed_down fault before wrong mid had had sound closes in
       let comes = shortened_comes known laws plan wrong plan.rule (found_in mid wrong fault) had shorter after has
       closed.rule shortened in
@@ -233,9 +239,9 @@ module _ {P : Type 0} (known : Ghosts P) (laws : Laws known) (plan : Plan) where
   -- the state in which the first line was written, and what was wrong
   written_sound : (before : State P) (had : Attempts P) (mid next : State P) (fault : Option Fault)
       (line : List (List ℕ)) → IsSound None before had → (heard : Exchanges known plan before fault mid)
-      → WritesFirst known plan mid (is_some fault) next line → IsSound fault next had
+      → WritesFirst known plan mid (is_blamed plan.suicide fault) next line → IsSound fault next had
   written_sound before had mid next fault line sound heard first =
-      first_sound mid had fault (is_some fault)
+      first_sound mid had fault (is_blamed plan.suicide fault)
       (heard_sound heard.mid had fault mid (asked_sound before had sound heard.asks) heard.heard) first
 
   pub turn_sound : (before : State P) (had : Attempts P) {after : State P} {has : Attempts P}
@@ -345,13 +351,15 @@ module _ {P : Type 0} (known : Ghosts P) (laws : Laws known) (plan : Plan) where
 
   complained_none : (before : State P) (had : Attempts P) {fault : Option Fault} {after : State P} {has : Attempts P}
       {said : List (List ℕ)} → Complains known plan before had fault after has said
-      → after.tally.complaints ≡ 0 → (before.tally.complaints ≡ 0) × (fault ≡ None)
+      → after.tally.complaints ≡ 0 → (before.tally.complaints ≡ 0) × (is_blamed plan.suicide fault ≡ false)
   complained_none before had Complains.nothing is = (is, refl)
-  complained_none before had (Complains.hidden {fault = fault} {mid = mid} wrong closes not_shown) is =
+  complained_none before had (Complains.passed_over unjudged passes) is =
+      (sym (ap (λ (s : State P). s.tally.complaints) passes.leads) ∙ is, ap not unjudged)
+  complained_none before had (Complains.hidden {fault = fault} {mid = mid} wrong judged closes not_shown) is =
       absurd (some_found mid.tally (wrong_purpose wrong).lesson fault is)
   complained_none before had
       (Complains.shown {fault = fault} {mid = mid} {after = after} {has = has} {shorter = shorter} wrong complaint
-      closes shows shortened about) is =
+      judged closes shows shortened about) is =
       let start = found_in mid wrong fault in
       let comes = shortened_comes known laws plan wrong start.check.exam.game.rule start had shorter after has refl
       shortened in
@@ -360,7 +368,7 @@ module _ {P : Type 0} (known : Ghosts P) (laws : Laws known) (plan : Plan) where
 
   pub turn_none : (before : State P) (had : Attempts P) {after : State P} {has : Attempts P}
       {texts shows : List (List ℕ)} → (turn : Turn known plan before had after has texts shows)
-      → after.tally.complaints ≡ 0 → (before.tally.complaints ≡ 0) × (fault_in turn ≡ None)
+      → after.tally.complaints ≡ 0 → (before.tally.complaints ≡ 0) × (is_blamed plan.suicide (fault_in turn) ≡ false)
   turn_none before had (Turn.starts {mid = mid} process steps next fruitful may tries quits fresh) is =
       (sym (ap (λ (t : Tally). t.complaints) (asked_tally before steps)) ∙ started_none mid.tally is, refl)
   turn_none before had (Turn.restarts steps next quits) is =
@@ -371,7 +379,7 @@ module _ {P : Type 0} (known : Ghosts P) (laws : Laws known) (plan : Plan) where
       let none = complained_none next had complains is in (
         sym (ap (λ (t : Tally). t.complaints) (asked_tally before heard.asks))
             ∙ sym (ap (λ (s : State P). s.tally.complaints) heard.heard.leads)
-            ∙ sym (first_none mid (is_some fault) first) ∙ none.0,
+            ∙ sym (first_none mid (is_blamed plan.suicide fault) first) ∙ none.0,
         none.1,
       )
 

@@ -2,7 +2,7 @@
 use Rattle.std.proofs.Common.{◌≡◌, ◌∙◌, ◌≤◌, ◌<◌, ◌+◌, arith, refl, ap, Bool, true, false, List, ℕ}
 use Rattle.std.proofs.Common.{Option, None, Some}
 use Rattle.std.proofs.lemmas.Bool.Decides.{nat_tests}
-use Rattle.std.specs.Prelude.{if◌then◌else◌, length, is_some, nat_lt}
+use Rattle.std.specs.Prelude.{if◌then◌else◌, length, nat_lt}
 use Rattle.byte_streams.specs.declared.calls.WriteOnce.{Ghosts as WriterGhosts}
 use Rattle.gtp_process.specs.declared.starter.Process.{Ghosts}
 use Rattle.gtp_process.specs.Starts.{Attempts}
@@ -13,6 +13,7 @@ use Rattle.gtp_check_app.specs.declared.plan.Plan.{Plan}
 use Rattle.gtp_check_app.specs.declared.summary.Over.{Over}
 use Rattle.gtp_check_app.specs.declared.summary.Over.TheVariants as over
 use Rattle.gtp_check_app.specs.RunLaws.{in_vain, is_start, vain_after, vain_in}
+use Rattle.gtp_check_app.specs.Unjudged.{is_blamed}
 use Rattle.gtp_check_app.specs.Turns.{Asks, Complains, IsHeardOut, IsOver, IsOverBy, State, Turn, Turns, WritesFirst}
 use Rattle.gtp_check_app.specs.Turns.{found_in}
 use Rattle.gtp_check_app.proofs.InTrials.{Laws, shortened_comes}
@@ -85,11 +86,13 @@ module _ {P : Type 0} (known : Ghosts P) (laws : Laws known) (plan : Plan) where
       {said : List (List ℕ)} → Complains known plan before had fault after has said
       → after.notes.fruitless ≤ before.notes.fruitless
   complained_less before had Complains.nothing = omega arith
-  complained_less before had (Complains.hidden wrong closes not_shown) =
+  complained_less before had (Complains.passed_over unjudged passes) =
+      let is = ap (λ (s : State P). s.notes.fruitless) passes.leads in omega (arith, is)
+  complained_less before had (Complains.hidden wrong judged closes not_shown) =
       let is = ap (λ (s : State P). s.notes.fruitless) closes.leads in omega (arith, is)
   complained_less before had
       (Complains.shown {fault = fault} {mid = mid} {after = after} {has = has} {shorter = shorter} wrong complaint
-      closes shows shortened about) =
+      judged closes shows shortened about) =
       let start = found_in mid wrong fault in
       let comes = shortened_comes known laws plan wrong start.check.exam.game.rule start had shorter after has refl
       shortened in
@@ -113,7 +116,7 @@ module _ {P : Type 0} (known : Ghosts P) (laws : Laws known) (plan : Plan) where
       let keeps = asked_keeps before heard.asks in
       let vain = heard_vain heard.mid had fault mid count (asked_sound known laws plan before had sound heard.asks)
       heard.heard (omega (arith, keeps, few)) in
-      let same = first_keeps mid (is_some fault) first in
+      let same = first_keeps mid (is_blamed plan.suicide fault) first in
       let less = complained_less next had complains in
       omega (arith, vain, same, less)
 
@@ -131,7 +134,7 @@ module _ {P : Type 0} (known : Ghosts P) (laws : Laws known) (plan : Plan) where
       let keeps = asked_keeps before heard.asks in
       let now = heard_less heard.mid had fault mid (asked_sound known laws plan before had sound heard.asks)
       heard.heard in
-      let same = first_keeps mid (is_some fault) first in
+      let same = first_keeps mid (is_blamed plan.suicide fault) first in
       let less = complained_less next had complains in
       omega (arith, keeps, now, same, less, few)
 

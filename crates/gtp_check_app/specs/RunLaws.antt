@@ -31,6 +31,7 @@ use Rattle.gtp_check_app.specs.Checks.{AsksForList, AsksForPlan, HasRun, IsClose
 use Rattle.gtp_check_app.specs.Laws.{IsPass}
 use Rattle.gtp_check_app.specs.Options.{AsksForText}
 use Rattle.gtp_check_app.specs.Status.{not_earned, something_found}
+use Rattle.gtp_check_app.specs.Unjudged.{is_blamed}
 use Rattle.gtp_check_app.specs.Turns.{IsComplaint, IsOver, State, Turn, Turns, before_all, process_of}
 
 -- ---- a check and its turns
@@ -131,11 +132,11 @@ pub record AnswersRightly {P : Type 0} (known : Ghosts P) (plan : Plan) (now : S
 
 -- ---- silence
 
--- Where nothing was found so far, nothing was wrong in any turn. And at each point of a check, each answer that
+-- Where nothing was found so far, nothing that is judged was wrong in any turn. And at each point of a check, each answer that
 -- was heard of its engine, since that was started, is a right one.
 pub record SilentChecksAreRight {P O E : Type 0} (known : Known P O E) : Type 0 where
   pub no_fault : (begins : Beginning P O E) (last : Point P O E) → last.state.tally.complaints ≡ 0
-      → (has : HasTurn known begins last) → fault_in has.is.turn ≡ None
+      → (has : HasTurn known begins last) → is_blamed begins.plan.suicide (fault_in has.is.turn) ≡ false
   pub right : (begins : Beginning P O E) (now : Point P O E) (engine : Engine P) → ComesTo known begins now
       → now.state.engine ≡ Some engine
       → AnswersRightly known.processes begins.plan now.state now.asked engine
@@ -268,19 +269,19 @@ pub record HasComplained {P O E : Type 0} (known : Known P O E) (begins : Beginn
   pub turn : HasTurn known begins over.now
   pub written : 0 < length (complaints_in turn.is.turn)
 
--- A check is over, and the engine has passed: nothing was wrong in any turn, and the pass is earned.
+-- A check is over, and the engine has passed: nothing that is judged was wrong in any turn, and the pass is earned.
 pub record HasPassed {P O E : Type 0} (known : Known P O E) (begins : Beginning P O E) : Type 0 where
   pub last : State P
   pub over : IsOverAt known begins last
   pub pass : IsPass begins.plan last
-  pub no_fault : (turn : HasTurn known begins over.now) → fault_in turn.is.turn ≡ None
+  pub no_fault : (turn : HasTurn known begins over.now) → is_blamed begins.plan.suicide (fault_in turn.is.turn) ≡ false
 
--- A check is over, nothing was wrong in any turn, and a pass isn't earned.
+-- A check is over, nothing that is judged was wrong in any turn, and a pass isn't earned.
 pub record HasNotPassed {P O E : Type 0} (known : Known P O E) (begins : Beginning P O E) : Type 0 where
   pub last : State P
   pub over : IsOverAt known begins last
   pub no_pass : ¬ IsPass begins.plan last
-  pub no_fault : (turn : HasTurn known begins over.now) → fault_in turn.is.turn ≡ None
+  pub no_fault : (turn : HasTurn known begins over.now) → is_blamed begins.plan.suicide (fault_in turn.is.turn) ≡ false
 
 -- the check by this plan
 abbrev pub beginning : {P O E : Type 0} → Plan → Bool → Attempts P → Outputs O E → Beginning P O E
