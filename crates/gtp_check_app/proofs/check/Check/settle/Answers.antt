@@ -3,7 +3,7 @@ use Rattle.std.specs.Prelude.{IsSome}
 use Rattle.std.proofs.lemmas.Result.{err_from_is_err_and}
 use Rattle.byte_streams.specs.Writing.{no_line}
 use Rattle.gtp_check_app.specs.Progress.{clearing, looking}
-use Rattle.gtp_check_app.specs.Turns.{State, passed_over, state}
+use Rattle.gtp_check_app.specs.Turns.{State, nothing, passed_over, state}
 use Rattle.gtp_check_app.proofs.Settling.{both_out, complains_down, complaint_stops, first_stops, not-false}
 use Rattle.gtp_check_app.proofs.Progressing.{both_shown, none_shown}
 use Rattle.gtp_check_app.proofs.Gathering.{where_failed, where_ok}
@@ -83,3 +83,19 @@ returns-clause-paired g c =
     where_ok c.complain.result c.complain.ensures.goes_out (λ out.
     paired_down _ _ (complains_down g.S.Process.Process c.args.plan.now _ (g.S.Starter.asked c.args.starter.now)
     c.in-Some.fault (Some c.in-Some.fault) refl out.complains))
+
+pub returns-in_default-clause-goes_out : goal.returns-in_default-clause-goes_out
+returns-in_default-clause-goes_out g c =
+    let first = rw (c.is_blamed-is_wrong.ensures, c.in_default.is) at c.in_ok-write_first.ensures.goes_out in
+    let new = c.write_first.new.self in
+    rw c.in_default.is
+    (record {
+      next = state new.examiner new.course new.engine new.tally new.notes;
+      line = first.line;
+      said = [];
+      first = first.first;
+      complains = nothing;
+      goes_out = both_out g.O.WriteOnce first.line [] _ _ _ first.goes_out no_line;
+      shown = both_shown g.E.WriteOnce c.args.progress (clearing first.line) [] _ _ _ first.shown
+          (none_shown g.E.WriteOnce c.args.progress c.write_first.new.errors);
+    })
