@@ -1,11 +1,14 @@
 -- What is due to a command: what every right engine answers to it, by the rules of the game, and by the moves that were
 -- taken back.
-use Rattle.std.specs.Prelude.{◌≡◌, ℕ, ℤ, ◌≤◌, ◌<◌, Bool, true, false, [], length, if◌then◌else◌}
+use Rattle.std.specs.Prelude.{◌≡◌, ℕ, ℤ, ◌≤◌, ◌<◌, ◌||◌, nat_lt, Bool, true, false, List, [], length, if◌then◌else◌}
+use Rattle.std.specs.List.{list_any}
 use Rattle.go_base.specs.Int.{most_int}
 use Rattle.go_base.specs.Size.{IsSize}
 use Rattle.go_base.specs.Komi.{IsKomi}
 use Rattle.go_base.specs.Handicap.{AllowsHandicap}
 use Rattle.go_base.specs.declared.moves.Move.{Move}
+use Rattle.go_base.specs.declared.vertices.Vertex.{Vertex}
+use Rattle.go_base.specs.declared.vertices.Vertex.TheVariants.{Pass, At}
 use Rattle.go_board.specs.Game.{GameRecord, HasRoom, IsLegal, IsFinished}
 use Rattle.go_board.specs.Refusals.{Refuses, IsTouched, RefusesHandicap}
 use Rattle.gtp_wire.specs.declared.commands.Command.{Command}
@@ -20,17 +23,32 @@ use Rattle.gtp_check_judge.specs.declared.dues.Due.TheVariants.{Succeeds, Fails,
 use Rattle.gtp_check_judge.specs.declared.dues.Due.TheVariants.{Chooses, MayUndo, Lists}
 use Rattle.gtp_check_judge.specs.declared.dues.Cause.TheVariants.{BadMove, BadHandicap, NoMoves}
 use Rattle.gtp_check_judge.specs.Komis.{is_exact_komi}
-use Rattle.gtp_check_judge.specs.RightEngine.{RightEngine}
+use Rattle.gtp_check_judge.specs.RightEngine.{RightEngine, none_made}
+
+-- a play on a point, and no pass
+abbrev pub is_point : Vertex → Bool
+is_point Pass = false
+is_point (At p) = true
+
+-- one of the moves is a play on a point
+abbrev pub has_play : List Move → Bool
+has_play moves = list_any (λ move. is_point move.vertex) moves
+
+-- No move was made, or a stone was put on the board. Of the moves a pass puts none.
+abbrev pub may_place : GameRecord → Bool
+may_place game =
+    none_made game.moves || (nat_lt 0 game.handicap || has_play game.moves)
 
 -- What may be asked in a game. (What an engine answers is the table of its commands; what a check asks is our own.) A
 -- `play` or a `genmove` is asked only where the record has room: the standard has no limit of a record, and engines may
 -- have one. A `genmove` isn't asked after two passes: then a match is over, and engines differ. A number of handicap
--- stones is an int. No `quit` is asked, after which nothing is to be heard.
+-- stones is an int. A handicap isn't asked after passes alone: the standard asks only for an empty board, so engines
+-- differ. No `quit` is asked, after which nothing is to be heard.
 abbrev pub MayBeSaid : GameRecord → Command → Type 0
 MayBeSaid game (Boardsize size) = Unit {0}
 MayBeSaid game (Komi komi) = Unit {0}
 MayBeSaid game ClearBoard = Unit {0}
-MayBeSaid game (FixedHandicap stones) = stones ≤ most_int
+MayBeSaid game (FixedHandicap stones) = (stones ≤ most_int) × (may_place game ≡ true)
 MayBeSaid game (Play move) = HasRoom game
 MayBeSaid game (Genmove colour) = HasRoom game × ¬ IsFinished game
 MayBeSaid game Undo = Unit {0}

@@ -26,6 +26,7 @@ use Rattle.gtp_check_judge.specs.Komis.{HasToBeTaken}
 use Rattle.gtp_check_judge.specs.RightEngine.{RightEngine}
 use Rattle.gtp_check_judge.specs.Exam.{engine_of, HasRoomFor}
 use Rattle.gtp_check_judge.specs.Laws.{MayFailToUndo, Exchange, Talks, commands_of}
+use Rattle.gtp_check_judge.specs.Dues.{may_place}
 
 -- ---- what an engine said that it knows
 
@@ -232,10 +233,11 @@ ReadyEnginesMayBeAsked = (exam : Exam) → IsReady exam → TheseMayBeAsked exam
 -- where its last answer says that it knows them; a `play` and a `genmove` where the record has room. A `genmove`, an
 -- `undo` that may fail and a `final_score` only where the engine owes nothing; and no `genmove` after two passes. A
 -- `final_score` also needs that the last `komi` is one that every engine has to take, and that nothing was played or
--- placed. The number of stones is an int.
+-- placed. The number of stones is an int, and a handicap is asked where no move was made, or a stone was put on the
+-- board.
 pub record TheseMayBeAskedToo (said : List Exchange) (exam : Exam) : Type 0 where
   pub handicaps : (stones : ℕ) → stones ≤ 2147483647 → IsKnown said known.FixedHandicap
-      → HasRoomFor exam (Match (FixedHandicap stones))
+      → may_place exam.game ≡ true → HasRoomFor exam (Match (FixedHandicap stones))
   pub plays : (command : CheckCommand) (move : Move) → IsPlayOf move command → HasRoom exam.game
       → HasRoomFor exam command
   pub genmoves : (command : CheckCommand) (colour : Colour) → IsGenmoveOf colour command → exam.unanswered ≡ []

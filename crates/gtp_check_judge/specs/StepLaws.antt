@@ -1,5 +1,6 @@
 -- Laws of single steps: what may be asked, what is due to a handicap, and what is reported of a reply.
 use Rattle.std.specs.Prelude.{◌≡◌, ◌≢◌, ℕ, ◌↔◌, List, [], ◌∷◌, ◌++◌, Option, None, Some, Result, Ok}
+use Rattle.std.specs.List.{AllByRecursion}
 use Rattle.go_base.specs.Handicap.{AllowsHandicap}
 use Rattle.go_base.specs.declared.colours.Colour.{Colour}
 use Rattle.go_base.specs.declared.moves.Move.{Move}
@@ -40,6 +41,12 @@ pub data HandicapIsDue (game : GameRecord) (stones : ℕ) (asked : Asked) : Type
 abbrev pub HandicapsArePlacedOrProbes : Type 0
 HandicapsArePlacedOrProbes = (old new : Exam) (stones : ℕ) → Asks old (Match (FixedHandicap stones)) new
     → (asked : Asked) × (new.unanswered ≡ old.unanswered ++ asked ∷ []) × HandicapIsDue old.game stones asked
+
+-- No handicap is asked after passes alone, where the board is empty though moves were made.
+abbrev pub NoHandicapAfterPasses : Type 0
+NoHandicapAfterPasses = (exam : Exam) (stones : ℕ) → HasRoomFor exam (Match (FixedHandicap stones))
+    → exam.game.handicap ≡ 0 → AllByRecursion (λ move. move.vertex ≡ Pass) exam.game.moves
+    → exam.game.moves ≡ []
 
 -- The command is reported that was answered by a whole reply in which nothing was found, and no other.
 abbrev pub RightAnswersAreReported : Type 0

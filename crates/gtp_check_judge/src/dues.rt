@@ -4,13 +4,13 @@ ghost use Rattle.go_board.specs.Game.{HasRoom};
 ghost use Rattle.gtp_wire.specs.declared.commands.Command.TheVariants as command;
 ghost use Rattle.gtp_check_judge.specs.declared.asking.CheckCommand.TheVariants.{Match};
 ghost use Rattle.gtp_check_judge.specs.Dues.{MayBeAsked, MayBeSaid, IsDue, IsDueTo, PlayDue, HandicapDue, UndoDue};
-ghost use Rattle.gtp_check_judge.specs.Dues.{after_due, komi_due, undone_once, undone_due};
+ghost use Rattle.gtp_check_judge.specs.Dues.{after_due, komi_due, undone_once, undone_due, may_place, has_play, is_point};
 ghost use Rattle.gtp_check_judge.specs.Judging.{is_open, undo_may_fail, leaves_open, is_awaited};
 
 use crate::asking::CheckCommand;
 use crate::komis::is_exact_komi;
 use crate::opinions::Opinion;
-use go_base::{Colour, Komi, Move, Size};
+use go_base::{Colour, Komi, Move, Size, Vertex};
 use go_board::{Game, HandicapFault, MOST_MOVES, PlayFault};
 use gtp_wire::Command;
 
@@ -76,10 +76,37 @@ fn may_be_said(game: &Game, command: &Command) -> bool
 {
     match command {
         Command::Boardsize(_) | Command::Komi(_) | Command::ClearBoard | Command::Undo => true,
-        Command::FixedHandicap(stones) => *stones <= MOST_STONES,
+        Command::FixedHandicap(stones) => *stones <= MOST_STONES && may_place(game),
         Command::Play(_) => game.moves().len() < MOST_MOVES,
         Command::Genmove(_) => game.moves().len() < MOST_MOVES && !game.finished(),
         Command::Quit => false,
+    }
+}
+
+/// Whether a handicap may be asked: no move was made, or a stone was put on the board.
+fn may_place(game: &Game) -> bool
+    ensures { result ≡ may_place game.now }
+{
+    match game.moves() {
+        [] => true,
+        moves => 0 < game.handicap() || has_play(moves),
+    }
+}
+
+/// Whether one of the moves is a play on a point, and no pass.
+fn has_play(moves: &[Move]) -> bool
+    ensures { result ≡ has_play moves.now }
+{
+    moves.iter().any(|made| is_point(made.vertex))
+}
+
+/// Whether a vertex is a point.
+fn is_point(vertex: Vertex) -> bool
+    ensures { result ≡ is_point vertex }
+{
+    match vertex {
+        Vertex::Pass => false,
+        Vertex::At(_) => true,
     }
 }
 

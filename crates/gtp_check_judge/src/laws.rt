@@ -16,6 +16,7 @@ ghost use Rattle.gtp_check_judge.specs.AnswerLaws.{ListsNameEachCommand};
 ghost use Rattle.gtp_check_judge.specs.UndoLaws.{UndoneIsWhatWasSaid, FirstUndosHaveToSucceed};
 ghost use Rattle.gtp_check_judge.specs.ScoreLaws.{ScoresAreOfEmptyBoards, ScoresDifferAsKomis};
 ghost use Rattle.gtp_check_judge.specs.StepLaws.{NoneAfterTheEnd, HandicapsArePlacedOrProbes, RightAnswersAreReported};
+ghost use Rattle.gtp_check_judge.specs.StepLaws.{NoHandicapAfterPasses};
 
 use gtp_session::policy::Policy;
 
@@ -205,6 +206,11 @@ pub fn none_after_the_end()
 /// A handicap that is asked has its points due where it may be placed, and is a probe where it may not.
 pub fn handicaps_are_placed_or_probes()
     ensures { HandicapsArePlacedOrProbes }
+{}
+
+/// A handicap isn't asked after passes alone, where engines differ: a stone was put on the board, or no move was made.
+pub fn no_handicap_after_passes()
+    ensures { NoHandicapAfterPasses }
 {}
 
 /// The command to which a right answer was heard is the oldest one, and it is reported.

@@ -233,8 +233,9 @@ known_asked rule sent came said exam talk ready board =
     let cleared : exam.board ≡ Cleared = (enough board.since board.taken).1 board.cleared in
     record {
       handicaps =
-          λ stones int knows. room_of exam (Match (FixedHandicap stones)) ready (λ e. absurd (cc e)) (λ e. cleared)
-          (λ e. absurd (cc e)) ((skill_had rule sent came said exam known.FixedHandicap talk).1 knows) int;
+          λ stones int knows places. room_of exam (Match (FixedHandicap stones)) ready (λ e. absurd (cc e)) (λ e. cleared)
+          (λ e. absurd (cc e)) ((skill_had rule sent came said exam known.FixedHandicap talk).1 knows)
+          (int, places);
       plays = λ command move is room. play_asked exam command move is ready cleared room;
       genmoves = λ command colour is owes room going.
           genmove_asked exam command colour is ready cleared owes (room, going);
