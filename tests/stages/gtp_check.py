@@ -6,9 +6,10 @@ are as right, and those that have what the standard leaves to engines (tests/eng
 (tests/engines/wrong/beyond). The sample engine has no traceback where it is ended.
 
 Wrong engines (tests/engines/wrong) are noticed by the lessons that show their bugs, and each complaint is pasted into one more process of
-the wrong engine and of the right one. One that takes each piece of a line for a line (tests/engines/wrong/pieces) is noticed. of_gtp_check/table.py says what shows each bug, and what isn't noticed. Engines that misbehave
-(tests/engines/hostile/engine) end as was worked out by hand. Where standard error is a terminal, what is waited for is on it, and the
-output is the same. At last no process may be left.
+the wrong engine and of the right one. One that takes each piece of a line for a line (tests/engines/wrong/pieces) is noticed.
+of_gtp_check/table.py says what shows each bug, and what isn't noticed. Engines that misbehave (tests/engines/hostile/engine) end as was
+worked out by hand. Where standard error is a terminal, what is waited for is on it, and the output is the same. At last no process may be
+left.
 
 With --all each wrong engine is tried, and the whole course where nothing may be noticed: some ten minutes. With --seeds N the whole
 course is asked of right engines with the seeds 0 to N - 1, and of those with a freedom what it is about; nothing else is tried. Of ours
@@ -24,7 +25,7 @@ sys.path[0] = str(Path(__file__).resolve().parents[2])
 
 from tests.shared import checks, running  # noqa: E402
 from tests.stages.of_gtp_check import hostile, right, terminal, wrong  # noqa: E402
-from tests.stages.of_gtp_check.running import AHEAD, checked, left  # noqa: E402
+from tests.stages.of_gtp_check.running import checked, left  # noqa: E402
 
 PARSER = checks.Parser(__doc__)
 PARSER.add_argument("--all", action="store_true", help="try each wrong engine")
@@ -86,7 +87,7 @@ BUG = f"{wrong.ENGINE} --bug sign_is_lost"
 
 def without_counts(output):
     """An output without what hangs on how many commands were on their way when a wrong answer was heard."""
-    return re.sub(r"^check: \d+ commands?,", "check:", AHEAD.sub("", output), flags=re.MULTILINE)
+    return re.sub(r"^check: \d+ commands?,", "check:", output, flags=re.MULTILINE)
 
 
 # the name, the options, the engine, and what has to be the same of the output

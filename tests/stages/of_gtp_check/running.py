@@ -20,7 +20,6 @@ HEAD = re.compile(r'# (\d+) (\w+): "(.*)": (.*)')
 LAST = re.compile(r"check: (\d+) commands?, (\d+) starts?, (\d+) complaints?")
 HIDDEN = re.compile(r"check: \w+: more complaints, of kinds that were shown three times: (\d+)")
 PIECES = "# that line came in two pieces: a right engine waits for its newline"
-AHEAD = re.compile(r"# .*\bcommands?\b.* sent .*\n")  # how many commands were on their way already
 
 
 @dataclass(frozen=True)
