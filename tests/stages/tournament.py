@@ -23,8 +23,11 @@ sys.path[0] = str(Path(__file__).resolve().parents[2])
 
 from tests.shared import checks  # noqa: E402
 from tests.stages.of_tournament import rooms  # noqa: E402
-from tests.stages.of_tournament.stops import Full, Interrupted, Killed, Limited, Silent, Stopped, Stubborn, Whole  # noqa: E402, F401
+from tests.stages.of_tournament.stops import Full, Interrupted, Killed, Limited, OneKilled, Silent, Stopped, Stubborn, Whole  # noqa: E402, F401
 from tests.stages.of_tournament.plans import CutAtSpaces, Elsewhere, Lost, NoResults, Plans  # noqa: E402, F401
+from tests.stages.of_tournament.asked import Forms, Helps, Python, Said  # noqa: E402, F401
+from tests.stages.of_tournament.damaged import Cut, Damages, Old  # noqa: E402, F401
+from tests.stages.of_tournament.costs import Many, OneGame  # noqa: E402, F401
 from tests.stages.of_tournament.counted import Intervals, Tallies, Wrong  # noqa: E402, F401
 from tests.stages.of_tournament.beside import Died, Games, Sample, Taps  # noqa: E402, F401
 

@@ -26,6 +26,7 @@ class Run:
         self.no_room = False  # can nothing be written?
         self.ending = [it for it in ENDING if signal.getsignal(it) != signal.SIG_IGN]  # nohup ignores one
         family.adopt()
+        family.be_called("tournament")
         signal.signal(signal.SIGCHLD, signal.SIG_DFL)
         signal.pthread_sigmask(signal.SIG_BLOCK, [signal.SIGCHLD, *self.ending])
 

@@ -78,7 +78,8 @@ Plays one game of FOLDER/plan, such as 1_one_two, unless it has a result or
 another process plays it.
 """, FILES, STATUS]),
 }
-OF_PLAN = {"--engine": ("NAME=CMD", "--engine 'one=gtp_engine --policy random --seed %s'"), "--seeds": ("a number", "--seeds 10"),
+QUOTED = "--engine 'one=gtp_engine --policy random --seed %s'"
+OF_PLAN = {"--engine": ("NAME=CMD", QUOTED), "--seeds": ("a number", "--seeds 10"),
            "--limit": ("a number of seconds", "--limit 600"), "--jobs": ("a number", "--jobs 4"), "--again": None}
 OPTIONS = {"play": OF_PLAN, "plan": OF_PLAN, "list": {"--all": None}, "game": {}}  # what each has after it, and an example
 PLACES = {"play": ["FOLDER"], "plan": ["FOLDER"], "list": ["FOLDER"], "game": ["FOLDER", "GAME"]}
@@ -120,21 +121,26 @@ class Words:
 
     def why_unknown(self, name):
         """What to write in place of an option that a command hasn't."""
-        if name in OF_TWOGTP and self.command in ("play", "plan"):
+        has_plan = OPTIONS[self.command] is OF_PLAN
+        if has_plan and name in OF_TWOGTP:
             return f"{name} is an option of twogtp: these come last, after --, such as: tournament {self.command} FOLDER .. -- {name} .."
         import difflib  # which isn't needed elsewhere
 
         close = difflib.get_close_matches(name, OPTIONS[self.command], 1)
-        more = f"is it {close[0]}?" if close else f"tournament {self.command} --help says which it has"
-        return f"tournament {self.command} has no option {name}: {more}"
+        if close:
+            return f"{self.command} has no option {name}: is it {close[0]}?"
+        more = f", and one of an engine belongs into the quotes of its command: {QUOTED}" if has_plan else ""
+        return f"{self.command} has no option {name}: tournament {self.command} --help has those that it has{more}"
 
     def look_at_places(self):
         """Are as many places given as the command has?"""
         wanted = PLACES[self.command]
-        if len(self.places) > len(wanted):
-            raise Mistake(f"what is '{self.places[len(wanted)]}'? write tournament {self.command} {' '.join(wanted)} ..")
+        line = f"tournament {self.command} {' '.join(wanted)}{' ..' if OPTIONS[self.command] is OF_PLAN else ''}"
         if len(self.places) < len(wanted):
-            raise Mistake(f"{wanted[len(self.places)]} is missing: write tournament {self.command} {' '.join(wanted)} ..")
+            raise Mistake(f"{wanted[len(self.places)]} is missing: write {line}")
+        if len(self.places) > len(wanted):
+            more = f"; a command with spaces wants quotes: {QUOTED}" if OPTIONS[self.command] is OF_PLAN else ""
+            raise Mistake(f"'{self.places[len(wanted)]}' is a word too many: write {line}{more}")
 
     def value(self, name):
         """The last value of an option that is a number; None where it isn't given. All are looked at."""
