@@ -96,8 +96,6 @@ def show(number, text, status):
 def run(name, main_of, words):
     """Runs the main function of a command, and returns its status. A mistake and an error are reported."""
     output.hold_streams()
-    if signal.getsignal(signal.SIGINT) == signal.default_int_handler:
-        signal.signal(signal.SIGINT, signal.SIG_DFL)
     try:
         return main_of(words)
     except Mistake as mistake:

@@ -10,7 +10,8 @@ import time
 from . import family, output, program, results
 from .places import is_file
 
-DONE, NONE, NO_ROOM, STOPPED, TAKEN = range(5)  # how it ends: with a result, without one, since nothing can be written, ..
+# how it ends: with a result, without one, since nothing can be written, since it was asked to, since another process has its files, broken
+DONE, NONE, NO_ROOM, STOPPED, TAKEN, BROKEN = range(6)
 GRACE = 2  # seconds that engines have to end by themselves after their game, and twogtp at the limit
 SAME = 0.2  # seconds within which TERM reaches this process, where all processes get it
 STOPPING = 1  # seconds in which all gets TERM at a stop, before it is killed
@@ -134,14 +135,14 @@ def report(name, places, why):
 
 def play_here(name, places, match, parent):
     """Plays a game in this process, a new fork of the run in which all signals of ENDING are blocked, and ends the process."""
-    outcome = NONE
+    outcome = BROKEN
     try:
         os.setsid()
         family.be_called(f"game {name}")
         signal.signal(signal.SIGTERM, signal.SIG_DFL)
         family.adopt()
         outcome = STOPPED if family.end_with(parent) else Game(name, places, match).play()
-    except BaseException as problem:  # nothing of it may go on as the run
+    except BaseException as problem:  # this process may not go on as the run
         output.complain(f"{name}: no result: {type(problem).__name__}: {problem}")
     finally:
         os._exit(outcome)

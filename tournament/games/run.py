@@ -7,7 +7,7 @@ import time
 from array import array
 
 from . import family, output, results
-from .game import DONE, ENDING, NO_ROOM, STOPPED, TAKEN, Match, play_here, report
+from .game import BROKEN, DONE, ENDING, NO_ROOM, TAKEN, Match, play_here, report
 from .places import Places, Taken, clear_running
 
 AGAIN = 3  # seconds for which games are tried that another process holds, which may be about to end
@@ -96,17 +96,18 @@ class Run:
         return [self.after(process) for process in list(self.playing) if process in self.family.ended]
 
     def after(self, process):
-        """What came of the game of a process that has ended. Where it was killed, what it left is ended."""
+        """What came of the game of a process that has ended. Where it was killed or broke, what it left is ended."""
         name, places, lock = self.playing.pop(process)
         outcome = self.family.ended.pop(process)
-        if outcome < 0:
+        has_left = outcome < 0 or outcome == BROKEN
+        if has_left:
             self.family.end(self.playing)
         try:
             parts = results.read(places.result, self.match.has_board)
         except FileNotFoundError:
             parts = None
-        if outcome < 0:
-            if not parts and not self.stopped:
+        if has_left:
+            if outcome < 0 and not parts and not self.stopped:
                 report(name, places, f"its process was ended by signal {-outcome}")
             places.remove()
         os.close(lock)

@@ -103,6 +103,13 @@ class Unread(Case):
             self.check("not all is played, and nothing is left", (True, []), (len(here.games("all")) < 8, here.left()))
             self.check("tournament list that isn't read", 0, here.run("bash", "-c", "tournament list all | head -n 1").status)
 
+    def test_files(self):
+        """Few files may be open."""
+        with room() as here:
+            here.run("tournament", "plan", *two_engines("all"), *SMALL)
+            came = here.run("bash", "-c", "ulimit -n 12; tournament play all --jobs 50")
+            self.check("where 12 files may be open at once fewer games are played at once", (0, "", results()), (*came[::2], here.games("all")))
+
     def test_nohup(self):
         """Under nohup HUP ends nothing."""
         with room() as here:

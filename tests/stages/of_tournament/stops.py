@@ -110,6 +110,24 @@ class Stubborn(Case):
             self.check("the tally: games without a result, and why", (1, wanted), (status, output[output.index("no result:") :]))
 
 
+class Sessions(Case):
+    """What an engine starts in a session of its own ends with its game."""
+
+    def test_sessions(self):
+        """Engines that start something that outlives them."""
+        with room() as here:
+            engine = here.script("leaves", '#!/bin/bash\nsetsid -f sleep 1000 < /dev/null > /dev/null 2>&1\nexec gtp_engine\n')
+            came = here.run("tournament", "play", "all", "--engine", f"one={engine}", "--engine", "two=gtp_engine", "--seeds", "1",
+                            "--", "--size", "2")  # fmt: skip
+            self.check("what an engine leaves in a session of its own is ended", (0, "", []), (*came[::2], here.left()))
+            endless = here.script("endless", '#!/bin/bash\ntrap "" TERM\nsetsid -f sleep 1000\nsleep 1000\n')
+            process = here.start("tournament", "play", "other", "--engine", f"one={endless}", "--engine", f"two={endless}", "--seeds", "1")
+            here.until(lambda: len(here.named("sleep")) >= 8)
+            process.terminate()
+            process.communicate(timeout=LIMIT)
+            self.check("and so it is at a stop", (143, []), (process.returncode, here.left()))
+
+
 # who plays a game, by the name of its process, under which command
 PLAYERS = [(who, command) for command in ("play", "game") for who in ("tournament", "game 1_one_two", "twogtp")]
 
