@@ -7,8 +7,8 @@ import os
 import re
 
 LINE = re.compile(
-    rb"game 1: ([BW]\+(?:[0-9]+(?:\.5)?|R|F\((?:illegal move|no vertex|no move|refused play)\))|0|limit|(?:unfit|abandoned) (?:black|white))"
-    rb" moves ([0-9]+) restarts ([0-9]+) ([0-9]+)\n"
+    rb"game 1: ([BW]\+(?:[0-9]+(?:\.5)?|R|F\((?:illegal move|no vertex|no move|refused play)\))"
+    rb"|0|limit|(?:unfit|abandoned) (?:black|white)) moves ([0-9]+) restarts ([0-9]+) ([0-9]+)\n"
 )
 BOARD_END = re.compile(rb"captures B [0-9]+ W [0-9]+\n\n\Z")
 PIECE = 16384  # bytes, which a result seldom has

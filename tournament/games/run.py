@@ -68,15 +68,18 @@ class Run:
         for _, _, lock in self.playing.values():
             os.close(lock)
 
-    def has_no_room(self):
-        """Asks all games to end, since nothing can be written, and says what to do."""
+    def has_no_room(self, cause=None):
+        """Asks all games to end, since nothing can be written or begun, and says what to do."""
         if not self.no_room and not self.stopped:
             problem = output.why_no_room(f"{self.folder}/running")
-            if problem is None or problem.errno in output.NO_ROOM:
-                what = "make room there, and the same command goes on"
+            if problem is None and cause is not None and cause.errno not in output.NO_ROOM:
+                said = f"no other game can be played in {self.folder} either"
+            elif problem is None or problem.errno in output.NO_ROOM:
+                why = problem.strerror if problem else "is the disk full?"
+                said = f"{self.folder} can't be written to: {why}: make room there, and the same command goes on"
             else:
-                what = "the same command goes on where it can"
-            output.complain(f"{self.folder} can't be written to: {problem.strerror if problem else 'is the disk full?'}: {what}")
+                said = f"{self.folder} can't be written to: {problem.strerror}"
+            output.complain(said)
         self.no_room = True
         self.stop()
 
@@ -174,7 +177,7 @@ class Play:
             if problem.errno in FEWER and self.run.playing:
                 return False
             output.complain(f"{self.games.name(game)}: no result: {output.in_words(problem)}")
-            self.run.has_no_room()
+            self.run.has_no_room(problem)
         return True
 
     def await_some(self):
@@ -247,7 +250,7 @@ def play_one(plan, folder, twogtp, name):
         return 1
     except OSError as problem:
         output.complain(f"{name}: no result: {output.in_words(problem)}")
-        run.has_no_room()
+        run.has_no_room(problem)
         return 1
     parts = None
     while run.playing:

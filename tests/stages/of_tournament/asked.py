@@ -16,7 +16,8 @@ SAID = {
     ("play", "x", "--seeds"): "--seeds wants a number after it, such as --seeds 10",
     ("play", "x", "--engine"): f"--engine wants NAME=CMD after it, such as {QUOTED}",
     ("play", "x", "--seed", "3"): "play has no option --seed: is it --seeds?",
-    ("play", "x", "--size", "9"): "--size is an option of twogtp: these come last, after --, such as: tournament play FOLDER .. -- --size ..",
+    ("play", "x", "--size", "9"):
+        "--size is an option of twogtp: these come last, after --, such as: tournament play FOLDER .. -- --size ..",
     ("plan", "x", "--komi=7"): "--komi is an option of twogtp: these come last, after --, such as: tournament plan FOLDER .. -- --komi ..",
     ("play", "x", "--engine", "a=gtp_engine", "--policy", "random"):
         "play has no option --policy: tournament play --help has those that it has, and one of an engine belongs into the quotes of its "
@@ -86,17 +87,21 @@ class Helps(Case):
                 self.check(f"tournament {command} --help, alone and behind others", set(), came)
                 is_own = said.startswith(f"usage: tournament {command} FOLDER")
                 self.check(f"tournament {command} --help: its own, with its statuses", (True, True), (is_own, "\nstatus: 0" in said))
-                wanted = OPTIONS_OF[command]
-                self.check(f"tournament {command} --help: its options", wanted, re.findall(r"^  (--\w+)", said, re.MULTILINE))
+                self.check(f"tournament {command} --help: its options", OPTIONS_OF[command], options_in(said))
             whole = here.run("tournament", "--help")
-            self.check("tournament --help has all options of play", OPTIONS_OF["play"], re.findall(r"^  (--\w+)", whole.output, re.MULTILINE))
+            self.check("tournament --help has all options of play", OPTIONS_OF["play"], options_in(whole.output))
             self.check("tally --help", (0, "usage: tally FOLDER\n", ""), shown(here.run("tally", "--help")))
-            long = [line for it in [*COMMANDS, ""] for line in here.run("tournament", *it.split(), "--help").output.splitlines() if len(line) > 80]
-            self.check("each line of help fits 80 columns", [], long)
+            said = whole.output + "".join(here.run("tournament", it, "--help").output for it in COMMANDS)
+            self.check("each line of help fits 80 columns", [], [line for line in said.splitlines() if len(line) > 80])
 
 
 OPTIONS_OF = {"play": ["--engine", "--seeds", "--limit", "--jobs", "--again"], "plan": ["--engine", "--seeds", "--limit"],
               "list": ["--all"], "game": []}  # fmt: skip
+
+
+def options_in(text):
+    """The options that a help has lines of."""
+    return re.findall(r"^  (--\w+)", text, re.MULTILINE)
 
 
 def shown(came):
@@ -128,11 +133,12 @@ class Python(Case):
         with room() as here:
             here.run("tournament", "plan", *two_engines("all"), *SMALL)
             came = here.run("bash", "-c", "exec tournament play all <&- >&- 2>&-")
-            self.check("without any standard stream it plays all, and says that its lines are lost", (1, 8), (came.status, len(here.games("all"))))
+            what = "without any standard stream it plays all, and its status says that its lines are lost"
+            self.check(what, (1, 8), (came.status, len(here.games("all"))))
 
 
-STANDARD = {"__future__", "array", "collections", "contextlib", "ctypes", "difflib", "errno", "fcntl", "math", "os", "random", "re", "select",
-            "signal", "stat", "sys", "time", "typing"}  # fmt: skip
+STANDARD = {"__future__", "array", "collections", "contextlib", "ctypes", "difflib", "errno", "fcntl", "math", "os", "random", "re",
+            "select", "signal", "stat", "sys", "time", "typing"}  # fmt: skip
 
 
 def is_python(place):

@@ -80,7 +80,8 @@ class Damages(Case):
             listed = here.run("tournament", "list", "all").output.splitlines()
             tally = here.run("tally", "all").output
             for name, what in zip(names, DAMAGES):
-                self.check(f"{what}: it is in the list, and in the tally", (True, 1), (name in listed, tally.count(f"  {name}: its file has")))
+                found = (name in listed, tally.count(f"  {name}: its file has no result\n"))
+                self.check(f"{what}: it is in the list, and in the tally", (True, 1), found)
                 line, said = f"{name}: limit moves 3 restarts 0 0\n", f"tournament: {name}: its file is damaged, and it is played again\n"
                 self.check(f"{what}: game plays it", (0, line, said), here.run("tournament", "game", "all", name))
                 self.check(f"{what}: then it is whole", text.decode(), here.games("all")[name])

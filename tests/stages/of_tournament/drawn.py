@@ -81,7 +81,8 @@ class Two(Case):
             said = [line for _, errors, _ in came for line in errors.splitlines()]
             self.check("two runs: at most a line says that the other plays still", [],
                        [line for line in said if not line.startswith("tournament: games that another process plays: ")])  # fmt: skip
-            self.check("two runs: one has status 0, and both 0 or 1", (True, set()), (0 in (it[2] for it in came), {it[2] for it in came} - {0, 1}))
+            statuses = {status for _, _, status in came}
+            self.check("two runs: one has status 0, and both 0 or 1", (True, set()), (0 in statuses, statuses - {0, 1}))
             rows = [line for output, _, _ in came for line in output.splitlines()]
             played = sorted(line.split(": ")[1] for line in rows if ": " in line)
             self.check("two runs: each game is played by one of them", sorted(results()), played)
@@ -108,7 +109,8 @@ class Unread(Case):
         with room() as here:
             here.run("tournament", "plan", *two_engines("all"), *SMALL)
             came = here.run("bash", "-c", "ulimit -n 12; tournament play all --jobs 50")
-            self.check("where 12 files may be open at once fewer games are played at once", (0, "", results()), (*came[::2], here.games("all")))
+            what = "where 12 files may be open at once fewer games are played at once"
+            self.check(what, (0, "", results()), (*came[::2], here.games("all")))
 
     def test_nohup(self):
         """Under nohup HUP ends nothing."""
