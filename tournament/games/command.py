@@ -96,6 +96,7 @@ def show(number, text, status):
 def run(name, main_of, words):
     """Runs the main function of a command, and returns its status. A mistake and an error are reported."""
     output.hold_streams()
+    signal.signal(signal.SIGCHLD, signal.SIG_DFL)  # whoever started it may ignore the ends of processes
     try:
         return main_of(words)
     except Mistake as mistake:

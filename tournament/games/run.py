@@ -27,7 +27,6 @@ class Run:
         self.ending = [it for it in ENDING if signal.getsignal(it) != signal.SIG_IGN]  # nohup ignores one
         family.adopt()
         family.be_called("tournament")
-        signal.signal(signal.SIGCHLD, signal.SIG_DFL)
         signal.pthread_sigmask(signal.SIG_BLOCK, [signal.SIGCHLD, *self.ending])
 
     def result(self, name):

@@ -59,6 +59,11 @@ class Drawn(Case):
         return played
 
 
+def ignore_children():
+    """Ignores the ends of processes, and so does what is started then."""
+    signal.signal(signal.SIGCHLD, signal.SIG_IGN)
+
+
 def kill(processes):
     """Kills these processes."""
     for process in processes:
@@ -111,6 +116,12 @@ class Unread(Case):
             came = here.run("bash", "-c", "ulimit -n 12; tournament play all --jobs 50")
             what = "where 12 files may be open at once fewer games are played at once"
             self.check(what, (0, "", results()), (*came[::2], here.games("all")))
+
+    def test_children(self):
+        """Who starts it ignores the ends of processes."""
+        with room() as here:
+            came = here.run("tournament", "play", *two_engines("all"), *SMALL, preexec_fn=ignore_children)
+            self.check("started by who ignores the ends of processes it plays all", (0, "", results()), (*came[::2], here.games("all")))
 
     def test_nohup(self):
         """Under nohup HUP ends nothing."""
