@@ -121,10 +121,13 @@ class Table:
     """The lines of a tally."""
 
     def __init__(self, counts, engines):
-        self.counts = counts
+        self.counts, self.engines = counts, engines
+        self.blamed = Counter()  # how often an engine was to blame for such an end
         self.rows = {key: Row() for one in engines for key in [(one,), (one, 0), (one, 1), *((one, other) for other in engines)]}
         for sides, ends in zip(counts.games.sides, counts.ends):
             for end, count in ends.items():
+                if end.blamed is not None:
+                    self.blamed[sides[end.blamed], end.way] += count
                 for side, engine in enumerate(sides):
                     for key in ((engine,), (engine, side), (engine, sides[1 - side])):
                         self.rows[key].add(end, side, count)
@@ -177,11 +180,9 @@ class Table:
     def to_look_into(self):
         """How often each engine was to blame, and restarted."""
         found = []
-        for it in self.rows:
-            if len(it) == 1:
-                blamed = [(way, self.counts.sum(lambda engines, end, way=way: end.way == way and engines[end.blamed] == it[0]))
-                          for way in TO_LOOK_INTO]
-                found += [f"  {it[0]}: {way}: {count}" for way, count in [*blamed, ("restarts", self.counts.restarts[it[0]])] if count]
+        for it in self.engines:
+            counts = [(way, self.blamed[it, way]) for way in TO_LOOK_INTO] + [("restarts", self.counts.restarts[it])]
+            found += [f"  {it}: {way}: {count}" for way, count in counts if count]
         return ["to look into:", *found] if found else []
 
     def without_result(self, folder):
