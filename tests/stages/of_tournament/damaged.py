@@ -1,9 +1,10 @@
 """What is a result: a file that is cut at any byte is none, in each command, and is played again."""
 import re
+import sys
 
 from tests.shared import checks
 
-from .rooms import LIMIT, RANDOM, Case, lines, results, room, two_engines
+from .rooms import LIMIT, RANDOM, SCRIPTS, Case, lines, results, room, two_engines
 
 TINY = ["--size", "2", "--max-moves", "3"]
 # what a whole file becomes, which then is damaged
@@ -111,6 +112,24 @@ class Damages(Case):
             self.check("--again plays both", (1, 3, ""), (came.status, len(came.output.splitlines()), came.errors))
 
 
+# another process removes the folder of a game between the two steps in which this one takes the lock
+REMOVED = """\
+import fcntl, os, shutil, sys
+sys.dont_write_bytecode = True
+sys.path.insert(0, sys.argv[1])
+from games import places
+place, flock, calls = places.Places("all", "1_one_two"), fcntl.flock, []
+
+def remove_first(*words):
+    if not calls:
+        shutil.rmtree(place.at)
+    calls.append(words)
+    flock(*words)
+
+fcntl.flock = remove_first
+lock = place.take()
+print(len(calls), os.path.samestat(os.fstat(lock), os.stat(place.lock)))
+"""
 # a game as the scripts played it that were written in bash: the same lock, the same files
 OLD = """\
 #!/bin/bash
@@ -194,6 +213,13 @@ class Old(Case):
             process.communicate(timeout=LIMIT)
             came = (process.returncode, list((here.at / "other/running").iterdir()), here.left())
             self.check("a game that is stopped has its status, and leaves nothing", (143, [], []), came)
+
+    def test_removed(self):
+        """A folder that is removed while its lock is taken."""
+        with room() as here:
+            here.run("tournament", "plan", *two_engines("all"))
+            came = here.run(sys.executable, "-c", REMOVED, str(SCRIPTS))
+            self.check("a lock whose file was removed meanwhile is taken anew", (0, "2 True\n", ""), came)
 
     def test_both(self):
         """Both play at once."""

@@ -64,6 +64,13 @@ def ignore_children():
     signal.signal(signal.SIGCHLD, signal.SIG_IGN)
 
 
+def ignored_by(process):
+    """The signals that a process ignores."""
+    with open(f"/proc/{process}/status") as file:
+        mask = next(int(line.split()[1], 16) for line in file if line.startswith("SigIgn:"))
+    return {number for number in range(1, 65) if mask >> number - 1 & 1}
+
+
 def kill(processes):
     """Kills these processes."""
     for process in processes:
@@ -112,16 +119,25 @@ class Unread(Case):
     def test_files(self):
         """Few files may be open."""
         with room() as here:
-            here.run("tournament", "plan", *two_engines("all"), *SMALL)
+            here.run("tournament", "plan", *slow_engines(here, "all")[:-1], "10", *SMALL)
             came = here.run("bash", "-c", "ulimit -n 12; tournament play all --jobs 50")
             what = "where 12 files may be open at once fewer games are played at once"
-            self.check(what, (0, "", results()), (*came[::2], here.games("all")))
+            self.check(what, (0, "", 20), (*came[::2], len(here.games("all"))))
 
     def test_children(self):
         """Who starts it ignores the ends of processes."""
         with room() as here:
             came = here.run("tournament", "play", *two_engines("all"), *SMALL, preexec_fn=ignore_children)
             self.check("started by who ignores the ends of processes it plays all", (0, "", results()), (*came[::2], here.games("all")))
+
+    def test_signals(self):
+        """What twogtp has of the signals that its starter ignores."""
+        with room() as here:
+            words = ["all", "--engine", "one=sleep 1000", "--engine", "two=sleep 1000", "--seeds", "1", "--jobs", "1"]
+            here.start("bash", "-c", 'trap "" TERM INT; exec tournament play "$@"', "bash", *words, **UNSEEN)
+            here.until(lambda: here.named("sleep"))
+            ignored = [ignored_by(pid) & {signal.SIGTERM, signal.SIGINT, signal.SIGPIPE} for pid in here.named("sleep")]
+            self.check("started by who ignores TERM and INT: engines heed them, and SIGPIPE", [set()] * 2, ignored)
 
     def test_nohup(self):
         """Under nohup HUP ends nothing."""

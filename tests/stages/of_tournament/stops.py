@@ -120,6 +120,10 @@ class Sessions(Case):
             came = here.run("tournament", "play", "all", "--engine", f"one={engine}", "--engine", "two=gtp_engine", "--seeds", "1",
                             "--", "--size", "2")  # fmt: skip
             self.check("what an engine leaves in a session of its own is ended", (0, "", []), (*came[::2], here.left()))
+            ends = here.script("ends", f'#!/bin/bash\n(sleep 0.7; touch {here.at}/"$1") < /dev/null > /dev/null 2>&1 &\nexec gtp_engine\n')
+            here.run("tournament", "play", "ended", "--engine", f"one={ends} %s", "--engine", "two=gtp_engine", "--seeds", "1",
+                     "--", "--size", "1")  # fmt: skip
+            self.check("it has a second to end by itself", True, (here.at / "1").exists())
             endless = here.script("endless", '#!/bin/bash\ntrap "" TERM\nsetsid -f sleep 1000\nsleep 1000\n')
             process = here.start("tournament", "play", "other", "--engine", f"one={endless}", "--engine", f"two={endless}", "--seeds", "1")
             here.until(lambda: len(here.named("sleep")) >= 8)
