@@ -135,7 +135,7 @@ class Unread(Case):
         with room() as here:
             words = ["all", "--engine", "one=sleep 1000", "--engine", "two=sleep 1000", "--seeds", "1", "--jobs", "1"]
             here.start("bash", "-c", 'trap "" TERM INT; exec tournament play "$@"', "bash", *words, **UNSEEN)
-            here.until(lambda: here.named("sleep"))
+            here.until(lambda: len(here.named("sleep")) == 2)
             ignored = [ignored_by(pid) & {signal.SIGTERM, signal.SIGINT, signal.SIGPIPE} for pid in here.named("sleep")]
             self.check("started by who ignores TERM and INT: engines heed them, and SIGPIPE", [set()] * 2, ignored)
 

@@ -110,16 +110,30 @@ class Stubborn(Case):
             self.check("the tally: games without a result, and why", (1, wanted), (status, output[output.index("no result:") :]))
 
 
+# An engine that leaves a process in a session of its own, and notes which of those before it live still.
+LEAVES = """\
+#!/bin/bash
+while read -r pid; do
+    ! kill -0 "$pid" || echo "$pid" >> "$1/alive"
+done < <(cat "$1/pids") 2> /dev/null
+setsid sleep 1000 < /dev/null > /dev/null 2>&1 &
+echo $! >> "$1/pids"
+exec gtp_engine
+"""
+
+
 class Sessions(Case):
     """What an engine starts in a session of its own ends with its game."""
 
     def test_sessions(self):
         """Engines that start something that outlives them."""
         with room() as here:
-            engine = here.script("leaves", '#!/bin/bash\nsetsid -f sleep 1000 < /dev/null > /dev/null 2>&1\nexec gtp_engine\n')
-            came = here.run("tournament", "play", "all", "--engine", f"one={engine}", "--engine", "two=gtp_engine", "--seeds", "1",
-                            "--", "--size", "2")  # fmt: skip
+            engine = here.script("leaves", LEAVES)
+            came = here.run("tournament", "play", "all", "--engine", f"one={engine} {here.at}", "--engine", "two=gtp_engine",
+                            "--seeds", "2", "--jobs", "1", "--", "--size", "2")  # fmt: skip
             self.check("what an engine leaves in a session of its own is ended", (0, "", []), (*came[::2], here.left()))
+            left = len((here.at / "pids").read_text().split())
+            self.check("it is ended before the next game", (4, False), (left, (here.at / "alive").exists()))
             ends = here.script("ends", f'#!/bin/bash\n(sleep 0.7; touch {here.at}/"$1") < /dev/null > /dev/null 2>&1 &\nexec gtp_engine\n')
             here.run("tournament", "play", "ended", "--engine", f"one={ends} %s", "--engine", "two=gtp_engine", "--seeds", "1",
                      "--", "--size", "1")  # fmt: skip
