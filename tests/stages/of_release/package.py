@@ -13,7 +13,8 @@ DOCS = "usr/share/doc/vintsaky"
 PROGRAMS = ("usr/bin/twogtp", "usr/bin/gtp_check", "usr/games/gtp_engine")
 MANUALS = [f"usr/share/man/{it}.gz" for it in ("man1/twogtp.1", "man1/gtp_check.1", "man6/gtp_engine.6")]
 MODES = {**dict.fromkeys(PROGRAMS, 0o755), **dict.fromkeys([*MANUALS, f"{DOCS}/copyright"], 0o644)}
-FIELDS = {"Depends": "", "Homepage": "", "Suggests": "gnugo, parallel, python3", "Package": "vintsaky", "Architecture": "amd64"}
+FIELDS = {"Depends": "", "Homepage": "", "Recommends": "python3 (>= 3.9)", "Suggests": "gnugo, parallel", "Package": "vintsaky",
+          "Architecture": "amd64"}  # fmt: skip
 # programs as they lie in a clone
 IN_A_CLONE = r"(?<![\w/])(?:\./)?(?:bin/twogtp|bin/gtp_check|bin/gtp_engine|interop/\w*|/home/me/vintsaky)"
 

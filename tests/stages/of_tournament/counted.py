@@ -1,7 +1,6 @@
 """The tally beside results that were counted by hand."""
 import math
 import re
-import shutil
 
 from tests.shared import checks
 
@@ -75,7 +74,13 @@ def results_of(here, folder, engines, seeds, verdicts):
     (here.at / folder / "logs").mkdir()
     (here.at / folder / "plan").write_text("".join(f"engine {name} x\n" for name in engines) + f"seeds {seeds}\nlimit 600\n")
     for game, verdict in verdicts.items():
-        (here.at / folder / "games" / game).write_text(f"game 1: {verdict}\nD4\n")
+        (here.at / folder / "games" / game).write_text(f"game 1: {verdict}\n{record_of(verdict)}\n")
+
+
+def record_of(verdict):
+    """A record with as many moves as the verdict says."""
+    moves = re.search(r" moves (\d+) ", verdict)
+    return " ".join(["D4"] * int(moves[1])) if moves else "D4"
 
 
 def wilson(won, count, z=1.959963984540054):
@@ -104,20 +109,17 @@ def by_hand(here):
     results_of(here, "even", "ab", 10, by_resignation(games, lambda number: number % 2))
 
 
-@checks.table(["mawk", "gawk", "original-awk"], lambda it: f"the tally by {it}")
 class Tallies(Case):
-    """The tally beside results that were counted by hand, by each awk that is there."""
+    """The tally beside results that were counted by hand."""
 
-    def row(self, awk):
-        if not shutil.which(awk):
-            self.skipTest("it is not there")
+    def test_by_hand(self):
+        """The tournaments that were counted by hand."""
         with room() as here:
             by_hand(here)
-            (here.at / "awk").symlink_to(shutil.which(awk))
-            here.environment["PATH"] = f"{here.at}:{here.environment['PATH']}"
-            self.check(f"the tally of every verdict, by {awk}", (1, COUNTED, ""), here.run("tally", "two"))
-            self.check(f"the tally of three engines, by {awk}", (0, THREE_COUNTED, ""), here.run("tally", "three"))
-            self.check(f"the tally of 10 wins of 20, by {awk}", 2, here.run("tally", "even").output.count(EVEN))
+            self.check("the tally of every verdict", (1, COUNTED, ""), here.run("tally", "two"))
+            self.check("the tally of three engines", (0, THREE_COUNTED, ""), here.run("tally", "three"))
+            self.check("the tally of 10 wins of 20", 2, here.run("tally", "even").output.count(EVEN))
+            self.check("the tally without output: status 1", 1, here.run("bash", "-c", "tally three > /dev/full").status)
 
 
 @checks.table([(0, 1), (1, 1), (3, 10), (99, 100), (50, 200)], lambda it: f"the interval of {it[0]} of {it[1]}")

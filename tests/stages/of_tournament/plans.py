@@ -104,7 +104,7 @@ STAND_IN = """\
 [[ $* != *"--black true"* ]] || { echo "game 1: abandoned black moves 0 restarts 2 0"; exit 1; }
 echo "game 1: B+0.5 moves 3 restarts 0 0"
 """
-ENDS = {"twogtp fails after its line": "exit 3\n", "the record is cut off": "printf 'A1 B'\n"}
+ENDS = {"twogtp fails after its lines": "echo A1 B1 C1; exit 3\n", "the record is cut off": "printf 'A1 B'\n"}
 
 
 @checks.table(ENDS, lambda it: f"{it}: no game has a result")

@@ -110,29 +110,99 @@ class Stubborn(Case):
             self.check("the tally: games without a result, and why", (1, wanted), (status, output[output.index("no result:") :]))
 
 
-PLAYERS = ("tournament play", "xargs", "tournament game", "tournament keep", "twogtp --why")
+# An engine that leaves a process in a session of its own, and notes which of those before it live still.
+LEAVES = """\
+#!/bin/bash
+while read -r pid; do
+    ! kill -0 "$pid" || echo "$pid" >> "$1/alive"
+done < <(cat "$1/pids") 2> /dev/null
+setsid sleep 1000 < /dev/null > /dev/null 2>&1 &
+echo $! >> "$1/pids"
+exec gtp_engine
+"""
 
 
-@checks.table(PLAYERS, lambda it: f"{it} is killed")
+class Sessions(Case):
+    """What an engine starts in a session of its own ends with its game."""
+
+    def test_sessions(self):
+        """Engines that start something that outlives them."""
+        with room() as here:
+            engine = here.script("leaves", LEAVES)
+            came = here.run("tournament", "play", "all", "--engine", f"one={engine} {here.at}", "--engine", "two=gtp_engine",
+                            "--seeds", "2", "--jobs", "1", "--", "--size", "2")  # fmt: skip
+            self.check("what an engine leaves in a session of its own is ended", (0, "", []), (*came[::2], here.left()))
+            left = len((here.at / "pids").read_text().split())
+            self.check("it is ended before the next game", (4, False), (left, (here.at / "alive").exists()))
+            ends = here.script("ends", f'#!/bin/bash\n(sleep 0.7; touch {here.at}/"$1") < /dev/null > /dev/null 2>&1 &\nexec gtp_engine\n')
+            here.run("tournament", "play", "ended", "--engine", f"one={ends} %s", "--engine", "two=gtp_engine", "--seeds", "1",
+                     "--", "--size", "1")  # fmt: skip
+            self.check("it has a second to end by itself", True, (here.at / "1").exists())
+            endless = here.script("endless", '#!/bin/bash\ntrap "" TERM\nsetsid -f sleep 1000\nsleep 1000\n')
+            process = here.start("tournament", "play", "other", "--engine", f"one={endless}", "--engine", f"two={endless}", "--seeds", "1")
+            here.until(lambda: len(here.named("sleep")) >= 8)
+            process.terminate()
+            process.communicate(timeout=LIMIT)
+            self.check("and so it is at a stop", (143, []), (process.returncode, here.left()))
+
+
+# who plays a game, by the name of its process, under which command
+PLAYERS = [(who, command) for command in ("play", "game") for who in ("tournament", "game 1_one_two", "twogtp")]
+
+
+@checks.table(PLAYERS, lambda it: f"'{it[0]}' is killed, under tournament {it[1]}")
 class Killed(Case):
     """Whoever of those that play is killed by KILL, no engine is left: each watches over the next one."""
 
-    def row(self, who):
+    def row(self, row):
+        who, command = row
+        what = f"'{who}' of tournament {command}"
         with room() as here:
             engine = here.script("stubborn", STUBBORN)
-            process = here.start("tournament", "play", "all", "--engine", f"one={engine}", "--engine", f"two=timeout 300 {engine}",
-                                 "--seeds", "1", "--jobs", "1", stdout=subprocess.DEVNULL, stderr=subprocess.DEVNULL)  # fmt: skip
+            plan = ["all", "--engine", f"one={engine}", "--engine", f"two=timeout 300 {engine}", "--seeds", "1"]
+            here.run("tournament", "plan", *plan)
+            words = ["play", "all", "--jobs", "1"] if command == "play" else ["game", "all", "1_one_two"]
+            process = here.start("tournament", *words, stdout=subprocess.DEVNULL, stderr=subprocess.DEVNULL)
             here.until(lambda: len([line for line in here.left() if f"bash {engine}" in line]) == 4)
-            engines = {line for line in here.left() if engine in line and "tournament" not in line}
-            found = [int(line.split()[0]) for line in here.left() if re.search(rf"^\d+ (/\S+ )?(/\S+/)?{who} ", line)]
-            self.check(f"{who} is there once", 1, len(found))
+            engines = {line for line in here.left() if engine in line and "--engine" not in line}
+            found = here.named(who)
+            self.check(f"{what} is there once", 1, len(found))
             for pid in found:
                 os.kill(pid, signal.SIGKILL)
             gone = here.until(lambda: not engines & set(here.left()), 15)
-            self.check(f"{who} is killed: within some seconds its engines are gone", True, gone)
+            self.check(f"{what} is killed: within some seconds its engines are gone", True, gone)
             process.terminate()
             process.wait(LIMIT)
-            self.check(f"{who} is killed: none is left at the end", True, here.until(lambda: not here.left(), 15))
+            self.check(f"{what} is killed: none is left at the end", True, here.until(lambda: not here.left(), 15))
+
+
+class OneKilled(Case):
+    """A process of a game that is killed costs that game alone."""
+
+    def test_one(self):
+        """The processes of some games are killed."""
+        with room() as here:
+            slow = here.script("slow", SLOW)
+            engines = two_engines("all", f"{slow} --policy random --seed", f"{slow} --policy random --seed")
+            for who in ("game 1_one_two", "twogtp"):
+                process = here.start("tournament", "play", *engines, "--jobs", "1", *SMALL)
+                here.until(lambda: here.named("game 1_one_two") and here.named("twogtp"))
+                for pid in here.named(who):
+                    os.kill(pid, signal.SIGKILL)
+                _, errors = process.communicate(timeout=LIMIT)
+                lost = sorted(set(results()) - set(here.games("all")))
+                self.check(f"'{who}' is killed: one game has no result", (1, 1), (process.returncode, len(lost)))
+                why = r"(its process was )?ended by signal 9"
+                said = re.fullmatch(rf"tournament: {lost[0]}: no result: {why}\n", errors)
+                self.check(f"'{who}' is killed: it says which", True, said is not None)
+                log = (here.at / "all/logs" / lost[0]).read_text().splitlines()[-1]
+                self.check(f"'{who}' is killed: its log says why", True, re.fullmatch(f"tournament: {why}", log) is not None)
+                self.check(f"'{who}' is killed: none is left", ([], []), (here.left(), list((here.at / "all/running").iterdir())))
+                self.check(f"'{who}' is killed: the others are whole", {it: results()[it] for it in here.games("all")}, here.games("all"))
+                for game in here.games("all"):
+                    (here.at / "all/games" / game).unlink()
+            self.check("then all are played", 0, here.run("tournament", "play", "all").status)
+            self.check("with the results of one that wasn't stopped", results(), here.games("all"))
 
 
 class Interrupted(Case):
@@ -233,13 +303,16 @@ class Full(Case):
             while True:
                 file.write(bytes(4096))
         os.truncate(filler, filler.stat().st_size - 4 * 4096)  # four files more
-        status, output, errors = here.run("tournament", "play", "disk/all")
+        status, output, errors = here.run("tournament", "play", "disk/all", "--jobs", "1")
         played = here.games("disk/all")
         self.check("a full disk: the status", 1, status)
         self.check("a full disk: some games are played, and not all", True, 0 < len(played) < 8)
         self.check("a full disk: what was played is whole", {game: wanted[game] for game in played}, played)
         reported = sorted(set(re.findall(r"^tournament: (\d\w*): ", errors, re.MULTILINE)))
-        self.check("a full disk: each other game is reported", sorted(set(wanted) - set(played)), reported)
+        self.check("a full disk: games are reported that have no result", True, set() < set(reported) <= set(wanted) - set(played))
+        self.check("a full disk: it ends at once: one game is reported, since it is the first", 1, len(reported))
+        said = "tournament: disk/all can't be written to: No space left on device: make room there, and the same command goes on"
+        self.check("a full disk: it says once what to do", 1, errors.splitlines().count(said))
         self.check("a full disk: the last line", f"{len(played)} of 8 games have a result", output.splitlines()[-1])
         filler.unlink()
         self.check("a full disk: with room it is gone on with", (0, ""), here.run("tournament", "play", "disk/all")[::2])

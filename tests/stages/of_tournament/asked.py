@@ -1,0 +1,157 @@
+"""What is asked for on the command line: both forms of an option, the help of each command, and what a mistake is answered by."""
+import ast
+import re
+
+from tests.shared import checks
+
+from .rooms import RANDOM, SCRIPTS, SMALL, Case, room, two_engines
+
+COMMANDS = ("play", "plan", "list", "game")
+PLAN = ["--engine", f"one={RANDOM} %s", "--engine", "two=cat", "--seeds", "3", "--limit", "20"]
+QUOTED = "--engine 'one=gtp_engine --policy random --seed %s'"
+# what is written on the command line, and what standard error says then, which tells what to write
+SAID = {
+    ("play", "nothere"): "there is no nothere/plan, so name two engines or more: --engine NAME=CMD --engine NAME=CMD",
+    ("play", "x", "--engine", "a=cat"): "name two engines or more: --engine NAME=CMD --engine NAME=CMD",
+    ("play", "x", "--seeds"): "--seeds wants a number after it, such as --seeds 10",
+    ("play", "x", "--engine"): f"--engine wants NAME=CMD after it, such as {QUOTED}",
+    ("play", "x", "--seed", "3"): "play has no option --seed: is it --seeds?",
+    ("play", "x", "--size", "9"):
+        "--size is an option of twogtp: these come last, after --, such as: tournament play FOLDER .. -- --size ..",
+    ("plan", "x", "--komi=7"): "--komi is an option of twogtp: these come last, after --, such as: tournament plan FOLDER .. -- --komi ..",
+    ("play", "x", "--engine", "a=gtp_engine", "--policy", "random"):
+        "play has no option --policy: tournament play --help has those that it has, and one of an engine belongs into the quotes of its "
+        f"command: {QUOTED}",
+    ("play", "x", "--engine", "a=gtp_engine", "random"):
+        f"'random' is a word too many: write tournament play FOLDER ..; a command with spaces wants quotes: {QUOTED}",
+    ("play", "x", "--jobs", "many"): "--jobs wants a number from 1 to 9999999, and not 'many'",
+    ("play", "x", "--again=yes"): "--again has no value: write --again",
+    ("play", "x", "--engine=cat"): "--engine wants NAME=CMD, and not 'cat'",
+    ("play",): "FOLDER is missing: write tournament play FOLDER ..",
+    ("game", "all"): "GAME is missing: write tournament game FOLDER GAME",
+    ("game", "all", "one"): "all/plan has no game 'one': a game is named SEED_BLACK_WHITE, and tournament list --all prints them",
+    ("game", "all", "01_one_two"):
+        "all/plan has no game '01_one_two': a game is named SEED_BLACK_WHITE, and tournament list --all prints them",
+    ("list", "all", "--al"): "list has no option --al: is it --all?",
+    ("list", "all", "--jobs", "2"): "list has no option --jobs: tournament list --help has those that it has",
+    ("list", "all", "more"): "'more' is a word too many: write tournament list FOLDER",
+    ("list", "x"): "there is no x/plan: tournament plan makes it",
+    ("paly", "x"): "there is no command 'paly': write tournament play, plan, list or game",
+    ("play", "x", *PLAN[:4], "--seeds", "9999999", "--engine", "a=cat", *[f"--engine=e{it}=cat" for it in range(20)]):
+        "9999999 seeds are 5059999494 games, which are too many",
+}
+
+
+@checks.table(SAID, lambda it: f"tournament {' '.join(it)[:90]}: it says what to write")
+class Said(Case):
+    """A mistake is answered by a line that says what to write, with status 2, and nothing is made."""
+
+    def row(self, words):
+        with room() as here:
+            here.run("tournament", "plan", *two_engines("all"), *SMALL)
+            came = here.run("tournament", *words)
+            self.same((2, "", f"tournament: {SAID[words]}\n", False), (*came, (here.at / "x").exists()))
+
+
+class Forms(Case):
+    """`--option value` and `--option=value`, in any order."""
+
+    def test_forms(self):
+        """Both forms."""
+        joined = [f"{name}={value}" for name, value in zip(PLAN[::2], PLAN[1::2])]
+        forms = {"apart": ["all", *PLAN], "joined": ["all", *joined], "the folder last": [*joined, "all"]}
+        for what, words in forms.items():
+            with room() as here:
+                came = here.run("tournament", "plan", *words, "--", "--size=5")
+                plan = f"engine one {RANDOM} %s\nengine two cat\noption --size=5\nseeds 3\nlimit 20\n"
+                self.check(f"options {what}: the plan", (0, "", "", plan), (*came, (here.at / "all/plan").read_text()))
+                self.check(f"options {what}: the same plan again", (0, "", ""), here.run("tournament", "plan", *words, "--", "--size=5"))
+
+    def test_play(self):
+        """Options of play that are joined."""
+        with room() as here:
+            words = ["--engine=one=gtp_engine", "--engine=two=gtp_engine", "--seeds=1", "--jobs=1", "--limit=99", "all", "--", "--size=1"]
+            self.check("play with joined options", (0, ""), here.run("tournament", "play", *words)[::2])
+            self.check("its games", ["1_one_two", "1_two_one"], sorted(here.games("all")))
+
+
+class Helps(Case):
+    """`--help` of each command, and of the tally."""
+
+    def test_helps(self):
+        """Each help."""
+        with room() as here:
+            for command in COMMANDS:
+                came = {here.run("tournament", command, *words) for words in (["--help"], ["-h"], ["x", "--help"])}
+                said = came.pop().output
+                self.check(f"tournament {command} --help, alone and behind others", set(), came)
+                is_own = said.startswith(f"usage: tournament {command} FOLDER")
+                self.check(f"tournament {command} --help: its own, with its statuses", (True, True), (is_own, "\nstatus: 0" in said))
+                self.check(f"tournament {command} --help: its options", OPTIONS_OF[command], options_in(said))
+            whole = here.run("tournament", "--help")
+            self.check("tournament --help has all options of play", OPTIONS_OF["play"], options_in(whole.output))
+            self.check("tally --help", (0, "usage: tally FOLDER\n", ""), shown(here.run("tally", "--help")))
+            said = whole.output + "".join(here.run("tournament", it, "--help").output for it in COMMANDS)
+            self.check("each line of help fits 80 columns", [], [line for line in said.splitlines() if len(line) > 80])
+
+
+OPTIONS_OF = {"play": ["--engine", "--seeds", "--limit", "--jobs", "--again"], "plan": ["--engine", "--seeds", "--limit"],
+              "list": ["--all"], "game": []}  # fmt: skip
+
+
+def options_in(text):
+    """The options that a help has lines of."""
+    return re.findall(r"^  (--\w+)", text, re.MULTILINE)
+
+
+def shown(came):
+    """What came, with the first line of the output alone."""
+    return came.status, came.output[: came.output.index("\n") + 1], came.errors
+
+
+class Python(Case):
+    """The scripts are of Python 3.9, and of its library alone."""
+
+    def test_python(self):
+        """The language and the imports."""
+        scripts = [it for it in sorted(SCRIPTS.rglob("*")) if it.is_file() and is_python(it)]
+        self.check("there are ten files in Python at least", True, len(scripts) >= 10)
+        for script in scripts:
+            tree = ast.parse(script.read_bytes(), feature_version=(3, 9))
+            self.check(f"{script.relative_to(SCRIPTS)} is of Python 3.9, and imports its library alone", [], imported_by(tree))
+
+    def test_bytecode(self):
+        """They write nothing beside them."""
+        before = sorted(SCRIPTS.rglob("*"))
+        with room() as here:
+            here.run("tournament", "play", *two_engines("all"), *SMALL)
+            here.run("tally", "all")
+        self.check("nothing is written beside the scripts", before, sorted(SCRIPTS.rglob("*")))
+
+    def test_closed(self):
+        """Closed standard streams."""
+        with room() as here:
+            here.run("tournament", "plan", *two_engines("all"), *SMALL)
+            came = here.run("bash", "-c", "exec tournament play all <&- >&- 2>&-")
+            what = "without any standard stream it plays all, and its status says that its lines are lost"
+            self.check(what, (1, 8), (came.status, len(here.games("all"))))
+
+
+STANDARD = {"__future__", "array", "collections", "contextlib", "ctypes", "difflib", "errno", "fcntl", "math", "os", "random", "re",
+            "select", "signal", "stat", "sys", "time", "typing"}  # fmt: skip
+
+
+def is_python(place):
+    """Is it a script in Python?"""
+    return place.suffix == ".py" or place.read_bytes().split(b"\n")[0].endswith(b"python3")
+
+
+def imported_by(tree):
+    """What a script imports that neither the library of Python 3.9 has nor the package beside it."""
+    names = set()
+    for it in ast.walk(tree):
+        if isinstance(it, ast.Import):
+            names |= {alias.name.split(".")[0] for alias in it.names}
+        elif isinstance(it, ast.ImportFrom) and not it.level:
+            names.add(it.module.split(".")[0])
+    return sorted(names - STANDARD - {"games"})

@@ -1,0 +1,237 @@
+"""What is a result: a file that is cut at any byte is none, in each command, and is played again."""
+import re
+import sys
+
+from tests.shared import checks
+
+from .rooms import LIMIT, RANDOM, SCRIPTS, Case, lines, results, room, two_engines
+
+TINY = ["--size", "2", "--max-moves", "3"]
+# what a whole file becomes, which then is damaged
+DAMAGES = {
+    "empty": lambda text: b"",
+    "an empty line": lambda text: b"\n",
+    "zeros": lambda text: bytes(len(text)),
+    "a move less": lambda text: re.sub(rb" \S+\n\Z", b"\n", text),
+    "a move more": lambda text: text[:-1] + b" pass\n",
+    "another game behind": lambda text: text + text,
+    "a line behind": lambda text: text + b"more\n",
+    "another game's number": lambda text: text.replace(b"game 1:", b"game 2:"),
+    "no such verdict": lambda text: re.sub(rb"game 1: \S+", b"game 1: B+F(no)", text),
+}
+
+
+def made_of(here, folder, text, files, options=TINY):
+    """A folder whose plan has a seed for each of these files, and two games with each: the first has the file, the other this text."""
+    seeds = len(files)
+    words = [folder, "--engine", f"one={RANDOM} 1", "--engine", f"two={RANDOM} 2", "--seeds", str(seeds), "--", *options]
+    here.run("tournament", "plan", *words)
+    for seed, file in enumerate(files, 1):
+        (here.at / folder / f"games/{seed}_one_two").write_bytes(file)
+        (here.at / folder / f"games/{seed}_two_one").write_bytes(text)
+
+
+def first_of(here, folder, options):
+    """The result of a game, as it is written."""
+    here.run("tournament", "plan", folder, "--engine", f"one={RANDOM} 1", "--engine", f"two={RANDOM} 2", "--seeds", "1", "--", *options)
+    here.run("tournament", "game", folder, "1_one_two")
+    return (here.at / folder / "games/1_one_two").read_bytes()
+
+
+@checks.table([[], ["--show"]], lambda it: f"results cut at each byte{' with --show' if it else ''}")
+class Cut(Case):
+    """A result that is cut at any byte is none: `list` has its game, `tally` says so, `play` reports it and plays it again."""
+
+    def row(self, show):
+        options, what = [*TINY, *show], f"cut at each byte{' of a board' if show else ''}"
+        with room() as here:
+            text = first_of(here, "one", options)
+            files = [text[:count] for count in range(len(text))]
+            self.check(f"{what}: there are many", True, len(files) > (60 if show else 40))
+            made_of(here, "all", text, files, options)
+            names = [f"{seed}_one_two" for seed in range(1, len(files) + 1)]
+            self.check(f"{what}: the list has each", (0, names), as_lines(here.run("tournament", "list", "all")))
+            status, tally, _ = here.run("tally", "all")
+            counted = f"{len(files)} of {2 * len(files)} games have a result"
+            self.check(f"{what}: the tally's first line, and its status", (1, counted), (status, tally[: len(counted)]))
+            said = [f"  {name}: its file has no result" for name in names]
+            self.check(f"{what}: the tally says so of each", said, tally[tally.index("no result:") :].splitlines()[1:])
+            came = here.run("tournament", "play", "all", "--jobs", "2")
+            self.check(f"{what}: all are played again", (0, {text.decode()}), (came.status, set(here.games("all").values())))
+            reported = [f"tournament: {name}: its file is damaged, and it is played again" for name in names]
+            self.check(f"{what}: each is reported", sorted(reported), lines(came.errors))
+            self.check(f"{what}: no other is played", len(files) + 1, len(came.output.splitlines()))
+            self.check(f"{what}: then the list is empty", (0, []), as_lines(here.run("tournament", "list", "all")))
+
+
+def as_lines(came):
+    """A status, and the lines of an output."""
+    return came.status, came.output.splitlines()
+
+
+class Damages(Case):
+    """Other damages than a cut."""
+
+    def test_damages(self):
+        """Each is found, and a game is played again by `game`."""
+        with room() as here:
+            text = first_of(here, "one", TINY)
+            made_of(here, "all", text, [damage(text) for damage in DAMAGES.values()])
+            names = [f"{seed}_one_two" for seed in range(1, len(DAMAGES) + 1)]
+            listed = here.run("tournament", "list", "all").output.splitlines()
+            tally = here.run("tally", "all").output
+            for name, what in zip(names, DAMAGES):
+                found = (name in listed, tally.count(f"  {name}: its file has no result\n"))
+                self.check(f"{what}: it is in the list, and in the tally", (True, 1), found)
+                line, said = f"{name}: limit moves 3 restarts 0 0\n", f"tournament: {name}: its file is damaged, and it is played again\n"
+                self.check(f"{what}: game plays it", (0, line, said), here.run("tournament", "game", "all", name))
+                self.check(f"{what}: then it is whole", text.decode(), here.games("all")[name])
+            self.check("then nothing is in the list", names[len(DAMAGES) :], here.run("tournament", "list", "all").output.splitlines())
+
+    def test_board(self):
+        """A board is there where it was asked for, and only there."""
+        with room() as here:
+            texts = {what: first_of(here, f"one{len(show)}", [*TINY, *show]) for what, show in (("with", ["--show"]), ("without", []))}
+            made_of(here, "with", texts["with"], [texts["without"]], [*TINY, "--show"])
+            made_of(here, "without", texts["without"], [texts["with"]], TINY)
+            for what in texts:
+                listed = here.run("tournament", "list", what).output
+                self.check(f"a result {what} a board alone is one where that was asked for", "1_one_two\n", listed)
+
+    def test_lost(self):
+        """What isn't a result is none for --again and the status either."""
+        with room() as here:
+            engines = ["--engine", "one=false", "--engine", "two=gtp_engine", "--seeds", "1"]
+            here.run("tournament", "play", "all", *engines, "--", "--size", "2")
+            cut = here.at / "all/games/1_one_two"
+            cut.write_bytes(cut.read_bytes()[:-1])
+            status, output, errors = here.run("tournament", "play", "all")
+            said = "tournament: 1_one_two: its file is damaged, and it is played again\n"
+            self.check("a cut game with an abandoned side is played again", (1, 2, said), (status, len(output.splitlines()), errors))
+            came = here.run("tournament", "play", "all", "--again")
+            self.check("--again plays both", (1, 3, ""), (came.status, len(came.output.splitlines()), came.errors))
+
+
+# another process removes the folder of a game between the two steps in which this one takes the lock
+REMOVED = """\
+import fcntl, os, shutil, sys
+sys.dont_write_bytecode = True
+sys.path.insert(0, sys.argv[1])
+from games import places
+place, flock, calls = places.Places("all", "1_one_two"), fcntl.flock, []
+
+def remove_first(*words):
+    if not calls:
+        shutil.rmtree(place.at)
+    calls.append(words)
+    flock(*words)
+
+fcntl.flock = remove_first
+lock = place.take()
+print(len(calls), os.path.samestat(os.fstat(lock), os.stat(place.lock)))
+"""
+# a game as the scripts played it that were written in bash: the same lock, the same files
+OLD = """\
+#!/bin/bash
+folder=$1 game=$2 at=$1/running/$2
+IFS=_ read -r seed black white <<< "$game"
+declare -A of=([one]="gtp_engine --policy random --seed $seed" [two]="gtp_engine --policy random --seed 10$seed")
+[ ! -e "$folder/games/$game" ] || exit 0
+{ mkdir -p "$at" && exec 9>> "$at/lock"; } 2> /dev/null || exit 1
+flock -n 9 || exit 1
+[ ! -e "$folder/games/$game" ] || { rm -rf "$at"; exit 0; }
+rm -f "$at/result" "$at/log"
+sleep "${3:-0}"
+twogtp --why --record --size 5 --komi 0.5 --black "${of[$black]}" --white "${of[$white]}" > "$at/result" 2> "$at/log" 9>&-
+rm -f "$folder/logs/$game"
+sync "$at/result" && mv -f "$at/result" "$folder/games/$game" && rm -rf "$at" && echo "$game"
+"""
+OLD_PLAN = f"""\
+engine one {RANDOM} %s
+engine two {RANDOM} 10%s
+option --size
+option 5
+option --komi
+option 0.5
+seeds 4
+limit 600
+"""
+
+
+class Old(Case):
+    """A folder of the scripts that were written in bash goes on, and both may play in it at once, under the same locks."""
+
+    def left_by_old(self, here):
+        """A folder as they left it: two results, and what was written of a game when all was killed."""
+        for name in ("games", "logs", "running/3_one_two", "running/4_two_one"):
+            (here.at / "all" / name).mkdir(parents=True)
+        (here.at / "all/plan").write_text(OLD_PLAN)
+        for game in ("1_one_two", "1_two_one"):
+            (here.at / "all/games" / game).write_text(results()[game])
+        for name in ("lock", "log"):
+            (here.at / "all/running/3_one_two" / name).touch()
+        (here.at / "all/running/3_one_two/result").write_text(results()["3_one_two"][:20])
+
+    def test_folder(self):
+        """An old folder."""
+        with room() as here:
+            self.left_by_old(here)
+            before = (here.at / "all/games/1_one_two").stat().st_mtime_ns
+            listed = lines(here.run("tournament", "list", "all").output)
+            self.check("an old folder: its list", sorted(set(results()) - {"1_one_two", "1_two_one"}), listed)
+            came = here.run("tournament", "play", *two_engines("all"), "--", "--size", "5", "--komi", "0.5")
+            self.check("an old folder is gone on with", (0, "", results()), (*came[::2], here.games("all")))
+            after = (here.at / "all/games/1_one_two").stat().st_mtime_ns
+            self.check("an old folder: what has a result isn't played", (before, 7), (after, len(came.output.splitlines())))
+            self.check("an old folder: its plan stays", OLD_PLAN, (here.at / "all/plan").read_text())
+            self.check("an old folder: nothing is left beside", [], list((here.at / "all/running").iterdir()))
+
+    def test_locks(self):
+        """Each side keeps the other from a game."""
+        with room() as here:
+            old = here.script("old", OLD)
+            self.left_by_old(here)
+            process = here.start(old, "all", "2_one_two", "1000")
+            lock = here.at / "all/running/2_one_two/lock"
+            here.until(lock.exists)
+            here.until(lambda: here.run("flock", "-n", str(lock), "true").status)
+            said = "tournament: 2_one_two: another process plays it\n"
+            self.check("an old script's game isn't begun", (1, "", said), here.run("tournament", "game", "all", "2_one_two"))
+            status, output, errors = here.run("tournament", "play", "all")
+            came = (status, output.splitlines()[-1], errors)
+            self.check("nor by play", (1, "7 of 8 games have a result", "tournament: games that another process plays: 1\n"), came)
+            self.check("nor is its folder removed", True, lock.exists())
+            here.end()
+            process.wait()
+            self.check("once it is killed it is played", (0, ""), here.run("tournament", "play", "all")[::2])
+            self.check("then the results are the same", results(), here.games("all"))
+            here.run("tournament", "plan", "other", "--engine", "one=sleep 1000", "--engine", "two=cat", "--seeds", "1")
+            process = here.start("tournament", "game", "other", "1_one_two")
+            here.until(lambda: here.named("sleep"))
+            self.check("a game that is played can't be begun by an old script", (1, "", ""), here.run(old, "other", "1_one_two"))
+            process.terminate()
+            process.communicate(timeout=LIMIT)
+            came = (process.returncode, list((here.at / "other/running").iterdir()), here.left())
+            self.check("a game that is stopped has its status, and leaves nothing", (143, [], []), came)
+
+    def test_removed(self):
+        """A folder that is removed while its lock is taken."""
+        with room() as here:
+            here.run("tournament", "plan", *two_engines("all"))
+            came = here.run(sys.executable, "-c", REMOVED, str(SCRIPTS))
+            self.check("a lock whose file was removed meanwhile is taken anew", (0, "2 True\n", ""), came)
+
+    def test_both(self):
+        """Both play at once."""
+        with room() as here:
+            old = here.script("old", OLD)
+            here.run("tournament", "plan", *two_engines("all"), "--", "--size", "5", "--komi", "0.5")
+            script = f"tournament list all | xargs -n 1 -P 2 {old} all > old.out & tournament play all --jobs 2 > new.out; wait"
+            came = here.run("bash", "-c", script)
+            self.check("both at once: nothing is said", (0, ""), came[::2])
+            self.check("both at once: the results are the same", results(), here.games("all"))
+            self.check("both at once: nothing is left beside", [], list((here.at / "all/running").iterdir()))
+            by_old = (here.at / "old.out").read_text().split()
+            *by_new, last = (here.at / "new.out").read_text().splitlines()
+            self.check("both at once: each game is played once", sorted(results()), sorted(by_old + [it.split(": ")[1] for it in by_new]))
+            self.check("both at once: the last line counts all", "8 of 8 games have a result", last)

@@ -1,0 +1,112 @@
+"""The command `tournament`."""
+import contextlib
+import signal
+
+from . import output, results
+from .output import Mistake
+from .plan import Plan, join_plan, make_folders, read_plan, write_plan
+from .program import find_twogtp, try_options
+from .words import HELP, Words, processors
+
+
+def asked_plan(words):
+    """The plan that the arguments ask for, and whether they have engines or options."""
+    plan = Plan()
+    for name, value in words.options:
+        if name == "--engine":
+            plan.name_engine(value)
+    plan.options = words.after or []
+    plan.seeds, plan.limit = words.value("--seeds"), words.value("--limit")
+    return plan, bool(plan.engines) or words.after is not None
+
+
+def make_plan(words):
+    """The plan of the folder, which is made or looked at, and the program twogtp."""
+    asked, is_given = asked_plan(words)
+    words.value("--jobs")
+    folder = words.places[0]
+    plan = join_plan(asked, is_given, folder)
+    twogtp = find_twogtp()
+    try_options(twogtp, plan.options)
+    write_plan(plan, folder)
+    return plan, twogtp
+
+
+def do_play(words):
+    """tournament play"""
+    from .run import play_all
+
+    plan, twogtp = make_plan(words)
+    return play_all(plan, words.places[0], twogtp, words.value("--jobs") or processors(), words.has("--again"))
+
+
+def do_plan(words):
+    """tournament plan"""
+    make_plan(words)
+    return 0
+
+
+def do_list(words):
+    """tournament list"""
+    folder, = words.places
+    plan = read_plan(folder)
+    games = plan.games()
+    names = iter(games)
+    if not words.has("--all"):
+        kinds = results.kinds_of(plan, folder)
+        names = (games.name(game) for game, kind in enumerate(kinds) if kind in (results.NONE, results.DAMAGED))
+    output.write_all(1, names)
+    return 0
+
+
+def do_game(words):
+    """tournament game"""
+    from .run import play_one
+
+    folder, name = words.places
+    plan = read_plan(folder)
+    if plan.games().number(name) is None:
+        raise Mistake(f"{folder}/plan has no game '{name}': a game is named SEED_BLACK_WHITE, and tournament list --all prints them")
+    twogtp = find_twogtp()
+    make_folders(folder)
+    return play_one(plan, folder, twogtp, name)
+
+
+COMMANDS = {"play": do_play, "plan": do_plan, "list": do_list, "game": do_game}
+
+
+def main(words):
+    """Does what these words ask for, and returns the status."""
+    if words and words[0] in ("-h", "--help"):
+        return show(1, HELP[None], 0)
+    if not words:
+        return show(2, HELP[None], 2)
+    if words[0] not in COMMANDS:
+        raise Mistake(f"there is no command '{words[0]}': write tournament play, plan, list or game")
+    asked = Words(words[0], words[1:])
+    return show(1, HELP[words[0]], 0) if asked.is_help else COMMANDS[words[0]](asked)
+
+
+def show(number, text, status):
+    """Writes a text, and returns the status."""
+    output.write(number, text)
+    return status
+
+
+def run(name, main_of, words):
+    """Runs the main function of a command, and returns its status. A mistake and an error are reported."""
+    output.hold_streams()
+    signal.signal(signal.SIGCHLD, signal.SIG_DFL)  # whoever started it may ignore the ends of processes
+    try:
+        return main_of(words)
+    except Mistake as mistake:
+        for printed in mistake.args[1:]:
+            with contextlib.suppress(OSError):
+                output.write(2, printed)
+        output.complain(mistake.args[0], name)
+        return 2
+    except BrokenPipeError:
+        return 128 + signal.SIGPIPE
+    except OSError as problem:
+        output.complain(output.in_words(problem), name)
+        return 1

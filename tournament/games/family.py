@@ -1,0 +1,91 @@
+"""The processes below this one: all that it and they started, wherever they went.
+
+This process adopts what loses its parent (a subreaper), so each of them has a way up to it, and comes to it when those between have ended.
+"""
+import contextlib
+import ctypes
+import os
+import signal
+import time
+
+TENTH = 0.1  # seconds from one look to the next
+MOST = 10  # seconds after which what can't be killed is left
+_prctl = ctypes.CDLL(None).prctl
+
+
+def adopt():
+    """From now on what a process below loses its parent becomes a child of this one."""
+    if _prctl(36, 1, 0, 0, 0):  # PR_SET_CHILD_SUBREAPER
+        raise OSError(0, "this system lets no process adopt others")
+    if not os.path.exists(f"/proc/self/task/{os.getpid()}/children"):
+        raise OSError(0, "/proc of this system doesn't list the children of a process")
+
+
+def end_with(parent):
+    """From now on TERM comes to this process where its parent ends. Has it ended already?"""
+    _prctl(1, int(signal.SIGTERM), 0, 0, 0)  # PR_SET_PDEATHSIG
+    return os.getppid() != parent
+
+
+def be_called(name):
+    """Names this process, as `ps -e` and `top` show it: 15 bytes at most."""
+    _prctl(15, ctypes.c_char_p(os.fsencode(name)[:15]), 0, 0, 0)  # PR_SET_NAME
+
+
+def children_of(process):
+    """The children of a process, which each of its threads may have; none where it has ended."""
+    found = []
+    with contextlib.suppress(OSError):
+        for thread in os.listdir(f"/proc/{process}/task"):
+            with open(f"/proc/{process}/task/{thread}/children") as file:
+                found += [int(it) for it in file.read().split()]
+    return found
+
+
+def send(number, processes):
+    """Sends these processes a signal; one may have ended."""
+    for process in processes:
+        with contextlib.suppress(ProcessLookupError, PermissionError):
+            os.kill(process, number)
+
+
+class Family:
+    """The processes below this one."""
+
+    def __init__(self):
+        self.ended = {}  # how those ended that are awaited: the status, or the negative number of a signal
+        self.awaited = set()
+
+    def reap(self):
+        """Takes note of each child that has ended. Are there others?"""
+        try:
+            while True:
+                process, status = os.waitpid(-1, os.WNOHANG)
+                if not process:
+                    return True
+                if process in self.awaited:
+                    self.awaited.remove(process)
+                    self.ended[process] = os.waitstatus_to_exitcode(status)
+        except ChildProcessError:
+            return False
+
+    def others(self, spared):
+        """The children that live or weren't reaped, but for those that are spared."""
+        return [it for it in children_of(os.getpid()) if it not in spared] if self.reap() else []
+
+    def end(self, spared=(), seconds=0):
+        """Ends all children that aren't spared, and what is below them. For so many seconds they get TERM, at each tenth of one, and may
+        end by themselves; then they are killed."""
+        began = time.monotonic()
+        while True:
+            left = self.others(spared)
+            past = time.monotonic() - began
+            if not left or past > seconds + MOST:
+                return
+            if past < seconds:
+                for process in left:  # which grows
+                    left += children_of(process)
+                send(signal.SIGTERM, left)
+            else:
+                send(signal.SIGKILL, left)
+            signal.sigtimedwait([signal.SIGCHLD], TENTH)

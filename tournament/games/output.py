@@ -1,0 +1,67 @@
+"""What is written: each text at once, and to the end."""
+import contextlib
+import errno
+import os
+
+NO_ROOM = (errno.ENOSPC, errno.EDQUOT, errno.EFBIG)  # the errors of a disk that is full
+
+
+class Mistake(Exception):
+    """A mistake in the arguments or in a plan. Its text says what to write."""
+
+
+def write(number, text):
+    """Writes all of a text to a descriptor. Names and commands may have any bytes."""
+    left = os.fsencode(text)
+    while left:
+        left = left[os.write(number, left):]
+
+
+def complain(text, by="tournament"):
+    """Writes a line on standard error. Where nobody reads that, it is lost."""
+    with contextlib.suppress(OSError):
+        write(2, f"{by}: {text}\n")
+
+
+def write_all(number, lines, at_once=5000):
+    """Writes many lines."""
+    some = []
+    for line in lines:
+        some.append(f"{line}\n")
+        if len(some) == at_once:
+            write(number, "".join(some))
+            some.clear()
+    write(number, "".join(some))
+
+
+def hold_streams():
+    """Opens the standard streams that are closed, so that no file gets their numbers. Writing to one fails as before."""
+    for number in (0, 1, 2):
+        try:
+            os.fstat(number)
+        except OSError:
+            os.open(os.devnull, os.O_RDONLY)
+
+
+def in_words(problem):
+    """What an error of the system says."""
+    return f"{os.fsdecode(problem.filename)}: {problem.strerror}" if problem.filename else str(problem.strerror)
+
+
+def why_no_room(folder):
+    """The error that a write in this folder meets, or None. It is tried with a file, which is removed."""
+    place = f"{folder}/room.{os.getpid()}"
+    try:
+        try:
+            file = os.open(place, os.O_WRONLY | os.O_CREAT, 0o666)
+            try:
+                os.write(file, bytes(8192))
+                os.fsync(file)
+            finally:
+                os.close(file)
+        finally:
+            with contextlib.suppress(FileNotFoundError):
+                os.unlink(place)
+    except OSError as problem:
+        return problem
+    return None

@@ -1,0 +1,45 @@
+"""The program twogtp: where it is, and how it is started."""
+import os
+import signal
+
+from .output import Mistake
+
+HERE = os.path.dirname(os.path.dirname(os.path.realpath(__file__)))
+BESIDE = ("../bin", "../../bin")  # where it lies beside these scripts, in a clone and in an archive
+AS_BEFORE = (signal.SIGTERM, signal.SIGINT, signal.SIGHUP, signal.SIGPIPE)  # signals that do in it what they do where nobody asked
+
+
+def is_program(place):
+    """Is it a file that may be executed?"""
+    return os.path.isfile(place) and os.access(place, os.X_OK)
+
+
+def find_twogtp():
+    """The program twogtp: that of TWOGTP, the one beside these scripts, or the one in PATH."""
+    beside = (os.path.realpath(f"{HERE}/{folder}/twogtp") for folder in BESIDE)
+    named = os.environ.get("TWOGTP") or next(filter(is_program, beside), "twogtp")
+    folders = [""] if "/" in named else os.environ.get("PATH", os.defpath).split(":")
+    found = next(filter(is_program, (os.path.join(folder, named) for folder in folders)), None)
+    if not found:
+        raise Mistake(f"there is no {named}: name it by TWOGTP")
+    return found
+
+
+def start(words, result, log):
+    """Starts a program that reads nothing and writes into these files, and returns its process."""
+    files = [(os.POSIX_SPAWN_OPEN, 0, os.devnull, os.O_RDONLY, 0), (os.POSIX_SPAWN_DUP2, result, 1), (os.POSIX_SPAWN_DUP2, log, 2)]
+    return os.posix_spawn(words[0], words, os.environ, file_actions=files, setsigmask=(), setsigdef=AS_BEFORE)
+
+
+def try_options(twogtp, options):
+    """Does twogtp take these options? It plays a game of two programs that end at once."""
+    if any(it == "--games" or it.startswith("--games=") for it in options):
+        raise Mistake("not --games: each game is a run of its own, with its seed")
+    reads, writes = os.pipe()
+    process = start([twogtp, "--why", "--record", "--black", "true", "--white", "true", *options], writes, writes)
+    os.close(writes)
+    with open(reads, "rb") as file:
+        printed = os.fsdecode(file.read())
+    status = os.waitstatus_to_exitcode(os.waitpid(process, 0)[1])
+    if status != 1 or "game 1: abandoned black" not in printed:
+        raise Mistake(f"{twogtp} doesn't play with the options '{' '.join(options)}': status {status}", printed)
