@@ -3,12 +3,14 @@ use Rattle.std.proofs.Common.{◌≡◌, ◌∙◌, ◌≤◌, ◌<◌, arith, r
 use Rattle.std.proofs.Common.{Option, None, Some, Result, Ok, Err}
 use Rattle.std.specs.Prelude.{if◌then◌else◌, ◌||◌, is_some}
 use Rattle.go_board.specs.declared.rules.KoRule.{KoRule}
+use Rattle.gtp_wire.specs.declared.commands.Command.{Command}
+use Rattle.gtp_wire.specs.declared.commands.Command.TheVariants.{Play, Genmove}
 use Rattle.gtp_wire.specs.declared.replies.Reply.{Reply}
 use Rattle.gtp_wire.specs.declared.replies.ReplyFault.{ReplyFault}
 use Rattle.gtp_process.specs.declared.starter.Process.{Ghosts}
 use Rattle.gtp_check_judge.specs.declared.asking.CheckCommand.{CheckCommand}
 use Rattle.gtp_check_judge.specs.declared.asking.CheckCommand.TheVariants.{Match, FinalScore, Name, Version}
-use Rattle.gtp_check_judge.specs.declared.asking.CheckCommand.TheVariants.{KnownCommand}
+use Rattle.gtp_check_judge.specs.declared.asking.CheckCommand.TheVariants.{KnownCommand, ListCommands, PlayInFull, GenmoveInFull}
 use Rattle.gtp_check_judge.specs.declared.exam.Exam.{Exam}
 use Rattle.gtp_check_judge.specs.declared.judging.Refusal.{Refusal}
 use Rattle.gtp_check_judge.specs.declared.judging.Refusal.TheVariants as refusal
@@ -28,7 +30,7 @@ use Rattle.gtp_check_talks.specs.Dialogues.{IsRead, begun_with, noted_of_read}
 use Rattle.gtp_check_talks.specs.Laws.{RightAnswersEndStartsInVain}
 use Rattle.gtp_check_talks.specs.Notes.{asks_for_move, counted, is_refused, is_taken, noted, noted_of, taken_by}
 use Rattle.gtp_check_talks.specs.Notes.{undos_after, with_answer, with_lesson, with_most_undos, with_refusal, with_size}
-use Rattle.gtp_check_talks.specs.Notes.{with_taken}
+use Rattle.gtp_check_talks.specs.Notes.{with_match, with_taken}
 use Rattle.gtp_check_talks.proofs.Talks.{converses_talk}
 
 -- ---- what is noted
@@ -61,14 +63,21 @@ taken_keeps notes (Some size) = by (is_taken notes size)
     by true = refl
     by false = refl
 
+match_keeps : (command : Command) (reply : Reply) (notes : Notes)
+    → (with_match notes command reply.ok).fruitless ≡ notes.fruitless
+match_keeps command reply notes =
+    taken_keeps (record notes { in_a_row = undos_after notes.in_a_row command reply.ok }) (taken_by command reply.ok)
+
 of_keeps : (command : CheckCommand) (reply : Reply) (skills : Skills) (notes : Notes)
     → (noted_of command reply skills notes).fruitless ≡ notes.fruitless
 of_keeps Name reply skills notes = refl
 of_keeps Version reply skills notes = refl
 of_keeps (KnownCommand known) reply skills notes = refl
-of_keeps (Match command) reply skills notes =
-    taken_keeps (record notes { in_a_row = undos_after notes.in_a_row command reply.ok }) (taken_by command reply.ok)
+of_keeps (Match command) reply skills notes = match_keeps command reply notes
 of_keeps FinalScore reply skills notes = refl
+of_keeps ListCommands reply skills notes = refl
+of_keeps (PlayInFull move) reply skills notes = match_keeps (Play move) reply notes
+of_keeps (GenmoveInFull colour) reply skills notes = match_keeps (Genmove colour) reply notes
 
 size_keeps : (notes : Notes) (size : ℕ) → (with_size notes size).fruitless ≡ notes.fruitless
 size_keeps notes size = by (is_refused notes size || is_taken notes size)

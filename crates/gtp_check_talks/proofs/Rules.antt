@@ -10,10 +10,10 @@ use Rattle.gtp_process.specs.declared.starter.Process.{Ghosts}
 use Rattle.gtp_session.specs.CommandAnswers.{after_command}
 use Rattle.gtp_check_judge.specs.declared.asking.CheckCommand.{CheckCommand}
 use Rattle.gtp_check_judge.specs.declared.asking.CheckCommand.TheVariants.{Match, FinalScore, Name, Version}
-use Rattle.gtp_check_judge.specs.declared.asking.CheckCommand.TheVariants.{KnownCommand}
+use Rattle.gtp_check_judge.specs.declared.asking.CheckCommand.TheVariants.{KnownCommand, ListCommands, PlayInFull, GenmoveInFull}
 use Rattle.gtp_check_judge.specs.declared.dues.Due.{Due}
 use Rattle.gtp_check_judge.specs.declared.dues.Due.TheVariants.{Succeeds, Fails, Places, Resizes, Scores, AnyReply}
-use Rattle.gtp_check_judge.specs.declared.dues.Due.TheVariants.{Chooses, MayUndo}
+use Rattle.gtp_check_judge.specs.declared.dues.Due.TheVariants.{Chooses, MayUndo, Lists}
 use Rattle.gtp_check_judge.specs.declared.judging.Judgement.{Judgement}
 use Rattle.gtp_check_judge.specs.declared.judging.Judgement.TheVariants.{Right, Plays, Resized, Undone, Opines, Wrong}
 use Rattle.gtp_check_judge.specs.declared.unanswered.Asked.{Asked}
@@ -45,6 +45,9 @@ check_rule game FinalScore = refl
 check_rule game Name = refl
 check_rule game Version = refl
 check_rule game (KnownCommand known) = refl
+check_rule game ListCommands = refl
+check_rule game (PlayInFull move) = refl
+check_rule game (GenmoveInFull colour) = refl
 
 due_rule : (game : GameRecord) (command : CheckCommand) (due : Due) → (after_due game command due).rule ≡ game.rule
 due_rule game command Succeeds = check_rule game command
@@ -55,6 +58,7 @@ due_rule game command (Scores size komi) = refl
 due_rule game command AnyReply = check_rule game command
 due_rule game command (Chooses colour) = refl
 due_rule game command MayUndo = refl
+due_rule game command Lists = refl
 
 asked_rule : (old : Exam) (command : CheckCommand) (new : Exam) → Asks old command new
     → new.game.rule ≡ old.game.rule
