@@ -93,13 +93,13 @@ def conversation():
 
 def checks_of_engines():
     """Checks of two engines."""
-    asked = "check: not asked, as the options say: sizes ko captures suicide joining handicaps komi drawn record genmoves games restarts\n"
-    # It refuses its name and each size: 5 questions, the sizes 5 to 25, and 5 again.
+    asked = "check: not asked, as the options say: start sizes ko captures suicide joining handicaps komi drawn genmoves games restarts\n"
+    # It refuses its name and each size: 5 questions, and in each of three parts the sizes 5 to 25, and 5 again.
     sizes = " ".join(map(str, range(5, 26)))
     yield Run("a check in which nothing is found and no move is asked", 4,
-              f'check: "", version "", seed 1, simple ko\n{asked}check: start: no play and no genmove was asked on any board of it\n'
-              f"check: it refuses the sizes {sizes}\ncheck: 27 commands, 1 start, 0 complaints\n", "",
-              ["gtp_check", "--only", "start", f"{HOSTILE} refuses"])  # fmt: skip
+              f'check: "", version "", seed 1, simple ko\n{asked}check: record: no play and no genmove was asked on any board of it\n'
+              f"check: it refuses the sizes {sizes}\ncheck: 71 commands, 1 start, 0 complaints\n", "",
+              ["gtp_check", "--only", "record", f"{HOSTILE} refuses"])  # fmt: skip
     # It ends at once, three times, and a lesson is over after three losses.
     found = "".join(f'# {number} komi: "1 name": its output ended, exit status 1\n1 name\n# it wrote: ""\n'
                     "# right: an engine answers each command, and reads on until quit\n\n" for number in (1, 2, 3))  # fmt: skip
