@@ -16,14 +16,25 @@ use std::process::Abort;
 /// A conversation of these commands on a board of this size, each with the end of its line. A right engine refuses none
 /// of them.
 fn talk_of<R: Abort + AllocGlobal>(rt: &R, lines: u32, commands: &[(&str, usize)]) -> Vec<Said> {
+    let purpose = Purpose {
+        lesson: Lesson::Ko,
+        part: 0,
+    };
+    talk_for(rt, purpose, lines, commands)
+}
+
+/// The same, where the commands are asked for this purpose.
+fn talk_for<R: Abort + AllocGlobal>(
+    rt: &R,
+    purpose: Purpose,
+    lines: u32,
+    commands: &[(&str, usize)],
+) -> Vec<Said> {
     let mut talk = Vec::new(rt.alloc());
     for (text, end) in commands {
         let said = Said {
             command: command(rt, text),
-            purpose: Purpose {
-                lesson: Lesson::Ko,
-                part: 0,
-            },
+            purpose,
             is_illegal: false,
             size: some(rt, Size::new(lines)),
             moves: 0,

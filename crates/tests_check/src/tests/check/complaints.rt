@@ -1,5 +1,5 @@
 //! The texts of complaints.
-use super::talk_of;
+use super::{talk_for, talk_of};
 use crate::asserts::{assert_equal_for, assert_true, text_of};
 use go_board::{Game, KoRule};
 use gtp_check_judge::{Cause, Kind};
@@ -347,11 +347,11 @@ fn a_complaint_has_the_conversation_and_what_is_right(rt: HostRuntime) -> Result
 
 #[test]
 fn a_complaint_says_that_a_line_came_in_two_pieces(rt: HostRuntime) -> Result<(), Fail> {
-    let mut talk = talk_of(&rt, 9, &[("name", 7), ("version", 17)]);
-    talk[1].purpose = Purpose {
+    let purpose = Purpose {
         lesson: Lesson::Start,
         part: 1,
     };
+    let talk = talk_for(&rt, purpose, 9, &[("name", 7), ("version", 17)]);
     let complaint = Complaint {
         number: 1,
         lesson: Lesson::Start,
