@@ -1,6 +1,6 @@
 //! The texts of complaints.
 use super::talk_of;
-use crate::asserts::{assert_equal_for, text_of};
+use crate::asserts::{assert_equal_for, assert_true, text_of};
 use go_board::{Game, KoRule};
 use gtp_check_judge::{Cause, Kind};
 use gtp_check_questions::Lesson;
@@ -227,33 +227,48 @@ static ROWS: [Row; 8] = [
     },
 ];
 
-/// What an engine was asked, and the game of a right engine before the command that was answered wrongly.
+/// What an engine was asked and wrote, and the game of a right engine before the command that was answered wrongly.
 #[derive(Drop)]
 struct Asked {
     talk: Vec<Said>,
     game: Option<Game>,
+    sent: Vec<u8>,
+    wrote: Vec<u8>,
 }
 
-/// What a row's engine was asked.
+/// What a row's engine was asked and wrote.
 fn asked_by<R: Abort + AllocGlobal>(rt: &R, row: &Row) -> Asked {
     let talk = talk_of(rt, 9, row.commands);
-    let game = game_before(&talk[..row.answered + 1], KoRule::Simple);
-    Asked { talk, game }
+    let count = row.answered.saturating_add(1).min(talk.len());
+    let game = game_before(&talk[..count], KoRule::Simple);
+    Asked {
+        talk,
+        game,
+        sent: copied(rt, row.sent),
+        wrote: copied(rt, row.wrote),
+    }
+}
+
+/// The same bytes.
+fn copied<R: Abort + AllocGlobal>(rt: &R, bytes: &[u8]) -> Vec<u8> {
+    let mut copy = Vec::new(rt.alloc());
+    assert_true(rt, copy.extend_from_slice(bytes).is_ok());
+    copy
 }
 
 /// The complaint of a row.
-fn complaint_of<'t>(row: &'t Row, asked: &'t Asked) -> Complaint<'t> {
-    let (number, lesson, fault, ending) = row.head;
+fn complaint_of(head: Head, answered: usize, is_positional: bool, asked: &Asked) -> Complaint<'_> {
+    let (number, lesson, fault, ending) = head;
     Complaint {
         number,
         lesson,
         fault,
-        sent: row.sent,
+        sent: asked.sent.as_slice(),
         talk: asked.talk.as_slice(),
-        answered: row.answered,
-        wrote: row.wrote,
+        answered,
+        wrote: asked.wrote.as_slice(),
         ending,
-        is_positional: row.is_positional,
+        is_positional,
         game: asked.game.as_ref(),
     }
 }
@@ -262,7 +277,8 @@ fn complaint_of<'t>(row: &'t Row, asked: &'t Asked) -> Complaint<'t> {
 fn a_complaint_has_the_conversation_and_what_is_right(rt: HostRuntime) -> Result<(), Fail> {
     for row in &ROWS {
         let asked = asked_by(&rt, row);
-        let text = complaint_text(rt.alloc(), &complaint_of(row, &asked))?;
+        let complaint = complaint_of(row.head, row.answered, row.is_positional, &asked);
+        let text = complaint_text(rt.alloc(), &complaint)?;
         assert_equal_for(&rt, row.commands, text_of(&rt, text.as_slice()), row.text);
     }
     Ok(())
