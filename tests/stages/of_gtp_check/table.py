@@ -123,6 +123,8 @@ CHANCE = {
     ("genmoves", "sizes"): ("ko_after_a_genmove",),
     # a chain is taken that has two stones beside the play, and later the engine chooses one of its points twice
     ("genmoves",): ("empty_points_are_listed_twice",),
+    # after a handicap it chooses for White what is suicide for Black
+    ("restarts",): ("handicap_makes_the_engine_white",),
 }
 SHOWN = {name: lessons for rows in (OTHERS, CHANCE) for lessons, names in rows.items() for name in " ".join(names).split()}
 
@@ -172,7 +174,6 @@ UNNOTICED = {
     "ko_forgotten_at_a_suicide": "no ko is open where a suicide is asked",
     "games_are_counted_in_a_byte": "a point that had a stone 256 games before has had another one since",
     "stones_on_lines_of_their_own": "the points of a handicap are read from all lines of the reply",
-    "handicap_makes_the_engine_white": "whose stone a chosen one is isn't asked after a handicap",
 }
 
 # They wait for more input before they answer, so `timeout` has to end them.

@@ -87,7 +87,8 @@ def noticed(name):
     only = [word for lesson in lessons for word in ("--only", lesson)]
     command = " ".join([*(["timeout", "1"] if name in WAITING else []), ENGINE, *bug.options, "--bug", name])
     with tempfile.TemporaryDirectory() as folder:
-        result = checked(["--restarts", "12", *rule_of(bug), *only], command, folder=folder)
+        # few trials, since some of these conversations are long, and the engines slow
+        result = checked(["--restarts", "12", "--trials", "12", *rule_of(bug), *only], command, folder=folder)
         report = read(result.output)
         odd = faults_of_report(name, lessons, result, report)
         if odd or name in ANEW:
