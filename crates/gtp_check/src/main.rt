@@ -4,7 +4,7 @@
 use cli::failure::{Failure, PlanError};
 use cli::standard::hold_closed;
 use cli::words::arguments;
-use gtp_check_app::failure::{Mistake, NAME};
+use gtp_check_plan::failure::{Mistake, NAME};
 use gtp_check_app::run::run;
 use gtp_process::SystemStarter;
 use std::io::IsTerminal;

@@ -10,12 +10,12 @@ use Rattle.gtp_process.specs.Starts.{Attempts, Text}
 use Rattle.gtp_check_questions.specs.declared.lessons.Lesson.{Lesson}
 use Rattle.gtp_check_texts.specs.declared.fault.Fault.{Fault}
 use Rattle.gtp_check_talks.specs.Dialogues.{wrong_purpose}
-use Rattle.gtp_check_app.specs.declared.plan.Plan.{Plan}
-use Rattle.gtp_check_app.specs.declared.summary.Over.{Over}
+use Rattle.gtp_check_plan.specs.declared.plan.Plan.{Plan}
+use Rattle.gtp_check_summary.specs.declared.summary.Over.{Over}
 use Rattle.gtp_check_app.specs.declared.tally.Tally.{Tally}
 use Rattle.gtp_check_app.specs.Checks.{AsksForList, HasRun, IsHeld}
 use Rattle.gtp_check_app.specs.Laws.{APassIsEarned, IsPass}
-use Rattle.gtp_check_app.specs.Options.{AsksForText}
+use Rattle.gtp_check_plan.specs.Options.{AsksForText}
 use Rattle.gtp_check_app.specs.RunLaws.{AsksForCheck, Beginning, HasComplained, HasNotPassed, HasPassed}
 use Rattle.gtp_check_app.specs.RunLaws.{HasTurn, IsOverAt, Point, StatusesSay, beginning, complaints_in, fault_in}
 use Rattle.gtp_check_app.specs.RunLaws.{known_of}

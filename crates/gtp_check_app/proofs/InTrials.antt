@@ -17,7 +17,7 @@ use Rattle.gtp_check_talks.specs.declared.notes.Notes.{Notes}
 use Rattle.gtp_check_talks.specs.Dialogues.{Dialogue, EndsWrong, IsTrial, Wrong, begun_with, wrong_with}
 use Rattle.gtp_check_talks.specs.Laws.{ComplaintsAreJustified, KoRulesStay, LossesAreNoWrongAnswers}
 use Rattle.gtp_check_talks.specs.Laws.{RightAnswersEndStartsInVain, SilenceSaysAllIsRight}
-use Rattle.gtp_check_app.specs.declared.plan.Plan.{Plan}
+use Rattle.gtp_check_plan.specs.declared.plan.Plan.{Plan}
 use Rattle.gtp_check_app.specs.RunLaws.{IsGrounded, IsShownBy}
 use Rattle.gtp_check_app.specs.Turns.{IsShortened, IsTried, Reduces, Shortens, State, TriesOne, TriesShorter}
 use Rattle.gtp_check_app.specs.Turns.{or_else}

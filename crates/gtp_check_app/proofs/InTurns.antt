@@ -17,7 +17,7 @@ use Rattle.gtp_check_talks.specs.declared.engine.Engine.{Engine}
 use Rattle.gtp_check_talks.specs.declared.notes.Notes.{Notes}
 use Rattle.gtp_check_talks.specs.Notes.{started as noted_start}
 use Rattle.gtp_check_talks.specs.Dialogues.{Converses, Dialogue, EndsSo, IsExchanged, Wrong, begun_with, dialogue}
-use Rattle.gtp_check_app.specs.declared.plan.Plan.{Plan}
+use Rattle.gtp_check_plan.specs.declared.plan.Plan.{Plan}
 use Rattle.gtp_check_questions.specs.declared.lessons.Lesson.{Lesson}
 use Rattle.gtp_check_talks.specs.Dialogues.{wrong_purpose}
 use Rattle.gtp_check_app.specs.declared.tally.Tally.{Tally}

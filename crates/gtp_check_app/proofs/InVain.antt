@@ -9,9 +9,9 @@ use Rattle.gtp_process.specs.Starts.{Attempts}
 use Rattle.gtp_check_questions.specs.declared.actions.Action.{Action}
 use Rattle.gtp_check_texts.specs.declared.fault.Fault.{Fault}
 use Rattle.gtp_check_talks.specs.Dialogues.{dialogue}
-use Rattle.gtp_check_app.specs.declared.plan.Plan.{Plan}
-use Rattle.gtp_check_app.specs.declared.summary.Over.{Over}
-use Rattle.gtp_check_app.specs.declared.summary.Over.TheVariants as over
+use Rattle.gtp_check_plan.specs.declared.plan.Plan.{Plan}
+use Rattle.gtp_check_summary.specs.declared.summary.Over.{Over}
+use Rattle.gtp_check_summary.specs.declared.summary.Over.TheVariants as over
 use Rattle.gtp_check_app.specs.RunLaws.{in_vain, is_start, vain_after, vain_in}
 use Rattle.gtp_check_app.specs.Unjudged.{is_blamed}
 use Rattle.gtp_check_app.specs.Turns.{Asks, Complains, IsHeardOut, IsOver, IsOverBy, State, Turn, Turns, WritesFirst}

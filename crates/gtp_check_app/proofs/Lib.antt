@@ -1,11 +1,8 @@
-mod CommandLine
-mod CommandWords
 mod Gathering
 mod InStatus
 mod InTrials
 mod InTurns
 mod InVain
-mod LessonLoops
 mod OverTurns
 mod Passing
 mod Progressing

@@ -16,7 +16,7 @@ use Rattle.gtp_check_questions.specs.Lessons.{all_lessons, number_of}
 use Rattle.gtp_check_questions.specs.declared.lessons.Lesson.{Lesson}
 use Rattle.cli.specs.Status.{done}
 use Rattle.gtp_check_talks.specs.declared.notes.Notes.{Notes}
-use Rattle.gtp_check_app.specs.declared.plan.Plan.{Plan}
+use Rattle.gtp_check_plan.specs.declared.plan.Plan.{Plan}
 use Rattle.gtp_check_app.specs.Checks.{missed_from, status_in}
 use Rattle.gtp_check_app.specs.Laws.{AsksForMove, IsPass}
 use Rattle.gtp_check_talks.specs.Notes.{counted, nothing_noted, with_lesson}

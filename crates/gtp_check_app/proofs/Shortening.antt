@@ -10,7 +10,7 @@ use Rattle.gtp_check_judge.specs.Check.{Check}
 use Rattle.gtp_check_judge.specs.declared.asking.CheckCommand.{CheckCommand}
 use Rattle.gtp_check_shortening.specs.declared.flat.Shortening.{Shortening}
 use Rattle.gtp_check_talks.specs.declared.notes.Notes.{Notes}
-use Rattle.gtp_check_app.specs.declared.plan.Plan.{Plan}
+use Rattle.gtp_check_plan.specs.declared.plan.Plan.{Plan}
 use Rattle.gtp_check_talks.specs.Dialogues.{AsksForMore, IsTrial, Wrong, none, one_more, right, unstarted, wrong}
 use Rattle.gtp_check_talks.specs.Dialogues.{wrong_purpose, wrong_talk}
 use Rattle.gtp_check_shortening.specs.declared.talk.Purpose.{Purpose}

@@ -14,7 +14,7 @@ use Rattle.gtp_check_shortening.specs.Reduction.{Reduction}
 use Rattle.gtp_check_texts.specs.declared.fault.Fault.{Fault}
 use Rattle.gtp_check_texts.specs.declared.fault.Fault.TheVariants.{Wrote}
 use Rattle.gtp_check_talks.specs.Dialogues.{EndsLike, Wrong}
-use Rattle.gtp_check_app.specs.declared.plan.Plan.{Plan}
+use Rattle.gtp_check_plan.specs.declared.plan.Plan.{Plan}
 use Rattle.gtp_check_app.specs.Laws.{IsOfOther}
 use Rattle.gtp_check_app.specs.Tally.{with_suicide}
 use Rattle.gtp_check_app.specs.Turns.{Complains, IsShortened, Reduces, Shortens, State, TriesOne, TriesShorter, or_else}

@@ -10,9 +10,9 @@ use Rattle.gtp_process.specs.Starts.{Attempts}
 use Rattle.gtp_check_judge.specs.Check.{after_loss}
 use Rattle.gtp_check_questions.specs.declared.actions.Action.TheVariants.{Done, Kill, Restart, Start}
 use Rattle.cli.specs.declared.failure.Failure.{Failure}
-use Rattle.gtp_check_app.specs.declared.plan.Plan.{Plan}
-use Rattle.gtp_check_app.specs.declared.summary.Over.{Over}
-use Rattle.gtp_check_app.specs.declared.summary.Over.TheVariants as over
+use Rattle.gtp_check_plan.specs.declared.plan.Plan.{Plan}
+use Rattle.gtp_check_summary.specs.declared.summary.Over.{Over}
+use Rattle.gtp_check_summary.specs.declared.summary.Over.TheVariants as over
 use Rattle.gtp_check_app.specs.Turns.{State, done, no_memory_to_start, process_of, kills, restarts, starts, StopsIn}
 use Rattle.gtp_check_app.specs.private.Steps.{Begins, EndsTurn, Goes, IsRefused, begins, is_over}
 use Rattle.gtp_check_app.proofs.Progressing.{none_shown}

@@ -29,7 +29,7 @@ use Rattle.gtp_check_texts.specs.declared.complaint.Complaint.{Complaint}
 use Rattle.gtp_check_texts.specs.declared.fault.Fault.{Fault}
 use Rattle.gtp_check_texts.specs.declared.fault.Fault.TheVariants.{Wrote}
 use Rattle.gtp_check_talks.specs.declared.notes.Notes.{Notes}
-use Rattle.gtp_check_app.specs.declared.plan.Plan.{Plan}
+use Rattle.gtp_check_plan.specs.declared.plan.Plan.{Plan}
 use Rattle.gtp_check_app.specs.Checks.{status_in}
 use Rattle.gtp_check_talks.specs.Dialogues.{Dialogue, EndsWrong, begun_with}
 use Rattle.gtp_check_talks.specs.Notes.{counted, nothing_noted}

@@ -1,11 +1,8 @@
 pub mod Checks
 pub mod Laws
-pub mod Options
-pub mod Plans
 pub mod Progress
 pub mod RunLaws
 pub mod Status
-pub mod Summary
 pub mod Tally
 pub mod Turns
 pub mod Unjudged

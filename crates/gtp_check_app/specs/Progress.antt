@@ -14,7 +14,7 @@ use Rattle.gtp_check_questions.specs.Lessons.{name_of, number_of}
 use Rattle.gtp_check_questions.specs.declared.lessons.Lesson.{Lesson}
 use Rattle.gtp_check_shortening.specs.declared.talk.Said.{Said}
 use Rattle.gtp_check_talks.specs.Dialogues.{Dialogue}
-use Rattle.gtp_check_app.specs.Summary.{plural}
+use Rattle.gtp_check_summary.specs.Summary.{plural}
 
 -- ---- a line
 

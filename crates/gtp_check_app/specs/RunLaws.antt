@@ -20,16 +20,16 @@ use Rattle.gtp_check_talks.specs.declared.engine.Engine.{Engine}
 use Rattle.gtp_check_talks.specs.declared.notes.Notes.{Notes}
 use Rattle.gtp_check_talks.specs.Dialogues.{Dialogue, EndsSo, Wrong, begun_with, dialogue, wrong_with}
 use Rattle.gtp_check_talks.specs.Laws.{IsLost, IsRightlyAnswered, IsWronglyWritten}
-use Rattle.gtp_check_app.specs.declared.plan.Plan.{Plan}
+use Rattle.gtp_check_plan.specs.declared.plan.Plan.{Plan}
 use Rattle.gtp_check_app.specs.Progress.{IsShown}
 use Rattle.gtp_process.specs.Starts.{Text}
 use Rattle.cli.specs.Requests.{Outputs, outputs}
 use Rattle.cli.specs.Status.{done}
-use Rattle.gtp_check_app.specs.declared.summary.Over.{Over}
-use Rattle.gtp_check_app.specs.declared.summary.Over.TheVariants as over
+use Rattle.gtp_check_summary.specs.declared.summary.Over.{Over}
+use Rattle.gtp_check_summary.specs.declared.summary.Over.TheVariants as over
 use Rattle.gtp_check_app.specs.Checks.{AsksForList, AsksForPlan, HasRun, IsClosed}
 use Rattle.gtp_check_app.specs.Laws.{IsPass}
-use Rattle.gtp_check_app.specs.Options.{AsksForText}
+use Rattle.gtp_check_plan.specs.Options.{AsksForText}
 use Rattle.gtp_check_app.specs.Status.{not_earned, something_found}
 use Rattle.gtp_check_app.specs.Unjudged.{is_blamed}
 use Rattle.gtp_check_app.specs.Turns.{IsComplaint, IsOver, State, Turn, Turns, before_all, process_of}

@@ -6,8 +6,8 @@ use Rattle.cli.specs.Status.{done, own_failure, usage_failure}
 use Rattle.cli.specs.declared.failure.Failure.{Failure}
 use Rattle.gtp_check_questions.specs.declared.lessons.Lesson.{Lesson}
 use Rattle.gtp_check_talks.specs.Among.{is_among}
-use Rattle.gtp_check_app.specs.declared.failure.Mistake.{Mistake}
-use Rattle.gtp_check_app.specs.declared.failure.Mistake.TheVariants.{NoCommand, NoLesson}
+use Rattle.gtp_check_plan.specs.declared.failure.Mistake.{Mistake}
+use Rattle.gtp_check_plan.specs.Mistakes.{mistake_text}
 use Rattle.byte_streams.specs.declared.calls.WriteOnce.{Ghosts}
 
 -- something was found
@@ -34,11 +34,6 @@ program_name = codes "gtp_check"
 -- what follows on a word or an option that there isn't
 abbrev pub hint_line : List ℕ
 hint_line = codes "An engine's command is one argument: put it in quotes\n"
-
--- what a mistake in the words is called
-abbrev pub mistake_text : Mistake → List ℕ
-mistake_text NoCommand = codes "no command of an engine"
-mistake_text NoLesson = codes "--only, --skip and --quick leave no lesson to ask"
 
 -- the line of a mistake was written, whole unless the stream broke at it
 abbrev pub ReportsMistake : {E : Type 0} → Ghosts E → Mistake → E → E → Type 0

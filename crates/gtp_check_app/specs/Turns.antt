@@ -37,9 +37,9 @@ use Rattle.cli.specs.declared.failure.Failure.TheVariants.{OutOfMemory, TooManyT
 use Rattle.gtp_check_texts.specs.declared.fault.Fault.TheVariants.{CutOff, Wrote}
 use Rattle.gtp_check_shortening.specs.declared.flat.Shortening.{Shortening}
 use Rattle.gtp_check_talks.specs.declared.notes.Notes.{Notes}
-use Rattle.gtp_check_app.specs.declared.plan.Plan.{Plan}
-use Rattle.gtp_check_app.specs.declared.summary.Over.{Over}
-use Rattle.gtp_check_app.specs.declared.summary.Over.TheVariants as over
+use Rattle.gtp_check_plan.specs.declared.plan.Plan.{Plan}
+use Rattle.gtp_check_summary.specs.declared.summary.Over.{Over}
+use Rattle.gtp_check_summary.specs.declared.summary.Over.TheVariants as over
 use Rattle.gtp_check_shortening.specs.declared.talk.Purpose.{Purpose}
 use Rattle.gtp_check_app.specs.declared.tally.Tally.{Tally}
 use Rattle.gtp_check_texts.specs.Complaints.{complaint_lines}
@@ -54,7 +54,7 @@ use Rattle.gtp_check_shortening.specs.Shortening.{commands_of, games_in, shorten
 use Rattle.gtp_check_shortening.specs.Reduction.{Reduction, after_failure, after_success, next}
 use Rattle.gtp_check_shortening.specs.Reduction.{begun as begun_reduction}
 use Rattle.gtp_check_shortening.specs.declared.limits.Limits.{Limits}
-use Rattle.gtp_check_app.specs.Summary.{first_line}
+use Rattle.gtp_check_summary.specs.Summary.{first_line}
 use Rattle.gtp_check_shortening.specs.Played.{played}
 use Rattle.gtp_check_shortening.specs.Superko.{IsPositional, game_before}
 use Rattle.gtp_check_app.specs.Unjudged.{HasPassedOver, is_blamed, is_unjudged, owed_purpose}

@@ -15,10 +15,10 @@ ghost use Rattle.gtp_check_talks.specs.Dialogues.{MayFollow, ends_in_pieces};
 ghost use Rattle.gtp_check_talks.specs.declared.engine.TheConstants.{LINES_ROOM};
 
 use crate::closing::{close, end_now, quit};
-use crate::plan::Plan;
+use gtp_check_plan::plan::Plan;
 use crate::progress::clear;
 use crate::status::{is_earned, status_of};
-use crate::summary::{Ending, Over, first_line, last_lines};
+use gtp_check_summary::summary::{Ending, Over, first_line, last_lines};
 use crate::tally::Tally;
 use crate::unjudged::is_blamed;
 use byte_streams::{WriteOnce, write_text};

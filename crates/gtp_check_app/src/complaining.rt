@@ -21,7 +21,7 @@ ghost use Rattle.gtp_check_texts.specs.declared.complaint.Complaint.{Complaint};
 ghost use Rattle.cli.specs.declared.failure.Failure.TheVariants as failure;
 
 use crate::check::{Check, purpose_in};
-use crate::plan::Plan;
+use gtp_check_plan::plan::Plan;
 use crate::progress::{clear, show_looking};
 use byte_streams::{WriteOnce, write_text};
 use cli::failure::Failure;

@@ -1,5 +1,5 @@
 //! What the program `gtp_check` does: a check of one engine that speaks the Go Text Protocol, version 2. Here are its
-//! options, its plan, its turns and its texts; `gtp_check_questions` asks, and `gtp_check_judge` judges.
+//! turns and its progress; `gtp_check_plan` reads the options, `gtp_check_questions` asks, and `gtp_check_judge` judges.
 //!
 //! [`run::run`] is the whole check. The program calls it with the arguments, the standard streams and the
 //! system's processes.
@@ -8,13 +8,9 @@
 mod check;
 mod closing;
 mod complaining;
-pub mod failure;
 pub mod laws;
-pub mod options;
-pub mod plan;
 pub mod progress;
 pub mod run;
 mod status;
-pub mod summary;
 pub mod tally;
 mod unjudged;

@@ -9,8 +9,8 @@ ghost use Rattle.gtp_check_texts.specs.Texts.{joined};
 ghost use Rattle.gtp_check_app.specs.Turns.{state_of, waiting};
 
 use crate::check::Check;
-use crate::plan::Plan;
-use crate::summary::plural;
+use gtp_check_plan::plan::Plan;
+use gtp_check_summary::summary::plural;
 use arrayvec::ArrayVec;
 use byte_streams::{WriteOnce, write_or_break};
 use go_base::{push, write_int};

@@ -11,11 +11,11 @@ ghost use Rattle.gtp_check_app.specs.Status.{IsStatus, hint_line};
 ghost use Rattle.gtp_check_app.specs.private.Answering.{IsAnswered, Lists};
 
 use crate::check::Check;
-use crate::failure::NAME;
-use crate::options::read_options;
-use crate::plan::{Plan, plan_of};
+use gtp_check_plan::failure::NAME;
+use gtp_check_plan::options::read_options;
+use gtp_check_plan::plan::{Plan, plan_of};
 use crate::progress::clear;
-use crate::summary::Over;
+use gtp_check_summary::summary::Over;
 use arrayvec::ArrayVec;
 use byte_streams::{WriteOnce, write_or_break, write_text};
 use clap::error::ErrorKind;

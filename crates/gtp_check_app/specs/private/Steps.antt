@@ -19,8 +19,8 @@ use Rattle.gtp_check_texts.specs.declared.fault.Fault.{Fault}
 use Rattle.cli.specs.declared.failure.Failure.{Failure}
 use Rattle.cli.specs.declared.failure.Failure.TheVariants.{OutOfMemory, Write}
 use Rattle.gtp_check_talks.specs.declared.notes.Notes.{Notes}
-use Rattle.gtp_check_app.specs.declared.plan.Plan.{Plan}
-use Rattle.gtp_check_app.specs.declared.summary.Over.{Over as WhyOver}
+use Rattle.gtp_check_plan.specs.declared.plan.Plan.{Plan}
+use Rattle.gtp_check_summary.specs.declared.summary.Over.{Over as WhyOver}
 use Rattle.gtp_check_talks.specs.Dialogues.{AsksForMore, Wrong, begun_with, dialogue}
 use Rattle.gtp_check_talks.specs.Notes.{started as noted_start}
 use Rattle.gtp_check_app.specs.Progress.{IsShown, cleared, clearing, looking, looking_line}

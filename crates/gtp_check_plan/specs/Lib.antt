@@ -1,0 +1,4 @@
+pub mod Mistakes
+pub mod Options
+pub mod Plans
+pub mod private

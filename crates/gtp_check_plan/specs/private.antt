@@ -1,0 +1,2 @@
+-- What nobody has to check: no public clause speaks of it.
+pub mod CommandLine

@@ -1,0 +1,139 @@
+//! From the options of a run to what is checked.
+ghost use Rattle.std.specs.Prelude.{◌≡◌, IfOk, IfErr, filter, not};
+ghost use Rattle.gtp_check_questions.specs.Lessons.{all_lessons};
+ghost use Rattle.gtp_check_talks.specs.Among.{is_among};
+ghost use Rattle.gtp_check_plan.specs.Plans.{HasNoPlan, IsCommand, IsPlanOf, IsSceneSize, is_chosen, is_quick};
+
+use crate::failure::Mistake;
+use crate::options::{Options, add_if};
+use cli::failure::PlanError;
+use go_base::Size;
+use go_board::KoRule;
+use gtp_check_questions::{LESSONS, Lesson, Lessons, Suicide};
+use gtp_check_talks::among::is_among;
+use std::alloc::{AllocError, Global};
+
+/// What is checked, and how.
+#[derive(Drop)]
+pub struct Plan<'a> {
+    /// The engine's command: the program and its arguments.
+    pub words: Vec<&'a str>,
+    /// The size of the boards of scenes, if it is given.
+    pub scene_size: Option<Size>,
+    /// The ko rule of a right engine.
+    pub rule: KoRule,
+    /// Whether suicide is asked and judged.
+    pub suicide: Suicide,
+    /// The seed of what is drawn.
+    pub seed: u32,
+    /// The lessons that are asked, in their order.
+    pub lessons: Lessons,
+    /// The others.
+    pub left_out: Lessons,
+    /// Whether each command is asked only once the one before is answered.
+    pub singly: bool,
+    /// How often the engine is started after something was found.
+    pub restarts: u32,
+    /// How many trials may make a conversation shorter.
+    pub trials: u32,
+}
+
+/// The plan of the options.
+///
+/// # Errors
+///
+/// `OutOfMemory`, or a mistake: that the command has no word, or else that no lesson is left.
+pub fn plan_of<'a>(alloc: Global, options: &Options<'a>) -> Result<Plan<'a>, PlanError<Mistake>>
+    ensures plan { IfOk result (IsPlanOf options.now) }
+    ensures no_plan { IfErr result (HasNoPlan options.now) }
+{
+    let words = words_of(alloc, options.command)?;
+    if words.is_empty() {
+        return Err(PlanError::BadWords(Mistake::NoCommand));
+    }
+    let lessons = chosen(options);
+    if lessons.is_empty() {
+        return Err(PlanError::BadWords(Mistake::NoLesson));
+    }
+    Ok(Plan {
+        words,
+        scene_size: scene_size_of(options.size),
+        rule: options.rule,
+        suicide: options.suicide,
+        seed: options.seed,
+        lessons,
+        left_out: left_out(options),
+        singly: options.singly,
+        restarts: options.restarts,
+        trials: options.trials,
+    })
+}
+
+/// The size of the boards of scenes, where the number is one.
+fn scene_size_of(number: u32) -> Option<Size>
+    ensures { IsSceneSize number result }
+{
+    Size::new(number)
+}
+
+/// The lessons that the options ask for.
+fn chosen(options: &Options<'_>) -> Lessons
+    ensures { result.items ≡ filter (is_chosen options.now) all_lessons }
+{
+    let mut lessons = Lessons::new();
+    for lesson in LESSONS {
+        add_if(&mut lessons, lesson, is_chosen(options, lesson));
+    }
+    lessons
+}
+
+/// The others.
+fn left_out(options: &Options<'_>) -> Lessons
+    ensures { result.items ≡ filter (λ lesson. not (is_chosen options.now lesson)) all_lessons }
+{
+    let mut lessons = Lessons::new();
+    for lesson in LESSONS {
+        add_if(&mut lessons, lesson, !is_chosen(options, lesson));
+    }
+    lessons
+}
+
+/// Whether the options ask for a lesson.
+fn is_chosen(options: &Options<'_>, lesson: Lesson) -> bool
+    ensures { result ≡ is_chosen options.now lesson }
+{
+    (options.only.is_empty() || is_among(&options.only, lesson))
+        && !is_among(&options.skip, lesson)
+        && (!options.quick || is_quick(lesson))
+}
+
+/// Whether a lesson is one of those of `--quick`: all up to the scenes.
+fn is_quick(lesson: Lesson) -> bool
+    ensures { result ≡ is_quick lesson }
+{
+    match lesson {
+        Lesson::Start
+        | Lesson::Sizes
+        | Lesson::Ko
+        | Lesson::Captures
+        | Lesson::Suicide
+        | Lesson::Joining => true,
+        Lesson::Handicaps
+        | Lesson::Komi
+        | Lesson::Drawn
+        | Lesson::Record
+        | Lesson::Genmoves
+        | Lesson::Games
+        | Lesson::Restarts => false,
+    }
+}
+
+/// The words of a command, which is split at runs of spaces.
+fn words_of<'a>(alloc: Global, command: &'a str) -> Result<Vec<&'a str>, AllocError>
+    ensures { IfOk result (λ found. IsCommand command.entry.now found.items) }
+{
+    command
+        .split(' ')
+        .filter(|word| !word.is_empty())
+        .collect(alloc)
+}

@@ -1,0 +1,422 @@
+//! The first line and the last lines of a check.
+ghost use Rattle.std.specs.Prelude.{◌≡◌, ◌≤◌, ◌++◌, length, map, IfOk, OnOk};
+ghost use Rattle.std.specs.List.{concat};
+ghost use Rattle.gtp_process.specs.Shown.{unstarted_text};
+ghost use Rattle.gtp_check_summary.specs.Summary.{counted_text, counts_line, first_line, hidden_line, hidden_lines};
+ghost use Rattle.gtp_check_summary.specs.Summary.{hidden_of, ko_text};
+ghost use Rattle.gtp_check_summary.specs.Summary.{is_unplayed, unplayed_line, unplayed_lines};
+ghost use Rattle.gtp_check_summary.specs.Summary.{lack_line, lack_lines, last_lines, lessons_line, missed_lines, plural};
+ghost use Rattle.gtp_check_summary.specs.Summary.{refused_line, shown_or, sizes_line, spaced_name, spaced_size};
+ghost use Rattle.gtp_check_summary.specs.Summary.{suicides_line, suicides_text, undos_line, unstarted_line};
+
+use gtp_check_plan::plan::Plan;
+use arrayvec::ArrayVec;
+use go_base::{push, write_int};
+use go_board::KoRule;
+use gtp_check_questions::{LESSONS, Lesson, Lessons};
+use gtp_check_talks::among::is_among;
+use gtp_check_talks::notes::{Beginning, Notes};
+use gtp_check_texts::texts::add_all;
+use gtp_process::{Unstarted, push_quoted, push_unstarted};
+use std::alloc::{AllocError, Global};
+
+/// Why a check is over.
+#[derive(Drop)]
+pub enum Over {
+    /// Each lesson of the course was asked.
+    Done,
+    /// The engine may not be started once more.
+    NoMoreStarts,
+    /// It was started three times in a row, and gave no right answer.
+    NoRightAnswer,
+    /// It was not started.
+    NotStarted(Unstarted),
+}
+
+/// The first line: the engine's name and version, the seed and the ko rule.
+///
+/// # Errors
+///
+/// Where memory is refused.
+pub fn first_line(alloc: Global, plan: &Plan<'_>, notes: &Notes) -> Result<Vec<u8>, AllocError>
+    ensures { IfOk result (λ text. text.items ≡ first_line plan.now notes.now) }
+{
+    let mut text = Vec::new(alloc);
+    add_all(
+        &mut text,
+        &[
+            b"check: ",
+            &shown_or(&notes.name, b"an engine without a name"),
+            b", version ",
+            &shown_or(&notes.version, b"unknown"),
+            b", seed ",
+            &write_int(plan.seed),
+            ko_text(plan.rule),
+        ],
+    )?;
+    Ok(text)
+}
+
+/// What the engine answered, or what is said in its place.
+fn shown_or(beginning: &Option<Beginning>, other: &[u8]) -> ArrayVec<u8, 322>
+    requires { length other.now ≤ 322 }
+    ensures { result.items ≡ shown_or beginning.now other.now }
+{
+    let mut shown = ArrayVec::new();
+    match beginning {
+        Some(beginning) => push_quoted(&mut shown, beginning),
+        None => push(&mut shown, other),
+    }
+    shown
+}
+
+/// The ko rule, at the end of the first line.
+fn ko_text(rule: KoRule) -> &'static [u8]
+    ensures { result.now ≡ ko_text rule }
+{
+    match rule {
+        KoRule::Simple => b", simple ko\n",
+        KoRule::Positional => b", positional ko\n",
+    }
+}
+
+/// What the last lines say.
+#[derive(Clone, Copy)]
+pub struct Ending<'c> {
+    /// Why the check is over.
+    pub over: &'c Over,
+    /// The lessons that were to be asked and were not, or not whole.
+    pub missed: &'c [Lesson],
+    /// How many complaints of each lesson aren't shown, in the order of all lessons.
+    pub hidden: &'c [u32],
+    /// How often the engine was started.
+    pub starts: u32,
+    /// How many complaints there are.
+    pub complaints: u32,
+    /// How many suicides by `genmove` weren't judged.
+    pub suicides: u32,
+}
+
+/// The last lines: what wasn't shown, what wasn't asked and why, and the counts.
+///
+/// # Errors
+///
+/// Where memory is refused.
+pub fn last_lines(
+    alloc: Global,
+    plan: &Plan<'_>,
+    notes: &Notes,
+    ending: &Ending<'_>,
+) -> Result<Vec<u8>, AllocError>
+    ensures { IfOk result (λ text. text.items ≡ last_lines plan.now notes.now ending.now) }
+{
+    let mut text = Vec::new(alloc);
+    add_hidden(&mut text, ending.hidden)?;
+    add_lessons(&mut text, &plan.left_out, b"not asked, as the options say:")?;
+    add_missed(&mut text, ending.over, ending.missed)?;
+    add_unplayed(&mut text, &plan.lessons, ending.missed, &notes.asked)?;
+    add_lacks(&mut text, notes)?;
+    add_most_undos(&mut text, notes.most_undos)?;
+    add_refused(&mut text, &notes.refused)?;
+    add_suicides(&mut text, ending.suicides)?;
+    add_counts(&mut text, notes.commands, ending.starts, ending.complaints)?;
+    Ok(text)
+}
+
+/// How many complaints of the lessons aren't shown.
+fn add_hidden(text: &mut Vec<u8>, hidden: &[u32]) -> Result<(), AllocError>
+    ensures { OnOk result (text.new.items ≡ text.old.items ++ hidden_lines hidden.now) }
+{
+    for lesson in LESSONS {
+        add_hidden_of(text, hidden, lesson)?;
+    }
+    Ok(())
+}
+
+/// The same of a lesson.
+fn add_hidden_of(text: &mut Vec<u8>, hidden: &[u32], lesson: Lesson) -> Result<(), AllocError>
+    ensures { OnOk result (text.new.items ≡ text.old.items ++ hidden_line hidden.now lesson) }
+{
+    let count = hidden_of(hidden, lesson);
+    if count == 0 {
+        return Ok(());
+    }
+    add_all(
+        text,
+        &[
+            b"check: ",
+            lesson.name().as_bytes(),
+            b": more complaints, of kinds that were shown three times: ",
+            &write_int(count),
+            b"\n",
+        ],
+    )
+}
+
+/// How many complaints of a lesson aren't shown.
+fn hidden_of(hidden: &[u32], lesson: Lesson) -> u32
+    ensures { result ≡ hidden_of hidden.now lesson }
+{
+    hidden.get(lesson.number()).copied().unwrap_or(0)
+}
+
+/// A line that names lessons, where there are any.
+fn add_lessons(text: &mut Vec<u8>, lessons: &[Lesson], what: &[u8]) -> Result<(), AllocError>
+    ensures { OnOk result (text.new.items ≡ text.old.items ++ lessons_line what.now lessons.now) }
+{
+    if lessons.is_empty() {
+        return Ok(());
+    }
+    text.extend_from_slice(b"check: ")?;
+    text.extend_from_slice(what)?;
+    add_names(text, lessons)?;
+    text.extend_from_slice(b"\n")?;
+    Ok(())
+}
+
+/// The names of lessons, each after a space.
+fn add_names(text: &mut Vec<u8>, lessons: &[Lesson]) -> Result<(), AllocError>
+    ensures { OnOk result (text.new.items ≡
+        text.old.items ++ concat (map spaced_name lessons.now)) }
+{
+    for lesson in lessons {
+        add_name(text, *lesson)?;
+    }
+    Ok(())
+}
+
+/// The name of a lesson, after a space.
+fn add_name(text: &mut Vec<u8>, lesson: Lesson) -> Result<(), AllocError>
+    ensures { OnOk result (text.new.items ≡ text.old.items ++ spaced_name lesson) }
+{
+    text.extend_from_slice(b" ")?;
+    text.extend_from_slice(lesson.name().as_bytes())?;
+    Ok(())
+}
+
+/// The lessons that were to be asked and were not, and why.
+fn add_missed(text: &mut Vec<u8>, over: &Over, missed: &[Lesson]) -> Result<(), AllocError>
+    ensures { OnOk result (text.new.items ≡ text.old.items ++ missed_lines over.now missed.now) }
+{
+    match over {
+        Over::Done => Ok(()),
+        Over::NoMoreStarts => add_lessons(
+            text,
+            missed,
+            b"not asked, or not to their end, since no start was left:",
+        ),
+        Over::NoRightAnswer => add_lessons(
+            text,
+            missed,
+            b"not asked, or not to their end, after three starts without a right answer:",
+        ),
+        Over::NotStarted(unstarted) => {
+            add_unstarted(text, unstarted)?;
+            add_lessons(text, missed, b"not asked, or not to their end, for that:")
+        }
+    }
+}
+
+/// The lessons of these that were asked to their end without a move, a line each.
+fn add_unplayed(
+    text: &mut Vec<u8>,
+    lessons: &[Lesson],
+    missed: &[Lesson],
+    asked: &[Lesson],
+) -> Result<(), AllocError>
+    ensures { OnOk result (text.new.items ≡
+        text.old.items ++ unplayed_lines lessons.now missed.now asked.now) }
+{
+    for lesson in LESSONS {
+        add_if_unplayed(text, is_unplayed(lessons, missed, asked, lesson), lesson)?;
+    }
+    Ok(())
+}
+
+/// The line of a lesson, where it is one of those.
+fn add_if_unplayed(text: &mut Vec<u8>, is_one: bool, lesson: Lesson) -> Result<(), AllocError>
+    ensures { OnOk result (text.new.items ≡ text.old.items ++ unplayed_line is_one lesson) }
+{
+    if !is_one {
+        return Ok(());
+    }
+    add_all(
+        text,
+        &[
+            b"check: ",
+            lesson.name().as_bytes(),
+            b": no play and no genmove was asked on any board of it\n",
+        ],
+    )
+}
+
+/// Whether a lesson is among these and isn't missed, but no move was asked in it.
+fn is_unplayed(lessons: &[Lesson], missed: &[Lesson], asked: &[Lesson], lesson: Lesson) -> bool
+    ensures { result ≡ is_unplayed lessons.now missed.now asked.now lesson }
+{
+    if !is_among(lessons, lesson) || is_among(missed, lesson) {
+        return false;
+    }
+    !is_among(asked, lesson)
+}
+
+/// The line of a program that was not started.
+fn add_unstarted(text: &mut Vec<u8>, unstarted: &Unstarted) -> Result<(), AllocError>
+    ensures { OnOk result (text.new.items ≡ text.old.items ++ unstarted_line unstarted.now) }
+{
+    add_all(
+        text,
+        &[b"check: the engine was ", &unstarted_text(unstarted), b"\n"],
+    )
+}
+
+/// Why a program was not started.
+fn unstarted_text(unstarted: &Unstarted) -> ArrayVec<u8, 397>
+    ensures { result.items ≡ unstarted_text unstarted.now }
+{
+    let mut text = ArrayVec::new();
+    push_unstarted(&mut text, unstarted);
+    text
+}
+
+/// The commands that the engine said it lacks.
+fn add_lacks(text: &mut Vec<u8>, notes: &Notes) -> Result<(), AllocError>
+    ensures { OnOk result (text.new.items ≡ text.old.items ++ lack_lines notes.now) }
+{
+    add_lack(text, notes.lacks_handicap, b"fixed_handicap")?;
+    add_lack(text, notes.lacks_undo, b"undo")?;
+    add_lack(text, notes.lacks_score, b"final_score")?;
+    Ok(())
+}
+
+/// A command that the engine said it lacks, if it did.
+fn add_lack(text: &mut Vec<u8>, lacks: bool, name: &[u8]) -> Result<(), AllocError>
+    ensures { OnOk result (text.new.items ≡ text.old.items ++ lack_line lacks name.now) }
+{
+    if !lacks {
+        return Ok(());
+    }
+    add_all(
+        text,
+        &[
+            b"check: it lacks ",
+            name,
+            b"; nothing was asked that needs it\n",
+        ],
+    )
+}
+
+/// How many moves in a row the engine takes back, where it refused to take back more.
+fn add_most_undos(text: &mut Vec<u8>, most: Option<u32>) -> Result<(), AllocError>
+    ensures { OnOk result (text.new.items ≡ text.old.items ++ undos_line most) }
+{
+    let Some(most) = most else {
+        return Ok(());
+    };
+    text.extend_from_slice(b"check: it takes back at most ")?;
+    add_count(text, most, b" move")?;
+    text.extend_from_slice(b" in a row\n")?;
+    Ok(())
+}
+
+/// The sizes that the engine refused, where there are any.
+fn add_refused(text: &mut Vec<u8>, sizes: &[u32]) -> Result<(), AllocError>
+    ensures { OnOk result (text.new.items ≡ text.old.items ++ refused_line sizes.now) }
+{
+    if sizes.is_empty() {
+        return Ok(());
+    }
+    add_refusals(text, sizes)?;
+    Ok(())
+}
+
+/// A line of these sizes.
+fn add_refusals(text: &mut Vec<u8>, sizes: &[u32]) -> Result<(), AllocError>
+    ensures { OnOk result (text.new.items ≡ text.old.items ++ sizes_line sizes.now) }
+{
+    text.extend_from_slice(b"check: it refuses the sizes")?;
+    add_sizes(text, sizes)?;
+    text.extend_from_slice(b"\n")?;
+    Ok(())
+}
+
+/// Sizes, each after a space.
+fn add_sizes(text: &mut Vec<u8>, sizes: &[u32]) -> Result<(), AllocError>
+    ensures { OnOk result (text.new.items ≡
+        text.old.items ++ concat (map spaced_size sizes.now)) }
+{
+    for size in sizes {
+        add_size(text, *size)?;
+    }
+    Ok(())
+}
+
+/// A size, after a space.
+fn add_size(text: &mut Vec<u8>, size: u32) -> Result<(), AllocError>
+    ensures { OnOk result (text.new.items ≡ text.old.items ++ spaced_size size) }
+{
+    text.extend_from_slice(b" ")?;
+    text.extend_from_slice(&write_int(size))?;
+    Ok(())
+}
+
+/// How many moves that a `genmove` chose were suicide and weren't judged, where there are any.
+fn add_suicides(text: &mut Vec<u8>, suicides: u32) -> Result<(), AllocError>
+    ensures { OnOk result (text.new.items ≡ text.old.items ++ suicides_line suicides) }
+{
+    if suicides == 0 {
+        return Ok(());
+    }
+    add_suicides_text(text, suicides)?;
+    Ok(())
+}
+
+/// That so many weren't judged.
+fn add_suicides_text(text: &mut Vec<u8>, suicides: u32) -> Result<(), AllocError>
+    ensures { OnOk result (text.new.items ≡ text.old.items ++ suicides_text suicides) }
+{
+    text.extend_from_slice(b"check: ")?;
+    add_count(text, suicides, b" suicide")?;
+    text.extend_from_slice(b" by genmove, not judged, as the options say\n")?;
+    Ok(())
+}
+
+/// The last line.
+fn add_counts(
+    text: &mut Vec<u8>,
+    commands: u32,
+    starts: u32,
+    complaints: u32,
+) -> Result<(), AllocError>
+    ensures { OnOk result (text.new.items ≡
+        text.old.items ++ counts_line commands starts complaints) }
+{
+    text.extend_from_slice(b"check: ")?;
+    add_count(text, commands, b" command")?;
+    text.extend_from_slice(b", ")?;
+    add_count(text, starts, b" start")?;
+    text.extend_from_slice(b", ")?;
+    add_count(text, complaints, b" complaint")?;
+    text.extend_from_slice(b"\n")?;
+    Ok(())
+}
+
+/// A number and what it counts.
+fn add_count(text: &mut Vec<u8>, number: u32, what: &[u8]) -> Result<(), AllocError>
+    ensures { OnOk result (text.new.items ≡ text.old.items ++ counted_text number what.now) }
+{
+    text.extend_from_slice(&write_int(number))?;
+    text.extend_from_slice(what)?;
+    text.extend_from_slice(plural(number))?;
+    Ok(())
+}
+
+/// The ending of what is counted.
+pub fn plural(number: u32) -> &'static [u8]
+    ensures { result.now ≡ plural number }
+{
+    match number {
+        1 => b"",
+        _ => b"s",
+    }
+}
