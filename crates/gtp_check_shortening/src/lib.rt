@@ -14,8 +14,6 @@ pub mod played;
 mod reduction;
 pub mod superko;
 pub mod talk;
-#[cfg(test)]
-mod tests;
 
 pub use limits::Limits;
 pub use reduction::Reduction;

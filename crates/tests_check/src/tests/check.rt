@@ -3,6 +3,7 @@ mod complaints;
 mod counts;
 mod options;
 mod progress;
+mod reductions;
 mod shorter;
 mod texts;
 

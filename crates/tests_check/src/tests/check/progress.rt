@@ -1,9 +1,9 @@
 //! What is written of the progress, as it is written by hand.
 use super::talk_of;
 use crate::asserts::{assert_equal, assert_equal_for, text_of};
+use gtp_check_app::progress::{in_place, line_at, waiting_text};
 use gtp_check_plan::options::read_options;
 use gtp_check_plan::plan::plan_of;
-use gtp_check_app::progress::{in_place, line_at, waiting_text};
 use gtp_check_questions::Lesson;
 use std::test::Fail;
 

@@ -1,11 +1,11 @@
 //! The first and the last lines, and the list of lessons.
 use crate::asserts::assert_equal;
 use go_base::{Colour, Move};
+use gtp_check_judge::CheckCommand;
 use gtp_check_plan::options::read_options;
 use gtp_check_plan::plan::plan_of;
-use gtp_check_summary::summary::{Ending, Over, first_line, last_lines};
-use gtp_check_judge::CheckCommand;
 use gtp_check_questions::{LESSONS, Lesson};
+use gtp_check_summary::summary::{Ending, Over, first_line, last_lines};
 use gtp_check_talks::notes::Notes;
 use gtp_check_texts::listing::list_text;
 use gtp_wire::Command;

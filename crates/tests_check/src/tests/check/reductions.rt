@@ -1,7 +1,7 @@
 //! Conversations that end wrongly wherever some of their commands are asked.
-use crate::{Limits, Reduction};
 use go_base::{Colour, Move, Point, Vertex};
 use gtp_check_judge::{CheckCommand, Known};
+use gtp_check_shortening::{Limits, Reduction};
 use gtp_wire::Command;
 use std::alloc::{AllocError, Global};
 use std::test::Fail;
