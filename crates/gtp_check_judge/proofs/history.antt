@@ -14,3 +14,4 @@ pub mod Enough
 pub mod Undos
 pub mod Lists
 pub mod Opinions
+pub mod Standing

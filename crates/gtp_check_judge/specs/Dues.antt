@@ -132,8 +132,8 @@ IsDueTo engine Undo due = UndoDue engine due
 IsDueTo engine Quit due = ⊥
 
 -- What is due to a command. To a `final_score` a score of the board, on which no stone is, with this komi, or a
--- failure; to `name`, `version` and `known_command` a reply, whatever it says; to `list_commands` a list. A colour may
--- be written in one letter or in full, and what is due is the same.
+-- failure; to `name`, `version` and `known_command` a reply, be it a success or a failure, and whatever it says; to
+-- `list_commands` a list. A colour may be written in one letter or in full, and what is due is the same.
 abbrev pub IsDue : RightEngine → CheckCommand → Due → Type 0
 IsDue engine (Match command) due = IsDueTo engine command due
 IsDue engine FinalScore due =

@@ -117,7 +117,8 @@ pub record MayFailToUndo (engine : RightEngine) : Type 0 where
 
 -- A right engine may refuse the command, though the table's engine doesn't: a `boardsize`, since it may take fewer
 -- sizes than 1 to 25; a `komi` that may be no float; an `undo` once one has succeeded since the last move, since it may
--- keep no more of the history; and `final_score`, `name`, `version` and `known_command`, which it may be without.
+-- keep no more of the history; a `final_score`, which it may be without; and `name`, `version` and `known_command`,
+-- whose answers aren't judged.
 abbrev pub MayRefuseTo : RightEngine → Command → Type 0
 MayRefuseTo engine (Boardsize size) = Unit {0}
 MayRefuseTo engine Undo = MayFailToUndo engine

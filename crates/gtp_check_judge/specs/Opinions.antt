@@ -1,7 +1,9 @@
 -- What an engine thinks of an empty board. (The standard's topic final_score leaves to the engine how it counts. So a
 -- score is an opinion, and an engine may come to another one each time. What follows from the topic komi is a
 -- difference: two scores of one board with two komis differ as the komis do, where the engine's opinion of the board
--- stays.)
+-- stays.) That it stays is taken from two scores in a row that are the same. An engine that draws estimates by chance
+-- says the same twice where it keeps one for each komi. Nothing tells it from an engine that uses komi wrongly, so it
+-- is found wrong at another komi.
 use Rattle.std.specs.Prelude.{ℕ, ◌==◌, ◌&&◌, nat_le, max, Bool, true, ℤ, pos, ◌+ℤ◌, ◌-ℤ◌, ◌*ℤ◌, unsigned_abs}
 use Rattle.std.specs.Prelude.{Option, None, Some, if◌then◌else◌}
 use Rattle.gtp_check_judge.specs.declared.scores.SaidScore.{SaidScore}

@@ -1,14 +1,15 @@
 -- Laws of scores. (The standard's topic final_score leaves to the engine how it counts, and what it thinks of a board.
 -- Two scores of one board differ as the komis do, where the engine's opinion of the board stays.)
-use Rattle.std.specs.Prelude.{◌≡◌, ◌≢◌, ℕ, ◌<◌, ◌≤◌, max, true, pos, neg_ℤ, ◌+ℤ◌, ◌*ℤ◌, ◌≤ℤ◌, List, [], ◌∷◌, ◌++◌}
-use Rattle.std.specs.Prelude.{Option, None, Some, Ok}
+use Rattle.std.specs.Prelude.{◌≡◌, ◌≢◌, ◌⊎◌, ℕ, ◌<◌, ◌≤◌, max, true, ℤ, pos, neg_ℤ, ◌+ℤ◌, ◌*ℤ◌, ◌≤ℤ◌, ◌<ℤ◌}
+use Rattle.std.specs.Prelude.{List, [], ◌∷◌, ◌++◌, Option, None, Some, Ok}
 use Rattle.go_board.specs.declared.rules.KoRule.{KoRule}
 use Rattle.gtp_wire.specs.declared.replies.Reply.{Reply}
 use Rattle.gtp_check_judge.specs.declared.asking.CheckCommand.TheVariants.{FinalScore}
 use Rattle.gtp_check_judge.specs.declared.dues.Due.{Due}
 use Rattle.gtp_check_judge.specs.declared.dues.Due.TheVariants.{Scores}
 use Rattle.gtp_check_judge.specs.declared.scores.Score.{Score}
-use Rattle.gtp_check_judge.specs.declared.scores.SaidScore.TheVariants.{Number}
+use Rattle.gtp_check_judge.specs.declared.scores.SaidScore.{SaidScore}
+use Rattle.gtp_check_judge.specs.declared.scores.SaidScore.TheVariants.{Number, Long}
 use Rattle.gtp_check_judge.specs.declared.opinions.View.{View}
 use Rattle.gtp_check_judge.specs.declared.opinions.Opinion.TheVariants.{Twice}
 use Rattle.gtp_check_judge.specs.declared.unanswered.Asked.{Asked}
@@ -62,16 +63,47 @@ pub record IsHeardTwice (said : List Exchange) (old : View) : Type 0 where
   pub same : (again.size ≡ old.size) × (again.komi ≡ old.komi) × (again.lead ≡ old.lead)
   pub none_between : NoneSays between
 
+-- each of the exchanges that says such a thing says it of a board of this size
+abbrev pub EachIsOfSize : ℕ → List Exchange → Type 0
+EachIsOfSize size [] = Unit {0}
+EachIsOfSize size (exchange ∷ later) =
+    ((view : View) → SaysOfBoard view exchange → view.size ≡ size) × EachIsOfSize size later
+
+-- It was heard twice, and no score that is compared was heard since of a board of another size.
+pub record StillStands (said : List Exchange) (one : View) : Type 0 where
+  pub heard : IsHeardTwice said one
+  pub no_other_size : EachIsOfSize one.size heard.later
+
+-- When it was heard for the first of the two times, none of a board of its size stood.
+abbrev pub NoneStood : (said : List Exchange) (one : View) → IsHeardTwice said one → Type 0
+NoneStood said one heard = (old : View) → StillStands (heard.earlier ++ heard.one ∷ []) old → old.size ≢ one.size
+
 -- a reply to the oldest unanswered command, which this is, by which the engine says this of an empty board
 pub record HearsOfBoard (exam : Exam) (reply : Reply) (entry : Asked) (new : View) : Type 0 where
   pub oldest_is : oldest exam.unanswered ≡ Some entry
   pub id : reply.id ≡ Some entry.id
   pub says : SaysOfBoard new (record { entry = entry; reply = reply })
 
+-- A reply to the oldest unanswered command, which this is: the engine says a score that is compared with nothing, since
+-- it has too many digits, or since komi is beyond 1,000 points.
+pub record HearsUncompared (exam : Exam) (reply : Reply) (entry : Asked) : Type 0 where
+  pub oldest_is : oldest exam.unanswered ≡ Some entry
+  pub id : reply.id ≡ Some entry.id
+  pub size : ℕ
+  pub komi : ℤ
+  pub due : entry.due ≡ Scores size komi
+  pub succeeds : reply.ok ≡ true
+  pub score : SaidScore
+  pub said : score_of_text reply.text.items ≡ Some score
+  pub uncompared : (score ≡ Long) ⊎ ((komi <ℤ neg_ℤ (pos 2000)) ⊎ (pos 2000 <ℤ komi))
+
 -- Where the engine said the score of a board twice, each other score of a board of that size is found wrong that
 -- differs from it by more than the komis do, and by more than one of the last digit that is written, the coarser of the
--- two. One that differs by no more isn't. No other score is compared with anything. And what is compared was heard
--- twice.
+-- two. One that differs by no more isn't. No other score is compared with anything: a score of too many digits, or one
+-- that is said at a komi beyond 1,000 points, changes nothing.
+--
+-- What others are compared with was heard twice, and none of another size was compared since. And the first that was
+-- heard so is what they are compared with.
 pub record ScoresDifferAsKomis : Type 0 where
   pub far : (rule : KoRule) (sent came : List ℕ) (said : List Exchange) (old new : Exam) (bytes : List ℕ) (used : ℕ)
       (reply : Reply) (finding : Option Finding) (entry : Asked) (one other : View)
@@ -88,5 +120,12 @@ pub record ScoresDifferAsKomis : Type 0 where
       → Talks rule sent came said old → Hears old bytes used (Some (Ok reply)) finding new
       → HearsOfBoard old reply entry other → ((one : View) → old.opinion ≡ Twice one → other.size ≢ one.size)
       → finding ≡ None
+  pub uncompared : (rule : KoRule) (sent came : List ℕ) (said : List Exchange) (old new : Exam) (bytes : List ℕ)
+      (used : ℕ) (reply : Reply) (finding : Option Finding) (entry : Asked)
+      → Talks rule sent came said old → Hears old bytes used (Some (Ok reply)) finding new
+      → HearsUncompared old reply entry → (finding ≡ None) × (new.opinion ≡ old.opinion)
   pub twice : (rule : KoRule) (sent came : List ℕ) (said : List Exchange) (exam : Exam) (one : View)
-      → Talks rule sent came said exam → exam.opinion ≡ Twice one → IsHeardTwice said one
+      → Talks rule sent came said exam → exam.opinion ≡ Twice one → StillStands said one
+  pub stands : (rule : KoRule) (sent came : List ℕ) (said : List Exchange) (exam : Exam) (one : View)
+      → Talks rule sent came said exam → (still : StillStands said one) → NoneStood said one still.heard
+      → exam.opinion ≡ Twice one

@@ -137,8 +137,9 @@ pub fn scores_are_of_empty_boards()
 {}
 
 /// Where an engine said the score of an empty board twice in a row, a score of a board of that size is found wrong
-/// exactly where the two differ by more than the komis do and one of the last digit that is written. No other score is
-/// compared.
+/// exactly where the two differ by more than the komis do and one of the last digit that is written. The first that was
+/// said so stands until a score of another size is compared. No other score is compared, and none of too many digits or
+/// at a komi beyond a thousand points.
 pub fn scores_differ_as_komis()
     ensures { ScoresDifferAsKomis }
 {}

@@ -96,7 +96,7 @@ few_half false = omega arith
 
 pub bounded : (lessons : List Lesson) (scene_size : Option ℕ) (seed : ℕ) (suicide : Suicide) (asked started : ℕ)
     (course : Course) → Walks lessons scene_size seed suicide asked started course → IsIn course.lessons course.place
-    → asked ≤ 57600000 * (length lessons + 1) + 5 * (started + 1)
+    → asked ≤ 67200000 * (length lessons + 1) + 5 * (started + 1)
 bounded lessons scene_size seed suicide asked started course walks inside =
     let held : Holds lessons asked started course = holds lessons scene_size seed suicide asked started course walks in
     let within : course.place.lesson ≤ length lessons =

@@ -81,7 +81,7 @@ abbrev pub EveryCourseIsBounded : Type 0
 EveryCourseIsBounded = (lessons : List Lesson) (scene_size : Option ℕ) (seed : ℕ) (suicide : Suicide)
     (asked started : ℕ) (course : Course) → Walks lessons scene_size seed suicide asked started course
     → IsIn course.lessons course.place
-    → asked ≤ 57600000 * (length lessons + 1) + 5 * (started + 1)
+    → asked ≤ 67200000 * (length lessons + 1) + 5 * (started + 1)
 
 -- ---- suicide
 

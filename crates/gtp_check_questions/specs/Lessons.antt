@@ -106,22 +106,26 @@ sizes_stretches =
     stretch.Clear ∷ stretch.Filled ∷ stretch.Swept ∷ stretch.Edges ∷ stretch.AllBack 640 ∷ stretch.Back 3 ∷
     stretch.Edges ∷ stretch.Clear ∷ stretch.Genmoves 2 ∷ stretch.Emptied 2 ∷ stretch.Edges ∷ []
 
+-- Scores are compared with one that came out the same twice in a row. An engine may draw an estimate by chance, and
+-- keep it until komi or the board changes. So between two scores of one size and komi another komi is set, or stones
+-- are put on the board: kept estimates are drawn again, and hardly come out the same.
 abbrev pub handicaps_stretches : List Stretch
 handicaps_stretches =
     stretch.Size ∷ stretch.Taken ∷ stretch.Komi ∷ stretch.Clear ∷ stretch.Stones 10 ∷ stretch.Handicap ∷
     stretch.Undo ∷ stretch.Stars ∷ stretch.Handicap ∷ stretch.Surround ∷ stretch.Stars ∷ stretch.Clear ∷
-    stretch.Score ∷ stretch.Stars ∷ stretch.Drawn 1 ∷ stretch.Undo ∷ stretch.Stones 10 ∷ stretch.Handicap ∷
-    stretch.Genmoves 1 ∷ stretch.Undo ∷ stretch.Undo ∷ stretch.Handicap ∷ stretch.Genmoves 3 ∷ stretch.Clear ∷
-    stretch.Score ∷ stretch.Stars ∷ []
+    stretch.Score ∷ stretch.OtherKomi ∷ stretch.Clear ∷ stretch.Komi ∷ stretch.Stars ∷ stretch.Drawn 1 ∷
+    stretch.Undo ∷ stretch.Stones 10 ∷ stretch.Handicap ∷ stretch.Genmoves 1 ∷ stretch.Undo ∷ stretch.Undo ∷
+    stretch.Handicap ∷ stretch.Genmoves 3 ∷ stretch.Clear ∷ stretch.Score ∷ stretch.Stars ∷ []
 
 abbrev pub komi_stretches : List Stretch
 komi_stretches =
-    stretch.Seek ∷ stretch.Size ∷ stretch.Taken ∷ stretch.Komi ∷ stretch.Clear ∷ stretch.Score ∷ stretch.Score ∷
-    stretch.Drawn 3 ∷ stretch.Clear ∷ stretch.Score ∷ stretch.Drawn 3 ∷ stretch.OtherKomi ∷ stretch.Undo ∷
-    stretch.Clear ∷ stretch.Score ∷ stretch.Size ∷ stretch.Taken ∷ stretch.Clear ∷ stretch.Score ∷ stretch.Komi ∷
-    stretch.Score ∷ stretch.Moves ∷ stretch.Emptied 12 ∷ stretch.Undo ∷ stretch.Score ∷ stretch.Moves ∷
-    stretch.Clear ∷ stretch.Score ∷ stretch.Filled ∷ stretch.Swept ∷ stretch.Undo ∷ stretch.AllBack 640 ∷
-    stretch.Score ∷ stretch.Clear ∷ stretch.Score ∷ stretch.Inexact ∷ stretch.Moves ∷ stretch.Inexact ∷ stretch.Own ∷
+    stretch.Seek ∷ stretch.Size ∷ stretch.Taken ∷ stretch.Komi ∷ stretch.Clear ∷ stretch.Score ∷ stretch.OtherKomi ∷
+    stretch.Clear ∷ stretch.Komi ∷ stretch.Score ∷ stretch.Drawn 3 ∷ stretch.Clear ∷ stretch.Score ∷ stretch.Drawn 3 ∷
+    stretch.OtherKomi ∷ stretch.Undo ∷ stretch.Clear ∷ stretch.Score ∷ stretch.Komi ∷ stretch.OtherKomi ∷
+    stretch.Size ∷ stretch.Taken ∷ stretch.Clear ∷ stretch.Score ∷ stretch.Komi ∷ stretch.Score ∷ stretch.Moves ∷
+    stretch.Emptied 12 ∷ stretch.Undo ∷ stretch.Score ∷ stretch.Moves ∷ stretch.Clear ∷ stretch.Score ∷
+    stretch.Filled ∷ stretch.Swept ∷ stretch.Undo ∷ stretch.AllBack 640 ∷ stretch.Score ∷ stretch.OtherKomi ∷
+    stretch.Komi ∷ stretch.Clear ∷ stretch.Score ∷ stretch.Inexact ∷ stretch.Moves ∷ stretch.Inexact ∷ stretch.Own ∷
     stretch.Clear ∷ stretch.Komi ∷ stretch.Score ∷ []
 
 abbrev pub drawn_stretches : List Stretch
@@ -135,7 +139,8 @@ record_stretches =
     stretch.Probed 36 ∷ stretch.Back 4 ∷ stretch.Drawn 955 ∷ stretch.Back 12 ∷ stretch.Probed 60 ∷ stretch.Clear ∷
     stretch.Passes 1010 ∷ stretch.Moves ∷ stretch.Own ∷ stretch.Back 14 ∷ stretch.Own ∷ stretch.Clear ∷
     stretch.Moves ∷ stretch.Waits 600 ∷ stretch.Back 8 ∷ stretch.Own ∷ stretch.Clear ∷ stretch.Undo ∷ stretch.Own ∷
-    stretch.Score ∷ stretch.Score ∷ stretch.OtherKomi ∷ stretch.Score ∷ []
+    stretch.Score ∷ stretch.OtherKomi ∷ stretch.Clear ∷ stretch.Komi ∷ stretch.Score ∷ stretch.OtherKomi ∷
+    stretch.Score ∷ []
 
 -- The board is filled for the choices of both colours, and again for the capture of all that fills it.
 abbrev pub genmoves_stretches : List Stretch
@@ -152,11 +157,12 @@ games_stretches =
     stretch.Probed 60 ∷ stretch.Clear ∷ stretch.OtherKomi ∷ stretch.Genmoves 6 ∷ stretch.Probed 9 ∷
     stretch.Emptied 12 ∷ stretch.Undo ∷ stretch.Handicap ∷ stretch.Stars ∷ stretch.Probed 9 ∷ stretch.Emptied 6 ∷
     stretch.Undo ∷ stretch.Stars ∷ stretch.Clear ∷ stretch.Handicap ∷ stretch.Stars ∷ stretch.Clear ∷
-    stretch.Probed 60 ∷ stretch.Clear ∷ stretch.Score ∷ stretch.Score ∷ stretch.Moves ∷ stretch.Handicap ∷
-    stretch.Own ∷ stretch.OtherSize ∷ stretch.Own ∷ stretch.OtherTaken ∷ stretch.Komi ∷ stretch.Clear ∷
-    stretch.Score ∷ stretch.Handicap ∷ stretch.Probed 60 ∷ stretch.Clear ∷ stretch.Score ∷ stretch.Size ∷
-    stretch.Clear ∷ stretch.Score ∷ stretch.Score ∷ stretch.OtherKomi ∷ stretch.Score ∷ stretch.Genmoves 6 ∷
-    stretch.Clear ∷ []
+    stretch.Probed 60 ∷ stretch.Clear ∷ stretch.Score ∷ stretch.Komi ∷ stretch.Clear ∷ stretch.OtherKomi ∷
+    stretch.Score ∷ stretch.Moves ∷ stretch.Handicap ∷ stretch.Own ∷ stretch.OtherSize ∷ stretch.Own ∷
+    stretch.OtherTaken ∷ stretch.Komi ∷ stretch.Clear ∷ stretch.Score ∷ stretch.Handicap ∷ stretch.Probed 60 ∷
+    stretch.Clear ∷ stretch.Score ∷ stretch.OtherKomi ∷ stretch.Komi ∷ stretch.Size ∷ stretch.Clear ∷ stretch.Score ∷
+    stretch.OtherKomi ∷ stretch.Clear ∷ stretch.Komi ∷ stretch.Score ∷ stretch.OtherKomi ∷ stretch.Score ∷
+    stretch.Genmoves 6 ∷ stretch.Clear ∷ []
 
 -- an engine that is started again after its `quit`, and one that is started after another was ended without it
 abbrev pub restarts_stretches : List Stretch
@@ -168,7 +174,7 @@ restarts_stretches =
     stretch.Drawn 60 ∷ stretch.Probed 60 ∷ stretch.Back 5 ∷ stretch.Genmoves 4 ∷ stretch.Clear ∷ stretch.Score ∷
     stretch.Komi ∷ stretch.Score ∷ stretch.Moves ∷ stretch.Own ∷ stretch.Emptied 12 ∷ stretch.Moves ∷ stretch.Kill ∷
     stretch.Size ∷ stretch.Taken ∷ stretch.Komi ∷ stretch.Clear ∷ stretch.Undo ∷ stretch.Own ∷ stretch.Score ∷
-    stretch.Score ∷ stretch.OtherKomi ∷ stretch.Score ∷ []
+    stretch.OtherKomi ∷ stretch.Clear ∷ stretch.Komi ∷ stretch.Score ∷ stretch.OtherKomi ∷ stretch.Score ∷ []
 
 -- The part of the start whose lines are sent in pieces. The engine is started anew, so all that it is asked comes so.
 abbrev pub pieces_stretches : List Stretch

@@ -7,7 +7,7 @@ abbrev pub most_parts : ℕ
 most_parts = 300
 
 abbrev pub most_stretches : ℕ
-most_stretches = 48
+most_stretches = 56
 
 abbrev pub most_steps : ℕ
 most_steps = 2000
@@ -30,7 +30,7 @@ half true = 1
 -- most stretches, each stretch the most steps, and each step two questions: a move, and its `undo`.
 abbrev pub number : Place → ℕ
 number place =
-    57600000 * place.lesson + 192000 * place.part + 4000 * place.stretch + 2 * place.step + half place.undoing
+    67200000 * place.lesson + 224000 * place.part + 4000 * place.stretch + 2 * place.step + half place.undoing
 
 -- ---- what comes after a place
 

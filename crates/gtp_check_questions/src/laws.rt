@@ -5,7 +5,7 @@ ghost use Rattle.gtp_check_questions.specs.Laws.{EachClearedBoardIsProbed, EachL
 ghost use Rattle.gtp_check_questions.specs.Laws.{EachKoIsAnswered, EachSizeIsSought, NoSuicideIsAsked, PiecesAreSent};
 
 /// Whatever is answered, and whenever a part is left: commands that are asked, steps that are passed over and engines
-/// that are ended are together at most 57,600,000 for each lesson and once more, and five after each start.
+/// that are ended are together at most 67,200,000 for each lesson and once more, and five after each start.
 pub fn every_course_is_bounded()
     ensures { EveryCourseIsBounded }
 {}

@@ -40,8 +40,8 @@ impl Place {
         requires lesson { self.lesson ≤ 13 }
         ensures { result ≡ number self }
     {
-        57_600_000 * self.lesson as u32
-            + 192_000 * self.part
+        67_200_000 * self.lesson as u32
+            + 224_000 * self.part
             + 4_000 * self.stretch as u32
             + 2 * self.step
             + u32::from(self.undoing)

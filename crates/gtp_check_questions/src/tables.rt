@@ -1,4 +1,8 @@
 //! What is asked in each part of a lesson.
+//!
+//! Scores are compared with one that came out the same twice in a row. An engine may draw an estimate by chance, and
+//! keep it until komi or the board changes. So between two scores of one size and komi another komi is set, or stones
+//! are put on the board: kept estimates are drawn again, and hardly come out the same.
 use crate::stretches::Stretch;
 use go_base::Colour;
 
@@ -216,7 +220,7 @@ pub(crate) static SIZES: [Stretch; 18] = [
 ];
 
 /// A handicap after one that is refused, and with moves on its points. Nothing but moves is taken back.
-pub(crate) static HANDICAPS: [Stretch; 26] = [
+pub(crate) static HANDICAPS: [Stretch; 29] = [
     Stretch::Size,
     Stretch::Taken,
     Stretch::Komi,
@@ -230,6 +234,9 @@ pub(crate) static HANDICAPS: [Stretch; 26] = [
     Stretch::Stars,
     Stretch::Clear,
     Stretch::Score,
+    Stretch::OtherKomi,
+    Stretch::Clear,
+    Stretch::Komi,
     Stretch::Stars,
     Stretch::Drawn(1),
     Stretch::Undo,
@@ -245,16 +252,19 @@ pub(crate) static HANDICAPS: [Stretch; 26] = [
     Stretch::Stars,
 ];
 
-/// Komis, by the scores of empty boards: the first score is asked for twice, and the others have to differ from it as
-/// the komis do. In the middle of a game a komi is asked for that no float of 32 bits represents, and then the points
-/// of the scene.
-pub(crate) static KOMI: [Stretch; 42] = [
+/// Komis, by the scores of empty boards: the first score is asked for twice, with another komi in between, and the
+/// others have to differ from it as the komis do. In the middle of a game a komi is asked for that no float of 32 bits
+/// represents, and then the points of the scene.
+pub(crate) static KOMI: [Stretch; 49] = [
     Stretch::Seek,
     Stretch::Size,
     Stretch::Taken,
     Stretch::Komi,
     Stretch::Clear,
     Stretch::Score,
+    Stretch::OtherKomi,
+    Stretch::Clear,
+    Stretch::Komi,
     Stretch::Score,
     Stretch::Drawn(3),
     Stretch::Clear,
@@ -264,6 +274,8 @@ pub(crate) static KOMI: [Stretch; 42] = [
     Stretch::Undo,
     Stretch::Clear,
     Stretch::Score,
+    Stretch::Komi,
+    Stretch::OtherKomi,
     Stretch::Size,
     Stretch::Taken,
     Stretch::Clear,
@@ -282,6 +294,8 @@ pub(crate) static KOMI: [Stretch; 42] = [
     Stretch::Undo,
     Stretch::AllBack(640),
     Stretch::Score,
+    Stretch::OtherKomi,
+    Stretch::Komi,
     Stretch::Clear,
     Stretch::Score,
     Stretch::Inexact,
@@ -307,7 +321,7 @@ pub(crate) static DRAWN: [Stretch; 8] = [
 
 /// A long record, whose 1,024th move is taken back at once; a ko late in a record of passes; and a ko that stays open
 /// long.
-pub(crate) static RECORD: [Stretch; 30] = [
+pub(crate) static RECORD: [Stretch; 33] = [
     Stretch::Seek,
     Stretch::Size,
     Stretch::Taken,
@@ -335,6 +349,9 @@ pub(crate) static RECORD: [Stretch; 30] = [
     Stretch::Undo,
     Stretch::Own,
     Stretch::Score,
+    Stretch::OtherKomi,
+    Stretch::Clear,
+    Stretch::Komi,
     Stretch::Score,
     Stretch::OtherKomi,
     Stretch::Score,
@@ -376,7 +393,7 @@ pub(crate) static GENMOVES: [Stretch; 28] = [
 /// size. After each the points of the scene are asked: what was refused leaves the board. (The standard's topics
 /// fixed_handicap and boardsize. A match asks for neither in a game, so a mistake there is against the standard
 /// alone.)
-pub(crate) static GAMES: [Stretch; 48] = [
+pub(crate) static GAMES: [Stretch; 56] = [
     Stretch::Seek,
     Stretch::Size,
     Stretch::Taken,
@@ -403,6 +420,9 @@ pub(crate) static GAMES: [Stretch; 48] = [
     Stretch::Probed(60),
     Stretch::Clear,
     Stretch::Score,
+    Stretch::Komi,
+    Stretch::Clear,
+    Stretch::OtherKomi,
     Stretch::Score,
     Stretch::Moves,
     Stretch::Handicap,
@@ -417,9 +437,14 @@ pub(crate) static GAMES: [Stretch; 48] = [
     Stretch::Probed(60),
     Stretch::Clear,
     Stretch::Score,
+    Stretch::OtherKomi,
+    Stretch::Komi,
     Stretch::Size,
     Stretch::Clear,
     Stretch::Score,
+    Stretch::OtherKomi,
+    Stretch::Clear,
+    Stretch::Komi,
     Stretch::Score,
     Stretch::OtherKomi,
     Stretch::Score,
@@ -428,7 +453,7 @@ pub(crate) static GAMES: [Stretch; 48] = [
 ];
 
 /// The same again after a `quit`, and after an end without it. The scores of each start are compared with one another.
-pub(crate) static RESTARTS: [Stretch; 48] = [
+pub(crate) static RESTARTS: [Stretch; 51] = [
     Stretch::Seek,
     Stretch::Size,
     Stretch::Taken,
@@ -474,6 +499,9 @@ pub(crate) static RESTARTS: [Stretch; 48] = [
     Stretch::Undo,
     Stretch::Own,
     Stretch::Score,
+    Stretch::OtherKomi,
+    Stretch::Clear,
+    Stretch::Komi,
     Stretch::Score,
     Stretch::OtherKomi,
     Stretch::Score,

@@ -107,6 +107,45 @@ class EstimatesByChance(Estimates):
         return super().opinion() + self.random.gauss(0, 5)
 
 
+class KeepsAnEstimate(EstimatesByChance):
+    """A score is an estimate by chance, and is kept until komi or the board changes, which neither a pass nor the `clear_board` of an empty
+    board does."""
+
+    kept = None
+
+    def opinion(self):
+        self.kept = super().opinion() if self.kept is None else self.kept
+        return self.kept
+
+    def do_komi(self, arguments):
+        before = self.komi
+        super().do_komi(arguments)
+        self.keep_if(self.komi == before)
+
+    def begin(self, size):
+        before = getattr(self, "board", None)
+        super().begin(size)
+        self.keep_if(self.board == before)
+
+    def move(self, colour, point):
+        before = self.board
+        super().move(colour, point)
+        self.keep_if(self.board == before)
+
+    def undo(self):
+        before = self.board
+        super().undo()
+        self.keep_if(self.board == before)
+
+    def place_handicap(self, points):
+        super().place_handicap(points)
+        self.keep_if(False)
+
+    def keep_if(self, is_same):
+        """Keeps the estimate where nothing has changed."""
+        self.kept = self.kept if is_same else None
+
+
 class CountsTerritory(Engine):
     """A score is territory and prisoners, of which those that an `undo` gives back are none any more."""
 

@@ -67,6 +67,7 @@ FREEDOMS = {
     "estimates": SCORES,
     "estimates_whole_points": SCORES,
     "estimates_by_chance": SCORES,
+    "keeps_an_estimate": (*SCORES, "handicaps", "restarts"),
     "counts_territory": (*SCORES, "handicaps"),
     "gives_points_for_a_handicap": (*SCORES, "handicaps"),
     "keeps_moves": HISTORY,

@@ -1,4 +1,4 @@
--- A score is compared only with one that was heard twice.
+-- What is found of a score, and what the opinion is by what was said.
 use Rattle.std.proofs.Common.{◌≡◌, ℕ, ◌≤◌, ◌<◌, max, suc, Bool, true, false, List, [], ◌∷◌, ◌++◌, Option, Some, None}
 use Rattle.std.proofs.Common.{refl, sym, ◌∙◌, ap, subst, arith, append_assoc}
 use Rattle.std.specs.Prelude.{ℤ, pos, negsuc, neg_ℤ, ◌+ℤ◌, ◌-ℤ◌, ◌*ℤ◌, ◌≤ℤ◌, ◌==◌, ◌&&◌, nat_le, unsigned_abs, Ok}
@@ -7,7 +7,6 @@ use Rattle.std.proofs.lemmas.Bool.{and_parts}
 use Rattle.std.proofs.lemmas.Bool.Decides.{nat_tests}
 use Rattle.std.proofs.lemmas.Int.{ints}
 use Rattle.go_board.specs.Game.{GameRecord}
-use Rattle.go_board.specs.declared.rules.KoRule.{KoRule}
 use Rattle.gtp_wire.specs.declared.replies.Reply.{Reply}
 use Rattle.gtp_check_judge.specs.declared.dues.Due.{Due}
 use Rattle.gtp_check_judge.specs.declared.dues.Due.TheVariants.{Succeeds, Fails, Places, Resizes, Scores, AnyReply}
@@ -27,14 +26,13 @@ use Rattle.gtp_check_judge.specs.Komis.{is_near_komi}
 use Rattle.gtp_check_judge.specs.Scores.{score_of_text}
 use Rattle.gtp_check_judge.specs.Opinions.{agrees, differ_as_komis, distance, is_same, opinion_with, view_of}
 use Rattle.gtp_check_judge.specs.Judging.{Judged, said_score_judged, score_judged, view_judged}
-use Rattle.gtp_check_judge.specs.Exam.{Hears, IdLeaves, ReplyLeaves, after_judged, finding_of, with_learned}
+use Rattle.gtp_check_judge.specs.Exam.{Hears, IdLeaves, ReplyLeaves, after_judged, finding_of}
 use Rattle.gtp_check_judge.specs.Exam.{with_rest}
-use Rattle.gtp_check_judge.specs.Laws.{Exchange, Talks}
-use Rattle.gtp_check_judge.specs.ScoreLaws.{HearsOfBoard, IsHeardTwice, NoneSays, SaysOfBoard, ScoresAreOfEmptyBoards}
-use Rattle.gtp_check_judge.specs.ScoreLaws.{ScoresDifferAsKomis}
+use Rattle.gtp_check_judge.specs.Laws.{Exchange}
+use Rattle.gtp_check_judge.specs.ScoreLaws.{EachIsOfSize, HearsOfBoard, NoneSays, SaysOfBoard, ScoresAreOfEmptyBoards}
+use Rattle.gtp_check_judge.specs.ScoreLaws.{StillStands}
 use Rattle.gtp_check_judge.proofs.answers.Numbers.{if_so, view_is}
 use Rattle.gtp_check_judge.proofs.answers.Statuses.{IsNoScore}
-use Rattle.gtp_check_judge.proofs.history.Heard.{Leaving, heard_leaving}
 use Rattle.gtp_check_judge.proofs.order.Heard.{opines_scores}
 use Rattle.gtp_check_judge.proofs.talks.Silence.{id_has}
 
@@ -61,7 +59,7 @@ near_is (pos n) e = let few = near_few n e in (omega (arith, ints), omega (arith
 near_is (negsuc n) e = let few = near_few (suc n) e in (omega (arith, ints, few), omega (arith, ints))
 
 -- it is what is compared
-view_said : (view : View) (x : Exchange) → (s : SaysOfBoard view x)
+pub view_said : (view : View) (x : Exchange) → (s : SaysOfBoard view x)
     → view_of view.size view.komi (Number s.score) ≡ Some view
 view_said view x s =
     if_so (is_near_komi view.komi) (Some (record {
@@ -85,7 +83,7 @@ judged_said game opinion entry reply got view s j =
     ∙ ap (said_score_judged opinion view.size view.komi) s.said
     ∙ ap (view_judged opinion) (view_said view (record { entry = entry; reply = reply }) s)
 
-heard_so : (old new : Exam) (bytes : List ℕ) (used : ℕ) (reply : Reply) (finding : Option Finding) (entry : Asked)
+pub heard_so : (old new : Exam) (bytes : List ℕ) (used : ℕ) (reply : Reply) (finding : Option Finding) (entry : Asked)
     (view : View) → Hears old bytes used (Some (Ok reply)) finding new → HearsOfBoard old reply entry view
     → finding ≡ finding_of entry (view_judged old.opinion (Some view))
 heard_so old new bytes used reply finding entry view h o =
@@ -97,7 +95,7 @@ heard_so old new bytes used reply finding entry view h o =
 
 -- ---- what agrees
 
-finds : (entry : Asked) (opinion : Opinion) (view : View) (b : Bool) → agrees opinion view ≡ b
+pub finds : (entry : Asked) (opinion : Opinion) (view : View) (b : Bool) → agrees opinion view ≡ b
     → finding_of entry (view_judged opinion (Some view))
     ≡ (if b then None else Some (record { asked = Some entry; kind = OtherScore }))
 finds entry opinion view b is =
@@ -109,7 +107,7 @@ finds entry opinion view b is =
     by true = refl
     by false = refl
 
-same_is : (a b : ℕ) → a ≡ b → (a == b) ≡ true
+pub same_is : (a b : ℕ) → a ≡ b → (a == b) ≡ true
 same_is a b e = grind (arith, nat_tests)
 
 far_is : (a b : ℕ) → b < a → nat_le a b ≡ false
@@ -118,26 +116,26 @@ far_is a b h = grind (arith, nat_tests)
 close_is : (a b : ℕ) → a ≤ b → nat_le a b ≡ true
 close_is a b h = grind (arith, nat_tests)
 
-same_number : (a b : ℕ) → (a == b) ≡ true → a ≡ b
+pub same_number : (a b : ℕ) → (a == b) ≡ true → a ≡ b
 same_number a b e = grind (arith, nat_tests)
 
 if_both : (b x : Bool) → x ≡ true → (if b then x else true) ≡ true
 if_both true x e = e
 if_both false x e = refl
 
-agrees_far : (one other : View) → other.size ≡ one.size → max one.unit other.unit < distance one.lead other.lead
+pub agrees_far : (one other : View) → other.size ≡ one.size → max one.unit other.unit < distance one.lead other.lead
     → agrees (Twice one) other ≡ false
 agrees_far one other size far =
     if_so (one.size == other.size) (differ_as_komis one other) true (same_is one.size other.size (sym size))
     ∙ far_is (distance one.lead other.lead) (max one.unit other.unit) far
 
-agrees_near : (one other : View) → distance one.lead other.lead ≤ max one.unit other.unit
+pub agrees_near : (one other : View) → distance one.lead other.lead ≤ max one.unit other.unit
     → agrees (Twice one) other ≡ true
 agrees_near one other near =
     if_both (one.size == other.size) (differ_as_komis one other)
     (close_is (distance one.lead other.lead) (max one.unit other.unit) near)
 
-agrees_free : (opinion : Opinion) (other : View)
+pub agrees_free : (opinion : Opinion) (other : View)
     → ((one : View) → opinion ≡ Twice one → other.size ≡ one.size → ⊥) → agrees opinion other ≡ true
 agrees_free Unheard other free = refl
 agrees_free (Once one) other free = refl
@@ -150,25 +148,25 @@ agrees_free (Twice one) other free = by (one.size == other.size) refl
 -- ---- what stands was heard twice
 
 -- the last of what was said of a board, after which nothing was
-record IsNewest (said : List Exchange) (view : View) : Type 0 where
-  earlier : List Exchange
-  one : Exchange
-  later : List Exchange
-  all : said ≡ earlier ++ one ∷ later
-  first : SaysOfBoard view one
-  none_later : NoneSays later
+pub record IsNewest (said : List Exchange) (view : View) : Type 0 where
+  pub earlier : List Exchange
+  pub one : Exchange
+  pub later : List Exchange
+  pub all : said ≡ earlier ++ one ∷ later
+  pub first : SaysOfBoard view one
+  pub none_later : NoneSays later
 
-abbrev OpinionSo : List Exchange → Opinion → Type 0
+abbrev pub OpinionSo : List Exchange → Opinion → Type 0
 OpinionSo said Unheard = Unit {0}
 OpinionSo said (Once view) = IsNewest said view
-OpinionSo said (Twice view) = IsHeardTwice said view
+OpinionSo said (Twice view) = StillStands said view
 
 -- what an exchange does: it says nothing of a board that is compared, or says this and agrees
-data Effect (opinion : Opinion) (x : Exchange) (after : Opinion) : Type 0 where
+pub data Effect (opinion : Opinion) (x : Exchange) (after : Opinion) : Type 0 where
   quiet : ((view : View) → SaysOfBoard view x → ⊥) → after ≡ opinion → Effect opinion x after
   says : (view : View) → SaysOfBoard view x → after ≡ opinion_with opinion view → Effect opinion x after
 
-abbrev opinion_of : Opinion → Judgement → Opinion
+abbrev pub opinion_of : Opinion → Judgement → Opinion
 opinion_of opinion (Opines new) = new
 opinion_of opinion Right = opinion
 opinion_of opinion (Plays colour v) = opinion
@@ -176,7 +174,7 @@ opinion_of opinion (Resized size) = opinion
 opinion_of opinion Undone = opinion
 opinion_of opinion (Wrong kind) = opinion
 
-judged_opinion : (exam : Exam) (got : Judgement) → (after_judged exam got).opinion ≡ opinion_of exam.opinion got
+pub judged_opinion : (exam : Exam) (got : Judgement) → (after_judged exam got).opinion ≡ opinion_of exam.opinion got
 judged_opinion exam Right = refl
 judged_opinion exam (Plays colour v) = refl
 judged_opinion exam (Resized size) = refl
@@ -260,7 +258,7 @@ score_effect opinion entry reply got s k true None due ok is_said j none =
 score_effect opinion entry reply got s k true (Some said) due ok is_said j none =
     view_effect opinion entry reply got s k said (view_of s k said) due ok is_said refl j none
 
-effect : (game : GameRecord) (opinion : Opinion) (entry : Asked) (reply : Reply) (got : Judgement) (due : Due)
+pub effect : (game : GameRecord) (opinion : Opinion) (entry : Asked) (reply : Reply) (got : Judgement) (due : Due)
     → entry.due ≡ due → Judged game opinion entry.due reply got → None ≡ finding_of entry got
     → Effect opinion (record { entry = entry; reply = reply }) (opinion_of opinion got)
 effect game opinion entry reply got (Scores s k) is j none =
@@ -290,23 +288,32 @@ newest : (said : List Exchange) (x : Exchange) (view : View) → SaysOfBoard vie
 newest said x view s =
     record { earlier = said; one = x; later = []; all = refl; first = s; none_later = tt }
 
-twice_more : (said : List Exchange) (x : Exchange) (view : View) → IsHeardTwice said view
-    → IsHeardTwice (said ++ x ∷ []) view
-twice_more said x view h = record {
-  earlier = h.earlier;
-  one = h.one;
-  between = h.between;
-  other = h.other;
-  later = h.later ++ x ∷ [];
-  all =
-      ap (λ (l : List Exchange). l ++ x ∷ []) h.all
-      ∙ append_assoc h.earlier (h.one ∷ (h.between ++ h.other ∷ h.later)) (x ∷ [])
-      ∙ ap (λ (l : List Exchange). h.earlier ++ h.one ∷ l) (append_assoc h.between (h.other ∷ h.later) (x ∷ []));
-  first = h.first;
-  again = h.again;
-  second = h.second;
-  same = h.same;
-  none_between = h.none_between;
+each_more : (size : ℕ) (list : List Exchange) (x : Exchange) → EachIsOfSize size list
+    → ((view : View) → SaysOfBoard view x → view.size ≡ size) → EachIsOfSize size (list ++ x ∷ [])
+each_more size [] x each is = (is, tt)
+each_more size (y ∷ ys) x each is = (each.0, each_more size ys x each.1 is)
+
+stands_more : (said : List Exchange) (x : Exchange) (view : View)
+    → ((new : View) → SaysOfBoard new x → new.size ≡ view.size) → StillStands said view
+    → StillStands (said ++ x ∷ []) view
+stands_more said x view is still = let h = still.heard in record {
+  heard = record {
+    earlier = h.earlier;
+    one = h.one;
+    between = h.between;
+    other = h.other;
+    later = h.later ++ x ∷ [];
+    all =
+        ap (λ (l : List Exchange). l ++ x ∷ []) h.all
+        ∙ append_assoc h.earlier (h.one ∷ (h.between ++ h.other ∷ h.later)) (x ∷ [])
+        ∙ ap (λ (l : List Exchange). h.earlier ++ h.one ∷ l) (append_assoc h.between (h.other ∷ h.later) (x ∷ []));
+    first = h.first;
+    again = h.again;
+    second = h.second;
+    same = h.same;
+    none_between = h.none_between;
+  };
+  no_other_size = each_more view.size h.later x still.no_other_size is;
 }
 
 quiet_more : (said : List Exchange) (x : Exchange) (opinion : Opinion) → ((view : View) → SaysOfBoard view x → ⊥)
@@ -321,7 +328,7 @@ quiet_more said x (Once view) isnt so = record {
   first = so.first;
   none_later = none_more so.later x so.none_later isnt;
 }
-quiet_more said x (Twice view) isnt so = twice_more said x view so
+quiet_more said x (Twice view) isnt so = stands_more said x view (λ new s. absurd (isnt new s)) so
 
 none_apart : (z : ℤ) → unsigned_abs z ≡ 0 → z ≡ pos 0
 none_apart (pos n) h = omega (arith, ints, h)
@@ -330,6 +337,10 @@ none_apart (negsuc n) h = absurd (let none : suc n ≡ 0 = h in omega (arith, no
 same_number_z : (m n : ℤ) → (distance m n == 0) ≡ true → n ≡ m
 same_number_z m n e =
     let none : m -ℤ n ≡ pos 0 = none_apart (m -ℤ n) (same_number (distance m n) 0 e) in omega (arith, ints, none)
+
+one_size : (new view : View) (x : Exchange) → SaysOfBoard new x → SaysOfBoard view x → new.size ≡ view.size
+one_size new view x s t =
+    let both : Scores new.size new.komi ≡ Scores view.size view.komi = sym s.due ∙ t.due in cc both
 
 says_more : (said : List Exchange) (x : Exchange) (opinion : Opinion) (view : View) → SaysOfBoard view x
     → OpinionSo said opinion → OpinionSo (said ++ x ∷ []) (opinion_with opinion view)
@@ -343,76 +354,37 @@ says_more said x (Once old) view s so = by (is_same old view) refl
         (distance old.komi view.komi == 0 && distance old.lead view.lead == 0) is in
         let others = and_parts (distance old.komi view.komi == 0) (distance old.lead view.lead == 0) first.1 in
         record {
-          earlier = so.earlier;
-          one = so.one;
-          between = so.later;
-          other = x;
-          later = [];
-          all =
-              ap (λ (l : List Exchange). l ++ x ∷ []) so.all
-              ∙ append_assoc so.earlier (so.one ∷ so.later) (x ∷ []);
-          first = so.first;
-          again = view;
-          second = s;
-          same = (
-            sym (same_number old.size view.size first.0),
-            same_number_z old.komi view.komi others.0,
-            same_number_z old.lead view.lead others.1,
-          );
-          none_between = so.none_later;
+          heard = record {
+            earlier = so.earlier;
+            one = so.one;
+            between = so.later;
+            other = x;
+            later = [];
+            all =
+                ap (λ (l : List Exchange). l ++ x ∷ []) so.all
+                ∙ append_assoc so.earlier (so.one ∷ so.later) (x ∷ []);
+            first = so.first;
+            again = view;
+            second = s;
+            same = (
+              sym (same_number old.size view.size first.0),
+              same_number_z old.komi view.komi others.0,
+              same_number_z old.lead view.lead others.1,
+            );
+            none_between = so.none_later;
+          };
+          no_other_size = tt;
         }
-says_more said x (Twice old) view s so = by (old.size == view.size)
+says_more said x (Twice old) view s so = by (old.size == view.size) refl
   where
-    by : (b : Bool) → OpinionSo (said ++ x ∷ []) (if b then Twice old else Once view)
-    by true = twice_more said x old so
-    by false = newest said x view s
+    by : (b : Bool) → (old.size == view.size) ≡ b → OpinionSo (said ++ x ∷ []) (if b then Twice old else Once view)
+    by true same =
+        stands_more said x old (λ new t. one_size new view x t s ∙ sym (same_number old.size view.size same)) so
+    by false same = newest said x view s
 
-one_more : (said : List Exchange) (x : Exchange) (opinion after : Opinion) → Effect opinion x after
+pub one_more : (said : List Exchange) (x : Exchange) (opinion after : Opinion) → Effect opinion x after
     → OpinionSo said opinion → OpinionSo (said ++ x ∷ []) after
 one_more said x opinion after (Effect.quiet isnt is) so =
     subst (OpinionSo (said ++ x ∷ [])) (sym is) (quiet_more said x opinion isnt so)
 one_more said x opinion after (Effect.says view s is) so =
     subst (OpinionSo (said ++ x ∷ [])) (sym is) (says_more said x opinion view s so)
-
--- ---- talks
-
-heard_opinion : (old : Exam) (said : List Exchange) (new : Exam) (all : List Exchange) → OpinionSo said old.opinion
-    → Leaving old said new all → OpinionSo all new.opinion
-heard_opinion old said new all so (Leaving.nothing kept) = subst (OpinionSo said) (sym kept.opinion) so
-heard_opinion old said new all so (Leaving.answered rest entry later reply got list j none is) =
-    subst (OpinionSo (said ++ record { entry = entry; reply = reply } ∷ []))
-    (sym (ap (λ (e : Exam). e.opinion) is ∙ judged_opinion (with_learned (with_rest old rest) entry.command reply) got))
-    (one_more said (record { entry = entry; reply = reply }) old.opinion (opinion_of old.opinion got)
-    (effect old.game old.opinion entry reply got entry.due refl j none) so)
-
-opinion_so : (rule : KoRule) (sent came : List ℕ) (said : List Exchange) (exam : Exam)
-    → Talks rule sent came said exam → OpinionSo said exam.opinion
-opinion_so rule sent came said exam Talks.start = tt
-opinion_so rule sent came said exam (Talks.ask {sent = s} {came = c} {said = x} {old = old} {new = new} command talk
-    room asks) =
-    subst (λ (e : Exam). OpinionSo said e.opinion) (sym asks.new_is) (opinion_so rule s came said old talk)
-opinion_so rule sent came said exam (Talks.hear {sent = s} {came = c} {said = x} {old = old} {new = new} bytes used
-    read talk hears) =
-    heard_opinion old x exam said (opinion_so rule sent c x old talk) (heard_leaving old bytes used read exam x hears)
-
-pub scores_differ : ScoresDifferAsKomis
-scores_differ = record {
-  far =
-      λ rule sent came said old new bytes used reply finding entry one other talk h o stands size far none.
-      let e =
-      sym none ∙ heard_so old new bytes used reply finding entry other h o
-      ∙ finds entry old.opinion other false
-      (ap (λ (p : Opinion). agrees p other) stands ∙ agrees_far one other size far) in cc e;
-  near =
-      λ rule sent came said old new bytes used reply finding entry one other talk h o stands near.
-      heard_so old new bytes used reply finding entry other h o
-      ∙ finds entry old.opinion other true
-      (ap (λ (p : Opinion). agrees p other) stands ∙ agrees_near one other near);
-  free =
-      λ rule sent came said old new bytes used reply finding entry other talk h o free.
-      heard_so old new bytes used reply finding entry other h o
-      ∙ finds entry old.opinion other true (agrees_free old.opinion other free);
-  twice =
-      λ rule sent came said exam one talk stands.
-      subst (OpinionSo said) stands (opinion_so rule sent came said exam talk);
-}

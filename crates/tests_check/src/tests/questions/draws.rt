@@ -21,10 +21,10 @@ static ROWS: [Row; 12] = [
     (5, false, (1, 0), (White, 5, 3)),
     (5, false, (1, 1), (Black, 3, 4)),
     (5, false, (2, 0), (White, 1, 3)),
-    (5, false, (4_294_967_295, 748_799_999), (Black, 2, 2)),
+    (5, false, (4_294_967_295, 873_599_999), (Black, 1, 5)),
     (19, false, (1, 0), (White, 11, 2)),
     (19, false, (0, 7), (White, 1, 1)),
-    (19, false, (4_294_967_295, 748_799_999), (Black, 6, 14)),
+    (19, false, (4_294_967_295, 873_599_999), (Black, 5, 11)),
     // The first legal one is the second point that is drawn, the fourteenth and the twenty-fifth.
     (3, true, (1, 1), (Black, 3, 3)),
     (5, true, (1, 1), (Black, 2, 1)),
