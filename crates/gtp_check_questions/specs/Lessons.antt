@@ -149,7 +149,7 @@ genmoves_stretches =
     stretch.Taken ∷ stretch.Clear ∷ stretch.Filled ∷ stretch.Chosen Black ∷ stretch.Undo ∷ stretch.Chosen White ∷
     stretch.Undo ∷ stretch.Chosen Black ∷ stretch.Undo ∷ stretch.Clear ∷ stretch.Gaps ∷ stretch.Chosen Black ∷
     stretch.Clear ∷ stretch.Filled ∷ stretch.Swept ∷ stretch.Corner ∷ stretch.Undo ∷ stretch.Corner ∷ stretch.Clear ∷
-    stretch.Handicap ∷ stretch.Genmoves 20 ∷ []
+    stretch.Handicap ∷ stretch.Genmoves 20 ∷ stretch.Probed 60 ∷ []
 
 abbrev pub games_stretches : List Stretch
 games_stretches =

@@ -357,8 +357,9 @@ pub(crate) static RECORD: [Stretch; 33] = [
     Stretch::Score,
 ];
 
-/// Moves of the engine's own: in a game of them, on boards where hardly one is legal, and after a handicap.
-pub(crate) static GENMOVES: [Stretch; 28] = [
+/// Moves of the engine's own: in a game of them, on boards where hardly one is legal, and after a handicap. Then drawn
+/// points are probed, which shows whether its board has what it chose.
+pub(crate) static GENMOVES: [Stretch; 29] = [
     Stretch::Seek,
     Stretch::Size,
     Stretch::Taken,
@@ -387,6 +388,7 @@ pub(crate) static GENMOVES: [Stretch; 28] = [
     Stretch::Clear,
     Stretch::Handicap,
     Stretch::Genmoves(20),
+    Stretch::Probed(60),
 ];
 
 /// Games in one process. In the middle of one a handicap is asked for, which has to be refused, and then another

@@ -59,8 +59,6 @@ OTHERS = {
     ("sizes", "ko"): ("ids_are_shorts",),
     ("komi",): (
         "score_runs_into_the_id prisoners_stay_at_undo",
-        # a score after the first `clear_board` of a process
-        "first_komi_is_lost",
     ),
     ("captures",): (
         "note_at_a_capture capture_is_suicide atari_is_no_suicide last_taken_chain_comes_back",
@@ -121,10 +119,9 @@ CHANCE = {
     ("games", "genmoves"): ("no_colour_is_read",),
     # the engine takes in a ko, and is asked to take back
     ("genmoves", "sizes"): ("ko_after_a_genmove",),
-    # a chain is taken that has two stones beside the play, and later the engine chooses one of its points twice
-    ("genmoves",): ("empty_points_are_listed_twice",),
-    # after a handicap it chooses for White what is suicide for Black
-    ("restarts",): ("handicap_makes_the_engine_white",),
+    # A chain is taken that has two stones beside the play, and later the engine chooses one of its points twice. After a handicap what is
+    # drawn meets White's stones where Black's should be.
+    ("genmoves",): ("empty_points_are_listed_twice", "handicap_makes_the_engine_white"),
 }
 SHOWN = {name: lessons for rows in (OTHERS, CHANCE) for lessons, names in rows.items() for name in " ".join(names).split()}
 
