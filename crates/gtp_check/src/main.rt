@@ -4,8 +4,9 @@
 use cli::failure::{Failure, PlanError};
 use cli::standard::hold_closed;
 use cli::words::arguments;
-use gtp_check_plan::failure::{Mistake, NAME};
 use gtp_check_app::run::run;
+use gtp_check_app::streams::Streams;
+use gtp_check_plan::failure::{Mistake, NAME};
 use gtp_process::SystemStarter;
 use std::io::IsTerminal;
 use std::process::ExitCode;
@@ -27,8 +28,10 @@ fn check_by(rt: &HostRuntime) -> u8 {
             rt.alloc(),
             words.as_slice(),
             rt.stderr().is_terminal(),
-            &mut rt.stdout(),
-            &mut rt.stderr(),
+            &mut Streams {
+                output: rt.stdout(),
+                errors: rt.stderr(),
+            },
             &mut SystemStarter {
                 alloc: rt.alloc(),
                 system: rt,

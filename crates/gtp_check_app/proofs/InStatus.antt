@@ -1,9 +1,8 @@
 -- What the status of a run says of its turns.
 use Rattle.std.proofs.Common.{◌≡◌, ◌∙◌, ◌<◌, ◌+◌, ◌⊎◌, arith, refl, sym, ap, Bool, true, false, List, [], ℕ}
-use Rattle.std.proofs.Common.{Option, None, inl, inr, zero, suc}
+use Rattle.std.proofs.Common.{Option, inl, inr, zero, suc}
 use Rattle.std.specs.Prelude.{if◌then◌else◌, length, nat_lt}
-use Rattle.byte_streams.specs.declared.calls.WriteOnce.{Ghosts as WriterGhosts}
-use Rattle.cli.specs.Requests.{Outputs, Shows, Writers, outputs}
+use Rattle.cli.specs.Requests.{Outputs, Shows, Writers}
 use Rattle.cli.specs.Status.{done}
 use Rattle.gtp_process.specs.declared.starter.Process.{Ghosts}
 use Rattle.gtp_process.specs.Starts.{Attempts, Text}
@@ -12,18 +11,18 @@ use Rattle.gtp_check_texts.specs.declared.fault.Fault.{Fault}
 use Rattle.gtp_check_talks.specs.Dialogues.{wrong_purpose}
 use Rattle.gtp_check_plan.specs.declared.plan.Plan.{Plan}
 use Rattle.gtp_check_summary.specs.declared.summary.Over.{Over}
+use Rattle.gtp_check_app.specs.declared.streams.Streams.{Streams}
 use Rattle.gtp_check_app.specs.declared.tally.Tally.{Tally}
 use Rattle.gtp_check_app.specs.Checks.{AsksForList, HasRun, IsHeld}
 use Rattle.gtp_check_app.specs.Laws.{APassIsEarned, IsPass}
 use Rattle.gtp_check_plan.specs.Options.{AsksForText}
-use Rattle.gtp_check_app.specs.RunLaws.{AsksForCheck, Beginning, HasComplained, HasNotPassed, HasPassed}
-use Rattle.gtp_check_app.specs.RunLaws.{HasTurn, IsOverAt, Point, StatusesSay, beginning, complaints_in, fault_in}
-use Rattle.gtp_check_app.specs.RunLaws.{known_of}
+use Rattle.gtp_check_app.specs.RunLaws.{AsksForCheck, HasComplained, HasNotPassed, HasPassed, HasTurn, IsOverAt}
+use Rattle.gtp_check_app.specs.RunLaws.{StatusesSay, complaints_in, fault_in}
+use Rattle.gtp_check_app.specs.Sequence.{Beginning, Known, Point, Turns, TurnsAreOver, beginning, first_point}
 use Rattle.gtp_check_app.specs.Status.{not_earned, something_found}
 use Rattle.gtp_check_app.specs.Tally.{alike, is_last, is_shown, most_shown_alike, started_again, without_start}
 use Rattle.gtp_check_app.specs.Unjudged.{is_blamed}
-use Rattle.gtp_check_app.specs.Turns.{Complains, IsOver, State, Turn, Turns, TurnsAreOver, WritesFirst, before_all}
-use Rattle.gtp_check_app.specs.Turns.{found_in}
+use Rattle.gtp_check_app.specs.Turns.{Complains, IsOver, Moment, State, Turn, WritesFirst, found_in, moment}
 use Rattle.gtp_check_app.proofs.InTrials.{Laws, shortened_comes}
 use Rattle.gtp_check_app.proofs.InTurns.{asked_tally, some_found, turn_none}
 use Rattle.gtp_check_app.proofs.OverTurns.{silent_checks}
@@ -64,124 +63,118 @@ module _ {P : Type 0} (known : Ghosts P) (laws : Laws known) (plan : Plan) where
   first_tally before is_wrong (WritesFirst.not_due is) = (refl, refl)
   first_tally before is_wrong (WritesFirst.due is) = (refl, refl)
 
-  complained_unknown : (before : State P) (had : Attempts P) {fault : Option Fault} {after : State P}
-      {has : Attempts P} {said : List (List ℕ)} → Complains known plan before had fault after has said
-      → before.tally.faults.items ≡ [] → after.tally.complaints ≡ 0 → after.tally.faults.items ≡ []
-  complained_unknown before had Complains.nothing none is = none
-  complained_unknown before had (Complains.passed_over unjudged passes) none is =
+  complained_unknown : (before : Moment P) {fault : Option Fault} {after : Moment P} {said : List (List ℕ)}
+      → Complains known plan before fault after said → before.state.tally.faults.items ≡ []
+      → after.state.tally.complaints ≡ 0 → after.state.tally.faults.items ≡ []
+  complained_unknown before Complains.nothing none is = none
+  complained_unknown before (Complains.passed_over unjudged passes) none is =
       ap (λ (s : State P). s.tally.faults.items) passes.leads ∙ none
-  complained_unknown before had (Complains.hidden {fault = fault} {mid = mid} wrong judged closes not_shown) none is =
+  complained_unknown before (Complains.hidden {fault = fault} {mid = mid} wrong judged closes not_shown) none is =
       absurd (some_found known laws plan mid.tally (wrong_purpose wrong).lesson fault is)
-  complained_unknown before had
-      (Complains.shown {fault = fault} {mid = mid} {after = after} {has = has} {shorter = shorter} wrong complaint
-      judged closes shows shortened about) none is =
+  complained_unknown before
+      (Complains.shown {fault = fault} {mid = mid} wrong complaint judged closes shows shortened about) none is =
       let start = found_in mid wrong fault in
-      let comes = shortened_comes known laws plan wrong start.check.exam.game.rule start had shorter after has refl
+      let comes = shortened_comes known laws plan wrong start.check.exam.game.rule (moment start before.asked) refl
       shortened in
       absurd (some_found known laws plan mid.tally (wrong_purpose wrong).lesson fault
       (sym (ap (λ (t : Tally). t.complaints) comes.0.tally) ∙ is))
 
-  complained_writes : (before : State P) (had : Attempts P) {fault : Option Fault} {after : State P}
-      {has : Attempts P} {said : List (List ℕ)} → Complains known plan before had fault after has said
-      → before.tally.complaints ≡ 0 → before.tally.faults.items ≡ [] → 0 < after.tally.complaints → 0 < length said
-  complained_writes before had Complains.nothing nought none some = absurd (omega (arith, nought, some))
-  complained_writes before had (Complains.passed_over unjudged passes) nought none some =
+  complained_writes : (before : Moment P) {fault : Option Fault} {after : Moment P} {said : List (List ℕ)}
+      → Complains known plan before fault after said → before.state.tally.complaints ≡ 0
+      → before.state.tally.faults.items ≡ [] → 0 < after.state.tally.complaints → 0 < length said
+  complained_writes before Complains.nothing nought none some = absurd (omega (arith, nought, some))
+  complained_writes before (Complains.passed_over unjudged passes) nought none some =
       let same = ap (λ (s : State P). s.tally.complaints) passes.leads in absurd (omega (arith, same, nought, some))
-  complained_writes before had (Complains.hidden {fault = fault} {mid = mid} wrong judged closes not_shown) nought none some =
+  complained_writes before (Complains.hidden {fault = fault} {mid = mid} wrong judged closes not_shown) nought none
+      some =
       let at_mid = ap (λ (s : State P). s.tally.faults.items) closes.leads ∙ none in
       let is = first_is_shown mid.tally (wrong_purpose wrong).lesson fault at_mid in
       absurd (let never : true ≡ false = sym is ∙ not_shown in cc never)
-  complained_writes before had (Complains.shown wrong complaint judged closes shows shortened about) nought none some =
+  complained_writes before (Complains.shown wrong complaint judged closes shows shortened about) nought none some =
       omega arith
 
-  turn_unknown : (before : State P) (had : Attempts P) {after : State P} {has : Attempts P}
-      {texts shows : List (List ℕ)} → Turn known plan before had after has texts shows
-      → before.tally.faults.items ≡ [] → after.tally.complaints ≡ 0 → after.tally.faults.items ≡ []
-  turn_unknown before had (Turn.starts {mid = mid} process steps next fruitful may tries quits fresh) none is =
-      started_faults mid.tally ∙ ap (λ (t : Tally). t.faults.items) (asked_tally known laws plan before steps) ∙ none
-  turn_unknown before had (Turn.restarts steps next quits) none is =
-      ap (λ (t : Tally). t.faults.items) (asked_tally known laws plan before steps) ∙ none
-  turn_unknown before had (Turn.kills steps next ended) none is =
-      ap (λ (t : Tally). t.faults.items) (asked_tally known laws plan before steps) ∙ none
-  turn_unknown before had (Turn.exchanges {mid = mid} {next = next} {fault = fault} heard first complains) none is =
-      complained_unknown next had complains (heard_faults ∙ none) is
+  turn_unknown : (before : Moment P) {after : Moment P} {texts shows : List (List ℕ)}
+      → Turn known plan before after texts shows → before.state.tally.faults.items ≡ []
+      → after.state.tally.complaints ≡ 0 → after.state.tally.faults.items ≡ []
+  turn_unknown before (Turn.starts {mid = mid} process steps next fruitful may tries quits fresh) none is =
+      started_faults mid.tally ∙ ap (λ (t : Tally). t.faults.items) (asked_tally known laws plan before.state steps)
+      ∙ none
+  turn_unknown before (Turn.restarts steps next quits) none is =
+      ap (λ (t : Tally). t.faults.items) (asked_tally known laws plan before.state steps) ∙ none
+  turn_unknown before (Turn.kills steps next ended) none is =
+      ap (λ (t : Tally). t.faults.items) (asked_tally known laws plan before.state steps) ∙ none
+  turn_unknown before (Turn.exchanges {mid = mid} {next = next} {fault = fault} heard first complains) none is =
+      complained_unknown (moment next before.asked) complains (heard_faults ∙ none) is
     where
-      heard_faults : next.tally.faults.items ≡ before.tally.faults.items
+      heard_faults : next.tally.faults.items ≡ before.state.tally.faults.items
       heard_faults =
           (first_tally mid (is_blamed plan.suicide fault) first).1
           ∙ ap (λ (s : State P). s.tally.faults.items) heard.heard.leads
-          ∙ ap (λ (t : Tally). t.faults.items) (asked_tally known laws plan before heard.asks)
+          ∙ ap (λ (t : Tally). t.faults.items) (asked_tally known laws plan before.state heard.asks)
 
-  turn_writes : (before : State P) (had : Attempts P) {after : State P} {has : Attempts P}
-      {texts shows : List (List ℕ)} → (turn : Turn known plan before had after has texts shows)
-      → before.tally.complaints ≡ 0 → before.tally.faults.items ≡ [] → 0 < after.tally.complaints
+  turn_writes : (before : Moment P) {after : Moment P} {texts shows : List (List ℕ)}
+      → (turn : Turn known plan before after texts shows) → before.state.tally.complaints ≡ 0
+      → before.state.tally.faults.items ≡ [] → 0 < after.state.tally.complaints
       → 0 < length (complaints_in turn)
-  turn_writes before had (Turn.starts {mid = mid} process steps next fruitful may tries quits fresh) nought none some =
+  turn_writes before (Turn.starts {mid = mid} process steps next fruitful may tries quits fresh) nought none some =
       let same = started_same mid.tally in
-      let asked = ap (λ (t : Tally). t.complaints) (asked_tally known laws plan before steps) in
+      let asked = ap (λ (t : Tally). t.complaints) (asked_tally known laws plan before.state steps) in
       absurd (omega (arith, same, asked, nought, some))
-  turn_writes before had (Turn.restarts steps next quits) nought none some =
-      let asked = ap (λ (t : Tally). t.complaints) (asked_tally known laws plan before steps) in
+  turn_writes before (Turn.restarts steps next quits) nought none some =
+      let asked = ap (λ (t : Tally). t.complaints) (asked_tally known laws plan before.state steps) in
       absurd (omega (arith, asked, nought, some))
-  turn_writes before had (Turn.kills steps next ended) nought none some =
-      let asked = ap (λ (t : Tally). t.complaints) (asked_tally known laws plan before steps) in
+  turn_writes before (Turn.kills steps next ended) nought none some =
+      let asked = ap (λ (t : Tally). t.complaints) (asked_tally known laws plan before.state steps) in
       absurd (omega (arith, asked, nought, some))
-  turn_writes before had (Turn.exchanges {mid = mid} {next = next} {fault = fault} heard first complains) nought none
+  turn_writes before (Turn.exchanges {mid = mid} {next = next} {fault = fault} heard first complains) nought none
       some =
-      complained_writes next had complains (heard_complaints ∙ nought) (heard_faults ∙ none) some
+      complained_writes (moment next before.asked) complains (heard_complaints ∙ nought) (heard_faults ∙ none) some
     where
-      heard_tally : mid.tally ≡ before.tally
-      heard_tally = ap (λ (s : State P). s.tally) heard.heard.leads ∙ asked_tally known laws plan before heard.asks
+      heard_tally : mid.tally ≡ before.state.tally
+      heard_tally =
+          ap (λ (s : State P). s.tally) heard.heard.leads ∙ asked_tally known laws plan before.state heard.asks
 
-      heard_complaints : next.tally.complaints ≡ before.tally.complaints
+      heard_complaints : next.tally.complaints ≡ before.state.tally.complaints
       heard_complaints =
           (first_tally mid (is_blamed plan.suicide fault) first).0 ∙ ap (λ (t : Tally). t.complaints) heard_tally
 
-      heard_faults : next.tally.faults.items ≡ before.tally.faults.items
+      heard_faults : next.tally.faults.items ≡ before.state.tally.faults.items
       heard_faults =
           (first_tally mid (is_blamed plan.suicide fault) first).1
           ∙ ap (λ (t : Tally). t.faults.items) heard_tally
 
-module _ {P O E : Type 0} (known : Ghosts P) (outs : WriterGhosts O) (errs : WriterGhosts E) (laws : Laws known)
-    (begins : Beginning P O E) where
-  unknown_at : {count : ℕ} {last : State P} {has : Attempts P} {written : O} {sees : E}
-      → Turns known begins.plan outs errs begins.progress (before_all begins.plan) begins.asked begins.out begins.errors
-      count last has written sees
-      → last.tally.complaints ≡ 0 → last.tally.faults.items ≡ []
+module _ {P O E : Type 0} (known : Known P O E) (laws : Laws known.processes) (begins : Beginning P O E) where
+  unknown_at : {count : ℕ} {last : Point P O E} → Turns known begins.plan (first_point begins) count last
+      → last.now.state.tally.complaints ≡ 0 → last.now.state.tally.faults.items ≡ []
   unknown_at Turns.not_yet is = refl
-  unknown_at (Turns.turns {before = before} {had = had} more turn goes_out shown) is =
-      turn_unknown known laws begins.plan before had turn
-      (unknown_at more (turn_none known laws begins.plan before had turn is).0) is
+  unknown_at (Turns.turns {before = before} more turn goes_out shown) is =
+      turn_unknown known.processes laws begins.plan before.now turn
+      (unknown_at more (turn_none known.processes laws begins.plan before.now turn is).0) is
 
   -- a turn in which a complaint was written
   record WroteOne (now : Point P O E) : Type 0 where
-    turn : HasTurn (known_of known outs errs) begins now
+    turn : HasTurn known begins now
     written : 0 < length (complaints_in turn.is.turn)
 
-  wrote_one : {count : ℕ} {last : State P} {has : Attempts P} {written : O} {sees : E}
-      → Turns known begins.plan outs errs begins.progress (before_all begins.plan) begins.asked begins.out begins.errors
-      count last has written sees
-      → 0 < last.tally.complaints
-      → WroteOne (record { state = last; asked = has; out = written; errors = sees })
+  wrote_one : {count : ℕ} {last : Point P O E} → Turns known begins.plan (first_point begins) count last
+      → 0 < last.now.state.tally.complaints → WroteOne last
   wrote_one Turns.not_yet some = absurd (omega (arith, some))
-  wrote_one (Turns.turns {count = count} {before = before} {after = after} {had = had} {has = has} {between = between}
-      {written = written} {seen = seen} {sees = sees} {texts = texts} {shows = shows} more turn goes_out shown) some =
-      by before.tally.complaints refl (wrote_one more)
+  wrote_one (Turns.turns {count = count} {before = before} {after = after} {texts = texts} {shows = shows} more turn
+      goes_out shown) some =
+      by before.now.state.tally.complaints refl (wrote_one more)
     where
-      by : (n : ℕ) → before.tally.complaints ≡ n
-          → (0 < before.tally.complaints
-          → WroteOne (record { state = before; asked = had; out = between; errors = seen }))
-          → WroteOne (record { state = after; asked = has; out = written; errors = sees })
+      by : (n : ℕ) → before.now.state.tally.complaints ≡ n
+          → (0 < before.now.state.tally.complaints → WroteOne before) → WroteOne after
       by zero is earlier = record {
         turn = record {
-          before = record { state = before; asked = had; out = between; errors = seen };
-          after = record { state = after; asked = has; out = written; errors = sees };
+          before = before;
+          after = after;
           comes = record { count = count; turns = more };
           is = record { texts = texts; shows = shows; turn = turn; goes_out = goes_out; shown = shown };
           more = 0;
           goes_on = Turns.not_yet;
         };
-        written = turn_writes known laws begins.plan before had turn is (unknown_at more is) some;
+        written = turn_writes known.processes laws begins.plan before.now turn is (unknown_at more is) some;
       }
       by (suc n) is earlier =
           let one = earlier (omega (arith, is)) in
@@ -205,137 +198,131 @@ shown_status : {O E : Type 0} (streams : Writers O E) (name text : List ℕ) (be
 shown_status streams name text before (Shows.went_out out) = inl refl
 shown_status streams name text before (Shows.broke breaks reports) = inr refl
 
-module _ {P O E : Type 0} (known : Ghosts P) (outs : WriterGhosts O) (errs : WriterGhosts E) (laws : Laws known)
-    (earned : APassIsEarned known) (progress : Bool) (asked : Attempts P) (out : O) (errors : E) where
-  module _ (plan : Plan) where
-    over_tally : (before : State P) (had : Attempts P) (why : Over) (last : State P) (has : Attempts P)
-        → IsOver known plan before had why last has → last.tally.complaints ≡ before.tally.complaints
-    over_tally before had why last has is =
-        ap (λ (s : State P). s.tally.complaints) is.leads
-        ∙ ap (λ (t : Tally). t.complaints) (asked_tally known laws plan before is.asks)
+module _ {P O E : Type 0} (known : Known P O E) (laws : Laws known.processes) (earned : APassIsEarned known.processes)
+  where
+    module _ (begins : Beginning P O E) where
+      over_tally : (before : Moment P) (why : Over) (last : Moment P)
+          → IsOver known.processes begins.plan before why last
+          → last.state.tally.complaints ≡ before.state.tally.complaints
+      over_tally before why last is =
+          ap (λ (s : State P). s.tally.complaints) is.leads
+          ∙ ap (λ (t : Tally). t.complaints) (asked_tally known.processes laws begins.plan before.state is.asks)
 
-    abbrev over_at : (why : Over) (last : State P) (has : Attempts P) (written : O) (sees : E)
-        → TurnsAreOver known plan outs errs progress (before_all plan) asked out errors why last has written sees
-        → IsOverAt (known_of known outs errs) (beginning plan progress asked (outputs out errors)) last
-    over_at why last has written sees over = record {
-      now = record { state = over.before; asked = over.had; out = written; errors = sees };
-      comes = record { count = over.count; turns = over.turns };
-      why = why;
-      has = has;
-      over = over.over;
-    }
+      -- the point to which the turns come of a check that is over
+      abbrev last_before : {why : Over} {last : Point P O E}
+          → TurnsAreOver known begins.plan (first_point begins) why last → Point P O E
+      last_before {last = last} over = record last { now = over.before }
 
-    -- in a check that found nothing nothing was wrong
-    quiet : (why : Over) (last : State P) (has : Attempts P) (written : O) (sees : E)
-        → (over : TurnsAreOver known plan outs errs progress (before_all plan) asked out errors why last has written
-        sees)
-        → last.tally.complaints ≡ 0
-        → (turn : HasTurn (known_of known outs errs) (beginning plan progress asked (outputs out errors))
-        (record { state = over.before; asked = over.had; out = written; errors = sees }))
-        → is_blamed plan.suicide (fault_in turn.is.turn) ≡ false
-    quiet why last has written sees over none =
-        (silent_checks known outs errs laws).no_fault (beginning plan progress asked (outputs out errors))
-        (record { state = over.before; asked = over.had; out = written; errors = sees })
-        (sym (over_tally over.before over.had why last has over.over) ∙ none)
+      abbrev over_at : {why : Over} {last : Point P O E}
+          → TurnsAreOver known begins.plan (first_point begins) why last → IsOverAt known begins last.now.state
+      over_at {why = why} {last = last} over = record {
+        now = last_before over;
+        comes = record { count = over.count; turns = over.turns };
+        why = why;
+        has = last.now.asked;
+        over = over.over;
+      }
 
-    held_found : {status : ℕ} {has : Attempts P} {written : O} {sees : E}
-        → IsHeld known outs errs plan progress asked out errors status has written sees → status ≡ something_found
-        → HasComplained (known_of known outs errs) (beginning plan progress asked (outputs out errors))
-    held_found (IsHeld.is_over {why = why} {last = last} {has = has} {between = between} {seen = seen} over shown
-        not_first closed lines goes_out) is =
-        let some : 0 < last.tally.complaints = (earned.found plan last).0 is in
-        let same = over_tally over.before over.had why last has over.over in
-        let one = wrote_one known outs errs laws (beginning plan progress asked (outputs out errors)) over.turns
-        (omega (arith, some, same)) in
-        record {
-          last = last;
-          over = over_at why last has between seen over;
-          found = some;
-          turn = one.turn;
-          written = one.written;
-        }
-    held_found (IsHeld.not_started over shown first closed reported) is = absurd (omega (arith, is))
+      -- in a check that found nothing nothing was wrong
+      quiet : {why : Over} {last : Point P O E}
+          → (over : TurnsAreOver known begins.plan (first_point begins) why last)
+          → last.now.state.tally.complaints ≡ 0 → (turn : HasTurn known begins (last_before over))
+          → is_blamed begins.plan.suicide (fault_in turn.is.turn) ≡ false
+      quiet {why = why} {last = last} over none =
+          (silent_checks known laws).no_fault begins (last_before over)
+          (sym (over_tally over.before why last.now over.over) ∙ none)
 
-    held_passed : {status : ℕ} {has : Attempts P} {written : O} {sees : E}
-        → IsHeld known outs errs plan progress asked out errors status has written sees → status ≡ done
-        → HasPassed (known_of known outs errs) (beginning plan progress asked (outputs out errors))
-    held_passed (IsHeld.is_over {why = why} {last = last} {has = has} {between = between} {seen = seen} over shown
-        not_first closed lines goes_out) is =
-        let pass : IsPass plan last = (earned.passed plan last).0 is in
-        record {
-          last = last;
-          over = over_at why last has between seen over;
-          pass = pass;
-          no_fault = quiet why last has between seen over pass.nothing_found;
-        }
-    held_passed (IsHeld.not_started over shown first closed reported) is = absurd (omega (arith, is))
+      held_found : {status : ℕ} {has : Attempts P} {after : Streams O E}
+          → IsHeld known begins status has after → status ≡ something_found → HasComplained known begins
+      held_found (IsHeld.is_over {why = why} {last = last} over shown not_first closed lines goes_out) is =
+          let some : 0 < last.now.state.tally.complaints = (earned.found begins.plan last.now.state).0 is in
+          let same = over_tally over.before why last.now over.over in
+          let one = wrote_one known laws begins over.turns (omega (arith, some, same)) in
+          record {
+            last = last.now.state;
+            over = over_at over;
+            found = some;
+            turn = one.turn;
+            written = one.written;
+          }
+      held_found (IsHeld.not_started over shown first closed reported) is = absurd (omega (arith, is))
 
-    held_not_passed : {status : ℕ} {has : Attempts P} {written : O} {sees : E}
-        → IsHeld known outs errs plan progress asked out errors status has written sees → status ≡ not_earned
-        → HasNotPassed (known_of known outs errs) (beginning plan progress asked (outputs out errors))
-    held_not_passed (IsHeld.is_over {why = why} {last = last} {has = has} {between = between} {seen = seen} over shown
-        not_first closed lines goes_out) is =
-        let neither = (earned.neither plan last).0 is in
-        record {
-          last = last;
-          over = over_at why last has between seen over;
-          no_pass = neither.1;
-          no_fault = quiet why last has between seen over neither.0;
-        }
-    held_not_passed (IsHeld.not_started over shown first closed reported) is = absurd (omega (arith, is))
+      held_passed : {status : ℕ} {has : Attempts P} {after : Streams O E}
+          → IsHeld known begins status has after → status ≡ done → HasPassed known begins
+      held_passed (IsHeld.is_over {last = last} over shown not_first closed lines goes_out) is =
+          let pass : IsPass begins.plan last.now.state = (earned.passed begins.plan last.now.state).0 is in
+          record {
+            last = last.now.state;
+            over = over_at over;
+            pass = pass;
+            no_fault = quiet over pass.nothing_found;
+          }
+      held_passed (IsHeld.not_started over shown first closed reported) is = absurd (omega (arith, is))
 
-  -- ---- a run
+      held_not_passed : {status : ℕ} {has : Attempts P} {after : Streams O E}
+          → IsHeld known begins status has after → status ≡ not_earned → HasNotPassed known begins
+      held_not_passed (IsHeld.is_over {last = last} over shown not_first closed lines goes_out) is =
+          let neither = (earned.neither begins.plan last.now.state).0 is in
+          record {
+            last = last.now.state;
+            over = over_at over;
+            no_pass = neither.1;
+            no_fault = quiet over neither.0;
+          }
+      held_not_passed (IsHeld.not_started over shown first closed reported) is = absurd (omega (arith, is))
 
-  -- a text that was shown has no other status
-  no_other : {status other : ℕ} → (status ≡ 0) ⊎ (status ≡ 3) → status ≡ other → 0 < other → (other ≡ 3 → ⊥) → ⊥
-  no_other (inl none) is some not_three = absurd (omega (arith, none, is, some))
-  no_other (inr three) is some not_three = not_three (sym is ∙ three)
+    -- ---- a run
 
-  run_found : (words : List Text) {status : ℕ} {has : Attempts P} {written : O} {reported : E}
-      → HasRun known outs errs words progress asked out errors status has written reported → status ≡ something_found
-      → AsksForCheck words progress asked (outputs out errors) (HasComplained (known_of known outs errs))
-  run_found words (HasRun.checked plan asks held) is =
-      record { plan = plan; asks = asks; holds = held_found plan held is }
-  run_found words (HasRun.stopped plan failure asks stops reports) is = absurd (omega (arith, is))
-  run_found words (HasRun.shown text asks shows) is =
-      absurd (no_other (shown_status _ _ _ _ shows) is (omega arith) (λ three. absurd (omega (arith, three))))
-  run_found words (HasRun.listed asks shows) is =
-      absurd (no_other (shown_status _ _ _ _ shows) is (omega arith) (λ three. absurd (omega (arith, three))))
-  run_found words (HasRun.mistaken mistake) is = absurd (omega (arith, is))
-  run_found words (HasRun.no_memory reports) is = absurd (omega (arith, is))
+    -- a text that was shown has no other status
+    no_other : {status other : ℕ} → (status ≡ 0) ⊎ (status ≡ 3) → status ≡ other → 0 < other → (other ≡ 3 → ⊥) → ⊥
+    no_other (inl none) is some not_three = absurd (omega (arith, none, is, some))
+    no_other (inr three) is some not_three = not_three (sym is ∙ three)
 
-  run_passed : (words : List Text) {status : ℕ} {has : Attempts P} {written : O} {reported : E}
-      → HasRun known outs errs words progress asked out errors status has written reported → status ≡ done
-      → AsksForCheck words progress asked (outputs out errors) (HasPassed (known_of known outs errs))
-      ⊎ AsksForText words ⊎ AsksForList words
-  run_passed words (HasRun.checked plan asks held) is =
-      inl (record { plan = plan; asks = asks; holds = held_passed plan held is })
-  run_passed words (HasRun.stopped plan failure asks stops reports) is = absurd (omega (arith, is))
-  run_passed words (HasRun.shown text asks shows) is = inr (inl asks)
-  run_passed words (HasRun.listed asks shows) is = inr (inr asks)
-  run_passed words (HasRun.mistaken mistake) is = absurd (omega (arith, is))
-  run_passed words (HasRun.no_memory reports) is = absurd (omega (arith, is))
+    module _ (words : List Text) (shows_progress : Bool) (asked : Attempts P) (streams : Streams O E) where
+      run_found : {status : ℕ} {has : Attempts P} {after : Streams O E}
+          → HasRun known words shows_progress asked streams status has after → status ≡ something_found
+          → AsksForCheck words shows_progress asked streams (HasComplained known)
+      run_found (HasRun.checked plan asks held) is =
+          record { plan = plan; asks = asks; holds = held_found (beginning plan asked streams) held is }
+      run_found (HasRun.stopped plan failure asks stops reports) is = absurd (omega (arith, is))
+      run_found (HasRun.shown text asks shows) is =
+          absurd (no_other (shown_status _ _ _ _ shows) is (omega arith) (λ three. absurd (omega (arith, three))))
+      run_found (HasRun.listed asks shows) is =
+          absurd (no_other (shown_status _ _ _ _ shows) is (omega arith) (λ three. absurd (omega (arith, three))))
+      run_found (HasRun.mistaken mistake) is = absurd (omega (arith, is))
+      run_found (HasRun.no_memory reports) is = absurd (omega (arith, is))
 
-  run_not_passed : (words : List Text) {status : ℕ} {has : Attempts P} {written : O} {reported : E}
-      → HasRun known outs errs words progress asked out errors status has written reported → status ≡ not_earned
-      → AsksForCheck words progress asked (outputs out errors) (HasNotPassed (known_of known outs errs))
-  run_not_passed words (HasRun.checked plan asks held) is =
-      record { plan = plan; asks = asks; holds = held_not_passed plan held is }
-  run_not_passed words (HasRun.stopped plan failure asks stops reports) is = absurd (omega (arith, is))
-  run_not_passed words (HasRun.shown text asks shows) is =
-      absurd (no_other (shown_status _ _ _ _ shows) is (omega arith) (λ three. absurd (omega (arith, three))))
-  run_not_passed words (HasRun.listed asks shows) is =
-      absurd (no_other (shown_status _ _ _ _ shows) is (omega arith) (λ three. absurd (omega (arith, three))))
-  run_not_passed words (HasRun.mistaken mistake) is = absurd (omega (arith, is))
-  run_not_passed words (HasRun.no_memory reports) is = absurd (omega (arith, is))
+      run_passed : {status : ℕ} {has : Attempts P} {after : Streams O E}
+          → HasRun known words shows_progress asked streams status has after → status ≡ done
+          → AsksForCheck words shows_progress asked streams (HasPassed known) ⊎ AsksForText words ⊎ AsksForList words
+      run_passed (HasRun.checked plan asks held) is =
+          inl (record { plan = plan; asks = asks; holds = held_passed (beginning plan asked streams) held is })
+      run_passed (HasRun.stopped plan failure asks stops reports) is = absurd (omega (arith, is))
+      run_passed (HasRun.shown text asks shows) is = inr (inl asks)
+      run_passed (HasRun.listed asks shows) is = inr (inr asks)
+      run_passed (HasRun.mistaken mistake) is = absurd (omega (arith, is))
+      run_passed (HasRun.no_memory reports) is = absurd (omega (arith, is))
 
-pub say : {P O E : Type 0} (known : Ghosts P) (outs : WriterGhosts O) (errs : WriterGhosts E) → Laws known
-    → APassIsEarned known → StatusesSay (known_of known outs errs)
-say known outs errs laws earned = record {
-  found = λ words progress asked has out written errors reported run.
-      run_found known outs errs laws earned progress asked out errors words run refl;
-  passed = λ words progress asked has out written errors reported run.
-      run_passed known outs errs laws earned progress asked out errors words run refl;
-  not_passed = λ words progress asked has out written errors reported run.
-      run_not_passed known outs errs laws earned progress asked out errors words run refl;
+      run_not_passed : {status : ℕ} {has : Attempts P} {after : Streams O E}
+          → HasRun known words shows_progress asked streams status has after → status ≡ not_earned
+          → AsksForCheck words shows_progress asked streams (HasNotPassed known)
+      run_not_passed (HasRun.checked plan asks held) is =
+          record { plan = plan; asks = asks; holds = held_not_passed (beginning plan asked streams) held is }
+      run_not_passed (HasRun.stopped plan failure asks stops reports) is = absurd (omega (arith, is))
+      run_not_passed (HasRun.shown text asks shows) is =
+          absurd (no_other (shown_status _ _ _ _ shows) is (omega arith) (λ three. absurd (omega (arith, three))))
+      run_not_passed (HasRun.listed asks shows) is =
+          absurd (no_other (shown_status _ _ _ _ shows) is (omega arith) (λ three. absurd (omega (arith, three))))
+      run_not_passed (HasRun.mistaken mistake) is = absurd (omega (arith, is))
+      run_not_passed (HasRun.no_memory reports) is = absurd (omega (arith, is))
+
+pub say : {P O E : Type 0} (known : Known P O E) → Laws known.processes → APassIsEarned known.processes
+    → StatusesSay known
+say known laws earned = record {
+  found = λ words shows_progress asked has streams after run.
+      run_found known laws earned words shows_progress asked streams run refl;
+  passed = λ words shows_progress asked has streams after run.
+      run_passed known laws earned words shows_progress asked streams run refl;
+  not_passed = λ words shows_progress asked has streams after run.
+      run_not_passed known laws earned words shows_progress asked streams run refl;
 }

@@ -1,5 +1,5 @@
 -- What trials leave as it is, and what a trial shows that ended like the conversation that was found.
-use Rattle.std.proofs.Common.{◌≡◌, ◌∙◌, ◌≤◌, arith, refl, ap, subst, sym, true, List, Option, None, Some}
+use Rattle.std.proofs.Common.{◌≡◌, ◌∙◌, ◌≤◌, arith, refl, subst, true, List, Option, None, Some}
 use Rattle.go_board.specs.declared.rules.KoRule.{KoRule}
 use Rattle.gtp_process.specs.declared.starter.Ending.{Ending}
 use Rattle.gtp_process.specs.declared.starter.Process.{Ghosts}
@@ -19,8 +19,8 @@ use Rattle.gtp_check_talks.specs.Laws.{ComplaintsAreJustified, KoRulesStay, Loss
 use Rattle.gtp_check_talks.specs.Laws.{RightAnswersEndStartsInVain, SilenceSaysAllIsRight}
 use Rattle.gtp_check_plan.specs.declared.plan.Plan.{Plan}
 use Rattle.gtp_check_app.specs.RunLaws.{IsGrounded, IsShownBy}
-use Rattle.gtp_check_app.specs.Turns.{IsShortened, IsTried, Reduces, Shortens, State, TriesOne, TriesShorter}
-use Rattle.gtp_check_app.specs.Turns.{or_else}
+use Rattle.gtp_check_app.specs.Turns.{IsReduced, IsShortened, IsTried, Moment, Reduces, Shortens, State, TriesOne}
+use Rattle.gtp_check_app.specs.Turns.{TriesShorter, or_else}
 
 -- what there is is one thing
 pub one_there : {A : Type 0} {one other : A} → Some one ≡ Some other → one ≡ other
@@ -52,14 +52,32 @@ pub record Laws {P : Type 0} (known : Ghosts P) : Type 0 where
   pub silent : SilenceSaysAllIsRight known
   pub vain : RightAnswersEndStartsInVain known
 
+module _ {P : Type 0} (known : Ghosts P) where
+  -- what comes of a trial: what was found in it, if anything, has its ground
+  record Comes (rule : KoRule) (before : State P) (result : Option Wrong) (after : State P) : Type 0 where
+    stays : Stays before after
+    grounded : (tried : Wrong) → result ≡ Some tried → IsGrounded known rule tried
+
+  nothing_comes : (rule : KoRule) (now : State P) → Comes rule now None now
+  nothing_comes rule now = record { stays = unchanged now; grounded = λ tried is. absurd (cc is) }
+
+  later : (rule : KoRule) (before mid after : State P) (result : Option Wrong) → Stays before mid
+      → Comes rule mid result after → Comes rule before result after
+  later rule before mid after result one other = record {
+    stays = both_stay before mid after one other.stays;
+    grounded = other.grounded;
+  }
+
 module _ {P : Type 0} (known : Ghosts P) (laws : Laws known) where
   -- ---- what a conversation shows that ended with something wrong
 
   shown_by : (rule : KoRule) (process : P) (first : Notes) (fault : Fault) (exam : Exam) (end : Dialogue P)
       → EndsWrong known (begun rule true) (begun_with process first) fault exam end
       → IsShownBy known rule process fault exam end
-  shown_by rule process first (Wrote kind) exam end ends = laws.just rule process first kind exam end ends
-  shown_by rule process first (CutOff cause) exam end ends = laws.lost rule process first cause exam end ends
+  shown_by rule process first (Wrote kind) exam end ends =
+      IsShownBy.wrongly (laws.just rule process first kind exam end ends)
+  shown_by rule process first (CutOff cause) exam end ends =
+      IsShownBy.lost (laws.lost rule process first cause exam end ends)
 
   pub grounded_by : (rule : KoRule) (process : P) (first : Notes) (fault : Fault) (exam : Exam) (end : Dialogue P)
       (ending : Ending) → EndsWrong known (begun rule true) (begun_with process first) fault exam end
@@ -75,21 +93,6 @@ module _ {P : Type 0} (known : Ghosts P) (laws : Laws known) where
   }
 
   -- ---- one trial
-
-  -- what comes of a trial: what was found in it, if anything, has its ground
-  record Comes (rule : KoRule) (before : State P) (result : Option Wrong) (after : State P) : Type 0 where
-    stays : Stays before after
-    grounded : (tried : Wrong) → result ≡ Some tried → IsGrounded known rule tried
-
-  nothing_comes : (rule : KoRule) (now : State P) → Comes rule now None now
-  nothing_comes rule now = record { stays = unchanged now; grounded = λ tried is. absurd (cc is) }
-
-  later : (rule : KoRule) (before mid after : State P) (result : Option Wrong) → Stays before mid
-      → Comes rule mid result after → Comes rule before result after
-  later rule before mid after result one other = record {
-    stays = both_stay before mid after one other.stays;
-    grounded = other.grounded;
-  }
 
   trial_rule : (line : List Text) (purpose : Purpose) (commands : List CheckCommand) (old : Check)
       (had : Attempts P) (first : Notes) {result : Option Wrong} {new : Check} {has : Attempts P} {notes : Notes}
@@ -130,64 +133,65 @@ module _ {P : Type 0} (known : Ghosts P) (laws : Laws known) where
       (grounded_by old.exam.game.rule process first fault exam engine ending ends left))
 
   module _ (plan : Plan) (found : Wrong) (rule : KoRule) where
-    tried_comes : (commands : List CheckCommand) (before : State P) (had : Attempts P) (result : Option Wrong)
-        (after : State P) (has : Attempts P) → before.check.exam.game.rule ≡ rule
-        → IsTried known plan found commands before had result after has → Comes rule before result after
-    tried_comes commands before had result after has same tried = record {
+    tried_comes : (commands : List CheckCommand) (before : Moment P) (result : Option Wrong) (after : Moment P)
+        → before.state.check.exam.game.rule ≡ rule → IsTried known plan found commands before result after
+        → Comes known rule before.state result after.state
+    tried_comes commands before result after same (IsTried.by_trial trial) = record {
       stays = record {
-        tally = ap (λ (s : State P). s.tally) tried.leads;
-        engine = ap (λ (s : State P). s.engine) tried.leads;
-        rule = trial_rule _ _ commands before.check had before.notes tried.trial;
-        fruitless = trial_less _ _ commands before.check had before.notes tried.trial;
+        tally = refl;
+        engine = refl;
+        rule = trial_rule _ _ commands before.state.check before.asked before.state.notes trial;
+        fruitless = trial_less _ _ commands before.state.check before.asked before.state.notes trial;
       };
-      grounded = trial_grounded rule _ _ commands before.check had before.notes same tried.trial;
+      grounded = trial_grounded rule _ _ commands before.state.check before.asked before.state.notes same trial;
     }
 
-    one_comes : (commands : List CheckCommand) (before : State P) (had : Attempts P)
-        → before.check.exam.game.rule ≡ rule → {result : Option Wrong} {after : State P} {has : Attempts P}
-        → TriesOne known plan found commands before had result after has → Comes rule before result after
-    one_comes commands before had same (TriesOne.no_start none) = nothing_comes rule before
-    one_comes commands before had same (TriesOne.right {after = after} {has = has} may tried) =
-        tried_comes commands before had None after has same tried
-    one_comes commands before had same (TriesOne.other {tried = one} {after = after} {has = has} may tried unlike) =
-        record {
-          stays = (tried_comes commands before had (Some one) after has same tried).stays;
-          grounded = λ other is. absurd (cc is);
-        }
-    one_comes commands before had same (TriesOne.alike {tried = one} {after = after} {has = has} may tried like) =
-        tried_comes commands before had (Some one) after has same tried
+    one_comes : (commands : List CheckCommand) (before : Moment P) → before.state.check.exam.game.rule ≡ rule
+        → {result : Option Wrong} {after : Moment P} → TriesOne known plan found commands before result after
+        → Comes known rule before.state result after.state
+    one_comes commands before same (TriesOne.no_start none) = nothing_comes known rule before.state
+    one_comes commands before same (TriesOne.right {after = after} may tried) =
+        tried_comes commands before None after same tried
+    one_comes commands before same (TriesOne.other {tried = one} {after = after} may tried unlike) = record {
+      stays = (tried_comes commands before (Some one) after same tried).stays;
+      grounded = λ other is. absurd (cc is);
+    }
+    one_comes commands before same (TriesOne.alike {tried = one} {after = after} may tried like) =
+        tried_comes commands before (Some one) after same tried
 
-    shorter_comes : (how : Shortening) (before : State P) (had : Attempts P)
-        → before.check.exam.game.rule ≡ rule → {result : Option Wrong} {after : State P} {has : Attempts P}
-        → TriesShorter known plan found how before had result after has → Comes rule before result after
-    shorter_comes how before had same (TriesShorter.left_out none) = nothing_comes rule before
-    shorter_comes how before had same (TriesShorter.tries is_for tries) = one_comes _ before had same tries
+    shorter_comes : (how : Shortening) (before : Moment P) → before.state.check.exam.game.rule ≡ rule
+        → {result : Option Wrong} {after : Moment P} → TriesShorter known plan found how before result after
+        → Comes known rule before.state result after.state
+    shorter_comes how before same (TriesShorter.left_out none) = nothing_comes known rule before.state
+    shorter_comes how before same (TriesShorter.tries is_for tries) = one_comes _ before same tries
 
-    shortens_comes : (before : State P) → before.check.exam.game.rule ≡ rule → {hows : List Shortening}
-        {after : State P} {had has : Attempts P} {result : Option Wrong}
-        → Shortens known plan found hows before had result after has → Comes rule before result after
-    shortens_comes before same Shortens.none_left = nothing_comes rule before
+    shortens_comes : (before : Moment P) → before.state.check.exam.game.rule ≡ rule → {hows : List Shortening}
+        {after : Moment P} {result : Option Wrong} → Shortens known plan found hows before result after
+        → Comes known rule before.state result after.state
+    shortens_comes before same Shortens.none_left = nothing_comes known rule before.state
     shortens_comes before same
-        (Shortens.missed {how = how} {mid = mid} {after = after} {had = had} {result = result} tried more) =
-        let one = shorter_comes how before had same tried in
-        later rule before mid after result one.stays (shortens_comes mid (one.stays.rule ∙ same) more)
-    shortens_comes before same (Shortens.shortened_so {how = how} {had = had} tried) =
-        shorter_comes how before had same tried
+        (Shortens.missed {how = how} {mid = mid} {after = after} {result = result} tried more) =
+        let one = shorter_comes how before same tried in
+        later known rule before.state mid.state after.state result one.stays
+        (shortens_comes mid (one.stays.rule ∙ same) more)
+    shortens_comes before same (Shortens.shortened_so {how = how} tried) = shorter_comes how before same tried
 
-    reduces_comes : (first : Reduction) (before : State P) (had : Attempts P) → before.check.exam.game.rule ≡ rule
-        → {now : Reduction} {best : Option Wrong} {after : State P} {has : Attempts P}
-        → Reduces known plan found first before had now best after has → Comes rule before best after
-    reduces_comes first before had same Reduces.begins = nothing_comes rule before
-    reduces_comes first before had same
-        (Reduces.failed {mid = mid} {after = after} {between = between} commands more next tries) =
-        let earlier = reduces_comes first before had same more in
-        let one = one_comes commands mid between (earlier.stays.rule ∙ same) tries in
-        record { stays = both_stay before mid after earlier.stays one.stays; grounded = earlier.grounded }
-    reduces_comes first before had same
-        (Reduces.succeeded {mid = mid} {after = after} {between = between} {tried = one} commands more next tries) =
-        let earlier = reduces_comes first before had same more in
-        later rule before mid after (Some one) earlier.stays
-        (one_comes commands mid between (earlier.stays.rule ∙ same) tries)
+    reduces_comes : (first : Reduction) (before : Moment P) → before.state.check.exam.game.rule ≡ rule
+        → {now : Reduction} {best : Option Wrong} {after : Moment P}
+        → Reduces known plan found first before now best after → Comes known rule before.state best after.state
+    reduces_comes first before same Reduces.begins = nothing_comes known rule before.state
+    reduces_comes first before same (Reduces.failed {mid = mid} {after = after} commands more next tries) =
+        let earlier = reduces_comes first before same more in
+        let one = one_comes commands mid (earlier.stays.rule ∙ same) tries in
+        record {
+          stays = both_stay before.state mid.state after.state earlier.stays one.stays;
+          grounded = earlier.grounded;
+        }
+    reduces_comes first before same
+        (Reduces.succeeded {mid = mid} {after = after} {tried = one} commands more next tries) =
+        let earlier = reduces_comes first before same more in
+        later known rule before.state mid.state after.state (Some one) earlier.stays
+        (one_comes commands mid (earlier.stays.rule ∙ same) tries)
 
   -- ---- what is shown
 
@@ -200,15 +204,15 @@ module _ {P : Type 0} (known : Ghosts P) (laws : Laws known) where
   of_either rule (Some found) games one other tried is = one tried is
 
   -- a conversation was made shorter, and what ended it then has its ground
-  pub shortened_comes : (plan : Plan) (found : Wrong) (rule : KoRule) (before : State P) (had : Attempts P)
-      (result : Option Wrong) (after : State P) (has : Attempts P) → before.check.exam.game.rule ≡ rule
-      → IsShortened known plan found before had result after has
-      → Stays before after × ((tried : Wrong) → result ≡ Some tried → IsGrounded known rule tried)
-  shortened_comes plan found rule before had result after has same shortened =
-      let games = shortens_comes plan found rule before same shortened.shortens in
-      let best = reduces_comes plan found rule _ shortened.mid shortened.between (games.stays.rule ∙ same)
-      shortened.reduced.reduces in (
-        both_stay before shortened.mid after games.stays best.stays,
-        subst (λ (r : Option Wrong). (tried : Wrong) → r ≡ Some tried → IsGrounded known rule tried) (sym shortened.is)
-            (of_either rule shortened.best shortened.games best.grounded games.grounded),
+  pub shortened_comes : (plan : Plan) (found : Wrong) (rule : KoRule) (before : Moment P)
+      {result : Option Wrong} {after : Moment P} → before.state.check.exam.game.rule ≡ rule
+      → IsShortened known plan found before result after
+      → Stays before.state after.state × ((tried : Wrong) → result ≡ Some tried → IsGrounded known rule tried)
+  shortened_comes plan found rule before same
+      (IsShortened.both_ways {games = one} {best = other} {mid = mid} {after = after} shortens
+      (IsReduced.reduced reduces over)) =
+      let games = shortens_comes plan found rule before same shortens in
+      let best = reduces_comes plan found rule _ mid (games.stays.rule ∙ same) reduces in (
+        both_stay before.state mid.state after.state games.stays best.stays,
+        of_either rule other one best.grounded games.grounded,
       )

@@ -1,6 +1,5 @@
 -- What holds of a check between two turns: of its engine, and of its ko rule.
 use Rattle.std.proofs.Common.{◌≡◌, ◌∙◌, refl, sym, ap, subst, arith, Bool, true, false, List, [], ℕ}
-use Rattle.byte_streams.specs.declared.calls.WriteOnce.{Ghosts as WriterGhosts}
 use Rattle.std.proofs.Common.{Option, None, Some}
 use Rattle.std.proofs.lemmas.List.Elements.{All-cons, All-nil}
 use Rattle.std.specs.Prelude.{All, Ok, if◌then◌else◌, not, unwrap_or}
@@ -24,22 +23,23 @@ use Rattle.gtp_check_app.specs.declared.tally.Tally.{Tally}
 use Rattle.gtp_check_app.specs.Tally.{found, in_lesson, is_shown, started_again, with_hidden, with_known, without_start}
 use Rattle.gtp_check_app.specs.RunLaws.{IsGrounded, IsHeldWith, IsJustComplaint, complaints_in, ended_in, fault_in}
 use Rattle.gtp_check_app.specs.Unjudged.{is_blamed}
-use Rattle.gtp_check_app.specs.Turns.{Asks, Closes, Complains, Exchanges, IsHeardOut, State, Turn, Turns}
-use Rattle.gtp_check_app.specs.Turns.{WritesFirst, before_all, found_in, state}
+use Rattle.gtp_check_app.specs.Sequence.{Beginning, Known, Point, Turns, first_point}
+use Rattle.gtp_check_app.specs.Turns.{Asks, Closes, Complains, Exchanges, IsHeardOut, Moment, State, Turn, WritesFirst}
+use Rattle.gtp_check_app.specs.Turns.{before_all, found_in, moment, state}
 use Rattle.gtp_check_app.proofs.InTrials.{Laws, grounded_by, one_there, shortened_comes}
 
 module _ {P : Type 0} (known : Ghosts P) (laws : Laws known) (plan : Plan) where
   -- the ko rule is the plan's, and an engine that is there is held with in a conversation in which so far this is
   -- wrong, if anything
-  pub record IsSound (fault : Option Fault) (now : State P) (has : Attempts P) : Type 0 where
-    pub rule : now.check.exam.game.rule ≡ plan.rule
-    pub engine : (engine : Engine P) → now.engine ≡ Some engine → IsHeldWith known plan fault now has engine
+  pub record IsSound (fault : Option Fault) (now : Moment P) : Type 0 where
+    pub rule : now.state.check.exam.game.rule ≡ plan.rule
+    pub engine : (engine : Engine P) → now.state.engine ≡ Some engine → IsHeldWith known plan fault now engine
 
   -- ---- steps of the course
 
   -- a state with another course, or with something else found, has the same engine
-  with_course : (now : State P) (has : Attempts P) (course : Course) → IsSound None now has
-      → IsSound None (record now { course = course }) has
+  with_course : (now : State P) (has : Attempts P) (course : Course) → IsSound None (moment now has)
+      → IsSound None (moment (record now { course = course }) has)
   with_course now has course sound = record {
     rule = sound.rule;
     engine = λ engine is.
@@ -55,20 +55,20 @@ module _ {P : Type 0} (known : Ghosts P) (laws : Laws known) (plan : Plan) where
 
   -- an engine is held with, and something came of it
   engine_after : (before : State P) (has : Attempts P) (fault : Option Fault) (old : Engine P) (exam : Exam)
-      (now : Engine P) (notes : Notes) (held : IsHeldWith known plan None before has old)
+      (now : Engine P) (notes : Notes) (held : IsHeldWith known plan None (moment before has) old)
       → EndsSo known (begun plan.rule true) (begun_with held.process held.first) fault exam (dialogue now notes)
       → (after : State P)
       → after ≡ record before { check = with_exam before.check exam; engine = Some now; notes = notes }
-      → IsSound fault after has
+      → IsSound fault (moment after has)
   engine_after before has fault old exam now notes held ends after leads =
-      subst (λ (s : State P). IsSound fault s has) (sym leads)
+      subst (λ (s : State P). IsSound fault (moment s has)) (sym leads)
       (record {
         rule = laws.stays (begun plan.rule true) exam (begun_with held.process held.first) (dialogue now notes) fault
             ends;
         engine = λ one is.
             subst
             (IsHeldWith known plan fault
-            (record before { check = with_exam before.check exam; engine = Some now; notes = notes }) has)
+            (moment (record before { check = with_exam before.check exam; engine = Some now; notes = notes }) has))
             (one_there is)
             (record {
               process = held.process;
@@ -79,13 +79,13 @@ module _ {P : Type 0} (known : Ghosts P) (laws : Laws known) (plan : Plan) where
             });
       })
 
-  pub asked_sound : {singly : Bool} (first : State P) (has : Attempts P) {now : State P} → IsSound None first has
-      → Asks singly first now → IsSound None now has
+  pub asked_sound : {singly : Bool} (first : State P) (has : Attempts P) {now : State P}
+      → IsSound None (moment first has) → Asks singly first now → IsSound None (moment now has)
   asked_sound first has sound Asks.nothing = sound
   asked_sound first has sound (Asks.passes {mid = mid} course more next) =
       with_course mid has course (asked_sound first has sound more)
   asked_sound first has sound (Asks.asks {mid = mid} {after = after} command course more next free asked) =
-      let earlier : IsSound None (record mid { course = course }) has =
+      let earlier : IsSound None (moment (record mid { course = course }) has) =
       with_course mid has course (asked_sound first has sound more) in
       let held = earlier.engine asked.engine asked.had in
       engine_after (record mid { course = course }) has None asked.engine asked.exam asked.now asked.notes held
@@ -102,7 +102,7 @@ module _ {P : Type 0} (known : Ghosts P) (laws : Laws known) (plan : Plan) where
       record { old = exam; before = before; converses = converses; exchanged = exchanged }
 
   heard_sound : (before : State P) (has : Attempts P) (fault : Option Fault) (after : State P)
-      → IsSound None before has → IsHeardOut known before fault after → IsSound fault after has
+      → IsSound None (moment before has) → IsHeardOut known before fault after → IsSound fault (moment after has)
   heard_sound before has fault after sound heard =
       let held = sound.engine heard.engine heard.had in
       engine_after before has fault heard.engine heard.exam heard.heard heard.notes held
@@ -112,8 +112,8 @@ module _ {P : Type 0} (known : Ghosts P) (laws : Laws known) (plan : Plan) where
       after heard.leads
 
   first_sound : (before : State P) (has : Attempts P) (fault : Option Fault) (is_wrong : Bool) {after : State P}
-      {line : List (List ℕ)} → IsSound fault before has → WritesFirst known plan before is_wrong after line
-      → IsSound fault after has
+      {line : List (List ℕ)} → IsSound fault (moment before has) → WritesFirst known plan before is_wrong after line
+      → IsSound fault (moment after has)
   first_sound before has fault is_wrong sound (WritesFirst.not_due is) = sound
   first_sound before has fault is_wrong sound (WritesFirst.due is) = record {
     rule = sound.rule;
@@ -131,25 +131,25 @@ module _ {P : Type 0} (known : Ghosts P) (laws : Laws known) (plan : Plan) where
   -- ---- the end of an engine
 
   -- without an engine there is only the rule
-  pub down : (now : State P) (has : Attempts P) → now.check.exam.game.rule ≡ plan.rule → now.engine ≡ None
-      → IsSound None now has
-  down now has rule none = record { rule = rule; engine = λ engine is. absurd (let e = sym none ∙ is in cc e) }
+  pub down : (now : Moment P) → now.state.check.exam.game.rule ≡ plan.rule → now.state.engine ≡ None
+      → IsSound None now
+  down now rule none = record { rule = rule; engine = λ engine is. absurd (let e = sym none ∙ is in cc e) }
 
-  closed_down : (fault : Fault) (before : State P) (wrong : Wrong) (mid : State P) (had has : Attempts P)
-      → IsSound (Some fault) before had → Closes known fault before wrong mid
-      → IsSound None (found_in mid wrong fault) has
-  closed_down fault before wrong mid had has sound closes =
-      down (found_in mid wrong fault) has
+  closed_down : (fault : Fault) (before : Moment P) (wrong : Wrong) (mid : State P)
+      → IsSound (Some fault) before → Closes known fault before.state wrong mid
+      → IsSound None (moment (found_in mid wrong fault) before.asked)
+  closed_down fault before wrong mid sound closes =
+      down (moment (found_in mid wrong fault) before.asked)
       (ap (λ (s : State P). s.check.exam.game.rule) closes.leads ∙ sound.rule)
       (ap (λ (s : State P). s.engine) closes.leads)
 
-  closed_grounded : (fault : Fault) (before : State P) (wrong : Wrong) (mid : State P) (had : Attempts P)
-      → IsSound (Some fault) before had → Closes known fault before wrong mid → IsGrounded known plan.rule wrong
-  closed_grounded fault before wrong mid had sound closes =
+  closed_grounded : (fault : Fault) (before : Moment P) (wrong : Wrong) (mid : State P)
+      → IsSound (Some fault) before → Closes known fault before.state wrong mid → IsGrounded known plan.rule wrong
+  closed_grounded fault before wrong mid sound closes =
       let held = sound.engine closes.engine closes.had in
       subst (IsGrounded known plan.rule) (sym closes.is)
-      (grounded_by known laws plan.rule held.process held.first fault before.check.exam
-      (dialogue closes.engine before.notes) closes.ending held.ends closes.ended)
+      (grounded_by known laws plan.rule held.process held.first fault before.state.check.exam
+      (dialogue closes.engine before.state.notes) closes.ending held.ends closes.ended)
 
   -- the one that is shown has its ground
   of_shown : (wrong : Wrong) (shorter : Option Wrong) → IsGrounded known plan.rule wrong
@@ -158,46 +158,45 @@ module _ {P : Type 0} (known : Ghosts P) (laws : Laws known) (plan : Plan) where
   of_shown wrong None whole shown = whole
   of_shown wrong (Some tried) whole shown = shown tried refl
 
-  complained_sound : (before : State P) (had : Attempts P) {fault : Option Fault} {after : State P} {has : Attempts P}
-      {said : List (List ℕ)} → IsSound fault before had → Complains known plan before had fault after has said
-      → IsSound None after has
-  complained_sound before had sound Complains.nothing = sound
-  complained_sound before had sound (Complains.passed_over {after = after} unjudged passes) =
-      down after had (ap (λ (s : State P). s.check.exam.game.rule) passes.leads ∙ sound.rule)
+  complained_sound : (before : Moment P) {fault : Option Fault} {after : Moment P} {said : List (List ℕ)}
+      → IsSound fault before → Complains known plan before fault after said → IsSound None after
+  complained_sound before sound Complains.nothing = sound
+  complained_sound before sound (Complains.passed_over {after = after} unjudged passes) =
+      down (moment after before.asked) (ap (λ (s : State P). s.check.exam.game.rule) passes.leads ∙ sound.rule)
       (ap (λ (s : State P). s.engine) passes.leads)
-  complained_sound before had sound (Complains.hidden {fault = fault} {mid = mid} wrong judged closes not_shown) =
-      closed_down fault before wrong mid had had sound closes
-  complained_sound before had sound
-      (Complains.shown {fault = fault} {mid = mid} {after = after} {has = has} {shorter = shorter} wrong complaint
-      judged closes shows shortened about) =
-      let closed = closed_down fault before wrong mid had had sound closes in
-      let comes = shortened_comes known laws plan wrong plan.rule (found_in mid wrong fault) had shorter after has
+  complained_sound before sound (Complains.hidden {fault = fault} {mid = mid} wrong judged closes not_shown) =
+      closed_down fault before wrong mid sound closes
+  complained_sound before sound
+      (Complains.shown {fault = fault} {mid = mid} {after = after} wrong complaint judged closes shows shortened
+      about) =
+      let closed = closed_down fault before wrong mid sound closes in
+      let comes = shortened_comes known laws plan wrong plan.rule (moment (found_in mid wrong fault) before.asked)
       closed.rule shortened in
-      down after has (comes.0.rule ∙ closed.rule)
-      (comes.0.engine ∙ ap (λ (s : State P). s.engine) closes.leads)
+      down after (comes.0.rule ∙ closed.rule) (comes.0.engine ∙ ap (λ (s : State P). s.engine) closes.leads)
 
-  complained_just : (before : State P) (had : Attempts P) {fault : Option Fault} {after : State P} {has : Attempts P}
-      {said : List (List ℕ)} → IsSound fault before had → Complains known plan before had fault after has said
+  complained_just : (before : Moment P) {fault : Option Fault} {after : Moment P} {said : List (List ℕ)}
+      → IsSound fault before → Complains known plan before fault after said
       → All (IsJustComplaint known plan.rule) said
-  complained_just before had sound Complains.nothing = All-nil (IsJustComplaint known plan.rule)
-  complained_just before had sound (Complains.passed_over unjudged passes) =
+  complained_just before sound Complains.nothing = All-nil (IsJustComplaint known plan.rule)
+  complained_just before sound (Complains.passed_over unjudged passes) =
       All-nil (IsJustComplaint known plan.rule)
-  complained_just before had sound (Complains.hidden wrong judged closes not_shown) = All-nil (IsJustComplaint known plan.rule)
-  complained_just before had sound
-      (Complains.shown {fault = fault} {mid = mid} {after = after} {has = has} {shorter = shorter} wrong complaint
-      judged closes shows shortened about) =
-      let closed = closed_down fault before wrong mid had had sound closes in
-      let comes = shortened_comes known laws plan wrong plan.rule (found_in mid wrong fault) had shorter after has
+  complained_just before sound (Complains.hidden wrong judged closes not_shown) =
+      All-nil (IsJustComplaint known plan.rule)
+  complained_just before sound
+      (Complains.shown {fault = fault} {mid = mid} {after = after} {shorter = shorter} wrong complaint judged closes
+      shows shortened about) =
+      let closed = closed_down fault before wrong mid sound closes in
+      let comes = shortened_comes known laws plan wrong plan.rule (moment (found_in mid wrong fault) before.asked)
       closed.rule shortened in
       All-cons (IsJustComplaint known plan.rule) (complaint_lines complaint) []
       (record {
         complaint = complaint;
         is = refl;
-        number = after.tally.complaints;
+        number = after.state.tally.complaints;
         lesson = _;
         wrong = unwrap_or shorter wrong;
         of = about;
-        grounded = of_shown wrong shorter (closed_grounded fault before wrong mid had sound closes) comes.1;
+        grounded = of_shown wrong shorter (closed_grounded fault before wrong mid sound closes) comes.1;
       })
       (All-nil (IsJustComplaint known plan.rule))
 
@@ -215,16 +214,16 @@ module _ {P : Type 0} (known : Ghosts P) (laws : Laws known) (plan : Plan) where
       (sym same) Converses.begins)
 
   begun_sound : (mid : State P) (had has : Attempts P) (course : Course) (engine : Engine P) (process : P)
-      → IsSound None mid had → Tries had has (program_line plan.words.items) (Ok process)
+      → IsSound None (moment mid had) → Tries had has (program_line plan.words.items) (Ok process)
       → ((notes : Notes) → dialogue engine notes ≡ begun_with process notes)
-      → IsSound None
-      (state (started mid.check) course (Some engine) (started_again mid.tally) (noted_start mid.notes)) has
+      → IsSound None (moment
+      (state (started mid.check) course (Some engine) (started_again mid.tally) (noted_start mid.notes)) has)
   begun_sound mid had has course engine process sound tries fresh = record {
     rule = sound.rule;
     engine = λ one is.
         subst
-        (IsHeldWith known plan None
-        (state (started mid.check) course (Some engine) (started_again mid.tally) (noted_start mid.notes)) has)
+        (IsHeldWith known plan None (moment
+        (state (started mid.check) course (Some engine) (started_again mid.tally) (noted_start mid.notes)) has))
         (one_there is)
         (record {
           process = process;
@@ -237,86 +236,86 @@ module _ {P : Type 0} (known : Ghosts P) (laws : Laws known) (plan : Plan) where
   }
 
   -- the state in which the first line was written, and what was wrong
-  written_sound : (before : State P) (had : Attempts P) (mid next : State P) (fault : Option Fault)
-      (line : List (List ℕ)) → IsSound None before had → (heard : Exchanges known plan before fault mid)
-      → WritesFirst known plan mid (is_blamed plan.suicide fault) next line → IsSound fault next had
-  written_sound before had mid next fault line sound heard first =
-      first_sound mid had fault (is_blamed plan.suicide fault)
-      (heard_sound heard.mid had fault mid (asked_sound before had sound heard.asks) heard.heard) first
+  written_sound : (before : Moment P) (mid next : State P) (fault : Option Fault) (line : List (List ℕ))
+      → IsSound None before → (heard : Exchanges known plan before.state fault mid)
+      → WritesFirst known plan mid (is_blamed plan.suicide fault) next line
+      → IsSound fault (moment next before.asked)
+  written_sound before mid next fault line sound heard first =
+      first_sound mid before.asked fault (is_blamed plan.suicide fault)
+      (heard_sound heard.mid before.asked fault mid (asked_sound before.state before.asked sound heard.asks)
+      heard.heard)
+      first
 
-  pub turn_sound : (before : State P) (had : Attempts P) {after : State P} {has : Attempts P}
-      {texts shows : List (List ℕ)} → IsSound None before had → Turn known plan before had after has texts shows
-      → IsSound None after has
-  turn_sound before had sound
+  pub turn_sound : (before : Moment P) {after : Moment P} {texts shows : List (List ℕ)} → IsSound None before
+      → Turn known plan before after texts shows → IsSound None after
+  turn_sound before sound
       (Turn.starts {mid = mid} {course = course} {has = has} {engine = engine} process steps next fruitful may tries
       quits fresh) =
-      begun_sound mid had has course engine process (asked_sound before had sound steps) tries fresh
-  turn_sound before had sound (Turn.restarts {mid = mid} {course = course} steps next quits) =
-      down (record mid { check = after_loss mid.check; course = course; engine = None }) had
-      (asked_sound before had sound steps).rule refl
-  turn_sound before had sound (Turn.kills {mid = mid} {course = course} steps next ended) =
-      down (record mid { check = after_loss mid.check; course = course; engine = None }) had
-      (asked_sound before had sound steps).rule refl
-  turn_sound before had sound
+      begun_sound mid before.asked has course engine process (asked_sound before.state before.asked sound steps) tries
+      fresh
+  turn_sound before sound (Turn.restarts {mid = mid} {course = course} steps next quits) =
+      down (moment (record mid { check = after_loss mid.check; course = course; engine = None }) before.asked)
+      (asked_sound before.state before.asked sound steps).rule refl
+  turn_sound before sound (Turn.kills {mid = mid} {course = course} steps next ended) =
+      down (moment (record mid { check = after_loss mid.check; course = course; engine = None }) before.asked)
+      (asked_sound before.state before.asked sound steps).rule refl
+  turn_sound before sound
       (Turn.exchanges {mid = mid} {next = next} {fault = fault} {line = line} heard first complains) =
-      complained_sound next had (written_sound before had mid next fault line sound heard first) complains
+      complained_sound (moment next before.asked) (written_sound before mid next fault line sound heard first) complains
 
-  pub turn_just : (before : State P) (had : Attempts P) {after : State P} {has : Attempts P}
-      {texts shows : List (List ℕ)} → IsSound None before had
-      → (turn : Turn known plan before had after has texts shows)
-      → All (IsJustComplaint known plan.rule) (complaints_in turn)
-  turn_just before had sound (Turn.starts process steps next fruitful may tries quits fresh) =
+  pub turn_just : (before : Moment P) {after : Moment P} {texts shows : List (List ℕ)} → IsSound None before
+      → (turn : Turn known plan before after texts shows) → All (IsJustComplaint known plan.rule) (complaints_in turn)
+  turn_just before sound (Turn.starts process steps next fruitful may tries quits fresh) =
       All-nil (IsJustComplaint known plan.rule)
-  turn_just before had sound (Turn.restarts steps next quits) = All-nil (IsJustComplaint known plan.rule)
-  turn_just before had sound (Turn.kills steps next ended) = All-nil (IsJustComplaint known plan.rule)
-  turn_just before had sound
+  turn_just before sound (Turn.restarts steps next quits) = All-nil (IsJustComplaint known plan.rule)
+  turn_just before sound (Turn.kills steps next ended) = All-nil (IsJustComplaint known plan.rule)
+  turn_just before sound
       (Turn.exchanges {mid = mid} {next = next} {fault = fault} {line = line} heard first complains) =
-      complained_just next had (written_sound before had mid next fault line sound heard first) complains
+      complained_just (moment next before.asked) (written_sound before mid next fault line sound heard first) complains
 
   -- ---- who is ended in a turn
 
   -- an engine that is there is up
-  pub is_up : (now : State P) (has : Attempts P) (engine : Engine P) → IsSound None now has → now.engine ≡ Some engine
-      → now.check.exam.up ≡ true
-  is_up now has engine sound there =
+  pub is_up : (now : Moment P) (engine : Engine P) → IsSound None now → now.state.engine ≡ Some engine
+      → now.state.check.exam.up ≡ true
+  is_up now engine sound there =
       let held = sound.engine engine there in
-      (laws.silent plan.rule held.process held.first now.check.exam (dialogue engine now.notes) held.ends).up
+      (laws.silent plan.rule held.process held.first now.state.check.exam (dialogue engine now.state.notes)
+      held.ends).up
 
-  pub turn_ends : (before : State P) (had : Attempts P) {after : State P} {has : Attempts P}
-      {texts shows : List (List ℕ)} → IsSound None before had
-      → (turn : Turn known plan before had after has texts shows)
+  pub turn_ends : (before : Moment P) {after : Moment P} {texts shows : List (List ℕ)} → IsSound None before
+      → (turn : Turn known plan before after texts shows)
       → (ends : State P) (engine : Engine P) → ended_in turn ≡ Some ends → ends.engine ≡ Some engine
       → ends.check.exam.unanswered ≡ []
-  turn_ends before had sound (Turn.starts {mid = mid} process steps next fruitful may tries quits fresh) ends engine is
+  turn_ends before sound (Turn.starts {mid = mid} process steps next fruitful may tries quits fresh) ends engine is
       there =
       let at_mid : mid.engine ≡ Some engine = ap (λ (s : State P). s.engine) (one_there is) ∙ there in
-      let up = is_up mid had engine (asked_sound before had sound steps) at_mid in
+      let up = is_up (moment mid before.asked) engine (asked_sound before.state before.asked sound steps) at_mid in
       let not_up = next.goes.0 in
       absurd (let never : true ≡ false = sym up ∙ not_up in cc never)
-  turn_ends before had sound (Turn.restarts {mid = mid} steps next quits) ends engine is there =
+  turn_ends before sound (Turn.restarts {mid = mid} steps next quits) ends engine is there =
       subst (λ (s : State P). s.check.exam.unanswered ≡ []) (one_there is) next.goes.0
-  turn_ends before had sound (Turn.kills {mid = mid} steps next ended) ends engine is there =
+  turn_ends before sound (Turn.kills {mid = mid} steps next ended) ends engine is there =
       subst (λ (s : State P). s.check.exam.unanswered ≡ []) (one_there is) next.goes.0
-  turn_ends before had sound (Turn.exchanges heard first complains) ends engine is there = absurd (cc is)
+  turn_ends before sound (Turn.exchanges heard first complains) ends engine is there = absurd (cc is)
 
-  -- ---- turns
+-- ---- turns
 
-  module _ {O E : Type 0} (outs : WriterGhosts O) (errs : WriterGhosts E) (progress : Bool) where
-    pub turns_sound : (first : State P) (asked : Attempts P) (out : O) (errors : E) {count : ℕ} {last : State P}
-        {has : Attempts P} {written : O} {sees : E} → IsSound None first asked
-        → Turns known plan outs errs progress first asked out errors count last has written sees
-        → IsSound None last has
-    turns_sound first asked out errors sound Turns.not_yet = sound
-    turns_sound first asked out errors sound (Turns.turns {before = before} {had = had} more turn goes_out shown) =
-        turn_sound before had (turns_sound first asked out errors sound more) turn
+module _ {P O E : Type 0} (known : Known P O E) (laws : Laws known.processes) (plan : Plan) where
+  pub turns_sound : (first : Point P O E) {count : ℕ} {last : Point P O E}
+      → IsSound known.processes laws plan None first.now → Turns known plan first count last
+      → IsSound known.processes laws plan None last.now
+  turns_sound first sound Turns.not_yet = sound
+  turns_sound first sound (Turns.turns {before = before} more turn goes_out shown) =
+      turn_sound known.processes laws plan before.now (turns_sound first sound more) turn
 
-    -- a check is sound at each point to which it comes
-    pub all_sound : (asked : Attempts P) (out : O) (errors : E) (count : ℕ) (last : State P) (has : Attempts P)
-        (written : O) (sees : E)
-        → Turns known plan outs errs progress (before_all plan) asked out errors count last has written sees
-        → IsSound None last has
-    all_sound asked out errors count last has written sees more =
-        turns_sound (before_all plan) asked out errors (down (before_all plan) asked refl refl) more
+-- a check is sound at each point to which it comes
+pub all_sound : {P O E : Type 0} (known : Known P O E) (laws : Laws known.processes) (begins : Beginning P O E)
+    {count : ℕ} {last : Point P O E} → Turns known begins.plan (first_point begins) count last
+    → IsSound known.processes laws begins.plan None last.now
+all_sound known laws begins more =
+    turns_sound known laws begins.plan (first_point begins)
+    (down known.processes laws begins.plan (moment (before_all begins.plan) begins.asked) refl refl) more
 
 -- ---- in a check that found nothing
 
@@ -349,45 +348,42 @@ module _ {P : Type 0} (known : Ghosts P) (laws : Laws known) (plan : Plan) where
   first_none before is_wrong (WritesFirst.not_due is) = refl
   first_none before is_wrong (WritesFirst.due is) = refl
 
-  complained_none : (before : State P) (had : Attempts P) {fault : Option Fault} {after : State P} {has : Attempts P}
-      {said : List (List ℕ)} → Complains known plan before had fault after has said
-      → after.tally.complaints ≡ 0 → (before.tally.complaints ≡ 0) × (is_blamed plan.suicide fault ≡ false)
-  complained_none before had Complains.nothing is = (is, refl)
-  complained_none before had (Complains.passed_over unjudged passes) is =
+  complained_none : (before : Moment P) {fault : Option Fault} {after : Moment P} {said : List (List ℕ)}
+      → Complains known plan before fault after said → after.state.tally.complaints ≡ 0
+      → (before.state.tally.complaints ≡ 0) × (is_blamed plan.suicide fault ≡ false)
+  complained_none before Complains.nothing is = (is, refl)
+  complained_none before (Complains.passed_over unjudged passes) is =
       (sym (ap (λ (s : State P). s.tally.complaints) passes.leads) ∙ is, ap not unjudged)
-  complained_none before had (Complains.hidden {fault = fault} {mid = mid} wrong judged closes not_shown) is =
+  complained_none before (Complains.hidden {fault = fault} {mid = mid} wrong judged closes not_shown) is =
       absurd (some_found mid.tally (wrong_purpose wrong).lesson fault is)
-  complained_none before had
-      (Complains.shown {fault = fault} {mid = mid} {after = after} {has = has} {shorter = shorter} wrong complaint
-      judged closes shows shortened about) is =
+  complained_none before
+      (Complains.shown {fault = fault} {mid = mid} wrong complaint judged closes shows shortened about) is =
       let start = found_in mid wrong fault in
-      let comes = shortened_comes known laws plan wrong start.check.exam.game.rule start had shorter after has refl
+      let comes = shortened_comes known laws plan wrong start.check.exam.game.rule (moment start before.asked) refl
       shortened in
       absurd (some_found mid.tally (wrong_purpose wrong).lesson fault
       (sym (ap (λ (t : Tally). t.complaints) comes.0.tally) ∙ is))
 
-  pub turn_none : (before : State P) (had : Attempts P) {after : State P} {has : Attempts P}
-      {texts shows : List (List ℕ)} → (turn : Turn known plan before had after has texts shows)
-      → after.tally.complaints ≡ 0 → (before.tally.complaints ≡ 0) × (is_blamed plan.suicide (fault_in turn) ≡ false)
-  turn_none before had (Turn.starts {mid = mid} process steps next fruitful may tries quits fresh) is =
-      (sym (ap (λ (t : Tally). t.complaints) (asked_tally before steps)) ∙ started_none mid.tally is, refl)
-  turn_none before had (Turn.restarts steps next quits) is =
-      (sym (ap (λ (t : Tally). t.complaints) (asked_tally before steps)) ∙ is, refl)
-  turn_none before had (Turn.kills steps next ended) is =
-      (sym (ap (λ (t : Tally). t.complaints) (asked_tally before steps)) ∙ is, refl)
-  turn_none before had (Turn.exchanges {mid = mid} {next = next} {fault = fault} heard first complains) is =
-      let none = complained_none next had complains is in (
-        sym (ap (λ (t : Tally). t.complaints) (asked_tally before heard.asks))
+  pub turn_none : (before : Moment P) {after : Moment P} {texts shows : List (List ℕ)}
+      → (turn : Turn known plan before after texts shows) → after.state.tally.complaints ≡ 0
+      → (before.state.tally.complaints ≡ 0) × (is_blamed plan.suicide (fault_in turn) ≡ false)
+  turn_none before (Turn.starts {mid = mid} process steps next fruitful may tries quits fresh) is =
+      (sym (ap (λ (t : Tally). t.complaints) (asked_tally before.state steps)) ∙ started_none mid.tally is, refl)
+  turn_none before (Turn.restarts steps next quits) is =
+      (sym (ap (λ (t : Tally). t.complaints) (asked_tally before.state steps)) ∙ is, refl)
+  turn_none before (Turn.kills steps next ended) is =
+      (sym (ap (λ (t : Tally). t.complaints) (asked_tally before.state steps)) ∙ is, refl)
+  turn_none before (Turn.exchanges {mid = mid} {next = next} {fault = fault} heard first complains) is =
+      let none = complained_none (moment next before.asked) complains is in (
+        sym (ap (λ (t : Tally). t.complaints) (asked_tally before.state heard.asks))
             ∙ sym (ap (λ (s : State P). s.tally.complaints) heard.heard.leads)
             ∙ sym (first_none mid (is_blamed plan.suicide fault) first) ∙ none.0,
         none.1,
       )
 
-  module _ {O E : Type 0} (outs : WriterGhosts O) (errs : WriterGhosts E) (progress : Bool) where
-    pub turns_none : (first : State P) (asked : Attempts P) (out : O) (errors : E) {count : ℕ} {last : State P}
-        {has : Attempts P} {written : O} {sees : E}
-        → Turns known plan outs errs progress first asked out errors count last has written sees
-        → last.tally.complaints ≡ 0 → first.tally.complaints ≡ 0
-    turns_none first asked out errors Turns.not_yet is = is
-    turns_none first asked out errors (Turns.turns {before = before} {had = had} more turn goes_out shown) is =
-        turns_none first asked out errors more (turn_none before had turn is).0
+module _ {P O E : Type 0} (known : Known P O E) (laws : Laws known.processes) (plan : Plan) where
+  pub turns_none : (first : Point P O E) {count : ℕ} {last : Point P O E} → Turns known plan first count last
+      → last.now.state.tally.complaints ≡ 0 → first.now.state.tally.complaints ≡ 0
+  turns_none first Turns.not_yet is = is
+  turns_none first (Turns.turns {before = before} more turn goes_out shown) is =
+      turns_none first more (turn_none known.processes laws plan before.now turn is).0

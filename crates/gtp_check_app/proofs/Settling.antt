@@ -20,15 +20,16 @@ use Rattle.gtp_check_talks.specs.Dialogues.{IsTrial, Wrong, right, unstarted, wr
 use Rattle.gtp_check_app.specs.Progress.{IsShown, cleared, clearing, looking, looking_line}
 use Rattle.gtp_check_shortening.specs.Shortening.{shortened, shortenings}
 use Rattle.gtp_check_app.specs.Tally.{found, is_shown}
-use Rattle.gtp_check_app.specs.Turns.{Closes, Complains, IsComplaint, Shortens, State, found_in, hidden}
-use Rattle.gtp_check_app.specs.Turns.{complaint_broke as turn_complaint_broke, first_line_broke}
-use Rattle.gtp_check_app.specs.Turns.{no_memory_for_first_line}
-use Rattle.gtp_check_app.specs.Turns.{IsShortened, Reduces, TriesOne, TriesShorter, missed, no_memory_to_complain}
-use Rattle.gtp_check_app.specs.Turns.{none_left, process_of, shortened_so}
+use Rattle.gtp_check_app.specs.declared.streams.Streams.{Streams}
+use Rattle.gtp_check_app.specs.Sequence.{Known, Point, StopsIn, first_line_broke, no_memory_for_first_line}
+use Rattle.gtp_check_app.specs.Sequence.{complaint_broke as turn_complaint_broke, no_memory_to_complain, point}
+use Rattle.gtp_check_app.specs.Turns.{Closes, Complains, Exchanges, IsComplaint, IsReduced, IsShortened, IsTried}
+use Rattle.gtp_check_app.specs.Turns.{Moment, Reduces, Shortens, State, TriesOne, TriesShorter, found_in, hidden}
+use Rattle.gtp_check_app.specs.Turns.{missed, moment, none_left, process_of, shortened_so, shown, waiting}
 use Rattle.gtp_check_shortening.specs.Reduction.{Reduction}
-use Rattle.gtp_check_app.specs.Turns.{shown, waiting}
-use Rattle.gtp_check_app.specs.private.Steps.{ComplaintGoesOut, ComplaintStops, FirstGoesOut, FirstStops, StopsAfter}
-use Rattle.gtp_check_app.specs.private.Steps.{complaint_broke, complaint_refused, first_broke, first_refused}
+use Rattle.gtp_check_app.specs.private.Steps.{ComplaintGoesOut, ComplaintStops, FirstGoesOut, FirstStops, Settles}
+use Rattle.gtp_check_app.specs.private.Steps.{StopsAfter, complaint_broke, complaint_refused, first_broke}
+use Rattle.gtp_check_app.specs.private.Steps.{first_goes_out, first_refused, stops_after}
 use Rattle.gtp_check_app.specs.Unjudged.{is_blamed}
 use Rattle.gtp_check_app.proofs.Progressing.{both_shown, none_shown}
 
@@ -42,15 +43,15 @@ not-false true is = refl
 not-false false is = absurd (cc is)
 
 -- lines went out, and then others
-pub both_out : {W : Type 0} (known : WriterGhosts W) (one other : List (List ℕ)) (before between after : W)
+both_out : {W : Type 0} (known : WriterGhosts W) (one other : List (List ℕ)) (before between after : W)
     → LinesGoOut known one before between → LinesGoOut known other between after
     → LinesGoOut known (one ++ other) before after
 both_out known one other before between after no_line later = later
 both_out known one other before between after (line_out {lines = lines} {mid = mid} first rest) later =
     line_out first (both_out known lines other mid between after rest later)
 
-module _ {P : Type 0} (known : Ghosts P) (plan : Plan) (before mid : State P) (had : Attempts P) (fault : Fault)
-    (wrong : Wrong) (purpose : Purpose) (tally : Tally) (closes : Closes known fault before wrong mid)
+module _ {P O E : Type 0} (known : Known P O E) (plan : Plan) (before : Moment P) (mid : State P) (fault : Fault)
+    (wrong : Wrong) (purpose : Purpose) (tally : Tally) (closes : Closes known.processes fault before.state wrong mid)
     (judged : is_blamed plan.suicide (Some fault) ≡ true) (same : purpose ≡ wrong_purpose wrong)
     (now : tally ≡ found mid.tally purpose.lesson fault) where
   found_now : record mid { tally = tally } ≡ found_in mid wrong fault
@@ -58,81 +59,124 @@ module _ {P : Type 0} (known : Ghosts P) (plan : Plan) (before mid : State P) (h
       ap (λ (t : Tally). record mid { tally = t })
       (now ∙ ap (λ (p : Purpose). found mid.tally p.lesson fault) same)
 
-  pub is_hidden : {O E : Type 0} (outs : WriterGhosts O) (errs : WriterGhosts E) (progress : Bool) (answer : Bool)
-      → answer ≡ is_shown mid.tally purpose.lesson fault → answer ≡ false → (out : O) (errors : E)
-      → ComplaintGoesOut known plan outs errs progress before had fault (record mid { tally = tally }) had
-      out out errors
-      errors
-  is_hidden outs errs progress answer is so out errors =
+  pub is_hidden : (answer : Bool) → answer ≡ is_shown mid.tally purpose.lesson fault → answer ≡ false
+      → (streams : Streams O E)
+      → ComplaintGoesOut known plan (record { now = before; streams = streams }) fault
+      (point (record mid { tally = tally }) before.asked streams)
+  is_hidden answer is so streams =
       subst
       (λ (last : State P).
-      ComplaintGoesOut known plan outs errs progress before had fault last had out out errors errors)
+      ComplaintGoesOut known plan (record { now = before; streams = streams }) fault (point last before.asked streams))
       (sym found_now)
       (record {
         said = [];
         complains = hidden wrong (not-true _ judged) closes
             (sym (ap (λ (p : Purpose). is_shown mid.tally p.lesson fault) same) ∙ sym is ∙ so);
         goes_out = no_line;
-        shown = none_shown errs progress errors;
+        shown = none_shown known.errs plan.shows_progress streams.errors;
       })
 
   pub complained : (answer : Bool) → answer ≡ is_shown mid.tally purpose.lesson fault → answer ≡ true
-      → {shorter : Option Wrong} {after : State P} {has : Attempts P}
-      → IsShortened known plan wrong (record mid { tally = tally }) had shorter after has
+      → {shorter : Option Wrong} {after : Moment P}
+      → IsShortened known.processes plan wrong (moment (record mid { tally = tally }) before.asked) shorter after
       → (complaint : Complaint)
-      → IsComplaint plan.rule after.tally.complaints purpose.lesson (unwrap_or shorter wrong) complaint
-      → Complains known plan before had (Some fault) after has (complaint_lines complaint ∷ [])
-  complained answer is so {shorter = shorter} {after = after} {has = has} shortens complaint about =
-      shown wrong complaint (not-true _ judged) closes (sym (ap (λ (p : Purpose). is_shown mid.tally p.lesson fault) same) ∙ sym is ∙ so)
-      (subst (λ (start : State P). IsShortened known plan wrong start had shorter after has)
+      → IsComplaint plan.rule after.state.tally.complaints purpose.lesson (unwrap_or shorter wrong) complaint
+      → Complains known.processes plan before (Some fault) after (complaint_lines complaint ∷ [])
+  complained answer is so {shorter = shorter} {after = after} shortens complaint about =
+      shown wrong complaint (not-true _ judged) closes
+      (sym (ap (λ (p : Purpose). is_shown mid.tally p.lesson fault) same) ∙ sym is ∙ so)
+      (subst
+      (λ (start : State P). IsShortened known.processes plan wrong (moment start before.asked) shorter after)
       found_now shortens)
       (subst (λ (p : Purpose).
-      IsComplaint plan.rule after.tally.complaints p.lesson (unwrap_or shorter wrong) complaint) same about)
+      IsComplaint plan.rule after.state.tally.complaints p.lesson (unwrap_or shorter wrong) complaint) same about)
 
-module _ {P O E : Type 0} (known : Ghosts P) (plan : Plan) (outs : WriterGhosts O) (errs : WriterGhosts E)
-    (progress : Bool) where
+module _ {P O E : Type 0} (known : Known P O E) (plan : Plan) where
   -- what is waited for was shown, and then what is shown before the first line and a complaint
   all_shown : (mid : State P) (line texts : List (List ℕ)) (errors seen then sees : E)
-      → IsShown errs progress (waiting plan mid) errors seen → IsShown errs progress (clearing line) seen then
-      → IsShown errs progress texts then sees
-      → IsShown errs progress (waiting plan mid ++ (clearing line ++ texts)) errors sees
+      → IsShown known.errs plan.shows_progress (waiting plan mid) errors seen
+      → IsShown known.errs plan.shows_progress (clearing line) seen then
+      → IsShown known.errs plan.shows_progress texts then sees
+      → IsShown known.errs plan.shows_progress (waiting plan mid ++ (clearing line ++ texts)) errors sees
   all_shown mid line texts errors seen then sees waited cleared_so last =
-      both_shown errs progress (waiting plan mid) (clearing line ++ texts) errors seen sees waited
-      (both_shown errs progress (clearing line) texts seen then sees cleared_so last)
+      both_shown known.errs plan.shows_progress (waiting plan mid) (clearing line ++ texts) errors seen sees waited
+      (both_shown known.errs plan.shows_progress (clearing line) texts seen then sees cleared_so last)
 
   -- the first line wasn't written, and so the turn stopped
-  pub first_stops : (mid after : State P) (had : Attempts P) (fault : Option Fault) (out written : O) (seen sees : E)
-      (why : Failure) → FirstStops known plan outs errs progress mid (is_blamed plan.suicide fault) after out written seen sees why
-      → StopsAfter known plan outs errs progress mid had fault (process_of after.engine) had out written seen sees why
-  first_stops mid after had fault out written seen sees why (first_broke first breaks wrote same) =
-      λ before errors heard waited.
+  pub first_stops : (mid : Point P O E) (fault : Option Fault) (after : State P) (new : Streams O E) (why : Failure)
+      → FirstStops known plan mid.now.state (is_blamed plan.suicide fault) mid.streams after new why
+      → StopsAfter known plan mid fault (process_of after.engine) mid.now.asked new why
+  first_stops mid fault after new why (first_broke first breaks wrote same) =
+      stops_after (λ before errors heard waited.
       rw same
       (first_line_broke heard first breaks
-      (both_shown errs progress (waiting plan heard.mid) (cleared ∷ []) errors seen sees waited wrote))
-  first_stops mid after had fault out written seen sees why (first_refused is still same) =
-      λ before errors heard waited. rw (is, still, same) (no_memory_for_first_line heard waited)
+      (both_shown known.errs plan.shows_progress (waiting plan heard.mid) (cleared ∷ []) errors mid.streams.errors
+      new.errors waited wrote)))
+  first_stops mid fault after new why (first_refused still same) =
+      stops_after (λ before errors heard waited. rw (still, same) (no_memory_for_first_line heard waited))
 
   -- the complaint wasn't written, and so the turn stopped
-  pub complaint_stops : (mid next after : State P) (had has : Attempts P) (fault : Fault) (out between written : O)
-      (seen then sees : E) (why : Failure)
-      → is_blamed plan.suicide (Some fault) ≡ true
-      → FirstGoesOut known plan outs errs progress mid (is_blamed plan.suicide (Some fault)) next out between seen then
-      → ComplaintStops known plan outs errs progress next had fault after has between written then sees why
-      → StopsAfter known plan outs errs progress mid had (Some fault) (process_of after.engine) has
-      out written seen sees
-      why
-  complaint_stops mid next after had has fault out between written seen then sees why judged first
+  pub complaint_stops : (mid : Point P O E) (fault : Fault) (next : State P) (between : Streams O E)
+      (after : Point P O E) (why : Failure) → is_blamed plan.suicide (Some fault) ≡ true
+      → FirstGoesOut known plan mid.now.state (is_blamed plan.suicide (Some fault)) mid.streams next between
+      → ComplaintStops known plan (point next mid.now.asked between) fault after why
+      → StopsAfter known plan mid (Some fault) (process_of after.now.state.engine) after.now.asked after.streams why
+  complaint_stops mid fault next between after why judged (first_goes_out line first goes_out cleared_so)
       (complaint_broke {text = text} complains breaks wrote gone) =
-      λ before errors heard waited.
+      stops_after (λ before errors heard waited.
       rw gone
-      (turn_complaint_broke heard first.first first.goes_out complains breaks
-      (all_shown heard.mid first.line (looking (text ∷ [])) errors seen then sees waited first.shown wrote))
-  complaint_stops mid next after had has fault out between written seen then sees why judged first
+      (turn_complaint_broke heard first goes_out complains breaks
+      (all_shown heard.mid line (looking (text ∷ [])) errors mid.streams.errors between.errors after.streams.errors
+      waited cleared_so wrote)))
+  complaint_stops mid fault next between after why judged (first_goes_out line first goes_out cleared_so)
       (complaint_refused closes asks is wrote gone) =
-      λ before errors heard waited.
-      rw (gone, is)
-      (no_memory_to_complain heard (rw judged at first.first) first.goes_out closes asks
-      (all_shown heard.mid first.line (looking_line ∷ []) errors seen then sees waited first.shown wrote))
+      stops_after (λ before errors heard waited.
+      rw gone
+      (no_memory_to_complain heard (rw judged at first)
+      (subst (λ (out : O). LinesGoOut known.outs line mid.streams.output out) (sym is) goes_out) closes asks
+      (all_shown heard.mid line (looking_line ∷ []) errors mid.streams.errors between.errors after.streams.errors
+      waited cleared_so wrote)))
+
+  -- the turn with this exchange stopped
+  pub stopped_in : {mid : Point P O E} {fault : Option Fault} {process : Option P} {has : Attempts P}
+      {after : Streams O E} {why : Failure} → StopsAfter known plan mid fault process has after why
+      → (before : State P) (errors : E) (heard : Exchanges known.processes plan before fault mid.now.state)
+      → IsShown known.errs plan.shows_progress (waiting plan heard.mid) errors mid.streams.errors
+      → StopsIn known plan (point before mid.now.asked (record mid.streams { errors = errors })) process has after why
+  stopped_in (stops_after stops) = stops
+
+  -- the first line was written where it is due, and nothing is complained of
+  pub settles_quietly : (mid : Point P O E) (fault : Option Fault) (next : State P) (between : Streams O E)
+      (after : State P) → FirstGoesOut known plan mid.now.state (is_blamed plan.suicide fault) mid.streams next between
+      → Complains known.processes plan (moment next mid.now.asked) fault (moment after mid.now.asked) []
+      → Settles known plan mid fault (point after mid.now.asked between)
+  settles_quietly mid fault next between after (first_goes_out line first goes_out cleared_so) complains = record {
+    next = next;
+    line = line;
+    said = [];
+    first = first;
+    complains = complains;
+    goes_out = both_out known.outs line [] mid.streams.output between.output between.output goes_out no_line;
+    shown = both_shown known.errs plan.shows_progress (clearing line) [] mid.streams.errors between.errors
+        between.errors cleared_so (none_shown known.errs plan.shows_progress between.errors);
+  }
+
+  -- the first line was written where it is due, and then what is due of a complaint
+  pub settles_so : (mid : Point P O E) (fault : Fault) (next : State P) (between : Streams O E) (after : Point P O E)
+      → FirstGoesOut known plan mid.now.state (is_blamed plan.suicide (Some fault)) mid.streams next between
+      → ComplaintGoesOut known plan (point next mid.now.asked between) fault after
+      → Settles known plan mid (Some fault) after
+  settles_so mid fault next between after (first_goes_out line first goes_out cleared_so) out = record {
+    next = next;
+    line = line;
+    said = out.said;
+    first = first;
+    complains = out.complains;
+    goes_out = both_out known.outs line out.said mid.streams.output between.output after.streams.output goes_out
+        out.goes_out;
+    shown = both_shown known.errs plan.shows_progress (clearing line) (looking out.said) mid.streams.errors
+        between.errors after.streams.errors cleared_so out.shown;
+  }
 
 -- ---- after a complaint the engine is down
 
@@ -144,68 +188,68 @@ trial_down known line purpose commands old had first (unstarted reason tries) do
 trial_down known line purpose commands old had first (right process ending tries converses asks left) down = refl
 trial_down known line purpose commands old had first (wrong process ending fault tries ends asks left) down = refl
 
-one_down : {P : Type 0} (known : Ghosts P) (plan : Plan) (about : Wrong) (commands : List CheckCommand)
-    (before : State P) (had : Attempts P) → {result : Option Wrong} {after : State P} {has : Attempts P}
-    → TriesOne known plan about commands before had result after has
-    → before.check.exam.up ≡ false → after.check.exam.up ≡ false
-one_down known plan about commands before had (TriesOne.no_start never) down = down
-one_down known plan about commands before had (TriesOne.right may tried) down =
-    trial_down known (program_line plan.words.items) (wrong_purpose about) commands before.check had before.notes
-    tried.trial down
-one_down known plan about commands before had (TriesOne.other may tried differs) down =
-    trial_down known (program_line plan.words.items) (wrong_purpose about) commands before.check had before.notes
-    tried.trial down
-one_down known plan about commands before had (TriesOne.alike may tried same) down =
-    trial_down known (program_line plan.words.items) (wrong_purpose about) commands before.check had before.notes
-    tried.trial down
+tried_down : {P : Type 0} (known : Ghosts P) (plan : Plan) (about : Wrong) (commands : List CheckCommand)
+    (before : Moment P) → {result : Option Wrong} {after : Moment P}
+    → IsTried known plan about commands before result after
+    → before.state.check.exam.up ≡ false → after.state.check.exam.up ≡ false
+tried_down known plan about commands before (IsTried.by_trial trial) down =
+    trial_down known (program_line plan.words.items) (wrong_purpose about) commands before.state.check before.asked
+    before.state.notes trial down
 
-tries_down : {P : Type 0} (known : Ghosts P) (plan : Plan) (about : Wrong) (how : Shortening) (before : State P)
-    (had : Attempts P) → {result : Option Wrong} {after : State P} {has : Attempts P}
-    → TriesShorter known plan about how before had result after has
-    → before.check.exam.up ≡ false → after.check.exam.up ≡ false
-tries_down known plan about how before had (TriesShorter.left_out not) down = down
-tries_down known plan about how before had (TriesShorter.tries may one) down =
-    one_down known plan about (shortened how (wrong_talk about)) before had one down
+one_down : {P : Type 0} (known : Ghosts P) (plan : Plan) (about : Wrong) (commands : List CheckCommand)
+    (before : Moment P) → {result : Option Wrong} {after : Moment P}
+    → TriesOne known plan about commands before result after
+    → before.state.check.exam.up ≡ false → after.state.check.exam.up ≡ false
+one_down known plan about commands before (TriesOne.no_start never) down = down
+one_down known plan about commands before (TriesOne.right may tried) down =
+    tried_down known plan about commands before tried down
+one_down known plan about commands before (TriesOne.other may tried differs) down =
+    tried_down known plan about commands before tried down
+one_down known plan about commands before (TriesOne.alike may tried same) down =
+    tried_down known plan about commands before tried down
+
+tries_down : {P : Type 0} (known : Ghosts P) (plan : Plan) (about : Wrong) (how : Shortening) (before : Moment P)
+    → {result : Option Wrong} {after : Moment P} → TriesShorter known plan about how before result after
+    → before.state.check.exam.up ≡ false → after.state.check.exam.up ≡ false
+tries_down known plan about how before (TriesShorter.left_out not) down = down
+tries_down known plan about how before (TriesShorter.tries may one) down =
+    one_down known plan about (shortened how (wrong_talk about)) before one down
 
 shortens_down : {P : Type 0} (known : Ghosts P) (plan : Plan) (found : Wrong) (all : List Shortening)
-    → {before : State P} {had : Attempts P} {result : Option Wrong} {after : State P} {has : Attempts P}
-    → Shortens known plan found all before had result after has
-    → before.check.exam.up ≡ false → after.check.exam.up ≡ false
+    → {before : Moment P} {result : Option Wrong} {after : Moment P} → Shortens known plan found all before result after
+    → before.state.check.exam.up ≡ false → after.state.check.exam.up ≡ false
 shortens_down known plan found [] none_left down = down
-shortens_down known plan found (how ∷ later) (missed {before = before} {had = had} one more) down =
-    shortens_down known plan found later more (tries_down known plan found how before had one down)
-shortens_down known plan found (how ∷ later) (shortened_so {before = before} {had = had} one) down =
-    tries_down known plan found how before had one down
+shortens_down known plan found (how ∷ later) (missed {before = before} one more) down =
+    shortens_down known plan found later more (tries_down known plan found how before one down)
+shortens_down known plan found (how ∷ later) (shortened_so {before = before} one) down =
+    tries_down known plan found how before one down
 
-reduces_down : {P : Type 0} (known : Ghosts P) (plan : Plan) (about : Wrong) (first : Reduction) (before : State P)
-    (had : Attempts P) → {last : Reduction} {best : Option Wrong} {after : State P} {has : Attempts P}
-    → Reduces known plan about first before had last best after has
-    → before.check.exam.up ≡ false → after.check.exam.up ≡ false
-reduces_down known plan about first before had Reduces.begins down = down
-reduces_down known plan about first before had
-    (Reduces.failed {mid = mid} {between = between} commands so_far is one) down =
-    one_down known plan about commands mid between one (reduces_down known plan about first before had so_far down)
-reduces_down known plan about first before had
-    (Reduces.succeeded {mid = mid} {between = between} commands so_far is one) down =
-    one_down known plan about commands mid between one (reduces_down known plan about first before had so_far down)
+reduces_down : {P : Type 0} (known : Ghosts P) (plan : Plan) (about : Wrong) (first : Reduction) (before : Moment P)
+    → {last : Reduction} {best : Option Wrong} {after : Moment P}
+    → Reduces known plan about first before last best after
+    → before.state.check.exam.up ≡ false → after.state.check.exam.up ≡ false
+reduces_down known plan about first before Reduces.begins down = down
+reduces_down known plan about first before (Reduces.failed {mid = mid} commands so_far is one) down =
+    one_down known plan about commands mid one (reduces_down known plan about first before so_far down)
+reduces_down known plan about first before (Reduces.succeeded {mid = mid} commands so_far is one) down =
+    one_down known plan about commands mid one (reduces_down known plan about first before so_far down)
 
-shortened_down : {P : Type 0} (known : Ghosts P) (plan : Plan) (about : Wrong) (before : State P) (had : Attempts P)
-    (result : Option Wrong) (after : State P) (has : Attempts P)
-    → IsShortened known plan about before had result after has
-    → before.check.exam.up ≡ false → after.check.exam.up ≡ false
-shortened_down known plan about before had result after has so down =
-    reduces_down known plan about _ so.mid so.between so.reduced.reduces
-    (shortens_down known plan about shortenings so.shortens down)
+shortened_down : {P : Type 0} (known : Ghosts P) (plan : Plan) (about : Wrong) (before : Moment P)
+    → {result : Option Wrong} {after : Moment P} → IsShortened known plan about before result after
+    → before.state.check.exam.up ≡ false → after.state.check.exam.up ≡ false
+shortened_down known plan about before
+    (IsShortened.both_ways {mid = mid} shortens (IsReduced.reduced reduces over)) down =
+    reduces_down known plan about _ mid reduces (shortens_down known plan about shortenings shortens down)
 
-pub complains_down : {P : Type 0} (known : Ghosts P) (plan : Plan) (before : State P) (had : Attempts P) (fault : Fault)
-    → {after : State P} {has : Attempts P} {said : List (List ℕ)} (which : Option Fault) → which ≡ Some fault
-    → Complains known plan before had which after has said → after.check.exam.up ≡ false
-complains_down known plan before had fault which is Complains.nothing = absurd (cc is)
-complains_down known plan before had fault which is (Complains.passed_over so passes) =
+pub complains_down : {P : Type 0} (known : Ghosts P) (plan : Plan) (before : Moment P) (fault : Fault)
+    → {after : Moment P} {said : List (List ℕ)} (which : Option Fault) → which ≡ Some fault
+    → Complains known plan before which after said → after.state.check.exam.up ≡ false
+complains_down known plan before fault which is Complains.nothing = absurd (cc is)
+complains_down known plan before fault which is (Complains.passed_over so passes) =
     ap {A = State _} (λ now. now.check.exam.up) passes.leads
-complains_down known plan before had fault which is (Complains.hidden {mid = mid} about judged closes kept_back) =
+complains_down known plan before fault which is (Complains.hidden {mid = mid} about judged closes kept_back) =
     ap {A = State _} (λ now. now.check.exam.up) closes.leads
-complains_down known plan before had fault which is
+complains_down known plan before fault which is
     (Complains.shown {fault = one} {mid = mid} about complaint judged closes so shortens which_one) =
-    shortened_down known plan about _ _ _ _ _ shortens
+    shortened_down known plan about _ shortens
     (ap {A = State _} (λ now. now.check.exam.up) closes.leads)

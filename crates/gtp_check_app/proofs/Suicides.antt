@@ -1,10 +1,9 @@
 -- Suicide that isn't judged.
-use Rattle.std.proofs.Common.{◌≡◌, ◌∙◌, ap, refl, sym, List, [], ◌∷◌, ℕ, Bool, true, false, Option, None, Some}
+use Rattle.std.proofs.Common.{◌≡◌, ◌∙◌, ap, refl, sym, List, [], ◌∷◌, ℕ, true, Option, None, Some}
 use Rattle.std.proofs.lemmas.List.Elements.{All-cons, All-nil}
 use Rattle.std.specs.Prelude.{All, unwrap_or}
 use Rattle.go_board.specs.declared.faults.PlayFault.TheVariants.{Suicide}
 use Rattle.gtp_process.specs.declared.starter.Process.{Ghosts}
-use Rattle.gtp_process.specs.Starts.{Attempts}
 use Rattle.gtp_check_judge.specs.declared.asking.CheckCommand.{CheckCommand}
 use Rattle.gtp_check_judge.specs.declared.judging.Kind.TheVariants.{Unlawful}
 use Rattle.gtp_check_questions.specs.declared.suicides.Suicide.{Suicide as SuicideRule}
@@ -17,7 +16,8 @@ use Rattle.gtp_check_talks.specs.Dialogues.{EndsLike, Wrong}
 use Rattle.gtp_check_plan.specs.declared.plan.Plan.{Plan}
 use Rattle.gtp_check_app.specs.Laws.{IsOfOther}
 use Rattle.gtp_check_app.specs.Tally.{with_suicide}
-use Rattle.gtp_check_app.specs.Turns.{Complains, IsShortened, Reduces, Shortens, State, TriesOne, TriesShorter, or_else}
+use Rattle.gtp_check_app.specs.Turns.{Complains, IsReduced, IsShortened, Moment, Reduces, Shortens, State, TriesOne}
+use Rattle.gtp_check_app.specs.Turns.{TriesShorter, or_else}
 use Rattle.gtp_check_app.specs.Unjudged.{is_unjudged}
 
 -- a conversation, where there is one, ended with this fault
@@ -32,27 +32,26 @@ by_none : (fault : Fault) → HasFault fault None
 by_none fault one is = absurd (cc is)
 
 module _ {P : Type 0} (known : Ghosts P) (plan : Plan) (found : Wrong) where
-  of_one : {commands : List CheckCommand} {before after : State P} {had has : Attempts P} {result : Option Wrong}
-      → TriesOne known plan found commands before had result after has → HasFault found.fault result
+  of_one : {commands : List CheckCommand} {before after : Moment P} {result : Option Wrong}
+      → TriesOne known plan found commands before result after → HasFault found.fault result
   of_one (TriesOne.no_start never) = by_none found.fault
   of_one (TriesOne.right may tried) = by_none found.fault
   of_one (TriesOne.other may tried differs) = by_none found.fault
   of_one (TriesOne.alike {tried = one} may tried same) = by_alike found one same
 
-  of_shorter : {how : Shortening} {before after : State P} {had has : Attempts P} {result : Option Wrong}
-      → TriesShorter known plan found how before had result after has → HasFault found.fault result
+  of_shorter : {how : Shortening} {before after : Moment P} {result : Option Wrong}
+      → TriesShorter known plan found how before result after → HasFault found.fault result
   of_shorter (TriesShorter.left_out not) = by_none found.fault
   of_shorter (TriesShorter.tries may one) = of_one one
 
-  of_shortens : (all : List Shortening) {before after : State P} {had has : Attempts P} {result : Option Wrong}
-      → Shortens known plan found all before had result after has → HasFault found.fault result
+  of_shortens : (all : List Shortening) {before after : Moment P} {result : Option Wrong}
+      → Shortens known plan found all before result after → HasFault found.fault result
   of_shortens [] Shortens.none_left = by_none found.fault
   of_shortens (how ∷ later) (Shortens.missed one more) = of_shortens later more
   of_shortens (how ∷ later) (Shortens.shortened_so one) = of_shorter one
 
-  of_reduces : {first : Reduction} {before : State P} {had : Attempts P} {last : Reduction} {best : Option Wrong}
-      {after : State P} {has : Attempts P}
-      → Reduces known plan found first before had last best after has → HasFault found.fault best
+  of_reduces : {first : Reduction} {before : Moment P} {last : Reduction} {best : Option Wrong} {after : Moment P}
+      → Reduces known plan found first before last best after → HasFault found.fault best
   of_reduces Reduces.begins = by_none found.fault
   of_reduces (Reduces.failed commands so_far is one) = of_reduces so_far
   of_reduces (Reduces.succeeded commands so_far is one) = of_one one
@@ -67,11 +66,10 @@ module _ {P : Type 0} (known : Ghosts P) (plan : Plan) (found : Wrong) where
   of_shown (Some one) has = has one refl
 
   -- what is shown ended with what was found
-  pub shown_fault : {before after : State P} {had has : Attempts P} {shorter : Option Wrong}
-      → IsShortened known plan found before had shorter after has → (unwrap_or shorter found).fault ≡ found.fault
-  shown_fault {shorter = shorter} is =
-      of_shown shorter
-      (rw is.is (of_either is.best is.games (of_reduces is.reduced.reduces) (of_shortens _ is.shortens)))
+  pub shown_fault : {before after : Moment P} {shorter : Option Wrong}
+      → IsShortened known plan found before shorter after → (unwrap_or shorter found).fault ≡ found.fault
+  shown_fault (IsShortened.both_ways {games = games} {best = best} shortens (IsReduced.reduced reduces over)) =
+      of_shown (or_else best games) (of_either best games (of_reduces reduces) (of_shortens _ shortens))
 
 -- a suicide that was chosen isn't judged where it isn't asked
 unjudged_so : (rule : SuicideRule) (fault : Fault) → rule ≡ Unasked → fault ≡ Wrote (Unlawful Suicide)
@@ -79,14 +77,14 @@ unjudged_so : (rule : SuicideRule) (fault : Fault) → rule ≡ Unasked → faul
 unjudged_so rule fault is so = rw (is, so) refl
 
 module _ {P : Type 0} (known : Ghosts P) where
-  pub none_written : (plan : Plan) (before after : State P) (had has : Attempts P) (fault : Option Fault)
-      (said : List (List ℕ)) → plan.suicide ≡ Unasked → Complains known plan before had fault after has said
+  pub none_written : (plan : Plan) (before after : Moment P) (fault : Option Fault)
+      (said : List (List ℕ)) → plan.suicide ≡ Unasked → Complains known plan before fault after said
       → All IsOfOther said
-  none_written plan before after had has fault said unasked Complains.nothing = All-nil IsOfOther
-  none_written plan before after had has fault said unasked (Complains.passed_over so passes) = All-nil IsOfOther
-  none_written plan before after had has fault said unasked (Complains.hidden wrong judged closes kept_back) =
+  none_written plan before after fault said unasked Complains.nothing = All-nil IsOfOther
+  none_written plan before after fault said unasked (Complains.passed_over so passes) = All-nil IsOfOther
+  none_written plan before after fault said unasked (Complains.hidden wrong judged closes kept_back) =
       All-nil IsOfOther
-  none_written plan before after had has fault said unasked
+  none_written plan before after fault said unasked
       (Complains.shown {fault = one} wrong complaint judged closes is_shown shortens about) =
       All-cons IsOfOther _ []
       (record {
@@ -99,16 +97,16 @@ module _ {P : Type 0} (known : Ghosts P) where
       })
       (All-nil IsOfOther)
 
-  pub none_counted : (plan : Plan) (before after : State P) (had has : Attempts P) (fault : Option Fault)
+  pub none_counted : (plan : Plan) (before after : Moment P) (fault : Option Fault)
       (said : List (List ℕ)) → plan.suicide ≡ Unasked → fault ≡ Some (Wrote (Unlawful Suicide))
-      → Complains known plan before had fault after has said
-      → (said ≡ []) × (after.tally ≡ with_suicide before.tally)
-  none_counted plan before after had has fault said unasked is Complains.nothing = absurd (cc is)
-  none_counted plan before after had has fault said unasked is (Complains.passed_over so passes) =
+      → Complains known plan before fault after said
+      → (said ≡ []) × (after.state.tally ≡ with_suicide before.state.tally)
+  none_counted plan before after fault said unasked is Complains.nothing = absurd (cc is)
+  none_counted plan before after fault said unasked is (Complains.passed_over so passes) =
       (refl, ap {A = State _} (λ now. now.tally) passes.leads)
-  none_counted plan before after had has fault said unasked is
+  none_counted plan before after fault said unasked is
       (Complains.hidden {fault = one} wrong judged closes kept_back) =
       absurd (cc (judged, unjudged_so plan.suicide one unasked (cc is)))
-  none_counted plan before after had has fault said unasked is
+  none_counted plan before after fault said unasked is
       (Complains.shown {fault = one} wrong complaint judged closes is_shown shortens about) =
       absurd (cc (judged, unjudged_so plan.suicide one unasked (cc is)))

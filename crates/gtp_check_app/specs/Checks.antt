@@ -13,7 +13,7 @@ use Rattle.gtp_process.specs.Endings.{IsEnded}
 use Rattle.gtp_process.specs.Quitting.{QuitsIfAny}
 use Rattle.gtp_process.specs.Shown.{unstarted_text}
 use Rattle.gtp_process.specs.Starts.{Attempts}
-use Rattle.cli.specs.Requests.{Shows, outputs, writers}
+use Rattle.cli.specs.Requests.{Outputs, Shows, outputs, writers}
 use Rattle.cli.specs.Status.{IsRequest, error_line, own_failure, usage_failure}
 use Rattle.cli.specs.declared.failure.Failure.{Failure}
 use Rattle.cli.specs.declared.failure.Failure.TheVariants.{OutOfMemory, Write}
@@ -25,7 +25,7 @@ use Rattle.gtp_check_plan.specs.declared.plan.Plan.{Plan}
 use Rattle.gtp_check_summary.specs.declared.summary.Ending.{Ending}
 use Rattle.gtp_check_summary.specs.declared.summary.Over.{Over}
 use Rattle.gtp_check_summary.specs.declared.summary.Over.TheVariants as over
-use Rattle.gtp_check_app.specs.declared.tally.Tally.{Tally}
+use Rattle.gtp_check_app.specs.declared.streams.Streams.{Streams}
 use Rattle.gtp_check_texts.specs.Listing.{list_lines}
 use Rattle.gtp_check_plan.specs.Options.{AsksFor, AsksForText, HasFault}
 use Rattle.gtp_check_plan.specs.Plans.{HasNoPlan, IsPlanOf}
@@ -33,7 +33,8 @@ use Rattle.gtp_check_app.specs.Progress.{IsShown, cleared}
 use Rattle.gtp_check_app.specs.Status.{ReportsFailure, ReportsMistake, hint_line, is_earned, program_name}
 use Rattle.gtp_check_app.specs.Status.{status_of}
 use Rattle.gtp_check_summary.specs.Summary.{last_lines}
-use Rattle.gtp_check_app.specs.Turns.{HasStopped, State, TurnsAreOver, before_all, process_of}
+use Rattle.gtp_check_app.specs.Sequence.{Beginning, HasStopped, Known, Point, TurnsAreOver, beginning, first_point}
+use Rattle.gtp_check_app.specs.Turns.{State, process_of}
 
 -- ---- the end of a check
 
@@ -57,18 +58,18 @@ status_in plan last = status_of last.tally.complaints
 
 -- What the last lines say of a check that is over for this reason: the lessons from the one on in which the course is,
 -- what isn't shown, the starts, the complaints, and the suicides that weren't judged.
-pub record IsEnding (plan : Plan) (tally : Tally) (lesson starts : ℕ) (why : Over) (ending : Ending) : Type 0 where
+pub record IsEnding {P : Type 0} (plan : Plan) (last : State P) (why : Over) (ending : Ending) : Type 0 where
   pub over : ending.over.now ≡ why
-  pub missed : ending.missed.now ≡ missed_from plan lesson
-  pub hidden : ending.hidden.now ≡ tally.hidden
-  pub starts_are : ending.starts ≡ starts
-  pub complaints : ending.complaints ≡ tally.complaints
-  pub suicides : ending.suicides ≡ tally.suicides
+  pub missed : ending.missed.now ≡ missed_from plan last.course.place.lesson
+  pub hidden : ending.hidden.now ≡ last.tally.hidden
+  pub starts : ending.starts ≡ last.check.starts
+  pub complaints : ending.complaints ≡ last.tally.complaints
+  pub suicides : ending.suicides ≡ last.tally.suicides
 
 -- the last lines of a check
 pub record AreLastLines {P : Type 0} (plan : Plan) (last : State P) (why : Over) (text : List ℕ) : Type 0 where
   pub ending : Ending
-  pub is : IsEnding plan last.tally last.course.place.lesson last.check.starts why ending
+  pub is : IsEnding plan last why ending
   pub text_is : text ≡ last_lines plan last.notes ending
 
 -- ---- a check
@@ -78,57 +79,57 @@ pub record IsFirstFailure (why : Over) (starts : ℕ) (start : Unstarted) : Type
   pub not_started : why ≡ over.NotStarted start
   pub first : starts ≡ 0
 
-module _ {P O E : Type 0} (known : Ghosts P) (outs : WriterGhosts O) (errs : WriterGhosts E) (plan : Plan)
-    (progress : Bool) (asked : Attempts P) (out : O) (errors : E) where
+module _ {P O E : Type 0} (known : Known P O E) (begins : Beginning P O E) where
   -- A check was held to its end, and the line of its progress is cleared. The last lines went out, and the status says
   -- whether something was found, and whether a pass is earned. Or the engine wasn't started at the first try: that is
   -- reported on standard error, and the status is that of a mistake.
-  pub data IsHeld : ℕ → Attempts P → O → E → Type 0 where
-    is_over : {why : Over} {last : State P} {has : Attempts P} {between written : O} {seen sees : E} {text : List ℕ}
-        → TurnsAreOver known plan outs errs progress (before_all plan) asked out errors why last has between seen
-        → IsShown errs progress (cleared ∷ []) seen sees
-        → ((start : Unstarted) → IsFirstFailure why last.check.starts start → ⊥)
-        → IsClosed known last → AreLastLines plan last why text → GoesOut outs text between written
-        → IsHeld (status_in plan last) has written sees
-    not_started : {why : Over} {start : Unstarted} {last : State P} {has : Attempts P} {written : O}
-        {seen sees reported : E}
-        → TurnsAreOver known plan outs errs progress (before_all plan) asked out errors why last has written seen
-        → IsShown errs progress (cleared ∷ []) seen sees
-        → IsFirstFailure why last.check.starts start → IsClosed known last
-        → IsWritten errs (error_line (codes "gtp_check") (unstarted_text start)) sees reported
-        → IsHeld usage_failure has written reported
+  pub data IsHeld : ℕ → Attempts P → Streams O E → Type 0 where
+    is_over : {why : Over} {last : Point P O E} {after : Streams O E} {text : List ℕ}
+        → TurnsAreOver known begins.plan (first_point begins) why last
+        → IsShown known.errs begins.plan.shows_progress (cleared ∷ []) last.streams.errors after.errors
+        → ((start : Unstarted) → IsFirstFailure why last.now.state.check.starts start → ⊥)
+        → IsClosed known.processes last.now.state → AreLastLines begins.plan last.now.state why text
+        → GoesOut known.outs text last.streams.output after.output
+        → IsHeld (status_in begins.plan last.now.state) last.now.asked after
+    not_started : {why : Over} {start : Unstarted} {last : Point P O E} {sees reported : E}
+        → TurnsAreOver known begins.plan (first_point begins) why last
+        → IsShown known.errs begins.plan.shows_progress (cleared ∷ []) last.streams.errors sees
+        → IsFirstFailure why last.now.state.check.starts start → IsClosed known.processes last.now.state
+        → IsWritten known.errs (error_line (codes "gtp_check") (unstarted_text start)) sees reported
+        → IsHeld usage_failure last.now.asked (record last.streams { errors = reported })
 
   -- A check stopped: in its turns; or at its last lines, for which memory was refused, or at which the output broke.
   -- Every process was ended, and the line of the progress is cleared.
-  pub data IsStopped : Failure → Attempts P → O → E → Type 0 where
-    in_turns : {process : Option P} {has : Attempts P} {written : O} {seen sees : E} {failure : Failure}
-        → HasStopped known plan outs errs progress (before_all plan) asked out errors process has written seen failure
-        → IsShown errs progress (cleared ∷ []) seen sees
-        → IsEnded known process → IsStopped failure has written sees
-    refused_at_end : {why : Over} {last : State P} {has : Attempts P} {written : O} {seen sees : E}
-        → TurnsAreOver known plan outs errs progress (before_all plan) asked out errors why last has written seen
-        → IsShown errs progress (cleared ∷ []) seen sees
-        → IsClosed known last → IsStopped OutOfMemory has written sees
-    broke_at_end : {why : Over} {last : State P} {has : Attempts P} {between written : O} {seen sees : E}
-        {text : List ℕ}
-        → TurnsAreOver known plan outs errs progress (before_all plan) asked out errors why last has between seen
-        → IsShown errs progress (cleared ∷ []) seen sees
-        → IsClosed known last → AreLastLines plan last why text → BreaksAt outs text between written
-        → IsStopped Write has written sees
+  pub data IsStopped : Failure → Attempts P → Streams O E → Type 0 where
+    in_turns : {process : Option P} {has : Attempts P} {between : Streams O E} {sees : E} {failure : Failure}
+        → HasStopped known begins.plan (first_point begins) process has between failure
+        → IsShown known.errs begins.plan.shows_progress (cleared ∷ []) between.errors sees
+        → IsEnded known.processes process → IsStopped failure has (record between { errors = sees })
+    refused_at_end : {why : Over} {last : Point P O E} {sees : E}
+        → TurnsAreOver known begins.plan (first_point begins) why last
+        → IsShown known.errs begins.plan.shows_progress (cleared ∷ []) last.streams.errors sees
+        → IsClosed known.processes last.now.state
+        → IsStopped OutOfMemory last.now.asked (record last.streams { errors = sees })
+    broke_at_end : {why : Over} {last : Point P O E} {after : Streams O E} {text : List ℕ}
+        → TurnsAreOver known begins.plan (first_point begins) why last
+        → IsShown known.errs begins.plan.shows_progress (cleared ∷ []) last.streams.errors after.errors
+        → IsClosed known.processes last.now.state → AreLastLines begins.plan last.now.state why text
+        → BreaksAt known.outs text last.streams.output after.output
+        → IsStopped Write last.now.asked after
 
   -- so a check ends
-  abbrev pub Ends : Result ℕ Failure → Attempts P → O → E → Type 0
-  Ends (Ok status) has written reported = IsHeld status has written reported
-  Ends (Err failure) has written reported = IsStopped failure has written reported
+  abbrev pub Ends : Result ℕ Failure → Attempts P → Streams O E → Type 0
+  Ends (Ok status) has after = IsHeld status has after
+  Ends (Err failure) has after = IsStopped failure has after
 
 -- ---- the words of the command line
 
--- the words have no mistake, and ask for this plan, or for the list of lessons
-pub record AsksForPlan (words : List Text) (plan : Plan) : Type 0 where
+-- the words have no mistake, and ask for this plan, where progress is shown or not, or for the list of lessons
+pub record AsksForPlan (words : List Text) (shows_progress : Bool) (plan : Plan) : Type 0 where
   pub options : Options
   pub asked : AsksFor words options
   pub no_list : options.list ≡ false
-  pub come_to : IsPlanOf options plan
+  pub come_to : IsPlanOf options shows_progress plan
 
 pub record AsksForList (words : List Text) : Type 0 where
   pub options : Options
@@ -164,27 +165,30 @@ HasMistake errs words before after = IsRefusedByClap errs words before after ⊎
 
 -- ---- a run
 
-module _ {P O E : Type 0} (known : Ghosts P) (outs : WriterGhosts O) (errs : WriterGhosts E) (words : List Text)
-    (progress : Bool) (asked : Attempts P) (out : O) (errors : E) where
+-- what a run writes to
+abbrev pub outputs_of : {O E : Type 0} → Streams O E → Outputs O E
+outputs_of streams = outputs streams.output streams.errors
+
+module _ {P O E : Type 0} (known : Known P O E) (words : List Text) (shows_progress : Bool) (asked : Attempts P)
+    (streams : Streams O E) where
   -- What the program did, and with what status it ends. It held the check that the words ask for. Or that stopped, and
   -- why is reported. Or it showed the help, the version or the list of lessons. Or the words have a mistake, which is
   -- reported. Or memory was refused before anything was done. Only a check starts anything.
-  pub data HasRun : ℕ → Attempts P → O → E → Type 0 where
-    checked : {status : ℕ} {has : Attempts P} {written : O} {reported : E} (plan : Plan) → AsksForPlan words plan
-        → IsHeld known outs errs plan progress asked out errors status has written reported
-        → HasRun status has written reported
-    stopped : {has : Attempts P} {written : O} {sees reported : E} (plan : Plan) (failure : Failure)
-        → AsksForPlan words plan
-        → IsStopped known outs errs plan progress asked out errors failure has written sees
-        → ReportsFailure errs failure sees reported
-        → HasRun own_failure has written reported
-    shown : {status : ℕ} {written : O} {reported : E} (text : List ℕ) → AsksForText words
-        → Shows (writers outs errs) program_name text (outputs out errors) status (outputs written reported)
-        → HasRun status asked written reported
-    listed : {status : ℕ} {written : O} {reported : E} → AsksForList words
-        → Shows (writers outs errs) program_name list_lines (outputs out errors) status (outputs written reported)
-        → HasRun status asked written reported
-    mistaken : {reported : E} → HasMistake errs words errors reported
-        → HasRun usage_failure asked out reported
-    no_memory : {reported : E} → ReportsFailure errs OutOfMemory errors reported
-        → HasRun own_failure asked out reported
+  pub data HasRun : ℕ → Attempts P → Streams O E → Type 0 where
+    checked : {status : ℕ} {has : Attempts P} {after : Streams O E} (plan : Plan)
+        → AsksForPlan words shows_progress plan → IsHeld known (beginning plan asked streams) status has after
+        → HasRun status has after
+    stopped : {has : Attempts P} {after : Streams O E} {reported : E} (plan : Plan) (failure : Failure)
+        → AsksForPlan words shows_progress plan → IsStopped known (beginning plan asked streams) failure has after
+        → ReportsFailure known.errs failure after.errors reported
+        → HasRun own_failure has (record after { errors = reported })
+    shown : {status : ℕ} {after : Streams O E} (text : List ℕ) → AsksForText words
+        → Shows (writers known.outs known.errs) program_name text (outputs_of streams) status (outputs_of after)
+        → HasRun status asked after
+    listed : {status : ℕ} {after : Streams O E} → AsksForList words
+        → Shows (writers known.outs known.errs) program_name list_lines (outputs_of streams) status (outputs_of after)
+        → HasRun status asked after
+    mistaken : {reported : E} → HasMistake known.errs words streams.errors reported
+        → HasRun usage_failure asked (record streams { errors = reported })
+    no_memory : {reported : E} → ReportsFailure known.errs OutOfMemory streams.errors reported
+        → HasRun own_failure asked (record streams { errors = reported })

@@ -9,7 +9,6 @@ use Rattle.gtp_wire.specs.declared.commands.Command.TheVariants.{Play, Genmove}
 use Rattle.gtp_wire.specs.declared.replies.Reply.{Reply}
 use Rattle.gtp_wire.specs.declared.replies.ReplyFault.{ReplyFault}
 use Rattle.gtp_process.specs.declared.starter.Process.{Ghosts}
-use Rattle.gtp_process.specs.Starts.{Attempts}
 use Rattle.gtp_session.specs.Policy.{May}
 use Rattle.gtp_session.specs.Engine.{Engine, Engages, fresh_under}
 use Rattle.gtp_check_judge.specs.declared.asking.CheckCommand.{CheckCommand}
@@ -36,7 +35,7 @@ use Rattle.gtp_check_talks.specs.Notes.{counted, nothing_noted}
 use Rattle.gtp_check_talks.specs.Among.{is_among}
 use Rattle.gtp_check_app.specs.Status.{not_earned, something_found}
 use Rattle.gtp_check_app.specs.Tally.{with_suicide}
-use Rattle.gtp_check_app.specs.Turns.{Complains, State}
+use Rattle.gtp_check_app.specs.Turns.{Complains, Moment, State}
 
 -- ---- suicide that isn't judged
 
@@ -49,13 +48,13 @@ pub record IsOfOther (text : List ℕ) : Type 0 where
 -- Where suicide isn't asked, no complaint that is written is about a suicide that a `genmove` chose. One that was chosen
 -- adds nothing to what was found, and takes no start of those that are left: it is counted alone.
 pub record NoChosenSuicideIsBlamed {P : Type 0} (known : Ghosts P) : Type 0 where
-  pub written : (plan : Plan) (before after : State P) (had has : Attempts P) (fault : Option Fault)
-      (said : List (List ℕ)) → plan.suicide ≡ Unasked → Complains known plan before had fault after has said
+  pub written : (plan : Plan) (before after : Moment P) (fault : Option Fault)
+      (said : List (List ℕ)) → plan.suicide ≡ Unasked → Complains known plan before fault after said
       → All IsOfOther said
-  pub counted : (plan : Plan) (before after : State P) (had has : Attempts P) (fault : Option Fault)
+  pub counted : (plan : Plan) (before after : Moment P) (fault : Option Fault)
       (said : List (List ℕ)) → plan.suicide ≡ Unasked → fault ≡ Some (Wrote (Unlawful Suicide))
-      → Complains known plan before had fault after has said
-      → (said ≡ []) × (after.tally ≡ with_suicide before.tally)
+      → Complains known plan before fault after said
+      → (said ≡ []) × (after.state.tally ≡ with_suicide before.state.tally)
 
 -- ---- a pass
 

@@ -2,6 +2,7 @@ pub mod Checks
 pub mod Laws
 pub mod Progress
 pub mod RunLaws
+pub mod Sequence
 pub mod Status
 pub mod Tally
 pub mod Turns

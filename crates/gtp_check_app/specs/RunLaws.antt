@@ -1,15 +1,16 @@
 -- Laws of a whole check: what holds of each turn of it, and of its end. (Own.)
 use Rattle.std.specs.Prelude.{◌≡◌, ◌⊎◌, ℕ, ◌+◌, ◌<◌, ◌≤◌, Bool, true, false, All, List, [], length}
 use Rattle.std.specs.Prelude.{nat_lt, if◌then◌else◌, Option, None, Some, Ok}
-use Rattle.byte_streams.specs.declared.calls.WriteOnce.{Ghosts as WriterGhosts}
 use Rattle.byte_streams.specs.Writing.{LinesGoOut}
 use Rattle.go_board.specs.declared.rules.KoRule.{KoRule}
+use Rattle.gtp_process.specs.declared.causes.PipeCause.{PipeCause}
 use Rattle.gtp_process.specs.declared.starter.Ending.{Ending}
 use Rattle.gtp_process.specs.declared.starter.Process.{Ghosts}
 use Rattle.gtp_process.specs.Endings.{IsEnded}
 use Rattle.gtp_process.specs.Quitting.{QuitsIfAny}
 use Rattle.gtp_process.specs.Starts.{Attempts, Tries, program_line}
 use Rattle.gtp_check_judge.specs.declared.exam.Exam.{Exam}
+use Rattle.gtp_check_judge.specs.declared.judging.Kind.{Kind}
 use Rattle.gtp_check_judge.specs.Exam.{begun}
 use Rattle.gtp_check_questions.specs.declared.lessons.Lesson.{Lesson}
 use Rattle.gtp_check_texts.specs.Complaints.{complaint_lines}
@@ -21,9 +22,9 @@ use Rattle.gtp_check_talks.specs.declared.notes.Notes.{Notes}
 use Rattle.gtp_check_talks.specs.Dialogues.{Dialogue, EndsSo, Wrong, begun_with, dialogue, wrong_with}
 use Rattle.gtp_check_talks.specs.Laws.{IsLost, IsRightlyAnswered, IsWronglyWritten}
 use Rattle.gtp_check_plan.specs.declared.plan.Plan.{Plan}
+use Rattle.gtp_check_app.specs.declared.streams.Streams.{Streams}
 use Rattle.gtp_check_app.specs.Progress.{IsShown}
 use Rattle.gtp_process.specs.Starts.{Text}
-use Rattle.cli.specs.Requests.{Outputs, outputs}
 use Rattle.cli.specs.Status.{done}
 use Rattle.gtp_check_summary.specs.declared.summary.Over.{Over}
 use Rattle.gtp_check_summary.specs.declared.summary.Over.TheVariants as over
@@ -32,49 +33,14 @@ use Rattle.gtp_check_app.specs.Laws.{IsPass}
 use Rattle.gtp_check_plan.specs.Options.{AsksForText}
 use Rattle.gtp_check_app.specs.Status.{not_earned, something_found}
 use Rattle.gtp_check_app.specs.Unjudged.{is_blamed}
-use Rattle.gtp_check_app.specs.Turns.{IsComplaint, IsOver, State, Turn, Turns, before_all, process_of}
+use Rattle.gtp_check_app.specs.Sequence.{Beginning, Known, Point, Turns, beginning, first_point}
+use Rattle.gtp_check_app.specs.Turns.{IsComplaint, IsOver, Moment, State, Turn, moment, process_of}
 
 -- ---- a check and its turns
 
--- how a check begins: by which plan, whether its progress is shown, the starts that were asked for before it, and its
--- output and its standard error as they are then
-pub record Beginning (P O E : Type 0) : Type 0 where
-  pub plan : Plan
-  pub progress : Bool
-  pub asked : Attempts P
-  pub out : O
-  pub errors : E
-
--- A point of a check, between two turns: its state, the starts that were asked for, and what was written.
-pub record Point (P O E : Type 0) : Type 0 where
-  pub state : State P
-  pub asked : Attempts P
-  pub out : O
-  pub errors : E
-
--- what is known of processes, of an output, and of standard error
-pub record Known (P O E : Type 0) : Type 1 where
-  pub processes : Ghosts P
-  pub outs : WriterGhosts O
-  pub errs : WriterGhosts E
-
-abbrev pub known_of : {P O E : Type 0} → Ghosts P → WriterGhosts O → WriterGhosts E → Known P O E
-known_of processes outs errs = record { processes = processes; outs = outs; errs = errs }
-
 -- so many turns lead from one point to another
 abbrev pub Leads : {P O E : Type 0} → Known P O E → Beginning P O E → Point P O E → ℕ → Point P O E → Type 0
-Leads known begins from count to =
-    Turns known.processes begins.plan known.outs known.errs begins.progress from.state from.asked from.out from.errors
-    count to.state to.asked to.out to.errors
-
--- before the first turn
-abbrev pub first_point : {P O E : Type 0} → Beginning P O E → Point P O E
-first_point begins = record {
-  state = before_all begins.plan;
-  asked = begins.asked;
-  out = begins.out;
-  errors = begins.errors;
-}
+Leads known begins from count to = Turns known begins.plan from count to
 
 -- a check comes to this point
 pub record ComesTo {P O E : Type 0} (known : Known P O E) (begins : Beginning P O E) (now : Point P O E)
@@ -87,9 +53,9 @@ pub record TurnOf {P O E : Type 0} (known : Known P O E) (begins : Beginning P O
     : Type 0 where
   pub texts : List (List ℕ)
   pub shows : List (List ℕ)
-  pub turn : Turn known.processes begins.plan before.state before.asked after.state after.asked texts shows
-  pub goes_out : LinesGoOut known.outs texts before.out after.out
-  pub shown : IsShown known.errs begins.progress shows before.errors after.errors
+  pub turn : Turn known.processes begins.plan before.now after.now texts shows
+  pub goes_out : LinesGoOut known.outs texts before.streams.output after.streams.output
+  pub shown : IsShown known.errs begins.plan.shows_progress shows before.streams.errors after.streams.errors
 
 -- A turn of a check that comes to this point: the turns before it, and those after it.
 pub record HasTurn {P O E : Type 0} (known : Known P O E) (begins : Beginning P O E) (last : Point P O E)
@@ -104,8 +70,8 @@ pub record HasTurn {P O E : Type 0} (known : Known P O E) (begins : Beginning P 
 -- ---- what was found in a turn
 
 -- what was wrong with what was heard in a turn, if anything
-abbrev pub fault_in : {P : Type 0} {known : Ghosts P} {plan : Plan} {before after : State P} {had has : Attempts P}
-    {texts shows : List (List ℕ)} → Turn known plan before had after has texts shows → Option Fault
+abbrev pub fault_in : {P : Type 0} {known : Ghosts P} {plan : Plan} {before after : Moment P}
+    {texts shows : List (List ℕ)} → Turn known plan before after texts shows → Option Fault
 fault_in (Turn.starts process steps next fruitful may tries quits fresh) = None
 fault_in (Turn.restarts steps next quits) = None
 fault_in (Turn.kills steps next ended) = None
@@ -115,39 +81,41 @@ fault_in (Turn.exchanges {fault = fault} heard first complains) = fault
 
 -- An engine was started by the plan's command line, and what it was asked and what was heard since then are one
 -- conversation, in which so far this is wrong, if anything.
-pub record IsHeldWith {P : Type 0} (known : Ghosts P) (plan : Plan) (fault : Option Fault) (now : State P)
-    (has : Attempts P) (engine : Engine P) : Type 0 where
+pub record IsHeldWith {P : Type 0} (known : Ghosts P) (plan : Plan) (fault : Option Fault) (now : Moment P)
+    (engine : Engine P) : Type 0 where
   pub process : P
   pub earlier : Attempts P
-  pub started : Tries earlier has (program_line plan.words.items) (Ok process)
+  pub started : Tries earlier now.asked (program_line plan.words.items) (Ok process)
   pub first : Notes
-  pub ends : EndsSo known (begun plan.rule true) (begun_with process first) fault now.check.exam
-      (dialogue engine now.notes)
+  pub ends : EndsSo known (begun plan.rule true) (begun_with process first) fault now.state.check.exam
+      (dialogue engine now.state.notes)
 
 -- Where a check has an engine, that was started by this check, and each answer that was heard of it is a right one.
-pub record AnswersRightly {P : Type 0} (known : Ghosts P) (plan : Plan) (now : State P) (has : Attempts P)
-    (engine : Engine P) : Type 0 where
-  pub held : IsHeldWith known plan None now has engine
-  pub right : IsRightlyAnswered known plan.rule held.process now.check.exam (dialogue engine now.notes)
+pub record AnswersRightly {P : Type 0} (known : Ghosts P) (plan : Plan) (now : Moment P) (engine : Engine P)
+    : Type 0 where
+  pub held : IsHeldWith known plan None now engine
+  pub right : IsRightlyAnswered known plan.rule held.process now.state.check.exam (dialogue engine now.state.notes)
 
 -- ---- silence
 
 -- Where nothing was found so far, nothing that is judged was wrong in any turn. And at each point of a check, each answer that
 -- was heard of its engine, since that was started, is a right one.
 pub record SilentChecksAreRight {P O E : Type 0} (known : Known P O E) : Type 0 where
-  pub no_fault : (begins : Beginning P O E) (last : Point P O E) → last.state.tally.complaints ≡ 0
+  pub no_fault : (begins : Beginning P O E) (last : Point P O E) → last.now.state.tally.complaints ≡ 0
       → (has : HasTurn known begins last) → is_blamed begins.plan.suicide (fault_in has.is.turn) ≡ false
   pub right : (begins : Beginning P O E) (now : Point P O E) (engine : Engine P) → ComesTo known begins now
-      → now.state.engine ≡ Some engine
-      → AnswersRightly known.processes begins.plan now.state now.asked engine
+      → now.now.state.engine ≡ Some engine → AnswersRightly known.processes begins.plan now.now engine
 
 -- ---- complaints
 
 -- What a fault is that was found in all that an engine wrote: a wrong answer, which no right engine gives, and before
 -- which all were right; or a loss, which shows no wrong answer.
-abbrev pub IsShownBy : {P : Type 0} → Ghosts P → KoRule → P → Fault → Exam → Dialogue P → Type 0
-IsShownBy known rule process (Wrote kind) exam end = IsWronglyWritten known rule process kind end
-IsShownBy known rule process (CutOff cause) exam end = IsLost known rule process cause exam end
+pub data IsShownBy {P : Type 0} (known : Ghosts P) (rule : KoRule) (process : P)
+    : Fault → Exam → Dialogue P → Type 0 where
+  wrongly : {kind : Kind} {exam : Exam} {end : Dialogue P} → IsWronglyWritten known rule process kind end
+      → IsShownBy known rule process (Wrote kind) exam end
+  lost : {cause : PipeCause} {exam : Exam} {end : Dialogue P} → IsLost known rule process cause exam end
+      → IsShownBy known rule process (CutOff cause) exam end
 
 -- This ended a conversation with an engine that was started under this ko rule, and then its process ended.
 pub record IsGrounded {P : Type 0} (known : Ghosts P) (rule : KoRule) (wrong : Wrong) : Type 0 where
@@ -170,9 +138,8 @@ pub record IsJustComplaint {P : Type 0} (known : Ghosts P) (rule : KoRule) (text
   pub grounded : IsGrounded known rule wrong
 
 -- the complaints that are written in a turn
-abbrev pub complaints_in : {P : Type 0} {known : Ghosts P} {plan : Plan} {before after : State P}
-    {had has : Attempts P} {texts shows : List (List ℕ)} → Turn known plan before had after has texts shows
-    → List (List ℕ)
+abbrev pub complaints_in : {P : Type 0} {known : Ghosts P} {plan : Plan} {before after : Moment P}
+    {texts shows : List (List ℕ)} → Turn known plan before after texts shows → List (List ℕ)
 complaints_in (Turn.starts process steps next fruitful may tries quits fresh) = []
 complaints_in (Turn.restarts steps next quits) = []
 complaints_in (Turn.kills steps next ended) = []
@@ -187,8 +154,8 @@ EachComplaintIsJust {P} {O} {E} known = (begins : Beginning P O E) (last : Point
 -- ---- who is sent `quit`
 
 -- the state in which a turn ends an engine in which nothing was found, with `quit` or without
-abbrev pub ended_in : {P : Type 0} {known : Ghosts P} {plan : Plan} {before after : State P} {had has : Attempts P}
-    {texts shows : List (List ℕ)} → Turn known plan before had after has texts shows → Option (State P)
+abbrev pub ended_in : {P : Type 0} {known : Ghosts P} {plan : Plan} {before after : Moment P}
+    {texts shows : List (List ℕ)} → Turn known plan before after texts shows → Option (State P)
 ended_in (Turn.starts {mid = mid} process steps next fruitful may tries quits fresh) = Some mid
 ended_in (Turn.restarts {mid = mid} steps next quits) = Some mid
 ended_in (Turn.kills {mid = mid} steps next ended) = Some mid
@@ -208,8 +175,8 @@ pub record QuitGoesToWhoOwesNothing {P O E : Type 0} (known : Known P O E) : Typ
 -- ---- starts in vain
 
 -- the turn starts an engine
-abbrev pub is_start : {P : Type 0} {known : Ghosts P} {plan : Plan} {before after : State P} {had has : Attempts P}
-    {texts shows : List (List ℕ)} → Turn known plan before had after has texts shows → Bool
+abbrev pub is_start : {P : Type 0} {known : Ghosts P} {plan : Plan} {before after : Moment P}
+    {texts shows : List (List ℕ)} → Turn known plan before after texts shows → Bool
 is_start (Turn.starts process steps next fruitful may tries quits fresh) = true
 is_start (Turn.restarts steps next quits) = false
 is_start (Turn.kills steps next ended) = false
@@ -222,8 +189,8 @@ vain_after None owed owes count = if nat_lt owes owed then 0 else count
 vain_after (Some fault) owed owes count = count
 
 -- the starts in vain after a turn
-abbrev pub vain_in : {P : Type 0} {known : Ghosts P} {plan : Plan} {before after : State P} {had has : Attempts P}
-    {texts shows : List (List ℕ)} → Turn known plan before had after has texts shows → ℕ → ℕ
+abbrev pub vain_in : {P : Type 0} {known : Ghosts P} {plan : Plan} {before after : Moment P}
+    {texts shows : List (List ℕ)} → Turn known plan before after texts shows → ℕ → ℕ
 vain_in (Turn.starts process steps next fruitful may tries quits fresh) count = count + 1
 vain_in (Turn.restarts steps next quits) count = count
 vain_in (Turn.kills steps next ended) count = count
@@ -231,10 +198,8 @@ vain_in (Turn.exchanges {mid = mid} {fault = fault} heard first complains) count
     vain_after fault (length heard.mid.check.exam.unanswered) (length mid.check.exam.unanswered) count
 
 -- How many starts there were in these turns since the last right answer in them.
-abbrev pub in_vain : {P O E : Type 0} {known : Ghosts P} {plan : Plan} {outs : WriterGhosts O} {errs : WriterGhosts E}
-    {progress : Bool} {first : State P} {asked : Attempts P} {out : O} {errors : E} {count : ℕ} {last : State P}
-    {has : Attempts P} {written : O} {sees : E}
-    → Turns known plan outs errs progress first asked out errors count last has written sees → ℕ
+abbrev pub in_vain : {P O E : Type 0} {known : Known P O E} {plan : Plan} {first : Point P O E} {count : ℕ}
+    {last : Point P O E} → Turns known plan first count last → ℕ
 in_vain Turns.not_yet = 0
 in_vain (Turns.turns more turn goes_out shown) = vain_in turn (in_vain more)
 
@@ -242,14 +207,13 @@ in_vain (Turns.turns more turn goes_out shown) = vain_in turn (in_vain more)
 -- where there were fewer; and where a check is over for that, its last turns have three starts and no right answer.
 pub record ThreeStartsInVainEndIt {P O E : Type 0} (known : Known P O E) : Type 0 where
   pub few : (begins : Beginning P O E) (now : Point P O E) → ComesTo known begins now
-      → now.state.notes.fruitless ≤ 3
+      → now.now.state.notes.fruitless ≤ 3
   pub starts : (begins : Beginning P O E) (last : Point P O E) (has : HasTurn known begins last)
       → is_start has.is.turn ≡ true
-      → (has.before.state.notes.fruitless < 3)
-      × (has.after.state.notes.fruitless ≡ has.before.state.notes.fruitless + 1)
-  pub ended : (begins : Beginning P O E) (now : Point P O E) (comes : ComesTo known begins now) (last : State P)
-      (has : Attempts P) → IsOver known.processes begins.plan now.state now.asked over.NoRightAnswer last has
-      → 3 ≤ in_vain comes.turns
+      → (has.before.now.state.notes.fruitless < 3)
+      × (has.after.now.state.notes.fruitless ≡ has.before.now.state.notes.fruitless + 1)
+  pub ended : (begins : Beginning P O E) (now : Point P O E) (comes : ComesTo known begins now) (last : Moment P)
+      → IsOver known.processes begins.plan now.now over.NoRightAnswer last → 3 ≤ in_vain comes.turns
 
 -- ---- the status
 
@@ -259,7 +223,7 @@ pub record IsOverAt {P O E : Type 0} (known : Known P O E) (begins : Beginning P
   pub comes : ComesTo known begins now
   pub why : Over
   pub has : Attempts P
-  pub over : IsOver known.processes begins.plan now.state now.asked why last has
+  pub over : IsOver known.processes begins.plan now.now why (moment last has)
 
 -- A check is over in which something was found. A complaint of it was written.
 pub record HasComplained {P O E : Type 0} (known : Known P O E) (begins : Beginning P O E) : Type 0 where
@@ -283,35 +247,22 @@ pub record HasNotPassed {P O E : Type 0} (known : Known P O E) (begins : Beginni
   pub no_pass : ¬ IsPass begins.plan last
   pub no_fault : (turn : HasTurn known begins over.now) → is_blamed begins.plan.suicide (fault_in turn.is.turn) ≡ false
 
--- the check by this plan
-abbrev pub beginning : {P O E : Type 0} → Plan → Bool → Attempts P → Outputs O E → Beginning P O E
-beginning plan progress asked streams = record {
-  plan = plan;
-  progress = progress;
-  asked = asked;
-  out = streams.output;
-  errors = streams.errors;
-}
-
 -- the words ask for a check, of which this holds
-pub record AsksForCheck {P O E : Type 0} (words : List Text) (progress : Bool) (asked : Attempts P)
-    (streams : Outputs O E) (Holds : Beginning P O E → Type 0) : Type 0 where
+pub record AsksForCheck {P O E : Type 0} (words : List Text) (shows_progress : Bool) (asked : Attempts P)
+    (streams : Streams O E) (Holds : Beginning P O E → Type 0) : Type 0 where
   pub plan : Plan
-  pub asks : AsksForPlan words plan
-  pub holds : Holds (beginning plan progress asked streams)
+  pub asks : AsksForPlan words shows_progress plan
+  pub holds : Holds (beginning plan asked streams)
 
 -- What the program's status says: 1 that a complaint was written; 0 that the engine has passed, or that a text or the
 -- list was asked for, and no engine; 4 that nothing was wrong and the pass isn't earned.
 pub record StatusesSay {P O E : Type 0} (known : Known P O E) : Type 0 where
-  pub found : (words : List Text) (progress : Bool) (asked has : Attempts P) (out written : O) (errors reported : E)
-      → HasRun known.processes known.outs known.errs words progress asked out errors something_found has written
-      reported
-      → AsksForCheck words progress asked (outputs out errors) (HasComplained known)
-  pub passed : (words : List Text) (progress : Bool) (asked has : Attempts P) (out written : O) (errors reported : E)
-      → HasRun known.processes known.outs known.errs words progress asked out errors done has written reported
-      → AsksForCheck words progress asked (outputs out errors) (HasPassed known)
-      ⊎ AsksForText words ⊎ AsksForList words
-  pub not_passed : (words : List Text) (progress : Bool) (asked has : Attempts P) (out written : O)
-      (errors reported : E)
-      → HasRun known.processes known.outs known.errs words progress asked out errors not_earned has written reported
-      → AsksForCheck words progress asked (outputs out errors) (HasNotPassed known)
+  pub found : (words : List Text) (shows_progress : Bool) (asked has : Attempts P) (streams after : Streams O E)
+      → HasRun known words shows_progress asked streams something_found has after
+      → AsksForCheck words shows_progress asked streams (HasComplained known)
+  pub passed : (words : List Text) (shows_progress : Bool) (asked has : Attempts P) (streams after : Streams O E)
+      → HasRun known words shows_progress asked streams done has after
+      → AsksForCheck words shows_progress asked streams (HasPassed known) ⊎ AsksForText words ⊎ AsksForList words
+  pub not_passed : (words : List Text) (shows_progress : Bool) (asked has : Attempts P) (streams after : Streams O E)
+      → HasRun known words shows_progress asked streams not_earned has after
+      → AsksForCheck words shows_progress asked streams (HasNotPassed known)

@@ -3,8 +3,6 @@ use Rattle.std.specs.Prelude.{max, nat_lt, count_by, if◌then◌else◌}
 use Rattle.std.specs.Prelude.{IsTrue, ◌↔◌, ◌≡◌, ◌⊎◌, ℕ, ◌+◌, ◌<◌, ◌≤◌, Bool, true, false, not, ◌&&◌, ◌||◌, List, []}
 use Rattle.std.specs.Prelude.{◌∷◌, ◌++◌, length}
 use Rattle.std.specs.Prelude.{Option, None, Some, IfSome, is_some, option_map, unwrap_or, Ok, Err}
-use Rattle.byte_streams.specs.declared.calls.WriteOnce.{Ghosts as WriterGhosts}
-use Rattle.byte_streams.specs.Writing.{BreaksAt, LinesGoOut}
 use Rattle.gtp_process.specs.declared.starter.Process.{Ghosts}
 use Rattle.gtp_process.specs.declared.starter.Ending.{Ending}
 use Rattle.gtp_process.specs.declared.starter.StartFault.TheVariants as start_fault
@@ -32,8 +30,6 @@ use Rattle.gtp_check_app.specs.declared.check.Check.{Check as Going}
 use Rattle.gtp_check_texts.specs.declared.complaint.Complaint.{Complaint}
 use Rattle.gtp_check_talks.specs.declared.engine.Engine.{Engine}
 use Rattle.gtp_check_texts.specs.declared.fault.Fault.{Fault}
-use Rattle.cli.specs.declared.failure.Failure.{Failure}
-use Rattle.cli.specs.declared.failure.Failure.TheVariants.{OutOfMemory, TooManyTurns, Write}
 use Rattle.gtp_check_texts.specs.declared.fault.Fault.TheVariants.{CutOff, Wrote}
 use Rattle.gtp_check_shortening.specs.declared.flat.Shortening.{Shortening}
 use Rattle.gtp_check_talks.specs.declared.notes.Notes.{Notes}
@@ -43,13 +39,13 @@ use Rattle.gtp_check_summary.specs.declared.summary.Over.TheVariants as over
 use Rattle.gtp_check_shortening.specs.declared.talk.Purpose.{Purpose}
 use Rattle.gtp_check_app.specs.declared.tally.Tally.{Tally}
 use Rattle.gtp_check_texts.specs.Complaints.{complaint_lines}
-use Rattle.gtp_check_talks.specs.Dialogues.{AsksForMore, EndsLike, IsAsked, IsExchanged, IsTrial, Wrong, begun_with}
+use Rattle.gtp_check_talks.specs.Dialogues.{EndsLike, IsAsked, IsExchanged, IsTrial, Wrong, begun_with}
 use Rattle.gtp_check_talks.specs.Dialogues.{dialogue, wrong_purpose, wrong_talk}
 use Rattle.gtp_check_shortening.specs.Purposes.{is_same_lesson, is_same_purpose}
 use Rattle.gtp_check_talks.specs.Dialogues.{wrong_with}
 use Rattle.gtp_check_talks.specs.Notes.{nothing_noted}
 use Rattle.gtp_check_talks.specs.Notes.{started as noted_start}
-use Rattle.gtp_check_app.specs.Progress.{IsShown, before_read, cleared, clearing, looking, looking_line}
+use Rattle.gtp_check_app.specs.Progress.{before_read, clearing, looking}
 use Rattle.gtp_check_shortening.specs.Shortening.{commands_of, games_in, shortened, shortenings}
 use Rattle.gtp_check_shortening.specs.Reduction.{Reduction, after_failure, after_success, next}
 use Rattle.gtp_check_shortening.specs.Reduction.{begun as begun_reduction}
@@ -130,6 +126,14 @@ before_all plan = record {
   tally = nothing_found plan.restarts;
   notes = nothing_noted;
 }
+
+-- A check between two turns, and the starts that were asked for so far.
+pub record Moment (P : Type 0) : Type 0 where
+  pub state : State P
+  pub asked : Attempts P
+
+abbrev pub moment : {P : Type 0} → State P → Attempts P → Moment P
+moment now asked = record { state = now; asked = asked }
 
 -- the process of an engine, if there is one
 abbrev pub process_of : {P : Type 0} → Option (Engine P) → Option P
@@ -287,26 +291,27 @@ module _ {P : Type 0} (known : Ghosts P) (plan : Plan) where
   -- ---- a shorter conversation
 
   -- These commands were asked of another engine, for what the command was asked that was answered wrongly.
-  pub record IsTried (found : Wrong) (commands : List CheckCommand) (before : State P) (had : Attempts P)
-      (result : Option Wrong) (after : State P) (has : Attempts P) : Type 0 where
-    pub trial : IsTrial known (program_line plan.words.items) (wrong_purpose found) commands
-        before.check had before.notes result after.check has after.notes
-    pub leads : after ≡ record before { check = after.check; notes = after.notes }
+  pub data IsTried (found : Wrong) (commands : List CheckCommand) (before : Moment P)
+      : Option Wrong → Moment P → Type 0 where
+    by_trial : {result : Option Wrong} {check : Check} {has : Attempts P} {notes : Notes}
+        → IsTrial known (program_line plan.words.items) (wrong_purpose found) commands
+        before.state.check before.asked before.state.notes result check has notes
+        → IsTried found commands before result (moment (record before.state { check = check; notes = notes }) has)
 
   -- They were tried in place of the conversation that was found: no start was left; or they ended otherwise, or like
   -- it.
-  pub data TriesOne (found : Wrong) (commands : List CheckCommand) (before : State P) (had : Attempts P)
-      : Option Wrong → State P → Attempts P → Type 0 where
-    no_start : (before.check.starts < before.check.most_starts → ⊥) → TriesOne found commands before had None before had
-    right : {after : State P} {has : Attempts P} → before.check.starts < before.check.most_starts
-        → IsTried found commands before had None after has
-        → TriesOne found commands before had None after has
-    other : {tried : Wrong} {after : State P} {has : Attempts P} → before.check.starts < before.check.most_starts
-        → IsTried found commands before had (Some tried) after has → (EndsLike tried found → ⊥)
-        → TriesOne found commands before had None after has
-    alike : {tried : Wrong} {after : State P} {has : Attempts P} → before.check.starts < before.check.most_starts
-        → IsTried found commands before had (Some tried) after has → EndsLike tried found
-        → TriesOne found commands before had (Some tried) after has
+  pub data TriesOne (found : Wrong) (commands : List CheckCommand) (before : Moment P)
+      : Option Wrong → Moment P → Type 0 where
+    no_start : (before.state.check.starts < before.state.check.most_starts → ⊥)
+        → TriesOne found commands before None before
+    right : {after : Moment P} → before.state.check.starts < before.state.check.most_starts
+        → IsTried found commands before None after → TriesOne found commands before None after
+    other : {tried : Wrong} {after : Moment P} → before.state.check.starts < before.state.check.most_starts
+        → IsTried found commands before (Some tried) after → (EndsLike tried found → ⊥)
+        → TriesOne found commands before None after
+    alike : {tried : Wrong} {after : Moment P} → before.state.check.starts < before.state.check.most_starts
+        → IsTried found commands before (Some tried) after → EndsLike tried found
+        → TriesOne found commands before (Some tried) after
 
   -- A conversation is shortened so where trials are made, it has more commands than are few, and more games than this
   -- is for, and what is left of it has fewer commands than it.
@@ -317,78 +322,69 @@ module _ {P : Type 0} (known : Ghosts P) (plan : Plan) where
     pub shorter : length (shortened how (wrong_talk found)) < length (wrong_talk found)
 
   -- One shorter conversation was tried, where it may be.
-  pub data TriesShorter (found : Wrong) (how : Shortening) (before : State P) (had : Attempts P)
-      : Option Wrong → State P → Attempts P → Type 0 where
-    left_out : (IsFor found how → ⊥) → TriesShorter found how before had None before had
-    tries : {result : Option Wrong} {after : State P} {has : Attempts P} → IsFor found how
-        → TriesOne found (shortened how (wrong_talk found)) before had result after has
-        → TriesShorter found how before had result after has
+  pub data TriesShorter (found : Wrong) (how : Shortening) (before : Moment P)
+      : Option Wrong → Moment P → Type 0 where
+    left_out : (IsFor found how → ⊥) → TriesShorter found how before None before
+    tries : {result : Option Wrong} {after : Moment P} → IsFor found how
+        → TriesOne found (shortened how (wrong_talk found)) before result after
+        → TriesShorter found how before result after
 
   -- These shorter conversations were tried in their order, up to the first that ended like the one that was found.
-  pub data Shortens (found : Wrong)
-      : List Shortening → State P → Attempts P → Option Wrong → State P → Attempts P → Type 0 where
-    none_left : {before : State P} {had : Attempts P} → Shortens found [] before had None before had
-    missed : {how : Shortening} {later : List Shortening} {before mid after : State P} {had between has : Attempts P}
-        {result : Option Wrong} → TriesShorter found how before had None mid between
-        → Shortens found later mid between result after has
-        → Shortens found (how ∷ later) before had result after has
-    shortened_so : {how : Shortening} {later : List Shortening} {before after : State P} {had has : Attempts P}
-        {tried : Wrong} → TriesShorter found how before had (Some tried) after has
-        → Shortens found (how ∷ later) before had (Some tried) after has
+  pub data Shortens (found : Wrong) : List Shortening → Moment P → Option Wrong → Moment P → Type 0 where
+    none_left : {before : Moment P} → Shortens found [] before None before
+    missed : {how : Shortening} {later : List Shortening} {before mid after : Moment P} {result : Option Wrong}
+        → TriesShorter found how before None mid → Shortens found later mid result after
+        → Shortens found (how ∷ later) before result after
+    shortened_so : {how : Shortening} {later : List Shortening} {before after : Moment P} {tried : Wrong}
+        → TriesShorter found how before (Some tried) after
+        → Shortens found (how ∷ later) before (Some tried) after
 
   -- ---- delta debugging
 
   -- From a reduction on, conversations were tried as it says, each in place of the one that was found. The shortest that
   -- ended like it, if one did, and the reduction then.
-  pub data Reduces (found : Wrong) (first : Reduction) (before : State P) (had : Attempts P)
-      : Reduction → Option Wrong → State P → Attempts P → Type 0 where
-    begins : Reduces found first before had first None before had
-    failed : {now : Reduction} {best : Option Wrong} {mid after : State P} {between has : Attempts P}
-        (commands : List CheckCommand) → Reduces found first before had now best mid between
-        → next now ≡ Some commands → TriesOne found commands mid between None after has
-        → Reduces found first before had (after_failure (length commands) now) best after has
-    succeeded : {now : Reduction} {best : Option Wrong} {mid after : State P} {between has : Attempts P} {tried : Wrong}
-        (commands : List CheckCommand) → Reduces found first before had now best mid between
-        → next now ≡ Some commands → TriesOne found commands mid between (Some tried) after has
-        → Reduces found first before had (after_success tried.answered (length commands) now) (Some tried) after has
+  pub data Reduces (found : Wrong) (first : Reduction) (before : Moment P)
+      : Reduction → Option Wrong → Moment P → Type 0 where
+    begins : Reduces found first before first None before
+    failed : {now : Reduction} {best : Option Wrong} {mid after : Moment P} (commands : List CheckCommand)
+        → Reduces found first before now best mid → next now ≡ Some commands
+        → TriesOne found commands mid None after
+        → Reduces found first before (after_failure (length commands) now) best after
+    succeeded : {now : Reduction} {best : Option Wrong} {mid after : Moment P} {tried : Wrong}
+        (commands : List CheckCommand) → Reduces found first before now best mid → next now ≡ Some commands
+        → TriesOne found commands mid (Some tried) after
+        → Reduces found first before (after_success tried.answered (length commands) now) (Some tried) after
 
   -- It was reduced until nothing was left to try.
-  pub record IsReduced (found : Wrong) (first : Reduction) (before : State P) (had : Attempts P) (best : Option Wrong)
-      (after : State P) (has : Attempts P) : Type 0 where
-    pub last : Reduction
-    pub reduces : Reduces found first before had last best after has
-    pub over : next last ≡ None
+  pub data IsReduced (found : Wrong) (first : Reduction) (before : Moment P) : Option Wrong → Moment P → Type 0 where
+    reduced : {last : Reduction} {best : Option Wrong} {after : Moment P}
+        → Reduces found first before last best after → next last ≡ None → IsReduced found first before best after
 
   -- It was made shorter: to its last games, as far as one of these ends alike, and then by leaving out parts.
-  pub record IsShortened (found : Wrong) (before : State P) (had : Attempts P) (result : Option Wrong)
-      (after : State P) (has : Attempts P) : Type 0 where
-    pub mid : State P
-    pub between : Attempts P
-    pub games : Option Wrong
-    pub best : Option Wrong
-    pub shortens : Shortens found shortenings before had games mid between
-    pub reduced : IsReduced found (begun_reduction (commands_of (wrong_talk (unwrap_or games found)))
-        (limits_of plan (unwrap_or games found))) mid between best after has
-    pub is : result ≡ or_else best games
+  pub data IsShortened (found : Wrong) (before : Moment P) : Option Wrong → Moment P → Type 0 where
+    both_ways : {games best : Option Wrong} {mid after : Moment P} → Shortens found shortenings before games mid
+        → IsReduced found (begun_reduction (commands_of (wrong_talk (unwrap_or games found)))
+        (limits_of plan (unwrap_or games found))) mid best after
+        → IsShortened found before (or_else best games) after
 
   -- ---- a complaint
 
   -- What is wrong with the engine, if anything, is complained of: with its own conversation, or with a shorter one that
   -- ended with the same; or not, where its like was shown often enough. A suicide that isn't judged is passed over.
-  pub data Complains (before : State P) (had : Attempts P)
-      : Option Fault → State P → Attempts P → List (List ℕ) → Type 0 where
-    nothing : Complains before had None before had []
+  pub data Complains (before : Moment P) : Option Fault → Moment P → List (List ℕ) → Type 0 where
+    nothing : Complains before None before []
     passed_over : {fault : Fault} {after : State P} → is_unjudged plan.suicide fault ≡ true
-        → PassesOver known before after → Complains before had (Some fault) after had []
+        → PassesOver known before.state after → Complains before (Some fault) (moment after before.asked) []
     hidden : {fault : Fault} {mid : State P} (wrong : Wrong) → is_unjudged plan.suicide fault ≡ false
-        → Closes known fault before wrong mid → is_shown mid.tally (wrong_purpose wrong).lesson fault ≡ false
-        → Complains before had (Some fault) (found_in mid wrong fault) had []
-    shown : {fault : Fault} {mid after : State P} {has : Attempts P} {shorter : Option Wrong} (wrong : Wrong)
-        (complaint : Complaint) → is_unjudged plan.suicide fault ≡ false → Closes known fault before wrong mid
-        → is_shown mid.tally (wrong_purpose wrong).lesson fault ≡ true
-        → IsShortened wrong (found_in mid wrong fault) had shorter after has
-        → IsComplaint plan.rule after.tally.complaints (wrong_purpose wrong).lesson (unwrap_or shorter wrong) complaint
-        → Complains before had (Some fault) after has (complaint_lines complaint ∷ [])
+        → Closes known fault before.state wrong mid → is_shown mid.tally (wrong_purpose wrong).lesson fault ≡ false
+        → Complains before (Some fault) (moment (found_in mid wrong fault) before.asked) []
+    shown : {fault : Fault} {mid : State P} {after : Moment P} {shorter : Option Wrong} (wrong : Wrong)
+        (complaint : Complaint) → is_unjudged plan.suicide fault ≡ false
+        → Closes known fault before.state wrong mid → is_shown mid.tally (wrong_purpose wrong).lesson fault ≡ true
+        → IsShortened wrong (moment (found_in mid wrong fault) before.asked) shorter after
+        → IsComplaint plan.rule after.state.tally.complaints (wrong_purpose wrong).lesson (unwrap_or shorter wrong)
+        complaint
+        → Complains before (Some fault) after (complaint_lines complaint ∷ [])
 
   -- The first line is written where it is due.
   pub data WritesFirst (before : State P) (is_wrong : Bool) : State P → List (List ℕ) → Type 0 where
@@ -408,119 +404,52 @@ module _ {P : Type 0} (known : Ghosts P) (plan : Plan) where
   -- A turn takes steps of the course. Then it starts the engine; or it sends it `quit` and ends it, or ends it at
   -- once; or it sends what was asked, hears the engine, and writes what is due. These texts are written to the output,
   -- and these of the progress, in their order.
-  pub data Turn (before : State P) (had : Attempts P)
-      : State P → Attempts P → List (List ℕ) → List (List ℕ) → Type 0 where
+  pub data Turn (before : Moment P) : Moment P → List (List ℕ) → List (List ℕ) → Type 0 where
     starts : {mid : State P} {course : Course} {has : Attempts P} {engine : Engine P} (process : P)
-        → Asks plan.singly before mid → IsNext mid.course mid.check.exam Start course
+        → Asks plan.singly before.state mid → IsNext mid.course mid.check.exam Start course
         → mid.notes.fruitless < most_fruitless → MayStart mid.check mid.tally
-        → Tries had has (program_line plan.words.items) (Ok process)
+        → Tries before.asked has (program_line plan.words.items) (Ok process)
         → QuitsIfAny known (process_of mid.engine)
         → ((notes : Notes) → dialogue engine notes ≡ begun_with process notes)
-        → Turn before had
-        (state (started mid.check) course (Some engine) (started_again mid.tally) (noted_start mid.notes)) has []
-        []
-    restarts : {mid : State P} {course : Course} → Asks plan.singly before mid
+        → Turn before (moment
+        (state (started mid.check) course (Some engine) (started_again mid.tally) (noted_start mid.notes)) has) [] []
+    restarts : {mid : State P} {course : Course} → Asks plan.singly before.state mid
         → IsNext mid.course mid.check.exam Restart course
         → QuitsIfAny known (process_of mid.engine)
-        → Turn before had (record mid { check = after_loss mid.check; course = course; engine = None }) had [] []
-    kills : {mid : State P} {course : Course} → Asks plan.singly before mid
+        → Turn before (moment (record mid { check = after_loss mid.check; course = course; engine = None })
+        before.asked) [] []
+    kills : {mid : State P} {course : Course} → Asks plan.singly before.state mid
         → IsNext mid.course mid.check.exam Kill course
         → IsEnded known (process_of mid.engine)
-        → Turn before had (record mid { check = after_loss mid.check; course = course; engine = None }) had [] []
-    exchanges : {mid next after : State P} {has : Attempts P} {fault : Option Fault} {line said : List (List ℕ)}
-        → (heard : Exchanges before fault mid) → WritesFirst mid (is_blamed plan.suicide fault) next line
-        → Complains next had fault after has said
-        → Turn before had after has (line ++ said) (waiting plan heard.mid ++ (clearing line ++ looking said))
+        → Turn before (moment (record mid { check = after_loss mid.check; course = course; engine = None })
+        before.asked) [] []
+    exchanges : {mid next : State P} {after : Moment P} {fault : Option Fault} {line said : List (List ℕ)}
+        → (heard : Exchanges before.state fault mid) → WritesFirst mid (is_blamed plan.suicide fault) next line
+        → Complains (moment next before.asked) fault after said
+        → Turn before after (line ++ said) (waiting plan heard.mid ++ (clearing line ++ looking said))
 
   -- ---- why it is over
 
   -- Why a check is over, where its course does this next. Each lesson was asked, and no answer is waited for. Or the
   -- engine would be started: it was three times in a row, and gave no right answer; or no start is left; or it was
   -- asked for, and wasn't started.
-  pub data IsOverBy (now : State P) (had : Attempts P) : Action → Over → Attempts P → Type 0 where
-    done : (now.check.exam.up ≡ false) ⊎ (length now.check.exam.unanswered ≡ 0)
-        → IsOverBy now had Done over.Done had
-    no_right_answer : most_fruitless ≤ now.notes.fruitless → IsOverBy now had Start over.NoRightAnswer had
-    no_more_starts : now.notes.fruitless < most_fruitless → (MayStart now.check now.tally → ⊥)
-        → IsOverBy now had Start over.NoMoreStarts had
-    not_started : {has : Attempts P} (reason : StartReason) → now.notes.fruitless < most_fruitless
-        → MayStart now.check now.tally
-        → Tries had has (program_line plan.words.items) (Err (start_fault.NotStarted reason))
-        → IsOverBy now had Start (over.NotStarted (unstarted (program_line plan.words.items) reason)) has
+  pub data IsOverBy (now : Moment P) : Action → Over → Attempts P → Type 0 where
+    done : (now.state.check.exam.up ≡ false) ⊎ (length now.state.check.exam.unanswered ≡ 0)
+        → IsOverBy now Done over.Done now.asked
+    no_right_answer : most_fruitless ≤ now.state.notes.fruitless → IsOverBy now Start over.NoRightAnswer now.asked
+    no_more_starts : now.state.notes.fruitless < most_fruitless → (MayStart now.state.check now.state.tally → ⊥)
+        → IsOverBy now Start over.NoMoreStarts now.asked
+    not_started : {has : Attempts P} (reason : StartReason) → now.state.notes.fruitless < most_fruitless
+        → MayStart now.state.check now.state.tally
+        → Tries now.asked has (program_line plan.words.items) (Err (start_fault.NotStarted reason))
+        → IsOverBy now Start (over.NotStarted (unstarted (program_line plan.words.items) reason)) has
 
   -- the check is over, after steps of the course
-  pub record IsOver (before : State P) (had : Attempts P) (why : Over) (after : State P) (has : Attempts P)
-      : Type 0 where
+  pub record IsOver (before : Moment P) (why : Over) (after : Moment P) : Type 0 where
     pub mid : State P
-    pub asks : Asks plan.singly before mid
+    pub asks : Asks plan.singly before.state mid
     pub action : Action
     pub course : Course
     pub next : IsNext mid.course mid.check.exam action course
-    pub over : IsOverBy after had action why has
-    pub leads : after ≡ record mid { course = course }
-
-  -- ---- turns, one after another
-
-  module _ {O E : Type 0} (outs : WriterGhosts O) (errs : WriterGhosts E) (progress : Bool) where
-    -- This number of turns was taken, from a first state on. What is due in each was written in it, and its progress
-    -- where that is asked for.
-    pub data Turns (first : State P) (asked : Attempts P) (out : O) (errors : E)
-        : ℕ → State P → Attempts P → O → E → Type 0 where
-      not_yet : Turns first asked out errors 0 first asked out errors
-      turns : {count : ℕ} {before after : State P} {had has : Attempts P} {between written : O} {seen sees : E}
-          {texts shows : List (List ℕ)} → Turns first asked out errors count before had between seen
-          → Turn before had after has texts shows → LinesGoOut outs texts between written
-          → IsShown errs progress shows seen sees
-          → Turns first asked out errors (count + 1) after has written sees
-
-    -- the check is over, after turns
-    pub record TurnsAreOver (first : State P) (asked : Attempts P) (out : O) (errors : E) (why : Over) (last : State P)
-        (has : Attempts P) (written : O) (sees : E) : Type 0 where
-      pub count : ℕ
-      pub before : State P
-      pub had : Attempts P
-      pub turns : Turns first asked out errors count before had written sees
-      pub over : IsOver before had why last has
-
-    -- Why a turn stopped. The output broke at what was due in it. Or memory was refused: for a start; for a command;
-    -- for the first line; or after something wrong was found, for its complaint. The process that the check had then,
-    -- if any, the starts that were asked for, and what was written of the progress.
-    pub data StopsIn (before : State P) (had : Attempts P) (out : O) (errors : E)
-        : Option P → Attempts P → O → E → Failure → Type 0 where
-      first_line_broke : {mid next : State P} {written : O} {sees : E} {fault : Option Fault} {line : List ℕ}
-          → (heard : Exchanges before fault mid) → WritesFirst mid (is_blamed plan.suicide fault) next (line ∷ [])
-          → BreaksAt outs line out written
-          → IsShown errs progress (waiting plan heard.mid ++ cleared ∷ []) errors sees
-          → StopsIn before had out errors (process_of mid.engine) had written sees Write
-      complaint_broke : {mid next after : State P} {has : Attempts P} {line_out written : O} {sees : E}
-          {fault : Option Fault} {line : List (List ℕ)} {text : List ℕ} → (heard : Exchanges before fault mid)
-          → WritesFirst mid (is_blamed plan.suicide fault) next line → LinesGoOut outs line out line_out
-          → Complains next had fault after has (text ∷ []) → BreaksAt outs text line_out written
-          → IsShown errs progress (waiting plan heard.mid ++ (clearing line ++ looking (text ∷ []))) errors sees
-          → StopsIn before had out errors None has written sees Write
-      no_memory_to_start : {mid : State P} {course : Course} {has : Attempts P} → Asks plan.singly before mid
-          → IsNext mid.course mid.check.exam Start course
-          → Tries had has (program_line plan.words.items) (Err start_fault.OutOfMemory)
-          → StopsIn before had out errors (process_of mid.engine) has out errors OutOfMemory
-      no_memory_to_ask : StopsIn before had out errors (process_of before.engine) had out errors OutOfMemory
-      no_memory_for_first_line : {mid : State P} {sees : E} {fault : Option Fault}
-          → (heard : Exchanges before fault mid)
-          → IsShown errs progress (waiting plan heard.mid) errors sees
-          → StopsIn before had out errors (process_of mid.engine) had out sees OutOfMemory
-      no_memory_to_complain : {mid next closed : State P} {has : Attempts P} {written : O} {sees : E} {fault : Fault}
-          {line : List (List ℕ)} {wrong : Wrong} → (heard : Exchanges before (Some fault) mid)
-          → WritesFirst mid true next line → LinesGoOut outs line out written → Closes known fault next wrong closed
-          → AsksForMore (program_line plan.words.items) had has
-          → IsShown errs progress (waiting plan heard.mid ++ (clearing line ++ looking_line ∷ [])) errors sees
-          → StopsIn before had out errors None has written sees OutOfMemory
-
-    -- a check stopped after turns: in the next one, or since there were too many
-    pub data HasStopped (first : State P) (asked : Attempts P) (out : O) (errors : E)
-        : Option P → Attempts P → O → E → Failure → Type 0 where
-      stopped : {count : ℕ} {before : State P} {had has : Attempts P} {between written : O} {seen sees : E}
-          {process : Option P} {failure : Failure} → Turns first asked out errors count before had between seen
-          → StopsIn before had between seen process has written sees failure
-          → HasStopped first asked out errors process has written sees failure
-      too_many_turns : {last : State P} {has : Attempts P} {written : O} {sees : E}
-          → Turns first asked out errors most_turns last has written sees
-          → HasStopped first asked out errors (process_of last.engine) has written sees TooManyTurns
+    pub over : IsOverBy (moment after.state before.asked) action why after.asked
+    pub leads : after.state ≡ record mid { course = course }

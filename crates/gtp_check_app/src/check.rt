@@ -6,26 +6,27 @@ ghost use Rattle.gtp_process.specs.Endings.{IsEnded};
 ghost use Rattle.gtp_process.specs.Quitting.{QuitsIfAny};
 ghost use Rattle.gtp_check_judge.specs.Exam.{HasRoomFor};
 ghost use Rattle.gtp_check_app.specs.Checks.{AreLastLines, IsClosed, IsEnding, missed_from, status_in};
-ghost use Rattle.gtp_check_app.specs.Turns.{AsksEngine, HasStopped, IsHeardOut, StopsIn};
-ghost use Rattle.gtp_check_app.specs.Turns.{MayStart, TurnsAreOver, before_all, is_first_due, process_of};
-ghost use Rattle.gtp_check_app.specs.Turns.{purpose_in, state_of, without_engine};
+ghost use Rattle.gtp_check_app.specs.Sequence.{HasStopped, StopsIn, TurnsAreOver, known_of, point};
+ghost use Rattle.gtp_check_app.specs.Turns.{AsksEngine, IsHeardOut, MayStart, before_all, is_first_due, moment};
+ghost use Rattle.gtp_check_app.specs.Turns.{process_of, purpose_in, state_of, without_engine};
 ghost use Rattle.gtp_check_app.specs.private.Steps.{Begins, EndsTurn, FirstGoesOut, FirstStops, Gathers};
 ghost use Rattle.gtp_check_app.specs.private.Steps.{IsPaired, IsRefused, Settles, StopsAfter};
 ghost use Rattle.gtp_check_talks.specs.Dialogues.{MayFollow, ends_in_pieces};
 ghost use Rattle.gtp_check_talks.specs.declared.engine.TheConstants.{LINES_ROOM};
 
 use crate::closing::{close, end_now, quit};
-use gtp_check_plan::plan::Plan;
 use crate::progress::clear;
 use crate::status::{is_earned, status_of};
-use gtp_check_summary::summary::{Ending, Over, first_line, last_lines};
+use crate::streams::Streams;
 use crate::tally::Tally;
 use crate::unjudged::is_blamed;
 use byte_streams::{WriteOnce, write_text};
 use cli::failure::Failure;
 use gtp_check_judge::{CheckCommand, Examiner};
+use gtp_check_plan::plan::Plan;
 use gtp_check_questions::{Action, Course, Lesson, Lessons};
 use gtp_check_shortening::talk::Purpose;
+use gtp_check_summary::summary::{Ending, Over, first_line, last_lines};
 use gtp_check_talks::engine::{Engine, Room};
 use gtp_check_talks::notes::Notes;
 use gtp_check_texts::fault::Fault;
@@ -108,23 +109,21 @@ impl<S: Starter> Check<S> {
     pub fn take_turns<O: WriteOnce, E: WriteOnce>(
         &mut self,
         plan: &Plan<'_>,
-        progress: bool,
-        output: &mut O,
-        errors: &mut E,
+        streams: &mut Streams<O, E>,
         starter: &mut S,
     ) -> Result<Over, Failure>
         requires { IsPaired (state_of self.old) }
         ensures over { IfOk result (λ over.
-            TurnsAreOver S.Process.Process plan.now O.WriteOnce E.WriteOnce progress
-            (state_of self.old) (S.asked starter.old) output.old errors.old
-            over (state_of self.new) (S.asked starter.new) output.new errors.new) }
+            TurnsAreOver (known_of S.Process.Process O.WriteOnce E.WriteOnce) plan.now
+            (point (state_of self.old) (S.asked starter.old) streams.old) over
+            (point (state_of self.new) (S.asked starter.new) streams.new)) }
         ensures stopped { IfErr result (λ why.
-            HasStopped S.Process.Process plan.now O.WriteOnce E.WriteOnce progress
-            (state_of self.old) (S.asked starter.old) output.old errors.old
-            (process_of self.new.engine) (S.asked starter.new) output.new errors.new why) }
+            HasStopped (known_of S.Process.Process O.WriteOnce E.WriteOnce) plan.now
+            (point (state_of self.old) (S.asked starter.old) streams.old)
+            (process_of self.new.engine) (S.asked starter.new) streams.new why) }
     {
         for _turn in 0..MOST_TURNS {
-            if let Some(over) = self.take_turn(plan, progress, output, errors, starter)? {
+            if let Some(over) = self.take_turn(plan, streams, starter)? {
                 return Ok(over);
             }
         }
@@ -135,20 +134,18 @@ impl<S: Starter> Check<S> {
     fn take_turn<O: WriteOnce, E: WriteOnce>(
         &mut self,
         plan: &Plan<'_>,
-        progress: bool,
-        output: &mut O,
-        errors: &mut E,
+        streams: &mut Streams<O, E>,
         starter: &mut S,
     ) -> Result<Option<Over>, Failure>
         requires { IsPaired (state_of self.old) }
         ensures turn { IfOk result (λ over.
-            EndsTurn S.Process.Process plan.now O.WriteOnce E.WriteOnce progress
-            (state_of self.old) (S.asked starter.old) output.old errors.old
-            over (state_of self.new) (S.asked starter.new) output.new errors.new) }
+            EndsTurn (known_of S.Process.Process O.WriteOnce E.WriteOnce) plan.now
+            (point (state_of self.old) (S.asked starter.old) streams.old) over
+            (point (state_of self.new) (S.asked starter.new) streams.new)) }
         ensures stops { IfErr result (λ why.
-            StopsIn S.Process.Process plan.now O.WriteOnce E.WriteOnce progress
-            (state_of self.old) (S.asked starter.old) output.old errors.old
-            (process_of self.new.engine) (S.asked starter.new) output.new errors.new why) }
+            StopsIn (known_of S.Process.Process O.WriteOnce E.WriteOnce) plan.now
+            (point (state_of self.old) (S.asked starter.old) streams.old)
+            (process_of self.new.engine) (S.asked starter.new) streams.new why) }
         ensures paired { OnOk result (IsPaired (state_of self.new)) }
     {
         match self.gather(plan.singly)? {
@@ -163,9 +160,9 @@ impl<S: Starter> Check<S> {
             }
             Next::Over => Ok(Some(Over::Done)),
             Next::Exchange => {
-                self.show_waiting(progress, plan, errors);
+                self.show_waiting(plan, &mut streams.errors);
                 let fault = self.exchange();
-                self.settle(fault, plan, progress, output, errors, starter)?;
+                self.settle(fault, plan, streams, starter)?;
                 Ok(None)
             }
         }
@@ -285,25 +282,22 @@ impl<S: Starter> Check<S> {
         &mut self,
         fault: Option<Fault>,
         plan: &Plan<'_>,
-        progress: bool,
-        output: &mut O,
-        errors: &mut E,
+        streams: &mut Streams<O, E>,
         starter: &mut S,
     ) -> Result<(), Failure>
         requires { IsSome self.old.engine }
         ensures goes_out { OnOk result
-            (Settles S.Process.Process plan.now O.WriteOnce E.WriteOnce progress
-            (state_of self.old) (S.asked starter.old) fault
-            (state_of self.new) (S.asked starter.new)
-            output.old output.new errors.old errors.new) }
+            (Settles (known_of S.Process.Process O.WriteOnce E.WriteOnce) plan.now
+            (point (state_of self.old) (S.asked starter.old) streams.old) fault
+            (point (state_of self.new) (S.asked starter.new) streams.new)) }
         ensures stops { IfErr result (λ why.
-            StopsAfter S.Process.Process plan.now O.WriteOnce E.WriteOnce progress
-            (state_of self.old) (S.asked starter.old) fault (process_of self.new.engine)
-            (S.asked starter.new) output.old output.new errors.old errors.new why) }
+            StopsAfter (known_of S.Process.Process O.WriteOnce E.WriteOnce) plan.now
+            (point (state_of self.old) (S.asked starter.old) streams.old) fault
+            (process_of self.new.engine) (S.asked starter.new) streams.new why) }
         ensures paired { OnOk result (IsPaired (state_of self.new)) }
     {
         let is_wrong = is_blamed(plan.suicide, fault);
-        self.write_first(is_wrong, plan, progress, output, errors)?;
+        self.write_first(is_wrong, plan, streams)?;
         let Some(fault) = fault else {
             return Ok(());
         };
@@ -311,18 +305,18 @@ impl<S: Starter> Check<S> {
             self.pass_over();
             return Ok(());
         }
-        self.complain(fault, plan, progress, output, errors, starter)
+        self.complain(fault, plan, streams, starter)
     }
 
     /// An engine is started, where one may be.
     #[inline(never)]
     fn start(&mut self, plan: &Plan<'_>, starter: &mut S) -> Result<Option<Over>, Failure>
         ensures begins { IfOk result (λ over. Begins S.Process.Process plan.now
-            (state_of self.old) (S.asked starter.old) over
-            (state_of self.new) (S.asked starter.new)) }
+            (moment (state_of self.old) (S.asked starter.old)) over
+            (moment (state_of self.new) (S.asked starter.new))) }
         ensures refused { IfErr result (λ why. IsRefused plan.now
-            (state_of self.old) (S.asked starter.old) why
-            (state_of self.new) (S.asked starter.new)) }
+            (moment (state_of self.old) (S.asked starter.old)) why
+            (moment (state_of self.new) (S.asked starter.new))) }
     {
         if self.notes.fruitless >= MOST_FRUITLESS {
             return Ok(Some(Over::NoRightAnswer));
@@ -380,18 +374,14 @@ impl<S: Starter> Check<S> {
         &mut self,
         is_wrong: bool,
         plan: &Plan<'_>,
-        progress: bool,
-        output: &mut O,
-        errors: &mut E,
+        streams: &mut Streams<O, E>,
     ) -> Result<(), Failure>
         ensures goes_out { OnOk result
-            (FirstGoesOut S.Process.Process plan.now O.WriteOnce E.WriteOnce progress
-            (state_of self.old) is_wrong (state_of self.new)
-            output.old output.new errors.old errors.new) }
+            (FirstGoesOut (known_of S.Process.Process O.WriteOnce E.WriteOnce) plan.now
+            (state_of self.old) is_wrong streams.old (state_of self.new) streams.new) }
         ensures stops { IfErr result (λ why.
-            FirstStops S.Process.Process plan.now O.WriteOnce E.WriteOnce progress
-            (state_of self.old) is_wrong (state_of self.new)
-            output.old output.new errors.old errors.new why) }
+            FirstStops (known_of S.Process.Process O.WriteOnce E.WriteOnce) plan.now
+            (state_of self.old) is_wrong streams.old (state_of self.new) streams.new why) }
         ensures engine { self.new.engine ≡ self.old.engine }
     {
         if !self.is_first_due(is_wrong) {
@@ -399,8 +389,8 @@ impl<S: Starter> Check<S> {
         }
         let line = first_line(self.alloc, plan, &self.notes)?;
         self.tally.has_first_line = true;
-        clear(progress, errors);
-        write_text(output, line.as_slice())?;
+        clear(plan.shows_progress, &mut streams.errors);
+        write_text(&mut streams.output, line.as_slice())?;
         Ok(())
     }
 
@@ -442,39 +432,32 @@ impl<S: Starter> Check<S> {
         ensures text { IfOk result (λ text.
             AreLastLines plan.now (state_of self) over.now text.items) }
     {
+        let lines = last_lines(self.alloc, plan, &self.notes, &self.ending(plan, over));
         let Check {
-            alloc,
+            alloc: _,
             examiner,
-            course,
+            course: _,
             engine,
-            notes,
-            tally,
+            notes: _,
+            tally: _,
             mut room,
         } = self;
         close(engine, examiner.unanswered() == 0, &mut room);
-        let lesson = course.place().lesson;
-        let ending = ending_of(plan, &tally, lesson, examiner.starts(), over);
-        last_lines(alloc, plan, &notes, &ending)
+        lines
     }
-}
 
-/// What the last lines say of a check that is over for this reason in this lesson of the course, after so many starts.
-fn ending_of<'c>(
-    plan: &'c Plan<'_>,
-    tally: &'c Tally,
-    lesson: usize,
-    starts: u32,
-    over: &'c Over,
-) -> Ending<'c>
-    ensures { IsEnding plan.now tally.now lesson starts over.now result }
-{
-    Ending {
-        over,
-        missed: missed_from(plan, lesson),
-        hidden: tally.hidden.as_slice(),
-        starts,
-        complaints: tally.complaints,
-        suicides: tally.suicides,
+    /// What the last lines say, where the check is over for this reason.
+    fn ending<'c>(&'c self, plan: &'c Plan<'_>, over: &'c Over) -> Ending<'c>
+        ensures { IsEnding plan.now (state_of self.now) over.now result }
+    {
+        Ending {
+            over,
+            missed: missed_from(plan, self.course.place().lesson),
+            hidden: self.tally.hidden.as_slice(),
+            starts: self.examiner.starts(),
+            complaints: self.tally.complaints,
+            suicides: self.tally.suicides,
+        }
     }
 }
 

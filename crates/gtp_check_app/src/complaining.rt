@@ -14,19 +14,21 @@ ghost use Rattle.gtp_check_app.specs.Turns.{TriesOne, TriesShorter, few_commands
 ghost use Rattle.gtp_check_shortening.specs.Played.{played};
 ghost use Rattle.gtp_check_shortening.specs.Reduction.{begun as begun_reduction};
 ghost use Rattle.gtp_check_shortening.specs.Superko.{game_before};
-ghost use Rattle.gtp_check_app.specs.Turns.{state_of};
+ghost use Rattle.gtp_check_app.specs.Sequence.{known_of, point};
+ghost use Rattle.gtp_check_app.specs.Turns.{moment, state_of};
 ghost use Rattle.gtp_check_app.specs.Unjudged.{is_blamed};
 ghost use Rattle.gtp_check_app.specs.private.Steps.{ComplaintGoesOut, ComplaintStops};
 ghost use Rattle.gtp_check_texts.specs.declared.complaint.Complaint.{Complaint};
 ghost use Rattle.cli.specs.declared.failure.Failure.TheVariants as failure;
 
 use crate::check::{Check, purpose_in};
-use gtp_check_plan::plan::Plan;
 use crate::progress::{clear, show_looking};
+use crate::streams::Streams;
 use byte_streams::{WriteOnce, write_text};
 use cli::failure::Failure;
 use go_board::{Game, KoRule};
 use gtp_check_judge::{CheckCommand, Kind};
+use gtp_check_plan::plan::Plan;
 use gtp_check_questions::{Course, Lesson};
 use gtp_check_shortening::flat::{Shortening, commands_of, games_in, shortened, shortenings};
 use gtp_check_shortening::played::played;
@@ -53,23 +55,19 @@ impl<S: Starter> Check<S> {
         &mut self,
         fault: Fault,
         plan: &Plan<'_>,
-        progress: bool,
-        output: &mut O,
-        errors: &mut E,
+        streams: &mut Streams<O, E>,
         starter: &mut S,
     ) -> Result<(), Failure>
         requires there { IsSome self.old.engine }
         requires judged { is_blamed plan.now.suicide (Some fault) ≡ true }
         ensures goes_out { OnOk result
-            (ComplaintGoesOut S.Process.Process plan.now O.WriteOnce E.WriteOnce progress
-            (state_of self.old) (S.asked starter.old) fault
-            (state_of self.new) (S.asked starter.new)
-            output.old output.new errors.old errors.new) }
+            (ComplaintGoesOut (known_of S.Process.Process O.WriteOnce E.WriteOnce) plan.now
+            (point (state_of self.old) (S.asked starter.old) streams.old) fault
+            (point (state_of self.new) (S.asked starter.new) streams.new)) }
         ensures stops { IfErr result (λ why.
-            ComplaintStops S.Process.Process plan.now O.WriteOnce E.WriteOnce progress
-            (state_of self.old) (S.asked starter.old) fault
-            (state_of self.new) (S.asked starter.new)
-            output.old output.new errors.old errors.new why) }
+            ComplaintStops (known_of S.Process.Process O.WriteOnce E.WriteOnce) plan.now
+            (point (state_of self.old) (S.asked starter.old) streams.old) fault
+            (point (state_of self.new) (S.asked starter.new) streams.new) why) }
         ensures gone { self.new.engine ≡ None }
     {
         let Some(found) = self.close(fault) else {
@@ -79,10 +77,10 @@ impl<S: Starter> Check<S> {
         if !self.tally.find(lesson, fault) {
             return Ok(());
         }
-        show_looking(progress, errors);
+        show_looking(plan.shows_progress, &mut streams.errors);
         match self.shorter(&found, plan, starter)? {
-            Some(shorter) => self.write(&shorter, lesson, plan, progress, output, errors),
-            None => self.write(&found, lesson, plan, progress, output, errors),
+            Some(shorter) => self.write(&shorter, lesson, plan, streams),
+            None => self.write(&found, lesson, plan, streams),
         }
     }
 
@@ -112,28 +110,28 @@ impl<S: Starter> Check<S> {
         found: &Tried,
         lesson: Lesson,
         plan: &Plan<'_>,
-        progress: bool,
-        output: &mut O,
-        errors: &mut E,
+        streams: &mut Streams<O, E>,
     ) -> Result<(), Failure>
         ensures goes_out { OnOk result ((complaint : Complaint) × IsComplaint plan.now.rule
             self.old.tally.complaints lesson (wrong_of found.now) complaint
-            × GoesOut O.WriteOnce (complaint_lines complaint) output.old output.new
-            × IsShown E.WriteOnce progress (cleared ∷ []) errors.old errors.new) }
+            × GoesOut O.WriteOnce (complaint_lines complaint) streams.old.output streams.new.output
+            × IsShown E.WriteOnce plan.now.shows_progress (cleared ∷ [])
+            streams.old.errors streams.new.errors) }
         ensures broke { IfErr result (λ why. why ≡ failure.Write
             → (complaint : Complaint) × IsComplaint plan.now.rule
             self.old.tally.complaints lesson (wrong_of found.now) complaint
-            × BreaksAt O.WriteOnce (complaint_lines complaint) output.old output.new
-            × IsShown E.WriteOnce progress (cleared ∷ []) errors.old errors.new) }
+            × BreaksAt O.WriteOnce (complaint_lines complaint) streams.old.output streams.new.output
+            × IsShown E.WriteOnce plan.now.shows_progress (cleared ∷ [])
+            streams.old.errors streams.new.errors) }
         ensures refused { IfErr result (λ why. (why ≡ failure.Write) ⊎ ((why ≡ failure.OutOfMemory)
-            × (output.new ≡ output.old) × (errors.new ≡ errors.old))) }
+            × (streams.new ≡ streams.old))) }
         ensures same { state_of self.new ≡ state_of self.old }
     {
         let done = done_in(self.alloc, found, plan.rule)?;
         let complaint = complaint_of(self.tally.complaints, lesson, found, plan.rule, &done);
         let text = complaint_text(self.alloc, &complaint)?;
-        clear(progress, errors);
-        write_text(output, text.as_slice())?;
+        clear(plan.shows_progress, &mut streams.errors);
+        write_text(&mut streams.output, text.as_slice())?;
         Ok(())
     }
 
@@ -146,8 +144,8 @@ impl<S: Starter> Check<S> {
         starter: &mut S,
     ) -> Result<Option<Tried>, Failure>
         ensures shortens { IfOk result (λ shorter. IsShortened S.Process.Process plan.now
-            (wrong_of found.now) (state_of self.old) (S.asked starter.old)
-            (option_map wrong_of shorter) (state_of self.new) (S.asked starter.new)) }
+            (wrong_of found.now) (moment (state_of self.old) (S.asked starter.old))
+            (option_map wrong_of shorter) (moment (state_of self.new) (S.asked starter.new))) }
         ensures refused { IfErr result (λ why. (why ≡ failure.OutOfMemory)
             × AsksForMore (program_line plan.now.words.items)
             (S.asked starter.old) (S.asked starter.new)) }
@@ -170,8 +168,8 @@ impl<S: Starter> Check<S> {
         starter: &mut S,
     ) -> Result<Option<Tried>, Failure>
         ensures shortens { IfOk result (λ shorter. Shortens S.Process.Process plan.now
-            (wrong_of found.now) shortenings (state_of self.old) (S.asked starter.old)
-            (option_map wrong_of shorter) (state_of self.new) (S.asked starter.new)) }
+            (wrong_of found.now) shortenings (moment (state_of self.old) (S.asked starter.old))
+            (option_map wrong_of shorter) (moment (state_of self.new) (S.asked starter.new))) }
         ensures refused { IfErr result (λ why. (why ≡ failure.OutOfMemory)
             × AsksForMore (program_line plan.now.words.items)
             (S.asked starter.old) (S.asked starter.new)) }
@@ -195,8 +193,8 @@ impl<S: Starter> Check<S> {
         starter: &mut S,
     ) -> Result<Option<Tried>, Failure>
         ensures tries { IfOk result (λ shorter. TriesShorter S.Process.Process plan.now
-            (wrong_of found.now) shortening (state_of self.old) (S.asked starter.old)
-            (option_map wrong_of shorter) (state_of self.new) (S.asked starter.new)) }
+            (wrong_of found.now) shortening (moment (state_of self.old) (S.asked starter.old))
+            (option_map wrong_of shorter) (moment (state_of self.new) (S.asked starter.new))) }
         ensures refused { IfErr result (λ why. (why ≡ failure.OutOfMemory)
             × AsksForMore (program_line plan.now.words.items)
             (S.asked starter.old) (S.asked starter.new)) }
@@ -224,8 +222,9 @@ impl<S: Starter> Check<S> {
     ) -> Result<Option<Tried>, Failure>
         ensures reduced { IfOk result (λ best. IsReduced S.Process.Process plan.now
             (wrong_of found.now) (begun_reduction (commands_of (wrong_talk (wrong_of longer.now)))
-            (limits_of plan.now (wrong_of longer.now))) (state_of self.old) (S.asked starter.old)
-            (option_map wrong_of best) (state_of self.new) (S.asked starter.new)) }
+            (limits_of plan.now (wrong_of longer.now)))
+            (moment (state_of self.old) (S.asked starter.old))
+            (option_map wrong_of best) (moment (state_of self.new) (S.asked starter.new))) }
         ensures refused { IfErr result (λ why. (why ≡ failure.OutOfMemory)
             × AsksForMore (program_line plan.now.words.items)
             (S.asked starter.old) (S.asked starter.new)) }
@@ -258,8 +257,8 @@ impl<S: Starter> Check<S> {
         starter: &mut S,
     ) -> Result<Option<Tried>, Failure>
         ensures tries { IfOk result (λ tried. TriesOne S.Process.Process plan.now
-            (wrong_of found.now) commands.now (state_of self.old) (S.asked starter.old)
-            (option_map wrong_of tried) (state_of self.new) (S.asked starter.new)) }
+            (wrong_of found.now) commands.now (moment (state_of self.old) (S.asked starter.old))
+            (option_map wrong_of tried) (moment (state_of self.new) (S.asked starter.new))) }
         ensures refused { IfErr result (λ why. (why ≡ failure.OutOfMemory)
             × AsksForMore (program_line plan.now.words.items)
             (S.asked starter.old) (S.asked starter.new)) }

@@ -1,7 +1,8 @@
 //! Laws of the check. Each is the contract of a function that does nothing.
 ghost use Rattle.gtp_check_app.specs.Laws.{APassIsEarned, NoChosenSuicideIsBlamed};
 ghost use Rattle.gtp_check_app.specs.RunLaws.{EachComplaintIsJust, QuitGoesToWhoOwesNothing, SilentChecksAreRight};
-ghost use Rattle.gtp_check_app.specs.RunLaws.{StatusesSay, ThreeStartsInVainEndIt, known_of};
+ghost use Rattle.gtp_check_app.specs.RunLaws.{StatusesSay, ThreeStartsInVainEndIt};
+ghost use Rattle.gtp_check_app.specs.Sequence.{known_of};
 
 use byte_streams::WriteOnce;
 use gtp_check_talks::laws::{

@@ -12,5 +12,6 @@ pub mod laws;
 pub mod progress;
 pub mod run;
 mod status;
+pub mod streams;
 pub mod tally;
 mod unjudged;

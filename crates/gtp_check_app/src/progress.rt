@@ -9,14 +9,14 @@ ghost use Rattle.gtp_check_texts.specs.Texts.{joined};
 ghost use Rattle.gtp_check_app.specs.Turns.{state_of, waiting};
 
 use crate::check::Check;
-use gtp_check_plan::plan::Plan;
-use gtp_check_summary::summary::plural;
 use arrayvec::ArrayVec;
 use byte_streams::{WriteOnce, write_or_break};
 use go_base::{push, write_int};
 use gtp_check_judge::Examiner;
+use gtp_check_plan::plan::Plan;
 use gtp_check_questions::{Lesson, Lessons};
 use gtp_check_shortening::talk::{Said, said_at};
+use gtp_check_summary::summary::plural;
 use gtp_check_talks::engine::Engine;
 use gtp_check_texts::complaint::without_newline;
 use gtp_process::{Process, Starter};
@@ -31,24 +31,28 @@ type Text = ArrayVec<u8, MOST_COLUMNS>;
 type Line = ArrayVec<u8, 83>;
 
 /// The line is cleared.
-pub fn clear<E: WriteOnce>(progress: bool, errors: &mut E)
-    ensures { IsShown E.WriteOnce progress (cleared ∷ []) errors.old errors.new }
+pub fn clear<E: WriteOnce>(shows_progress: bool, errors: &mut E)
+    ensures { IsShown E.WriteOnce shows_progress (cleared ∷ []) errors.old errors.new }
 {
-    show(progress, b"", errors);
+    show(shows_progress, b"", errors);
 }
 
 /// A line before shorter conversations are tried.
-pub fn show_looking<E: WriteOnce>(progress: bool, errors: &mut E)
-    ensures { IsShown E.WriteOnce progress (looking_line ∷ []) errors.old errors.new }
+pub fn show_looking<E: WriteOnce>(shows_progress: bool, errors: &mut E)
+    ensures { IsShown E.WriteOnce shows_progress (looking_line ∷ []) errors.old errors.new }
 {
-    show(progress, b"looking for a shorter conversation", errors);
+    show(
+        shows_progress,
+        b"looking for a shorter conversation",
+        errors,
+    );
 }
 
 /// A text takes the place of the line, where that is asked for.
-fn show<E: WriteOnce>(progress: bool, text: &[u8], errors: &mut E)
-    ensures { IsShown E.WriteOnce progress (in_place text.now ∷ []) errors.old errors.new }
+fn show<E: WriteOnce>(shows_progress: bool, text: &[u8], errors: &mut E)
+    ensures { IsShown E.WriteOnce shows_progress (in_place text.now ∷ []) errors.old errors.new }
 {
-    if progress {
+    if shows_progress {
         write_or_break(errors, in_place(text).as_slice());
     }
 }
@@ -66,11 +70,11 @@ pub fn in_place(text: &[u8]) -> Line
 
 impl<S: Starter> Check<S> {
     /// Before the engine is read: what is waited for.
-    pub fn show_waiting<E: WriteOnce>(&self, progress: bool, plan: &Plan<'_>, errors: &mut E)
-        ensures { IsShown E.WriteOnce progress (waiting plan.now (state_of self.now))
+    pub fn show_waiting<E: WriteOnce>(&self, plan: &Plan<'_>, errors: &mut E)
+        ensures { IsShown E.WriteOnce plan.now.shows_progress (waiting plan.now (state_of self.now))
             errors.old errors.new }
     {
-        if !progress {
+        if !plan.shows_progress {
             return;
         }
         let Some(engine) = &self.engine else {
@@ -96,7 +100,7 @@ impl<S: Starter> Check<S> {
             self.notes.commands,
             self.examiner.starts(),
         );
-        show(progress, text.as_slice(), errors);
+        show(plan.shows_progress, text.as_slice(), errors);
     }
 }
 

@@ -56,8 +56,8 @@ is_chosen options lesson =
 
 -- ---- the plan
 
--- what the options come to
-pub record IsPlanOf (options : Options) (plan : Plan) : Type 0 where
+-- what the options come to, where progress is shown or not
+pub record IsPlanOf (options : Options) (shows_progress : Bool) (plan : Plan) : Type 0 where
   pub command : IsCommand options.command.now plan.words.items
   pub has_words : words options.command.now ≢ []
   pub scene_size : IsSceneSize options.size plan.scene_size
@@ -70,6 +70,7 @@ pub record IsPlanOf (options : Options) (plan : Plan) : Type 0 where
   pub singly : plan.singly ≡ options.singly
   pub restarts : plan.restarts ≡ options.restarts
   pub trials : plan.trials ≡ options.trials
+  pub progress : plan.shows_progress ≡ shows_progress
 
 -- Why the options come to no plan: the command has no word; or it has, and no lesson is left; or memory was refused.
 -- That an argument isn't UTF-8 is none of theirs.

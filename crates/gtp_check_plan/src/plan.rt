@@ -36,15 +36,21 @@ pub struct Plan<'a> {
     pub restarts: u32,
     /// How many trials may make a conversation shorter.
     pub trials: u32,
+    /// Whether what is waited for is written to standard error, which is a terminal.
+    pub shows_progress: bool,
 }
 
-/// The plan of the options.
+/// The plan of the options, which says whether progress is shown.
 ///
 /// # Errors
 ///
 /// `OutOfMemory`, or a mistake: that the command has no word, or else that no lesson is left.
-pub fn plan_of<'a>(alloc: Global, options: &Options<'a>) -> Result<Plan<'a>, PlanError<Mistake>>
-    ensures plan { IfOk result (IsPlanOf options.now) }
+pub fn plan_of<'a>(
+    alloc: Global,
+    options: &Options<'a>,
+    shows_progress: bool,
+) -> Result<Plan<'a>, PlanError<Mistake>>
+    ensures plan { IfOk result (IsPlanOf options.now shows_progress) }
     ensures no_plan { IfErr result (HasNoPlan options.now) }
 {
     let words = words_of(alloc, options.command)?;
@@ -66,6 +72,7 @@ pub fn plan_of<'a>(alloc: Global, options: &Options<'a>) -> Result<Plan<'a>, Pla
         singly: options.singly,
         restarts: options.restarts,
         trials: options.trials,
+        shows_progress,
     })
 }
 

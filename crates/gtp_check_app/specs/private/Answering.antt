@@ -17,10 +17,10 @@ pub data Lists {O E : Type 0} (known : Writers O E) (before : Outputs O E) : ℕ
       → Lists known before own_failure (outputs before.output reported)
 
 -- An error of this kind was answered, and after a mistake the hint follows where it is due.
-pub record IsAnswered {A O E : Type 0} (known : Writers O E) (kind : ErrorKind) (text : Result (String A) AllocError)
-    (before : Outputs O E) (status : ℕ) (after : Outputs O E) : Type 0 where
-  pub between : Outputs O E
-  pub answers : Answers known program_name kind text before status between
-  pub output : after.output ≡ between.output
-  pub hinted : status ≡ usage_failure → IsHinted known.errors kind between.errors after.errors
-  pub no_hint : (status ≡ usage_failure → ⊥) → after.errors ≡ between.errors
+pub data IsAnswered {A O E : Type 0} (known : Writers O E) (kind : ErrorKind) (text : Result (String A) AllocError)
+    (before : Outputs O E) : ℕ → Outputs O E → Type 0 where
+  answered : {status : ℕ} {between : Outputs O E} {reported : E}
+      → Answers known program_name kind text before status between
+      → (status ≡ usage_failure → IsHinted known.errors kind between.errors reported)
+      → ((status ≡ usage_failure → ⊥) → reported ≡ between.errors)
+      → IsAnswered known kind text before status (outputs between.output reported)

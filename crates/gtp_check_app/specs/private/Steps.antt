@@ -2,7 +2,6 @@
 use Rattle.std.specs.Prelude.{◌≡◌, ◌⊎◌, ℕ, ◌<◌, Bool, true, false, List, [], ◌∷◌, ◌++◌, length, Option, None, Some}
 use Rattle.std.specs.Prelude.{IsSome}
 use Rattle.std.specs.Prelude.{Ok, Err}
-use Rattle.byte_streams.specs.declared.calls.WriteOnce.{Ghosts as WriterGhosts}
 use Rattle.byte_streams.specs.Writing.{BreaksAt, LinesGoOut}
 use Rattle.gtp_process.specs.declared.starter.Process.{Ghosts}
 use Rattle.gtp_process.specs.declared.starter.StartFault.TheVariants as start_fault
@@ -13,6 +12,7 @@ use Rattle.gtp_check_questions.specs.declared.actions.Action.{Action}
 use Rattle.gtp_check_questions.specs.declared.actions.Action.TheVariants as action
 use Rattle.gtp_check_questions.specs.Course.{Course}
 use Rattle.gtp_check_app.specs.declared.check.Next.{Next}
+use Rattle.gtp_check_app.specs.declared.streams.Streams.{Streams}
 use Rattle.gtp_check_app.specs.declared.check.Next.TheVariants.{Exchange, Kill, Over, Restart, Start}
 use Rattle.gtp_check_talks.specs.declared.engine.Engine.{Engine}
 use Rattle.gtp_check_texts.specs.declared.fault.Fault.{Fault}
@@ -25,10 +25,11 @@ use Rattle.gtp_check_talks.specs.Dialogues.{AsksForMore, Wrong, begun_with, dial
 use Rattle.gtp_check_talks.specs.Notes.{started as noted_start}
 use Rattle.gtp_check_app.specs.Progress.{IsShown, cleared, clearing, looking, looking_line}
 use Rattle.gtp_check_app.specs.Tally.{started_again}
-use Rattle.gtp_check_app.specs.Turns.{Asks, Closes, Complains, IsNext, IsOverBy, MayStart, State, WritesFirst}
-use Rattle.gtp_check_app.specs.Turns.{most_fruitless}
+use Rattle.gtp_check_app.specs.Sequence.{Known, Point, StopsIn, point}
+use Rattle.gtp_check_app.specs.Turns.{Asks, Closes, Complains, IsNext, IsOverBy, MayStart, Moment, State, WritesFirst}
+use Rattle.gtp_check_app.specs.Turns.{moment, most_fruitless}
 use Rattle.gtp_check_app.specs.Unjudged.{is_blamed}
-use Rattle.gtp_check_app.specs.Turns.{Exchanges, IsOver, StopsIn, Turn, process_of, state, waiting}
+use Rattle.gtp_check_app.specs.Turns.{Exchanges, IsOver, Turn, process_of, state, waiting}
 
 -- an engine that is up is there
 abbrev pub IsPaired : {P : Type 0} → State P → Type 0
@@ -53,90 +54,98 @@ Gathers singly before Over after =
     × ((after.check.exam.up ≡ false) ⊎ (length after.check.exam.unanswered ≡ 0))
 
 -- memory was refused for a start
-pub record IsRefused {P : Type 0} (plan : Plan) (before : State P) (had : Attempts P) (failure : Failure)
-    (after : State P) (has : Attempts P) : Type 0 where
+pub record IsRefused {P : Type 0} (plan : Plan) (before : Moment P) (failure : Failure) (after : Moment P)
+    : Type 0 where
   pub failed : failure ≡ OutOfMemory
-  pub asked : Tries had has (program_line plan.words.items) (Err start_fault.OutOfMemory)
-  pub same : after ≡ before
+  pub asked : Tries before.asked after.asked (program_line plan.words.items) (Err start_fault.OutOfMemory)
+  pub same : after.state ≡ before.state
 
-module _ {P : Type 0} (known : Ghosts P) (plan : Plan) where
-  -- an engine was started, or the check is over
-  pub data Begins (before : State P) (had : Attempts P) : Option WhyOver → State P → Attempts P → Type 0 where
-    begins : {has : Attempts P} {engine : Engine P} (process : P)
-        → before.notes.fruitless < most_fruitless → MayStart before.check before.tally
-        → Tries had has (program_line plan.words.items) (Ok process)
-        → QuitsIfAny known (process_of before.engine)
-        → ((notes : Notes) → dialogue engine notes ≡ begun_with process notes)
-        → Begins before had None
-        (state (started before.check) before.course (Some engine) (started_again before.tally)
-        (noted_start before.notes)) has
-    is_over : {why : WhyOver} {has : Attempts P} → IsOverBy known plan before had action.Start why has
-        → Begins before had (Some why) before has
+-- an engine was started, or the check is over
+pub data Begins {P : Type 0} (known : Ghosts P) (plan : Plan) (before : Moment P)
+    : Option WhyOver → Moment P → Type 0 where
+  begins : {has : Attempts P} {engine : Engine P} (process : P)
+      → before.state.notes.fruitless < most_fruitless → MayStart before.state.check before.state.tally
+      → Tries before.asked has (program_line plan.words.items) (Ok process)
+      → QuitsIfAny known (process_of before.state.engine)
+      → ((notes : Notes) → dialogue engine notes ≡ begun_with process notes)
+      → Begins known plan before None (moment
+      (state (started before.state.check) before.state.course (Some engine) (started_again before.state.tally)
+      (noted_start before.state.notes)) has)
+  is_over : {why : WhyOver} {has : Attempts P} → IsOverBy known plan before action.Start why has
+      → Begins known plan before (Some why) (moment before.state has)
 
-  module _ {O E : Type 0} (outs : WriterGhosts O) (errs : WriterGhosts E) (progress : Bool) where
-    -- the first line was written where it is due
-    pub record FirstGoesOut (before : State P) (is_wrong : Bool) (after : State P) (out written : O) (seen sees : E)
-        : Type 0 where
-      pub line : List (List ℕ)
-      pub first : WritesFirst known plan before is_wrong after line
-      pub goes_out : LinesGoOut outs line out written
-      pub shown : IsShown errs progress (clearing line) seen sees
+module _ {P O E : Type 0} (known : Known P O E) (plan : Plan) where
+  -- the first line was written where it is due
+  pub data FirstGoesOut (before : State P) (is_wrong : Bool) (old : Streams O E)
+      : State P → Streams O E → Type 0 where
+    first_goes_out : {after : State P} {new : Streams O E} (line : List (List ℕ))
+        → WritesFirst known.processes plan before is_wrong after line
+        → LinesGoOut known.outs line old.output new.output
+        → IsShown known.errs plan.shows_progress (clearing line) old.errors new.errors
+        → FirstGoesOut before is_wrong old after new
 
-    -- it wasn't: the output broke at it, or memory was refused
-    pub data FirstStops (before : State P) (is_wrong : Bool) (after : State P) (out written : O) (seen sees : E)
-        : Failure → Type 0 where
-      first_broke : {next : State P} {line : List ℕ} → WritesFirst known plan before is_wrong next (line ∷ [])
-          → BreaksAt outs line out written → IsShown errs progress (cleared ∷ []) seen sees
-          → process_of after.engine ≡ process_of before.engine
-          → FirstStops before is_wrong after out written seen sees Write
-      first_refused : written ≡ out → sees ≡ seen → process_of after.engine ≡ process_of before.engine
-          → FirstStops before is_wrong after out written seen sees OutOfMemory
+  -- it wasn't: the output broke at it, or memory was refused
+  pub data FirstStops (before : State P) (is_wrong : Bool) (old : Streams O E)
+      : State P → Streams O E → Failure → Type 0 where
+    first_broke : {next after : State P} {new : Streams O E} {line : List ℕ}
+        → WritesFirst known.processes plan before is_wrong next (line ∷ [])
+        → BreaksAt known.outs line old.output new.output
+        → IsShown known.errs plan.shows_progress (cleared ∷ []) old.errors new.errors
+        → process_of after.engine ≡ process_of before.engine
+        → FirstStops before is_wrong old after new Write
+    first_refused : {after : State P} {new : Streams O E} → new ≡ old
+        → process_of after.engine ≡ process_of before.engine
+        → FirstStops before is_wrong old after new OutOfMemory
 
-    -- what is due of a complaint was written
-    pub record ComplaintGoesOut (before : State P) (had : Attempts P) (fault : Fault) (after : State P)
-        (has : Attempts P)
-        (out written : O) (seen sees : E) : Type 0 where
-      pub said : List (List ℕ)
-      pub complains : Complains known plan before had (Some fault) after has said
-      pub goes_out : LinesGoOut outs said out written
-      pub shown : IsShown errs progress (looking said) seen sees
+  -- what is due of a complaint was written
+  pub record ComplaintGoesOut (before : Point P O E) (fault : Fault) (after : Point P O E) : Type 0 where
+    pub said : List (List ℕ)
+    pub complains : Complains known.processes plan before.now (Some fault) after.now said
+    pub goes_out : LinesGoOut known.outs said before.streams.output after.streams.output
+    pub shown : IsShown known.errs plan.shows_progress (looking said) before.streams.errors after.streams.errors
 
-    -- it wasn't: the output broke at it, or memory was refused
-    pub data ComplaintStops (before : State P) (had : Attempts P) (fault : Fault) (after : State P) (has : Attempts P)
-        (out written : O) (seen sees : E) : Failure → Type 0 where
-      complaint_broke : {next : State P} {text : List ℕ}
-          → Complains known plan before had (Some fault) next has (text ∷ [])
-          → BreaksAt outs text out written → IsShown errs progress (looking (text ∷ [])) seen sees
-          → after.engine ≡ None
-          → ComplaintStops before had fault after has out written seen sees Write
-      complaint_refused : {closed : State P} {wrong : Wrong} → Closes known fault before wrong closed
-          → AsksForMore (program_line plan.words.items) had has → written ≡ out
-          → IsShown errs progress (looking_line ∷ []) seen sees → after.engine ≡ None
-          → ComplaintStops before had fault after has out written seen sees OutOfMemory
+  -- it wasn't: the output broke at it, or memory was refused
+  pub data ComplaintStops (before : Point P O E) (fault : Fault) (after : Point P O E) : Failure → Type 0 where
+    complaint_broke : {next : State P} {text : List ℕ}
+        → Complains known.processes plan before.now (Some fault) (moment next after.now.asked) (text ∷ [])
+        → BreaksAt known.outs text before.streams.output after.streams.output
+        → IsShown known.errs plan.shows_progress (looking (text ∷ [])) before.streams.errors after.streams.errors
+        → after.now.state.engine ≡ None
+        → ComplaintStops before fault after Write
+    complaint_refused : {closed : State P} {wrong : Wrong}
+        → Closes known.processes fault before.now.state wrong closed
+        → AsksForMore (program_line plan.words.items) before.now.asked after.now.asked
+        → after.streams.output ≡ before.streams.output
+        → IsShown known.errs plan.shows_progress (looking_line ∷ []) before.streams.errors after.streams.errors
+        → after.now.state.engine ≡ None
+        → ComplaintStops before fault after OutOfMemory
 
-    -- a turn was taken, or the check is over
-    abbrev pub EndsTurn : State P → Attempts P → O → E → Option WhyOver → State P → Attempts P → O → E → Type 0
-    EndsTurn before had out seen None after has written sees =
-        (texts shows : List (List ℕ)) × Turn known plan before had after has texts shows
-        × LinesGoOut outs texts out written × IsShown errs progress shows seen sees
-    EndsTurn before had out seen (Some why) after has written sees =
-        IsOver known plan before had why after has × (written ≡ out) × (sees ≡ seen)
+  -- a turn was taken, or the check is over
+  abbrev pub EndsTurn : Point P O E → Option WhyOver → Point P O E → Type 0
+  EndsTurn before None after =
+      (texts shows : List (List ℕ)) × Turn known.processes plan before.now after.now texts shows
+      × LinesGoOut known.outs texts before.streams.output after.streams.output
+      × IsShown known.errs plan.shows_progress shows before.streams.errors after.streams.errors
+  EndsTurn before (Some why) after =
+      IsOver known.processes plan before.now why after.now × (after.streams ≡ before.streams)
 
-    -- what is due after an exchange was written
-    pub record Settles (before : State P) (had : Attempts P) (fault : Option Fault) (after : State P)
-        (has : Attempts P) (out written : O) (seen sees : E) : Type 0 where
-      pub next : State P
-      pub line : List (List ℕ)
-      pub said : List (List ℕ)
-      pub first : WritesFirst known plan before (is_blamed plan.suicide fault) next line
-      pub complains : Complains known plan next had fault after has said
-      pub goes_out : LinesGoOut outs (line ++ said) out written
-      pub shown : IsShown errs progress (clearing line ++ looking said) seen sees
+  -- what is due after an exchange was written
+  pub record Settles (before : Point P O E) (fault : Option Fault) (after : Point P O E) : Type 0 where
+    pub next : State P
+    pub line : List (List ℕ)
+    pub said : List (List ℕ)
+    pub first : WritesFirst known.processes plan before.now.state (is_blamed plan.suicide fault) next line
+    pub complains : Complains known.processes plan (moment next before.now.asked) fault after.now said
+    pub goes_out : LinesGoOut known.outs (line ++ said) before.streams.output after.streams.output
+    pub shown : IsShown known.errs plan.shows_progress (clearing line ++ looking said)
+        before.streams.errors after.streams.errors
 
-    -- it wasn't: a turn with this exchange stopped so, of which this was written before
-    abbrev pub StopsAfter : State P → Attempts P → Option Fault → Option P → Attempts P → O → O → E → E → Failure
-        → Type 0
-    StopsAfter mid had fault process has out written seen sees why =
-        (before : State P) (errors : E) (heard : Exchanges known plan before fault mid)
-        → IsShown errs progress (waiting plan heard.mid) errors seen
-        → StopsIn known plan outs errs progress before had out errors process has written sees why
+  -- it wasn't: a turn with this exchange stopped so, of which the progress of what was waited for was written before
+  pub data StopsAfter (mid : Point P O E) (fault : Option Fault)
+      : Option P → Attempts P → Streams O E → Failure → Type 0 where
+    stops_after : {process : Option P} {has : Attempts P} {after : Streams O E} {why : Failure}
+        → ((before : State P) (errors : E) (heard : Exchanges known.processes plan before fault mid.now.state)
+        → IsShown known.errs plan.shows_progress (waiting plan heard.mid) errors mid.streams.errors
+        → StopsIn known plan (point before mid.now.asked (record mid.streams { errors = errors })) process has after
+        why)
+        → StopsAfter mid fault process has after why

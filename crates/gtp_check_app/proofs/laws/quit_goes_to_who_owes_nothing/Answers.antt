@@ -1,8 +1,9 @@
+use Rattle.gtp_check_app.specs.Sequence.{known_of}
 use Rattle.gtp_check_app.proofs.OverTurns.{who_quits}
 use Rattle.gtp_check_app.proofs.laws.quit_goes_to_who_owes_nothing.Goals as goal
 
 pub returns : goal.returns
-returns g c = who_quits g.P.Process g.O.WriteOnce g.E.WriteOnce (record {
+returns g c = who_quits (known_of g.P.Process g.O.WriteOnce g.E.WriteOnce) (record {
   just = c.complaints_are_justified.ensures;
   lost = c.losses_are_no_wrong_answers.ensures;
   stays = c.ko_rules_stay.ensures;

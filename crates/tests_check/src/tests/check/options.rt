@@ -22,7 +22,7 @@ fn options_have_defaults_and_lessons_are_chosen_in_their_order(
         (options.size, options.seed, options.restarts, options.trials),
         (0, 1, 200, 60),
     );
-    let plan = plan_of(rt.alloc(), &options)?;
+    let plan = plan_of(rt.alloc(), &options, false)?;
     assert_equal(&rt, plan.words.len(), 2);
     assert_equal(&rt, plan.scene_size, None);
     assert_equal(&rt, plan.lessons.len(), 13);
@@ -48,7 +48,7 @@ fn options_have_defaults_and_lessons_are_chosen_in_their_order(
     ];
     let options = read_options(rt.alloc(), words.as_slice())?;
     assert_equal(&rt, options.rule, KoRule::Positional);
-    let plan = plan_of(rt.alloc(), &options)?;
+    let plan = plan_of(rt.alloc(), &options, false)?;
     assert_equal(&rt, plan.suicide, Suicide::Unasked);
     assert_equal(&rt, plan.lessons.as_slice(), [Lesson::Ko].as_slice());
     assert_equal(&rt, plan.left_out.len(), 12);
@@ -77,7 +77,7 @@ static NO_PLANS: [([&str; 4], Mistake); 4] = [
 fn a_plan_has_a_command_and_a_lesson(rt: HostRuntime) -> Result<(), Fail> {
     for (words, mistake) in &NO_PLANS {
         let options = read_options(rt.alloc(), words.as_slice())?;
-        let why = match plan_of(rt.alloc(), &options) {
+        let why = match plan_of(rt.alloc(), &options, false) {
             Err(PlanError::BadWords(why)) => Some(why),
             _ => None,
         };

@@ -39,7 +39,7 @@ static WAITING: [(&[&str], &[u8], Lesson, (u32, u32), &str); 2] = [
 fn what_is_waited_for_is_a_line_of_79_columns_at_most(rt: HostRuntime) -> Result<(), Fail> {
     for (words, command, lesson, (commands, starts), expected) in &WAITING {
         let options = read_options(rt.alloc(), *words)?;
-        let plan = plan_of(rt.alloc(), &options)?;
+        let plan = plan_of(rt.alloc(), &options, false)?;
         let text = waiting_text(&plan.lessons, command, *lesson, *commands, *starts);
         assert_equal_for(&rt, *words, text_of(&rt, text.as_slice()), *expected);
     }

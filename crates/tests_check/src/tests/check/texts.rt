@@ -18,7 +18,7 @@ fn a_check_has_a_first_line_and_last_lines_and_a_lesson_has_a_line(
 ) -> Result<(), Fail> {
     let words = ["gtp_check", "engine", "--seed", "7", "--skip", "komi"];
     let options = read_options(rt.alloc(), words.as_slice())?;
-    let plan = plan_of(rt.alloc(), &options)?;
+    let plan = plan_of(rt.alloc(), &options, false)?;
     let mut notes = Notes::new();
     let first = first_line(rt.alloc(), &plan, &notes)?;
     let expected = "check: an engine without a name, version unknown, seed 7, simple ko\n";

@@ -4,6 +4,8 @@ use Rattle.byte_streams.specs.Writing.{line_out, no_line}
 use Rattle.gtp_check_texts.specs.Complaints.{complaint_lines}
 use Rattle.gtp_check_talks.specs.Dialogues.{wrong_of}
 use Rattle.gtp_check_app.specs.Progress.{cleared, looking_line}
+use Rattle.gtp_check_app.specs.Sequence.{known_of}
+use Rattle.gtp_check_app.specs.Turns.{moment}
 use Rattle.gtp_check_app.specs.private.Steps.{complaint_broke, complaint_refused}
 use Rattle.gtp_check_app.proofs.Progressing.{both_shown}
 use Rattle.gtp_check_app.proofs.Settling.{complained, is_hidden}
@@ -13,10 +15,10 @@ use Rattle.gtp_check_app.proofs.check.Check.complain.Goals as goal
 
 pub returns-then-not-find-clause-goes_out : goal.returns-then-not-find-clause-goes_out
 returns-then-not-find-clause-goes_out g c =
-    is_hidden g.S.Process.Process c.args.plan.now _ _ (g.S.Starter.asked c.args.starter.now) c.args.fault
-    (wrong_of c.in-Some.found) c.purpose-lesson.result c.find.new.self c.in-Some.ensures.closes c.requires.judged c.purpose-lesson.ensures
-    c.find.ensures.found g.O.WriteOnce g.E.WriteOnce c.args.progress c.find.result c.find.ensures.shown
-    c.if-not-find.true c.args.output.now c.args.errors.now
+    is_hidden (known_of g.S.Process.Process g.O.WriteOnce g.E.WriteOnce) c.args.plan.now
+    (moment _ (g.S.Starter.asked c.args.starter.now)) _ c.args.fault (wrong_of c.in-Some.found)
+    c.purpose-lesson.result c.find.new.self c.in-Some.ensures.closes c.requires.judged c.purpose-lesson.ensures
+    c.find.ensures.found c.find.result c.find.ensures.shown c.if-not-find.true c.args.streams.now
 
 pub returns-in_err-shorter-clause-stops : goal.returns-in_err-shorter-clause-stops
 returns-in_err-shorter-clause-stops g c =
@@ -32,12 +34,13 @@ returns-in-Some-2-clause-goes_out g c =
     rw c.write.ensures.same
     (where_ok c.write.result c.write.ensures.goes_out (λ out. record {
       said = complaint_lines out.0 ∷ [];
-      complains = complained g.S.Process.Process c.args.plan.now _ _ (g.S.Starter.asked c.args.starter.now) c.args.fault
-          (wrong_of c.in-Some.found) c.purpose-lesson.result c.find.new.self c.in-Some.ensures.closes
-          c.requires.judged c.purpose-lesson.ensures c.find.ensures.found c.find.result c.find.ensures.shown c.if-not-find.false
+      complains = complained (known_of g.S.Process.Process g.O.WriteOnce g.E.WriteOnce) c.args.plan.now
+          (moment _ (g.S.Starter.asked c.args.starter.now)) _ c.args.fault (wrong_of c.in-Some.found)
+          c.purpose-lesson.result c.find.new.self c.in-Some.ensures.closes c.requires.judged c.purpose-lesson.ensures
+          c.find.ensures.found c.find.result c.find.ensures.shown c.if-not-find.false
           (rw c.in-Some-2.is at c.in_ok-shorter.ensures.shortens) out.0 out.1;
       goes_out = line_out out.2 no_line;
-      shown = both_shown g.E.WriteOnce c.args.progress (looking_line ∷ []) (cleared ∷ []) _ _ _
+      shown = both_shown g.E.WriteOnce c.args.plan.now.shows_progress (looking_line ∷ []) (cleared ∷ []) _ _ _
           c.show_looking.ensures out.3;
     }))
 
@@ -49,17 +52,18 @@ returns-in-Some-2-clause-stops g c =
     (where_err c.write.result c.write.ensures.refused c.write.ensures.broke (λ why refused broke. elim refused [
       | inl is ↦ rw is
           (complaint_broke
-          (complained g.S.Process.Process c.args.plan.now _ _ (g.S.Starter.asked c.args.starter.now) c.args.fault
-          (wrong_of c.in-Some.found) c.purpose-lesson.result c.find.new.self c.in-Some.ensures.closes
-          c.requires.judged c.purpose-lesson.ensures c.find.ensures.found c.find.result c.find.ensures.shown c.if-not-find.false
+          (complained (known_of g.S.Process.Process g.O.WriteOnce g.E.WriteOnce) c.args.plan.now
+          (moment _ (g.S.Starter.asked c.args.starter.now)) _ c.args.fault (wrong_of c.in-Some.found)
+          c.purpose-lesson.result c.find.new.self c.in-Some.ensures.closes c.requires.judged c.purpose-lesson.ensures
+          c.find.ensures.found c.find.result c.find.ensures.shown c.if-not-find.false
           shortens (broke is).0 (broke is).1)
           (broke is).2
-          (both_shown g.E.WriteOnce c.args.progress (looking_line ∷ []) (cleared ∷ []) _ _ _ c.show_looking.ensures
-          (broke is).3)
+          (both_shown g.E.WriteOnce c.args.plan.now.shows_progress (looking_line ∷ []) (cleared ∷ []) _ _ _
+          c.show_looking.ensures (broke is).3)
           gone)
-      | inr kept ↦ rw (kept.0, kept.1, kept.2)
+      | inr kept ↦ rw (kept.0, kept.1)
           (complaint_refused c.in-Some.ensures.closes
-          (shortened_asks g.S.Process.Process c.args.plan.now (wrong_of c.in-Some.found) _ _ _ _ _ shortens) refl
+          (shortened_asks g.S.Process.Process c.args.plan.now (wrong_of c.in-Some.found) _ shortens) refl
           c.show_looking.ensures gone)
     ]))
 
@@ -68,12 +72,13 @@ returns-clause-goes_out g c =
     rw c.write-in-None.ensures.same
     (where_ok c.write-in-None.result c.write-in-None.ensures.goes_out (λ out. record {
       said = complaint_lines out.0 ∷ [];
-      complains = complained g.S.Process.Process c.args.plan.now _ _ (g.S.Starter.asked c.args.starter.now) c.args.fault
-          (wrong_of c.in-Some.found) c.purpose-lesson.result c.find.new.self c.in-Some.ensures.closes
-          c.requires.judged c.purpose-lesson.ensures c.find.ensures.found c.find.result c.find.ensures.shown c.if-not-find.false
+      complains = complained (known_of g.S.Process.Process g.O.WriteOnce g.E.WriteOnce) c.args.plan.now
+          (moment _ (g.S.Starter.asked c.args.starter.now)) _ c.args.fault (wrong_of c.in-Some.found)
+          c.purpose-lesson.result c.find.new.self c.in-Some.ensures.closes c.requires.judged c.purpose-lesson.ensures
+          c.find.ensures.found c.find.result c.find.ensures.shown c.if-not-find.false
           (rw c.in-None.is at c.in_ok-shorter.ensures.shortens) out.0 out.1;
       goes_out = line_out out.2 no_line;
-      shown = both_shown g.E.WriteOnce c.args.progress (looking_line ∷ []) (cleared ∷ []) _ _ _
+      shown = both_shown g.E.WriteOnce c.args.plan.now.shows_progress (looking_line ∷ []) (cleared ∷ []) _ _ _
           c.show_looking.ensures out.3;
     }))
 
@@ -86,16 +91,17 @@ returns-clause-stops g c =
     (λ why refused broke. elim refused [
       | inl is ↦ rw is
           (complaint_broke
-          (complained g.S.Process.Process c.args.plan.now _ _ (g.S.Starter.asked c.args.starter.now) c.args.fault
-          (wrong_of c.in-Some.found) c.purpose-lesson.result c.find.new.self c.in-Some.ensures.closes
-          c.requires.judged c.purpose-lesson.ensures c.find.ensures.found c.find.result c.find.ensures.shown c.if-not-find.false
+          (complained (known_of g.S.Process.Process g.O.WriteOnce g.E.WriteOnce) c.args.plan.now
+          (moment _ (g.S.Starter.asked c.args.starter.now)) _ c.args.fault (wrong_of c.in-Some.found)
+          c.purpose-lesson.result c.find.new.self c.in-Some.ensures.closes c.requires.judged c.purpose-lesson.ensures
+          c.find.ensures.found c.find.result c.find.ensures.shown c.if-not-find.false
           shortens (broke is).0 (broke is).1)
           (broke is).2
-          (both_shown g.E.WriteOnce c.args.progress (looking_line ∷ []) (cleared ∷ []) _ _ _ c.show_looking.ensures
-          (broke is).3)
+          (both_shown g.E.WriteOnce c.args.plan.now.shows_progress (looking_line ∷ []) (cleared ∷ []) _ _ _
+          c.show_looking.ensures (broke is).3)
           gone)
-      | inr kept ↦ rw (kept.0, kept.1, kept.2)
+      | inr kept ↦ rw (kept.0, kept.1)
           (complaint_refused c.in-Some.ensures.closes
-          (shortened_asks g.S.Process.Process c.args.plan.now (wrong_of c.in-Some.found) _ _ _ _ _ shortens) refl
+          (shortened_asks g.S.Process.Process c.args.plan.now (wrong_of c.in-Some.found) _ shortens) refl
           c.show_looking.ensures gone)
     ]))

@@ -1,4 +1,4 @@
-use Rattle.std.proofs.Common.{◌≡◌, ◌∙◌, refl, sym}
+use Rattle.std.proofs.Common.{◌∙◌, refl, sym}
 use Rattle.gtp_check_app.proofs.check.Check.pass_over.Goals as goal
 
 pub returns-clause-passes : goal.returns-clause-passes

@@ -1,4 +1,4 @@
-use Rattle.std.proofs.Common.{◌≡◌, ◌∙◌, ap, arith, length, option_map, refl, sym, List, Some}
+use Rattle.std.proofs.Common.{◌≡◌, ◌∙◌, ap, arith, length, option_map, refl, sym, List, None, Some}
 use Rattle.std.proofs.lemmas.Result.{err_from_is_err_and}
 use Rattle.gtp_process.specs.Starts.{program_line}
 use Rattle.gtp_check_judge.specs.declared.asking.CheckCommand.{CheckCommand}
@@ -6,7 +6,7 @@ use Rattle.gtp_check_talks.specs.Dialogues.{none, wrong_of, wrong_talk}
 use Rattle.gtp_check_shortening.specs.Reduction.{begun, next}
 use Rattle.gtp_check_shortening.specs.Shortening.{commands_of}
 use Rattle.gtp_check_shortening.specs.declared.limits.Limits.{Limits}
-use Rattle.gtp_check_app.specs.Turns.{Reduces, limits_of}
+use Rattle.gtp_check_app.specs.Turns.{IsReduced, Reduces, limits_of}
 use Rattle.gtp_check_app.proofs.Shortening.{reduces_asks, then_more}
 use Rattle.gtp_check_app.proofs.check.Check.reduced.Goals as goal
 use Rattle.gtp_check_app.proofs.check.Check.reduced.Goals.{in-None, in-Some-2}
@@ -41,7 +41,7 @@ returns-in_err-commands-2-clause-refused g c =
     let failed = err_from_is_err_and exit.result exit.ensures.1 in
     rw failed.1 (
       failed.2,
-      reduces_asks g.S.Process.Process c.args.plan.now (wrong_of c.args.found.now) _ _ _ c.loop-best.invariant.reduces,
+      reduces_asks g.S.Process.Process c.args.plan.now (wrong_of c.args.found.now) _ _ c.loop-best.invariant.reduces,
     )
 
 pub returns-in_err-try_one-clause-refused : goal.returns-in_err-try_one-clause-refused
@@ -52,7 +52,7 @@ returns-in_err-try_one-clause-refused g c =
     rw (failed.1, failed.2) (
       refused.0,
       then_more (program_line c.args.plan.now.words.items) _ _
-          (reduces_asks g.S.Process.Process c.args.plan.now (wrong_of c.args.found.now) _ _ _
+          (reduces_asks g.S.Process.Process c.args.plan.now (wrong_of c.args.found.now) _ _
           c.loop-best.invariant.reduces)
           refused.1,
     )
@@ -78,3 +78,9 @@ loop-best-preserved g c =
         engine = same;
       }
     ]
+
+pub returns-clause-reduced : goal.returns-clause-reduced
+returns-clause-reduced g c =
+    let none_left : next c.loop-best.reduction ≡ None =
+    sym c.in_ok-commands-2.ensures ∙ ap (λ one. option_map (λ commands. commands.items) one) c.in_default.is in
+    IsReduced.reduced c.loop-best.invariant.reduces none_left

@@ -2,7 +2,7 @@ use Rattle.std.proofs.Common.{◌≡◌, option_map}
 use Rattle.gtp_check_talks.specs.Dialogues.{wrong_of, wrong_talk}
 use Rattle.gtp_check_shortening.specs.Reduction.{begun}
 use Rattle.gtp_check_shortening.specs.Shortening.{commands_of}
-use Rattle.gtp_check_app.specs.Turns.{Reduces, limits_of, state, state_of}
+use Rattle.gtp_check_app.specs.Turns.{Reduces, limits_of, moment, state_of}
 use Rattle.gtp_check_app.proofs.check.Check.reduced.Given as goal
 
 -- how many trials are left
@@ -14,8 +14,7 @@ abbrev pub invariant-loop-best : goal.invariant-loop-best
 invariant-loop-best g l = record {
   reduces : Reduces g.S.Process.Process l.fn.plan (wrong_of l.fn.found)
       (begun (commands_of (wrong_talk (wrong_of l.fn.longer))) (limits_of l.fn.plan (wrong_of l.fn.longer)))
-      (state l.fn.self.examiner l.fn.self.course l.fn.self.engine l.fn.self.tally l.fn.self.notes)
-      (g.S.Starter.asked l.fn.starter) l.reduction (option_map wrong_of l.best)
-      (state l.self.examiner l.self.course l.self.engine l.self.tally l.self.notes) (g.S.Starter.asked l.starter);
+      (moment (state_of l.fn.self) (g.S.Starter.asked l.fn.starter)) l.reduction (option_map wrong_of l.best)
+      (moment (state_of l.self) (g.S.Starter.asked l.starter));
   engine : l.self.engine ≡ l.fn.self.engine;
 }

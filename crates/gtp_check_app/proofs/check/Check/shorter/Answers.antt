@@ -1,9 +1,9 @@
-use Rattle.std.proofs.Common.{◌≡◌, ◌∙◌, None, Some, option_map, refl}
+use Rattle.std.proofs.Common.{option_map}
 use Rattle.std.proofs.lemmas.Result.{IfErr-weaker, IfOk-weaker, err_from_is_err_and}
 use Rattle.gtp_process.specs.Starts.{program_line}
 use Rattle.gtp_check_talks.specs.Dialogues.{wrong_of}
 use Rattle.gtp_check_shortening.specs.Shortening.{shortenings}
-use Rattle.gtp_check_app.specs.Turns.{state_of}
+use Rattle.gtp_check_app.specs.Turns.{both_ways}
 use Rattle.gtp_check_app.proofs.Shortening.{or_else-none, shortens_asks, then_more}
 use Rattle.gtp_check_app.proofs.check.Check.shorter.Goals as goal
 
@@ -23,15 +23,9 @@ returns-in_err-reduced-in-Some-clause-refused g c =
 pub returns-in-None-clause-shortens : goal.returns-in-None-clause-shortens
 returns-in-None-clause-shortens g c =
     IfOk-weaker c.reduced.result _ _
-    (λ best reduced. record {
-      mid = state_of c.last_games.new.self;
-      between = g.S.Starter.asked c.last_games.new.starter;
-      games = None;
-      best = option_map wrong_of best;
-      shortens = rw c.in-None.is at c.in_ok-last_games.ensures.shortens;
-      reduced = reduced;
-      is = or_else-none (option_map wrong_of best);
-    })
+    (λ best reduced.
+    rw (or_else-none (option_map wrong_of best))
+    (both_ways (rw c.in-None.is at c.in_ok-last_games.ensures.shortens) reduced))
     c.reduced.ensures.reduced
 
 pub returns-in-None-clause-refused : goal.returns-in-None-clause-refused
@@ -48,12 +42,10 @@ returns-in-None-clause-refused g c =
 
 pub returns-in-Some-2-clause-shortens : goal.returns-in-Some-2-clause-shortens
 returns-in-Some-2-clause-shortens g c =
-    record {
-      mid = state_of c.last_games.new.self;
-      between = g.S.Starter.asked c.last_games.new.starter;
-      games = Some (wrong_of c.in-Some.games);
-      best = Some (wrong_of c.in-Some-2.best);
-      shortens = rw c.in-Some.is at c.in_ok-last_games.ensures.shortens;
-      reduced = rw c.in-Some-2.is at c.in_ok-reduced-in-Some.ensures.reduced;
-      is = refl;
-    }
+    both_ways (rw c.in-Some.is at c.in_ok-last_games.ensures.shortens)
+    (rw c.in-Some-2.is at c.in_ok-reduced-in-Some.ensures.reduced)
+
+pub returns-in-None-2-clause-shortens : goal.returns-in-None-2-clause-shortens
+returns-in-None-2-clause-shortens g c =
+    both_ways (rw c.in-Some.is at c.in_ok-last_games.ensures.shortens)
+    (rw c.in-None-2.is at c.in_ok-reduced-in-Some.ensures.reduced)

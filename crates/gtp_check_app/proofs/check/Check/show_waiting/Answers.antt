@@ -4,11 +4,11 @@ use Rattle.gtp_check_app.specs.Progress.{no_text}
 use Rattle.gtp_check_app.proofs.Progressing.{none_shown, placed_cut, waits_for, waits_for_none, waits_not}
 use Rattle.gtp_check_app.proofs.check.Check.show_waiting.Goals as goal
 
-pub returns-then-not-progress : goal.returns-then-not-progress
-returns-then-not-progress g c = rw c.if-not-progress.true no_text
+pub returns-then-not-plan : goal.returns-then-not-plan
+returns-then-not-plan g c = rw c.if-not-plan.true no_text
 
 pub returns-in_default : goal.returns-in_default
-returns-in_default g c = rw c.in_default.is (none_shown g.E.WriteOnce c.args.progress c.args.errors.now)
+returns-in_default g c = rw c.in_default.is (none_shown g.E.WriteOnce c.args.plan.now.shows_progress c.args.errors.now)
 
 pub returns-then-not-is_read_next : goal.returns-then-not-is_read_next
 returns-then-not-is_read_next g c =
@@ -18,7 +18,7 @@ returns-then-not-is_read_next g c =
           (dialogue c.in-Some.engine c.args.self.now.notes)
           (sym c.is_read_next.ensures ∙ c.if-not-is_read_next.true),
     )
-    (none_shown g.E.WriteOnce c.args.progress c.args.errors.now)
+    (none_shown g.E.WriteOnce c.args.plan.now.shows_progress c.args.errors.now)
 
 pub returns-in_default-said_at : goal.returns-in_default-said_at
 returns-in_default-said_at g c =
@@ -30,7 +30,7 @@ returns-in_default-said_at g c =
           (sym (rw (c.as_slice.ensures.value, c.answered-number.ensures) at c.said_at.ensures)
           ∙ c.in_default-said_at.is),
     )
-    (none_shown g.E.WriteOnce c.args.progress c.args.errors.now)
+    (none_shown g.E.WriteOnce c.args.plan.now.shows_progress c.args.errors.now)
 
 pub returns : goal.returns
 returns g c =

@@ -1,6 +1,7 @@
 use Rattle.std.proofs.Common.{ℕ, arith, subst}
 use Rattle.std.proofs.lemmas.Result.{err_from_is_err_and}
-use Rattle.gtp_check_app.specs.Turns.{Turns, not_yet, state, stopped, too_many_turns, turns}
+use Rattle.gtp_check_app.specs.Sequence.{Turns, known_of, not_yet, point, stopped, too_many_turns, turns}
+use Rattle.gtp_check_app.specs.Turns.{state_of}
 use Rattle.gtp_check_app.proofs.check.Check.take_turns.Goals as goal
 
 pub loop-turn-init : goal.loop-turn-init
@@ -22,12 +23,8 @@ loop-turn-preserved g c =
 
 pub returns-clause-stopped : goal.returns-clause-stopped
 returns-clause-stopped g c =
-    let last = c.loop-turn.self in
     too_many_turns
-    (subst (λ (n : ℕ). Turns g.S.Process.Process c.args.plan.now g.O.WriteOnce g.E.WriteOnce c.args.progress
-    (state c.args.self.now.examiner c.args.self.now.course c.args.self.now.engine c.args.self.now.tally
-    c.args.self.now.notes)
-    (g.S.Starter.asked c.args.starter.now) c.args.output.now c.args.errors.now n
-    (state last.examiner last.course last.engine last.tally last.notes) (g.S.Starter.asked c.loop-turn.starter)
-    c.loop-turn.output c.loop-turn.errors)
+    (subst (λ (n : ℕ). Turns (known_of g.S.Process.Process g.O.WriteOnce g.E.WriteOnce) c.args.plan.now
+    (point (state_of c.args.self.now) (g.S.Starter.asked c.args.starter.now) c.args.streams.now) n
+    (point (state_of c.loop-turn.self) (g.S.Starter.asked c.loop-turn.starter) c.loop-turn.streams))
     (omega (arith, c.loop-turn.auto._turn-end, c.loop-turn-test.false)) c.loop-turn.invariant.turns)

@@ -1,6 +1,6 @@
-use Rattle.std.proofs.Common.{◌≡◌, refl, true}
+use Rattle.std.proofs.Common.{◌≡◌, true}
 use Rattle.gtp_check_talks.specs.Dialogues.{wrong_of}
-use Rattle.gtp_check_app.specs.Turns.{TriesOne}
+use Rattle.gtp_check_app.specs.Turns.{IsTried, TriesOne}
 use Rattle.gtp_check_app.proofs.check.Check.try_one.Goals as goal
 
 pub returns-then-not-may_start-clause-tries : goal.returns-then-not-may_start-clause-tries
@@ -11,25 +11,17 @@ returns-then-not-may_start-clause-tries g c =
 pub returns-in_default-clause-tries : goal.returns-in_default-clause-tries
 returns-in_default-clause-tries g c =
     TriesOne.right (c.may_start.ensures.may c.if-not-may_start.false)
-    (record {
-      trial = rw (c.as_slice.ensures.value, c.purpose.ensures, c.in_default.is) at c.in_ok-tried.ensures.tried;
-      leads = refl;
-    })
+    (IsTried.by_trial
+    (rw (c.as_slice.ensures.value, c.purpose.ensures, c.in_default.is) at c.in_ok-tried.ensures.tried))
 
 pub returns-then-ends_like-clause-tries : goal.returns-then-ends_like-clause-tries
 returns-then-ends_like-clause-tries g c =
     TriesOne.alike (c.may_start.ensures.may c.if-not-may_start.false)
-    (record {
-      trial = rw (c.as_slice.ensures.value, c.purpose.ensures, c.in-Some.is) at c.in_ok-tried.ensures.tried;
-      leads = refl;
-    })
+    (IsTried.by_trial (rw (c.as_slice.ensures.value, c.purpose.ensures, c.in-Some.is) at c.in_ok-tried.ensures.tried))
     (c.ends_like.ensures.0 c.if-ends_like.true)
 
 pub returns-else-ends_like-clause-tries : goal.returns-else-ends_like-clause-tries
 returns-else-ends_like-clause-tries g c =
     TriesOne.other {tried = wrong_of c.in-Some.tried} (c.may_start.ensures.may c.if-not-may_start.false)
-    (record {
-      trial = rw (c.as_slice.ensures.value, c.purpose.ensures, c.in-Some.is) at c.in_ok-tried.ensures.tried;
-      leads = refl;
-    })
+    (IsTried.by_trial (rw (c.as_slice.ensures.value, c.purpose.ensures, c.in-Some.is) at c.in_ok-tried.ensures.tried))
     (λ same. let yes : c.ends_like.result ≡ true = c.ends_like.ensures.1 same in let no = c.if-ends_like.false in cc)

@@ -3,23 +3,20 @@ use Rattle.std.proofs.lemmas.Result.{err_from_is_err_and}
 use Rattle.byte_streams.specs.Writing.{line_out, no_line}
 use Rattle.gtp_check_summary.specs.Summary.{first_line}
 use Rattle.gtp_check_app.specs.Turns.{due, not_due}
-use Rattle.gtp_check_app.specs.private.Steps.{first_broke, first_refused}
+use Rattle.gtp_check_app.specs.private.Steps.{first_broke, first_goes_out, first_refused}
 use Rattle.gtp_check_app.proofs.Progressing.{none_shown}
 use Rattle.gtp_check_app.proofs.check.Check.write_first.Goals as goal
 
 pub returns-then-not-is_first_due-clause-goes_out : goal.returns-then-not-is_first_due-clause-goes_out
-returns-then-not-is_first_due-clause-goes_out g c = record {
-  line = [];
-  first = not_due (search rules);
-  goes_out = no_line;
-  shown = none_shown g.E.WriteOnce c.args.progress c.args.errors.now;
-}
+returns-then-not-is_first_due-clause-goes_out g c =
+    first_goes_out [] (not_due (search rules)) no_line
+    (none_shown g.E.WriteOnce c.args.plan.now.shows_progress c.args.streams.now.errors)
 
 pub returns-in_err-line-clause-stops : goal.returns-in_err-line-clause-stops
 returns-in_err-line-clause-stops g c =
     let exit = c.from_residual in
     let failed = err_from_is_err_and exit.result exit.ensures.1 in
-    rw (failed.1, failed.2) (first_refused refl refl refl)
+    rw (failed.1, failed.2) (first_refused refl refl)
 
 pub returns-in_err-write_text-clause-stops : goal.returns-in_err-write_text-clause-stops
 returns-in_err-write_text-clause-stops g c =
@@ -30,10 +27,7 @@ returns-in_err-write_text-clause-stops g c =
     (rw (c.as_slice.ensures.value, c.in_ok-line.ensures) at c.in_err-write_text.ensures.broke) c.clear.ensures refl)
 
 pub returns-clause-goes_out : goal.returns-clause-goes_out
-returns-clause-goes_out g c = record {
-  line = first_line c.args.plan.now c.args.self.now.notes ∷ [];
-  first = due (search rules);
-  goes_out = line_out (rw (c.as_slice.ensures.value, c.in_ok-line.ensures) at c.in_ok-write_text.ensures.whole)
-      no_line;
-  shown = c.clear.ensures;
-}
+returns-clause-goes_out g c =
+    first_goes_out (first_line c.args.plan.now c.args.self.now.notes ∷ []) (due (search rules))
+    (line_out (rw (c.as_slice.ensures.value, c.in_ok-line.ensures) at c.in_ok-write_text.ensures.whole) no_line)
+    c.clear.ensures
