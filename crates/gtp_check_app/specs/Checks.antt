@@ -124,8 +124,7 @@ module _ {P O E : Type 0} (known : Known P O E) (begins : Beginning P O E) where
 
 -- ---- the words of the command line
 
--- The words have no mistake, and ask for this plan, where the progress is shown or not. Or they ask for the list of
--- lessons.
+-- the words have no mistake, and ask for this plan, where progress is shown or not, or for the list of lessons
 pub record AsksForPlan (words : List Text) (shows_progress : Bool) (plan : Plan) : Type 0 where
   pub options : Options
   pub asked : AsksFor words options

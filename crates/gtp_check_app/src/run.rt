@@ -40,8 +40,8 @@ use std::convert::AsStr;
 /// - 4 where nothing was found, and a lesson wasn't asked to its end, or no move was asked in it.
 ///
 /// What a status of 2 or 3 means is written to standard error, and whether that can be written changes nothing. Where
-/// that is a terminal, and so `shows_progress`, what is waited for is written to it, each time in place of its line,
-/// which is cleared before anything else is written.
+/// `shows_progress` is asked for, that is a terminal: what is waited for is written to it, each time in place of its
+/// line, which is cleared before anything else is written.
 pub fn run<A: AsStr, O: WriteOnce, E: WriteOnce, S: Starter>(
     alloc: Global,
     words: &[A],

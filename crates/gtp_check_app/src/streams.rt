@@ -1,9 +1,9 @@
 //! What a check writes to.
 
-/// An output, and standard error.
+/// An output, and a standard error.
 pub struct Streams<O, E> {
-    /// What is found is written to it.
+    /// To this goes what is found.
     pub output: O,
-    /// What can't be done is written to it, and the progress.
+    /// To this go mistakes, failures and the progress.
     pub errors: E,
 }

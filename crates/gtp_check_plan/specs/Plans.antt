@@ -56,7 +56,7 @@ is_chosen options lesson =
 
 -- ---- the plan
 
--- what the options come to, where the progress is shown or not
+-- what the options come to, where progress is shown or not
 pub record IsPlanOf (options : Options) (shows_progress : Bool) (plan : Plan) : Type 0 where
   pub command : IsCommand options.command.now plan.words.items
   pub has_words : words options.command.now ≢ []

@@ -40,7 +40,7 @@ pub struct Plan<'a> {
     pub shows_progress: bool,
 }
 
-/// The plan of the options, where the progress is shown or not.
+/// The plan of the options, which says whether progress is shown.
 ///
 /// # Errors
 ///
