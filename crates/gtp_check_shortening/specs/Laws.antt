@@ -1,11 +1,14 @@
 -- What is tried is shorter, runs are bounded, and what is left was tried, and has no command too many. (Own.)
-use Rattle.std.specs.Prelude.{◌≡◌, ◌≤◌, ◌<◌, ◌+◌, ◌-◌, ℕ, All, List, length, sum_by, None, Some}
+use Rattle.std.specs.Prelude.{◌≡◌, ◌≤◌, ◌<◌, ◌+◌, ◌-◌, ◌++◌, ℕ, All, List, drop, length, sum_by, None, Some}
 use Rattle.std.specs.List.{remove_range}
 use Rattle.gtp_check_judge.specs.declared.asking.CheckCommand.{CheckCommand}
 use Rattle.gtp_check_shortening.specs.declared.limits.Limits.{Limits}
+use Rattle.gtp_check_shortening.specs.declared.talk.Said.{Said}
+use Rattle.gtp_check_shortening.specs.LastGame.{last_game, left_out, shown_of}
 use Rattle.gtp_check_shortening.specs.Lists.{IsLeftOf, last_of}
 use Rattle.gtp_check_shortening.specs.Reduction.{Reduction, begun, next}
 use Rattle.gtp_check_shortening.specs.Runs.{Runs, Trial, WasInVain, shortest_of}
+use Rattle.gtp_check_shortening.specs.Shortening.{commands_of, start_of}
 
 -- ---- each trial is shorter
 
@@ -67,3 +70,17 @@ abbrev pub NoCommandIsTooMany : Type 0
 NoCommandIsTooMany = (first : List CheckCommand) (limits : Limits) (trials : List Trial) (now : Reduction)
     → Runs (begun first limits) trials now → next now ≡ None → Allow limits trials now.commands
     → IsMinimal trials now.commands
+
+-- ---- the last game alone
+
+-- Commands of the conversation are shown in their order: some from before its last game, and then the game whole, up to
+-- the last command. What isn't shown is counted.
+pub record IsShownAlone (talk : List Said) : Type 0 where
+  pub left : IsLeftOf (commands_of (shown_of talk)) (commands_of talk)
+  pub before : List Said
+  pub whole : shown_of talk ≡ before ++ drop (start_of 1 talk) talk
+  pub few : length before ≤ 2
+  pub counted : length before + left_out (last_game talk) ≡ start_of 1 talk
+
+abbrev pub TheLastGameIsWhole : Type 0
+TheLastGameIsWhole = (talk : List Said) → IsShownAlone talk

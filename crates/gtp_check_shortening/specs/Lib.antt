@@ -1,3 +1,4 @@
+pub mod LastGame
 pub mod Laws
 pub mod Lists
 pub mod Played

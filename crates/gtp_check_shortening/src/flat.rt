@@ -130,7 +130,7 @@ pub fn games_in(talk: &[Said]) -> usize
 }
 
 /// How many commands come before the last so many games.
-fn start_of(talk: &[Said], games: usize) -> usize
+pub(crate) fn start_of(talk: &[Said], games: usize) -> usize
     ensures start { result ≡ start_of games talk.now }
     ensures within { result ≤ length talk.now }
 {

@@ -1,6 +1,6 @@
-//! Laws of a reduction. Each is the contract of a function that does nothing.
+//! Laws of a reduction, and of the last game alone. Each is the contract of a function that does nothing.
 ghost use Rattle.gtp_check_shortening.specs.Laws.{EachRunIsBounded, EachTrialIsShorter, NoCommandIsTooMany};
-ghost use Rattle.gtp_check_shortening.specs.Laws.{WhatIsLeftWasTried};
+ghost use Rattle.gtp_check_shortening.specs.Laws.{TheLastGameIsWhole, WhatIsLeftWasTried};
 
 /// What is tried is left of the first conversation, is shorter than the shortest one so far, from which a part was left
 /// out, and ends with the command that was answered wrongly.
@@ -23,4 +23,10 @@ pub fn what_is_left_was_tried()
 /// what is left, alone and in vain.
 pub fn no_command_is_too_many()
     ensures { NoCommandIsTooMany }
+{}
+
+/// Where the last game of a conversation is shown alone, it is shown whole, up to the last command. Before it come at
+/// most two commands from before it, in their order, and those that are left out are counted.
+pub fn the_last_game_is_whole()
+    ensures { TheLastGameIsWhole }
 {}

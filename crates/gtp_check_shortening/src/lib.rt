@@ -7,6 +7,7 @@
 #![tactic(auto)]
 
 pub mod flat;
+pub mod last_game;
 pub mod laws;
 mod limits;
 mod parts;

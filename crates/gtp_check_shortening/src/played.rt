@@ -49,7 +49,7 @@ fn add_as(all: &mut Vec<Said>, said: &Said, command: Option<CheckCommand>) -> Re
 }
 
 /// What was done by a command, where this one was asked next.
-fn asked_as(said: &Said, next: &Said) -> Option<CheckCommand>
+pub(crate) fn asked_as(said: &Said, next: &Said) -> Option<CheckCommand>
     ensures { result ≡ asked_as said.now.command said.now next.now }
 {
     match &said.command {

@@ -31,7 +31,7 @@ pub fn is_positional(talk: &[Said]) -> bool
 }
 
 /// The move of a `play`, if it is one.
-fn play_of(command: &CheckCommand) -> Option<Move>
+pub(crate) fn play_of(command: &CheckCommand) -> Option<Move>
     ensures { result ≡ play_of command.now }
 {
     match command {
