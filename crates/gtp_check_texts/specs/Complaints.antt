@@ -19,42 +19,14 @@ use Rattle.gtp_check_texts.specs.Board.{drawn_board}
 use Rattle.gtp_check_texts.specs.Reasons.{reason}
 use Rattle.go_board.specs.Game.{GameRecord}
 use Rattle.gtp_check_shortening.specs.declared.talk.Said.{Said}
+use Rattle.gtp_check_texts.specs.Conversation.{after_lines, asked_line, before_lines, faulty_line}
+use Rattle.gtp_check_texts.specs.LastGame.{last_game_lines}
 use Rattle.gtp_check_texts.specs.declared.complaint.Complaint.{Complaint}
+use Rattle.gtp_check_texts.specs.declared.last_game.Shown.{Shown}
+use Rattle.gtp_check_texts.specs.declared.last_game.Shown.TheVariants.{LastGame, Whole}
 use Rattle.gtp_check_texts.specs.declared.fault.Fault.{Fault}
 use Rattle.gtp_check_texts.specs.declared.fault.Fault.TheVariants.{Wrote, CutOff}
 use Rattle.gtp_process.specs.declared.causes.PipeCause.TheVariants.{Ended}
-
--- ---- the conversation
-
--- where the line of the command with this number, counted from 0, ends in all that was sent
-abbrev pub line_end : Complaint → ℕ → ℕ
-line_end complaint number =
-    option_map_or (λ said. said.end) (slice_get complaint.talk.now number) (length complaint.sent.now)
-
--- where it begins: where the line before it ends
-abbrev pub line_start : Complaint → ℕ → ℕ
-line_start complaint zero = 0
-line_start complaint (suc before) = line_end complaint before
-
--- the lines that were sent, up to that of the faulty command: the first one that wasn't answered before
-abbrev pub conversation : Complaint → List ℕ
-conversation complaint = take (line_end complaint complaint.answered) complaint.sent.now
-
--- the lines before the faulty command
-abbrev pub before_lines : Complaint → List ℕ
-before_lines complaint = take (line_start complaint complaint.answered) (conversation complaint)
-
--- the line of the faulty command as it was sent
-abbrev pub asked_line : Complaint → List ℕ
-asked_line complaint = drop (line_start complaint complaint.answered) (conversation complaint)
-
--- the faulty command, without its newline
-abbrev pub faulty_line : Complaint → List ℕ
-faulty_line complaint = strip_last newline (asked_line complaint)
-
--- the lines of what was asked after it
-abbrev pub after_lines : Complaint → List ℕ
-after_lines complaint = drop (line_end complaint complaint.answered) complaint.sent.now
 
 -- ---- the lines
 
@@ -137,10 +109,15 @@ abbrev pub ko_line : Bool → List ℕ
 ko_line true = codes "# under positional ko the refusal is right: try --ko positional\n"
 ko_line false = []
 
+-- the lines before the command, or of these the last game alone
+abbrev pub shown_before : Complaint → Shown → List ℕ
+shown_before complaint Whole = before_lines complaint
+shown_before complaint LastGame = last_game_lines complaint
+
 -- what the engine was asked: the lines before the command, the board, the command, and that it came in pieces
 abbrev pub asked_lines : Complaint → List ℕ
 asked_lines complaint =
-    before_lines complaint
+    shown_before complaint complaint.shown
     ++ (board_lines complaint.game ++ (asked_line complaint ++ pieces_line (faulty_said complaint)))
 
 -- The block of a complaint: its head, what the engine was asked, what it wrote then, what is right, what was on its way,

@@ -1,9 +1,11 @@
 pub mod Answers
 pub mod Board
 pub mod Complaints
+pub mod Conversation
 pub mod Illegal
 pub mod Junk
 pub mod Kinds
+pub mod LastGame
 pub mod Laws
 pub mod Lines
 pub mod Listing

@@ -1,21 +1,23 @@
 //! The block of a complaint.
-ghost use Rattle.std.specs.Prelude.{◌≡◌, ◌≤◌, ◌++◌, length, take, IfOk, OnOk, option_map};
+ghost use Rattle.std.specs.Prelude.{◌≡◌, ◌≤◌, ◌+◌, ◌++◌, length, take, IfOk, OnOk, option_map};
 ghost use Rattle.go_base.specs.Bytes.{newline};
 ghost use Rattle.std.specs.Io.BufRead.{strip_last};
 ghost use Rattle.gtp_process.specs.Shown.{quoted};
 ghost use Rattle.gtp_wire.specs.Replies.{most_shown};
 ghost use Rattle.gtp_check_texts.specs.Answers.{before_rule};
-ghost use Rattle.gtp_check_texts.specs.Complaints.{after_lines, ahead_lines, ahead_text, answer_of, asked_line, asked_lines};
-ghost use Rattle.gtp_check_texts.specs.Complaints.{before_lines, board_lines, complaint_lines, conversation, ended_text};
-ghost use Rattle.gtp_check_texts.specs.Complaints.{faulty_line, faulty_said, head_line, is_within, ko_line};
-ghost use Rattle.gtp_check_texts.specs.Complaints.{line_end, line_start, pieces_line, pieces_text, rule_line, rule_of};
+ghost use Rattle.gtp_check_texts.specs.Complaints.{ahead_lines, ahead_text, answer_of, asked_lines, board_lines};
+ghost use Rattle.gtp_check_texts.specs.Complaints.{complaint_lines, ended_text, faulty_said, head_line, is_within};
+ghost use Rattle.gtp_check_texts.specs.Complaints.{ko_line, pieces_line, pieces_text, rule_line, rule_of, shown_before};
 ghost use Rattle.gtp_check_texts.specs.Complaints.{within_text, wrote_line};
+ghost use Rattle.gtp_check_texts.specs.Conversation.{after_lines, asked_line, before_lines, faulty_line, line_end};
+ghost use Rattle.gtp_check_texts.specs.Conversation.{line_of, line_start, lines_to};
 ghost use Rattle.gtp_check_texts.specs.Rules.{rule_text};
 
 use crate::answers::{ANSWER_ROOM, right_answer};
 use crate::board::add_board;
 use crate::fault::Fault;
 use crate::kinds::fault_text;
+use crate::last_game::{Shown, add_last_game};
 use crate::reasons::add_reason;
 use crate::rules::rule_text;
 use crate::texts::add_all;
@@ -51,6 +53,8 @@ pub struct Complaint<'t> {
     pub is_positional: bool,
     /// The game of a right engine before the faulty command, where it is known.
     pub game: Option<&'t Game>,
+    /// How much of the conversation is shown.
+    pub shown: Shown,
 }
 
 /// The text of a complaint: what was wrong, the conversation as it was sent with the board before the faulty command,
@@ -64,7 +68,7 @@ pub fn complaint_text(alloc: Global, complaint: &Complaint<'_>) -> Result<Vec<u8
 {
     let mut text = Vec::new(alloc);
     add_head(&mut text, complaint)?;
-    add_asked(&mut text, complaint)?;
+    add_asked(alloc, &mut text, complaint)?;
     add_wrote(&mut text, complaint.wrote)?;
     add_rule(&mut text, complaint)?;
     add_ahead(&mut text, complaint.after_lines())?;
@@ -94,28 +98,42 @@ impl<'t> Complaint<'t> {
         }
     }
 
-    /// The lines that were sent, up to that of the faulty command.
-    fn conversation(&self) -> &'t [u8]
-        ensures { result.now ≡ conversation self.now }
+    /// The lines that were sent, up to that of this command.
+    fn lines_to(&self, number: usize) -> &'t [u8]
+        ensures { result.now ≡ lines_to self.now number }
     {
-        let end = self.line_end(self.answered);
-        &self.sent[..end.min(self.sent.len())]
+        front(self.sent, self.line_end(number))
+    }
+
+    /// The line of this command as it was sent.
+    pub(crate) fn line_of(&self, number: usize) -> &'t [u8]
+        ensures { result.now ≡ line_of self.now number }
+    {
+        let lines = self.lines_to(number);
+        let start = self.line_start(number);
+        &lines[start.min(lines.len())..]
     }
 
     /// The lines before the faulty command.
     fn before_lines(&self) -> &'t [u8]
         ensures { result.now ≡ before_lines self.now }
     {
-        front(self.conversation(), self.line_start(self.answered))
+        front(self.lines_to(self.answered), self.line_start(self.answered))
     }
 
     /// The line of the faulty command as it was sent.
     fn asked_line(&self) -> &'t [u8]
         ensures { result.now ≡ asked_line self.now }
     {
-        let lines = self.conversation();
-        let start = self.line_start(self.answered);
-        &lines[start.min(lines.len())..]
+        self.line_of(self.answered)
+    }
+
+    /// What was asked, up to the faulty command.
+    pub(crate) fn asked(&self) -> &'t [Said]
+        ensures { result.now ≡ take (self.now.answered + 1) self.now.talk.now }
+    {
+        let count = self.answered.saturating_add(1).min(self.talk.len());
+        &self.talk[..count]
     }
 
     /// The faulty command, without its newline.
@@ -269,13 +287,28 @@ fn beginning(wrote: &[u8]) -> &[u8]
 }
 
 /// What the engine was asked: the lines before the faulty command, the board, that command, and that it came in pieces.
-fn add_asked(text: &mut Vec<u8>, complaint: &Complaint<'_>) -> Result<(), AllocError>
+fn add_asked(alloc: Global, text: &mut Vec<u8>, complaint: &Complaint<'_>) -> Result<(), AllocError>
     ensures { OnOk result (text.new.items ≡ text.old.items ++ asked_lines complaint.now) }
 {
-    text.extend_from_slice(complaint.before_lines())?;
+    add_before(alloc, text, complaint)?;
     add_board_if(text, complaint.game)?;
     text.extend_from_slice(complaint.asked_line())?;
     text.extend_from_slice(complaint.pieces_line())
+}
+
+/// The lines before the faulty command, or of these the last game alone.
+fn add_before(
+    alloc: Global,
+    text: &mut Vec<u8>,
+    complaint: &Complaint<'_>,
+) -> Result<(), AllocError>
+    ensures { OnOk result (text.new.items
+        ≡ text.old.items ++ shown_before complaint.now complaint.now.shown) }
+{
+    match complaint.shown {
+        Shown::Whole => text.extend_from_slice(complaint.before_lines()),
+        Shown::LastGame => add_last_game(alloc, text, complaint),
+    }
 }
 
 /// The board of a game, where it is known.

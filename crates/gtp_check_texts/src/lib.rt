@@ -8,6 +8,7 @@ pub mod fault;
 mod illegal;
 mod junk;
 mod kinds;
+pub mod last_game;
 pub mod laws;
 mod lines;
 pub mod listing;

@@ -1,10 +1,16 @@
 //! What complaints say of worked positions.
 use crate::board::add_board;
+use crate::complaint::{Complaint, complaint_text};
+use crate::fault::Fault;
 use crate::junk::first_line;
+use crate::last_game::Shown;
 use crate::reasons::add_reason;
 use go_base::{Colour, Komi, Move, Size, Vertex};
 use go_board::{Game, KoRule, PlayFault};
 use gtp_check_judge::{Cause, CheckCommand, Kind};
+use gtp_check_questions::Lesson;
+use gtp_check_shortening::talk::{Purpose, Said};
+use gtp_process::Ending;
 use gtp_wire::Command;
 use std::alloc::AllocError;
 use std::process::Abort;
@@ -26,10 +32,20 @@ fn move_of(rt: &impl Abort, word: &str) -> Move {
     }
 }
 
+/// A size.
+fn size_of(rt: &impl Abort, size: u32) -> Size {
+    Size::new(size).expect(rt, "the size is 1 to 25")
+}
+
+/// A komi of so many half points.
+fn komi_of(rt: &impl Abort, half_points: i32) -> Komi {
+    Komi::from_half_points(half_points).expect(rt, "a komi may be so small")
+}
+
 /// The game of these moves on a board of this size.
 fn played(rt: &impl Abort, size: u32, words: &str) -> Game {
-    let size = Size::new(size).expect(rt, "the size is 1 to 25");
-    let komi = Komi::from_half_points(0).expect(rt, "a komi may be 0");
+    let size = size_of(rt, size);
+    let komi = komi_of(rt, 0);
     let mut game = Game::with_rule(size, komi, KoRule::Simple);
     for word in words.split_whitespace() {
         let made = move_of(rt, word);
@@ -129,4 +145,214 @@ fn a_board_is_drawn_with_its_stones(rt: HostRuntime) -> Result<(), AllocError> {
 #[test]
 fn junk_is_cut_at_its_newline(rt: HostRuntime) {
     assert_equal(&rt, first_line(b"ready\n= 1\n"), b"ready");
+}
+
+/// What an engine was asked, and the lines of that.
+#[derive(Drop)]
+struct Asked {
+    talk: Vec<Said>,
+    sent: Vec<u8>,
+}
+
+impl Asked {
+    /// A command is asked by this line, after so many moves, of which the last has this word, on a board of 5x5.
+    fn ask(
+        &mut self,
+        rt: &impl Abort,
+        line: &str,
+        command: CheckCommand,
+        moves: (usize, &str),
+    ) -> Result<(), AllocError> {
+        let (moves, last) = moves;
+        self.sent.extend_from_slice(line.as_bytes())?;
+        self.sent.extend_from_slice(b"\n")?;
+        self.talk.extend_from_slice(&[Said {
+            command,
+            purpose: Purpose {
+                lesson: Lesson::Games,
+                part: 0,
+            },
+            is_illegal: false,
+            size: size_of(rt, 5),
+            moves,
+            last: if last.is_empty() {
+                None
+            } else {
+                Some(move_of(rt, last))
+            },
+            end: self.sent.len(),
+        }])
+    }
+
+    /// A command of a match is asked so.
+    fn ask_match(
+        &mut self,
+        rt: &impl Abort,
+        line: &str,
+        command: Command,
+        moves: (usize, &str),
+    ) -> Result<(), AllocError> {
+        self.ask(rt, line, CheckCommand::Match(command), moves)
+    }
+}
+
+/// Two games with an engine that refuses the size 9. In the second it chooses two moves, and then resigns.
+fn two_games(rt: &(impl Abort + AllocGlobal)) -> Result<Asked, AllocError> {
+    let alloc = rt.alloc();
+    let mut asked = Asked {
+        talk: Vec::new(alloc),
+        sent: Vec::new(alloc),
+    };
+    let white = Colour::White;
+    let genmove = Command::Genmove(Colour::Black);
+    let none = (0, "");
+    asked.ask_match(rt, "1 komi 0.5", Command::Komi(komi_of(rt, 1)), none)?;
+    asked.ask_match(
+        rt,
+        "2 boardsize 5",
+        Command::Boardsize(size_of(rt, 5)),
+        none,
+    )?;
+    asked.ask_match(rt, "3 clear_board", Command::ClearBoard, none)?;
+    asked.ask_match(rt, "4 play b A1", Command::Play(move_of(rt, "bA1")), none)?;
+    asked.ask_match(rt, "5 komi 6.5", Command::Komi(komi_of(rt, 13)), (1, "bA1"))?;
+    asked.ask_match(
+        rt,
+        "6 boardsize 9",
+        Command::Boardsize(size_of(rt, 9)),
+        (1, "bA1"),
+    )?;
+    asked.ask_match(rt, "7 clear_board", Command::ClearBoard, (1, "bA1"))?;
+    asked.ask_match(rt, "8 genmove b", genmove, none)?;
+    asked.ask(
+        rt,
+        "9 genmove white",
+        CheckCommand::GenmoveInFull(white),
+        (1, "bC3"),
+    )?;
+    asked.ask_match(rt, "10 genmove b", genmove, (2, "wpass"))?;
+    asked.ask_match(
+        rt,
+        "11 play w D4",
+        Command::Play(move_of(rt, "wD4")),
+        (2, "wpass"),
+    )?;
+    asked.ask(rt, "12 name", CheckCommand::Name, (3, "wD4"))?;
+    Ok(asked)
+}
+
+/// The block where the command with this number, counted from 0, was refused.
+fn block_of(
+    rt: &(impl Abort + AllocGlobal),
+    asked: &Asked,
+    answered: usize,
+    shown: Shown,
+) -> Result<Vec<u8>, AllocError> {
+    complaint_text(
+        rt.alloc(),
+        &Complaint {
+            number: 1,
+            lesson: Lesson::Games,
+            fault: Fault::Wrote(Kind::Refused),
+            sent: asked.sent.as_slice(),
+            talk: asked.talk.as_slice(),
+            answered,
+            wrote: b"? no\n\n",
+            ending: Ending::Running,
+            is_positional: false,
+            game: None,
+            shown,
+        },
+    )
+}
+
+#[test]
+fn the_last_game_has_its_size_its_komi_and_what_was_chosen(
+    rt: HostRuntime,
+) -> Result<(), AllocError> {
+    let asked = two_games(&rt)?;
+    let block = block_of(&rt, &asked, 10, Shown::LastGame)?;
+    assert_equal(
+        &rt,
+        &block,
+        b"# 1 games: \"11 play w D4\": it was refused
+# earlier lines left out: 4 (--trials 0 shows them); this block alone may not show the mistake
+2 boardsize 5
+5 komi 6.5
+7 clear_board
+8 genmove b
+# = C3
+9 genmove white
+# = pass
+10 genmove b
+# = resign
+11 play w D4
+# it wrote: \"? no\\n\\n\"
+# right: the command succeeds
+# asked before this answer was read:
+12 name
+
+",
+    );
+    Ok(())
+}
+
+#[test]
+fn a_game_that_is_the_whole_conversation_leaves_nothing_out(
+    rt: HostRuntime,
+) -> Result<(), AllocError> {
+    let asked = two_games(&rt)?;
+    let block = block_of(&rt, &asked, 2, Shown::LastGame)?;
+    assert_equal(
+        &rt,
+        &block,
+        b"# 1 games: \"3 clear_board\": it was refused
+1 komi 0.5
+2 boardsize 5
+3 clear_board
+# it wrote: \"? no\\n\\n\"
+# right: a board can be cleared at any time
+# asked before this answer was read:
+4 play b A1
+5 komi 6.5
+6 boardsize 9
+7 clear_board
+8 genmove b
+9 genmove white
+10 genmove b
+11 play w D4
+12 name
+
+",
+    );
+    Ok(())
+}
+
+#[test]
+fn a_whole_conversation_has_no_answers(rt: HostRuntime) -> Result<(), AllocError> {
+    let asked = two_games(&rt)?;
+    let block = block_of(&rt, &asked, 9, Shown::Whole)?;
+    assert_equal(
+        &rt,
+        &block,
+        b"# 1 games: \"10 genmove b\": it was refused
+1 komi 0.5
+2 boardsize 5
+3 clear_board
+4 play b A1
+5 komi 6.5
+6 boardsize 9
+7 clear_board
+8 genmove b
+9 genmove white
+10 genmove b
+# it wrote: \"? no\\n\\n\"
+# right: the command succeeds
+# asked before this answer was read:
+11 play w D4
+12 name
+
+",
+    );
+    Ok(())
 }

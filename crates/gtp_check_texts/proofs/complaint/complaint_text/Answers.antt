@@ -1,6 +1,7 @@
 use Rattle.std.proofs.Common.{◌≡◌, ◌∙◌, ◌++◌, ap, append_assoc, List, [], ◌∷◌, ℕ}
-use Rattle.gtp_check_texts.specs.Complaints.{after_lines, ahead_lines, asked_lines, head_line, ko_line, rule_line}
+use Rattle.gtp_check_texts.specs.Complaints.{ahead_lines, asked_lines, head_line, ko_line, rule_line}
 use Rattle.gtp_check_texts.specs.Complaints.{wrote_line}
+use Rattle.gtp_check_texts.specs.Conversation.{after_lines}
 use Rattle.gtp_check_texts.proofs.complaint.complaint_text.Goals as goal
 
 -- a text that was added to those before comes before the rest
