@@ -1,13 +1,10 @@
 -- The text of a complaint. (Own.)
-use Rattle.std.specs.Prelude.{ℕ, ◌-◌, zero, suc, Bool, true, false, List, [], ◌∷◌, codes, length, take, drop}
+use Rattle.std.specs.Prelude.{ℕ, Bool, true, false, List, [], ◌∷◌, codes, length, take}
 use Rattle.std.specs.Prelude.{◌++◌, ◌==◌, slice_get, unwrap_or, Option, None, Some}
 use Rattle.std.specs.Borrow.{Bor}
 use Rattle.std.specs.Fmt.{decimal}
-use Rattle.std.specs.Io.BufRead.{strip_last}
 use Rattle.std.specs.List.{concat}
-use Rattle.std.specs.Option.{option_map_or}
 use Rattle.std.specs.Prelude.{option_map}
-use Rattle.go_base.specs.Bytes.{newline}
 use Rattle.gtp_check_questions.specs.Lessons.{is_in_pieces, name_of}
 use Rattle.gtp_process.specs.Shown.{ending_text, quoted}
 use Rattle.gtp_process.specs.declared.starter.Ending.{Ending}

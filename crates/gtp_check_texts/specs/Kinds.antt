@@ -1,10 +1,5 @@
 -- What is wrong with an engine, in words. (Own.)
 use Rattle.std.specs.Prelude.{ℕ, List, codes}
-use Rattle.go_board.specs.declared.faults.HandicapFault.TheVariants.{NotEmpty, BadNumber}
-use Rattle.go_board.specs.declared.faults.PlayFault.{PlayFault}
-use Rattle.go_board.specs.declared.faults.PlayFault.TheVariants.{Full, OffBoard, Occupied, Suicide, Ko}
-use Rattle.gtp_check_judge.specs.declared.dues.Cause.{Cause}
-use Rattle.gtp_check_judge.specs.declared.dues.Cause.TheVariants.{BadMove, BadHandicap, NoMoves}
 use Rattle.gtp_check_judge.specs.declared.judging.Kind.{Kind}
 use Rattle.gtp_check_judge.specs.declared.judging.Kind.TheVariants as kind
 use Rattle.gtp_process.specs.Shown.{pipe_text}

@@ -147,97 +147,85 @@ fn junk_is_cut_at_its_newline(rt: HostRuntime) {
     assert_equal(&rt, first_line(b"ready\n= 1\n"), b"ready");
 }
 
-/// What an engine was asked, and the lines of that.
+/// What an engine was asked on a board of this size, and the lines of that.
 #[derive(Drop)]
 struct Asked {
+    size: Size,
     talk: Vec<Said>,
     sent: Vec<u8>,
 }
 
 impl Asked {
-    /// A command is asked by this line, after so many moves, of which the last has this word, on a board of 5x5.
+    /// A command is asked by this line, after so many moves, of which this is the last.
     fn ask(
         &mut self,
-        rt: &impl Abort,
         line: &str,
         command: CheckCommand,
-        moves: (usize, &str),
+        moves: usize,
+        last: Option<Move>,
     ) -> Result<(), AllocError> {
-        let (moves, last) = moves;
         self.sent.extend_from_slice(line.as_bytes())?;
         self.sent.extend_from_slice(b"\n")?;
-        self.talk.extend_from_slice(&[Said {
+        let said = Said {
             command,
             purpose: Purpose {
                 lesson: Lesson::Games,
                 part: 0,
             },
             is_illegal: false,
-            size: size_of(rt, 5),
+            size: self.size,
             moves,
-            last: if last.is_empty() {
-                None
-            } else {
-                Some(move_of(rt, last))
-            },
+            last,
             end: self.sent.len(),
-        }])
+        };
+        self.talk.extend_from_slice(&[said])
     }
 
     /// A command of a match is asked so.
     fn ask_match(
         &mut self,
-        rt: &impl Abort,
         line: &str,
         command: Command,
-        moves: (usize, &str),
+        moves: usize,
+        last: Option<Move>,
     ) -> Result<(), AllocError> {
-        self.ask(rt, line, CheckCommand::Match(command), moves)
+        self.ask(line, CheckCommand::Match(command), moves, last)
     }
 }
 
-/// Two games with an engine that refuses the size 9. In the second it chooses two moves, and then resigns.
-fn two_games(rt: &(impl Abort + AllocGlobal)) -> Result<Asked, AllocError> {
+/// A game on 5x5, and what sets up a second one. The engine refuses the size 9.
+fn first_game(rt: &(impl Abort + AllocGlobal)) -> Result<Asked, AllocError> {
     let alloc = rt.alloc();
     let mut asked = Asked {
+        size: size_of(rt, 5),
         talk: Vec::new(alloc),
         sent: Vec::new(alloc),
     };
-    let white = Colour::White;
+    asked.ask_match("1 komi 0.5", Command::Komi(komi_of(rt, 1)), 0, None)?;
+    let taken = Command::Boardsize(size_of(rt, 5));
+    asked.ask_match("2 boardsize 5", taken, 0, None)?;
+    asked.ask_match("3 clear_board", Command::ClearBoard, 0, None)?;
+    asked.ask_match("4 play b A1", Command::Play(move_of(rt, "bA1")), 0, None)?;
+    let komi = Command::Komi(komi_of(rt, 13));
+    asked.ask_match("5 komi 6.5", komi, 1, Some(move_of(rt, "bA1")))?;
+    let refused = Command::Boardsize(size_of(rt, 9));
+    asked.ask_match("6 boardsize 9", refused, 1, Some(move_of(rt, "bA1")))?;
+    let clear = Command::ClearBoard;
+    asked.ask_match("7 clear_board", clear, 1, Some(move_of(rt, "bA1")))?;
+    Ok(asked)
+}
+
+/// Then a game in which the engine chooses two moves, and resigns.
+fn two_games(rt: &(impl Abort + AllocGlobal)) -> Result<Asked, AllocError> {
+    let mut asked = first_game(rt)?;
+    asked.ask_match("8 genmove b", Command::Genmove(Colour::Black), 0, None)?;
+    let in_full = CheckCommand::GenmoveInFull(Colour::White);
+    asked.ask("9 genmove white", in_full, 1, Some(move_of(rt, "bC3")))?;
     let genmove = Command::Genmove(Colour::Black);
-    let none = (0, "");
-    asked.ask_match(rt, "1 komi 0.5", Command::Komi(komi_of(rt, 1)), none)?;
-    asked.ask_match(
-        rt,
-        "2 boardsize 5",
-        Command::Boardsize(size_of(rt, 5)),
-        none,
-    )?;
-    asked.ask_match(rt, "3 clear_board", Command::ClearBoard, none)?;
-    asked.ask_match(rt, "4 play b A1", Command::Play(move_of(rt, "bA1")), none)?;
-    asked.ask_match(rt, "5 komi 6.5", Command::Komi(komi_of(rt, 13)), (1, "bA1"))?;
-    asked.ask_match(
-        rt,
-        "6 boardsize 9",
-        Command::Boardsize(size_of(rt, 9)),
-        (1, "bA1"),
-    )?;
-    asked.ask_match(rt, "7 clear_board", Command::ClearBoard, (1, "bA1"))?;
-    asked.ask_match(rt, "8 genmove b", genmove, none)?;
-    asked.ask(
-        rt,
-        "9 genmove white",
-        CheckCommand::GenmoveInFull(white),
-        (1, "bC3"),
-    )?;
-    asked.ask_match(rt, "10 genmove b", genmove, (2, "wpass"))?;
-    asked.ask_match(
-        rt,
-        "11 play w D4",
-        Command::Play(move_of(rt, "wD4")),
-        (2, "wpass"),
-    )?;
-    asked.ask(rt, "12 name", CheckCommand::Name, (3, "wD4"))?;
+    asked.ask_match("10 genmove b", genmove, 2, Some(move_of(rt, "wpass")))?;
+    let play = Command::Play(move_of(rt, "wD4"));
+    asked.ask_match("11 play w D4", play, 2, Some(move_of(rt, "wpass")))?;
+    asked.ask("12 name", CheckCommand::Name, 3, Some(move_of(rt, "wD4")))?;
     Ok(asked)
 }
 

@@ -1,4 +1,4 @@
-use Rattle.std.proofs.Common.{◌≡◌, ◌∙◌, ◌++◌, ap, append_assoc, List, ℕ}
+use Rattle.std.proofs.Common.{◌∙◌, ◌++◌, ap, append_assoc, List, ℕ}
 use Rattle.gtp_check_shortening.specs.LastGame.{last_game, left_out}
 use Rattle.gtp_check_shortening.specs.declared.last_game.LastGame.{LastGame}
 use Rattle.gtp_check_texts.specs.LastGame.{game_lines, left_out_line}
