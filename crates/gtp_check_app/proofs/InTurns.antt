@@ -192,8 +192,7 @@ module _ {P : Type 0} (known : Ghosts P) (laws : Laws known) (plan : Plan) where
       (record {
         complaint = complaint;
         is = refl;
-        number = after.state.tally.complaints;
-        lesson = _;
+        caption = _;
         wrong = unwrap_or shorter wrong;
         of = about;
         grounded = of_shown wrong shorter (closed_grounded fault before wrong mid sound closes) comes.1;

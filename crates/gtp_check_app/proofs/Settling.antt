@@ -24,8 +24,9 @@ use Rattle.gtp_check_app.specs.declared.streams.Streams.{Streams}
 use Rattle.gtp_check_app.specs.Sequence.{Known, Point, StopsIn, first_line_broke, no_memory_for_first_line}
 use Rattle.gtp_check_app.specs.Sequence.{complaint_broke as turn_complaint_broke, no_memory_to_complain, point}
 use Rattle.gtp_check_app.specs.Turns.{Closes, Complains, Exchanges, IsComplaint, IsReduced, IsShortened, IsTried}
-use Rattle.gtp_check_app.specs.Turns.{Moment, Reduces, Shortens, State, TriesOne, TriesShorter, found_in, hidden}
-use Rattle.gtp_check_app.specs.Turns.{missed, moment, none_left, process_of, shortened_so, shown, waiting}
+use Rattle.gtp_check_app.specs.Turns.{Moment, Reduces, Shortens, State, TriesOne, TriesShorter, caption_of, found_in}
+use Rattle.gtp_check_app.specs.Turns.{hidden, missed, moment, none_left, process_of, shortened_so, shown, shown_of}
+use Rattle.gtp_check_app.specs.Turns.{waiting}
 use Rattle.gtp_check_shortening.specs.Reduction.{Reduction}
 use Rattle.gtp_check_app.specs.private.Steps.{ComplaintGoesOut, ComplaintStops, FirstGoesOut, FirstStops, Settles}
 use Rattle.gtp_check_app.specs.private.Steps.{StopsAfter, complaint_broke, complaint_refused, first_broke}
@@ -80,7 +81,9 @@ module _ {P O E : Type 0} (known : Known P O E) (plan : Plan) (before : Moment P
       → {shorter : Option Wrong} {after : Moment P}
       → IsShortened known.processes plan wrong (moment (record mid { tally = tally }) before.asked) shorter after
       → (complaint : Complaint)
-      → IsComplaint plan.rule after.state.tally.complaints purpose.lesson (unwrap_or shorter wrong) complaint
+      → IsComplaint plan.rule
+      (caption_of after.state.tally.complaints purpose.lesson (shown_of plan.trials shorter wrong))
+      (unwrap_or shorter wrong) complaint
       → Complains known.processes plan before (Some fault) after (complaint_lines complaint ∷ [])
   complained answer is so {shorter = shorter} {after = after} shortens complaint about =
       shown wrong complaint (not-true _ judged) closes
@@ -89,7 +92,8 @@ module _ {P O E : Type 0} (known : Known P O E) (plan : Plan) (before : Moment P
       (λ (start : State P). IsShortened known.processes plan wrong (moment start before.asked) shorter after)
       found_now shortens)
       (subst (λ (p : Purpose).
-      IsComplaint plan.rule after.state.tally.complaints p.lesson (unwrap_or shorter wrong) complaint) same about)
+      IsComplaint plan.rule (caption_of after.state.tally.complaints p.lesson (shown_of plan.trials shorter wrong))
+      (unwrap_or shorter wrong) complaint) same about)
 
 module _ {P O E : Type 0} (known : Known P O E) (plan : Plan) where
   -- what is waited for was shown, and then what is shown before the first line and a complaint

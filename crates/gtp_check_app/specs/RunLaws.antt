@@ -12,7 +12,7 @@ use Rattle.gtp_process.specs.Starts.{Attempts, Tries, program_line}
 use Rattle.gtp_check_judge.specs.declared.exam.Exam.{Exam}
 use Rattle.gtp_check_judge.specs.declared.judging.Kind.{Kind}
 use Rattle.gtp_check_judge.specs.Exam.{begun}
-use Rattle.gtp_check_questions.specs.declared.lessons.Lesson.{Lesson}
+use Rattle.gtp_check_app.specs.declared.complaining.Caption.{Caption}
 use Rattle.gtp_check_texts.specs.Complaints.{complaint_lines}
 use Rattle.gtp_check_texts.specs.declared.complaint.Complaint.{Complaint}
 use Rattle.gtp_check_texts.specs.declared.fault.Fault.{Fault}
@@ -131,10 +131,9 @@ pub record IsGrounded {P : Type 0} (known : Ghosts P) (rule : KoRule) (wrong : W
 pub record IsJustComplaint {P : Type 0} (known : Ghosts P) (rule : KoRule) (text : List ℕ) : Type 0 where
   pub complaint : Complaint
   pub is : text ≡ complaint_lines complaint
-  pub number : ℕ
-  pub lesson : Lesson
+  pub caption : Caption
   pub wrong : Wrong
-  pub of : IsComplaint rule number lesson wrong complaint
+  pub of : IsComplaint rule caption wrong complaint
   pub grounded : IsGrounded known rule wrong
 
 -- the complaints that are written in a turn

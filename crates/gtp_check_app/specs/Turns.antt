@@ -27,10 +27,13 @@ use Rattle.gtp_check_questions.specs.Asking.{IsTurn, Renews, lesson_of}
 use Rattle.gtp_check_questions.specs.Course.{Course, GoesTo, Leaves, begun, part_over, with_finding}
 use Rattle.gtp_check_questions.specs.Course.{IsOver as CourseIsOver}
 use Rattle.gtp_check_app.specs.declared.check.Check.{Check as Going}
+use Rattle.gtp_check_app.specs.declared.complaining.Caption.{Caption}
 use Rattle.gtp_check_texts.specs.declared.complaint.Complaint.{Complaint}
 use Rattle.gtp_check_talks.specs.declared.engine.Engine.{Engine}
 use Rattle.gtp_check_texts.specs.declared.fault.Fault.{Fault}
 use Rattle.gtp_check_texts.specs.declared.fault.Fault.TheVariants.{CutOff, Wrote}
+use Rattle.gtp_check_texts.specs.declared.last_game.Shown.{Shown}
+use Rattle.gtp_check_texts.specs.declared.last_game.Shown.TheVariants.{LastGame, Whole}
 use Rattle.gtp_check_shortening.specs.declared.flat.Shortening.{Shortening}
 use Rattle.gtp_check_talks.specs.declared.notes.Notes.{Notes}
 use Rattle.gtp_check_plan.specs.declared.plan.Plan.{Plan}
@@ -71,6 +74,10 @@ few_commands = 12
 -- so many commands may be asked in trials of a conversation, however short its lesson was
 abbrev pub least_tried : ℕ
 least_tried = 20000
+
+-- a conversation of at most so many commands is shown whole, also where nothing shorter was found
+abbrev pub most_whole : ℕ
+most_whole = 40
 
 -- how many commands of the conversation were asked in the lesson in which it ended
 abbrev pub lesson_commands : Wrong → ℕ
@@ -228,11 +235,22 @@ pub record IsExplained (rule : KoRule) (wrong : Wrong) : Type 0 where
   pub refused : wrong.fault ≡ Wrote Refused
   pub positional : IsPositional (played (wrong_talk wrong))
 
--- A complaint with this number is of this lesson and of a conversation that ended so, with an engine of this ko rule.
-pub record IsComplaint (rule : KoRule) (number : ℕ) (lesson : Lesson) (wrong : Wrong) (complaint : Complaint)
-    : Type 0 where
-  pub number_is : complaint.number ≡ number
-  pub lesson_is : complaint.lesson ≡ lesson
+-- How much of a conversation is shown: all of one that was made shorter. Of another one all is shown where no trials
+-- are made, or it is short enough; else its last game alone.
+abbrev pub shown_of : ℕ → Option Wrong → Wrong → Shown
+shown_of trials (Some shorter) found = Whole
+shown_of trials None found =
+    if nat_lt 0 trials && nat_lt most_whole (length (wrong_talk found)) then LastGame else Whole
+
+-- what is said of a conversation: the number of the complaint, the lesson, and how much is shown
+abbrev pub caption_of : ℕ → Lesson → Shown → Caption
+caption_of number lesson shown = record { number = number; lesson = lesson; shown = shown }
+
+-- A complaint with this caption is of a conversation that ended so, with an engine of this ko rule.
+pub record IsComplaint (rule : KoRule) (caption : Caption) (wrong : Wrong) (complaint : Complaint) : Type 0 where
+  pub number_is : complaint.number ≡ caption.number
+  pub lesson_is : complaint.lesson ≡ caption.lesson
+  pub shown_is : complaint.shown ≡ caption.shown
   pub fault : complaint.fault ≡ wrong.fault
   pub sent : complaint.sent.now ≡ wrong.sent
   pub talk : complaint.talk.now ≡ wrong.talk
@@ -382,8 +400,9 @@ module _ {P : Type 0} (known : Ghosts P) (plan : Plan) where
         (complaint : Complaint) → is_unjudged plan.suicide fault ≡ false
         → Closes known fault before.state wrong mid → is_shown mid.tally (wrong_purpose wrong).lesson fault ≡ true
         → IsShortened wrong (moment (found_in mid wrong fault) before.asked) shorter after
-        → IsComplaint plan.rule after.state.tally.complaints (wrong_purpose wrong).lesson (unwrap_or shorter wrong)
-        complaint
+        → IsComplaint plan.rule
+        (caption_of after.state.tally.complaints (wrong_purpose wrong).lesson (shown_of plan.trials shorter wrong))
+        (unwrap_or shorter wrong) complaint
         → Complains before (Some fault) after (complaint_lines complaint ∷ [])
 
   -- The first line is written where it is due.

@@ -15,7 +15,7 @@ ghost use Rattle.gtp_check_shortening.specs.Played.{played};
 ghost use Rattle.gtp_check_shortening.specs.Reduction.{begun as begun_reduction};
 ghost use Rattle.gtp_check_shortening.specs.Superko.{game_before};
 ghost use Rattle.gtp_check_app.specs.Sequence.{known_of, point};
-ghost use Rattle.gtp_check_app.specs.Turns.{moment, state_of};
+ghost use Rattle.gtp_check_app.specs.Turns.{caption_of, moment, shown_of, state_of};
 ghost use Rattle.gtp_check_app.specs.Unjudged.{is_blamed};
 ghost use Rattle.gtp_check_app.specs.private.Steps.{ComplaintGoesOut, ComplaintStops};
 ghost use Rattle.gtp_check_texts.specs.declared.complaint.Complaint.{Complaint};
@@ -38,6 +38,7 @@ use gtp_check_shortening::{Limits, Reduction};
 use gtp_check_talks::trial::{Tried, try_commands};
 use gtp_check_texts::complaint::{Complaint, complaint_text};
 use gtp_check_texts::fault::Fault;
+use gtp_check_texts::last_game::Shown;
 use gtp_process::{Process, Starter};
 use std::alloc::{AllocError, Global};
 
@@ -46,6 +47,21 @@ const FEW_COMMANDS: usize = 12;
 
 /// So many commands may be asked in trials of a conversation, however short its lesson was.
 const LEAST_TRIED: usize = 20_000;
+
+/// A conversation of at most so many commands is shown whole, also where nothing shorter was found.
+const MOST_WHOLE: usize = 40;
+
+/// What a complaint says of a conversation: the number of the complaint, the lesson in which it was found, and how much
+/// of the conversation is shown.
+#[derive(Clone, Copy)]
+pub struct Caption {
+    /// The number, counted from 1.
+    pub number: u32,
+    /// The lesson.
+    pub lesson: Lesson,
+    /// How much is shown.
+    pub shown: Shown,
+}
 
 impl<S: Starter> Check<S> {
     /// Something is wrong with the engine, which is ended. The complaint is written, unless its like was shown often
@@ -79,8 +95,25 @@ impl<S: Starter> Check<S> {
         }
         show_looking(plan.shows_progress, &mut streams.errors);
         match self.shorter(&found, plan, starter)? {
-            Some(shorter) => self.write(&shorter, lesson, plan, streams),
-            None => self.write(&found, lesson, plan, streams),
+            Some(shorter) => {
+                let caption = self.caption_of(lesson, Shown::Whole);
+                self.write(&shorter, caption, plan, streams)
+            }
+            None => {
+                let caption = self.caption_of(lesson, shown_unshortened(plan.trials, &found));
+                self.write(&found, caption, plan, streams)
+            }
+        }
+    }
+
+    /// What the next complaint says of a conversation.
+    fn caption_of(&self, lesson: Lesson, shown: Shown) -> Caption
+        ensures { result ≡ caption_of self.now.tally.complaints lesson shown }
+    {
+        Caption {
+            number: self.tally.complaints,
+            lesson,
+            shown,
         }
     }
 
@@ -108,18 +141,17 @@ impl<S: Starter> Check<S> {
     fn write<O: WriteOnce, E: WriteOnce>(
         &mut self,
         found: &Tried,
-        lesson: Lesson,
+        caption: Caption,
         plan: &Plan<'_>,
         streams: &mut Streams<O, E>,
     ) -> Result<(), Failure>
-        ensures goes_out { OnOk result ((complaint : Complaint) × IsComplaint plan.now.rule
-            self.old.tally.complaints lesson (wrong_of found.now) complaint
+        ensures goes_out { OnOk result ((complaint : Complaint)
+            × IsComplaint plan.now.rule caption (wrong_of found.now) complaint
             × GoesOut O.WriteOnce (complaint_lines complaint) streams.old.output streams.new.output
             × IsShown E.WriteOnce plan.now.shows_progress (cleared ∷ [])
             streams.old.errors streams.new.errors) }
         ensures broke { IfErr result (λ why. why ≡ failure.Write
-            → (complaint : Complaint) × IsComplaint plan.now.rule
-            self.old.tally.complaints lesson (wrong_of found.now) complaint
+            → (complaint : Complaint) × IsComplaint plan.now.rule caption (wrong_of found.now) complaint
             × BreaksAt O.WriteOnce (complaint_lines complaint) streams.old.output streams.new.output
             × IsShown E.WriteOnce plan.now.shows_progress (cleared ∷ [])
             streams.old.errors streams.new.errors) }
@@ -128,7 +160,7 @@ impl<S: Starter> Check<S> {
         ensures same { state_of self.new ≡ state_of self.old }
     {
         let done = done_in(self.alloc, found, plan.rule)?;
-        let complaint = complaint_of(self.tally.complaints, lesson, found, plan.rule, &done);
+        let complaint = complaint_of(caption, found, plan.rule, &done);
         let text = complaint_text(self.alloc, &complaint)?;
         clear(plan.shows_progress, &mut streams.errors);
         write_text(&mut streams.output, text.as_slice())?;
@@ -299,6 +331,17 @@ fn may_shorten(trials: u32, talk: &[Said], shortening: Shortening) -> bool
     trials > 0 && talk.len() > FEW_COMMANDS && games_in(talk) > shortening.more_than
 }
 
+/// How much is shown of a conversation for which nothing shorter was found, where so many trials are made at most.
+fn shown_unshortened(trials: u32, found: &Tried) -> Shown
+    ensures { result ≡ shown_of trials None (wrong_of found.now) }
+{
+    if trials > 0 && found.conversation().len() > MOST_WHOLE {
+        Shown::LastGame
+    } else {
+        Shown::Whole
+    }
+}
+
 /// How much may be tried of a conversation.
 fn limits_of(plan: &Plan<'_>, longer: &Tried) -> Limits
     ensures { result ≡ limits_of plan.now (wrong_of longer.now) }
@@ -342,22 +385,21 @@ fn done_in(alloc: Global, found: &Tried, rule: KoRule) -> Result<Done, AllocErro
     Ok(Done { talk, game })
 }
 
-/// The complaint of this number about a conversation that ended with something wrong in a lesson. Only where a right
-/// engine is under simple ko positional ko can explain a refusal.
+/// The complaint with this caption about a conversation that ended with something wrong. Only where a right engine is
+/// under simple ko positional ko can explain a refusal.
 fn complaint_of<'t>(
-    number: u32,
-    lesson: Lesson,
+    caption: Caption,
     found: &'t Tried,
     rule: KoRule,
     done: &'t Done,
 ) -> Complaint<'t>
     requires talk { done.now.talk.items ≡ played (wrong_talk (wrong_of found.now)) }
     requires game { done.now.game ≡ game_before rule done.now.talk.items }
-    ensures { IsComplaint rule number lesson (wrong_of found.now) result }
+    ensures { IsComplaint rule caption (wrong_of found.now) result }
 {
     Complaint {
-        number,
-        lesson,
+        number: caption.number,
+        lesson: caption.lesson,
         fault: found.fault,
         sent: found.said.sent.as_slice(),
         talk: found.said.talk.as_slice(),
@@ -368,6 +410,7 @@ fn complaint_of<'t>(
             && found.fault == Fault::Wrote(Kind::Refused)
             && is_positional(done.talk.as_slice()),
         game: done.game.as_ref(),
+        shown: caption.shown,
     }
 }
 

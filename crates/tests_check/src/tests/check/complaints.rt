@@ -8,6 +8,7 @@ use gtp_check_shortening::superko::game_before;
 use gtp_check_shortening::talk::{Purpose, Said};
 use gtp_check_texts::complaint::{Complaint, complaint_text};
 use gtp_check_texts::fault::Fault;
+use gtp_check_texts::last_game::Shown;
 use gtp_process::{Ending, PipeCause};
 use std::process::Abort;
 use std::test::Fail;
@@ -331,6 +332,7 @@ fn complaint_of(head: Head, answered: usize, is_positional: bool, asked: &Asked)
         ending,
         is_positional,
         game: asked.game.as_ref(),
+        shown: Shown::Whole,
     }
 }
 
@@ -363,6 +365,7 @@ fn a_complaint_says_that_a_line_came_in_two_pieces(rt: HostRuntime) -> Result<()
         ending: Ending::Running,
         is_positional: false,
         game: None,
+        shown: Shown::Whole,
     };
     let text = complaint_text(rt.alloc(), &complaint)?;
     assert_equal_for(

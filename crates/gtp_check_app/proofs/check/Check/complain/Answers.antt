@@ -1,17 +1,26 @@
-use Rattle.std.proofs.Common.{◌∙◌, refl, inl, inr, [], ◌∷◌}
+use Rattle.std.proofs.Common.{◌≡◌, ◌∙◌, ap, refl, inl, inr, subst, [], ◌∷◌}
 use Rattle.std.proofs.lemmas.Result.{err_from_is_err_and}
 use Rattle.byte_streams.specs.Writing.{line_out, no_line}
+use Rattle.go_board.specs.declared.rules.KoRule.{KoRule}
 use Rattle.gtp_check_texts.specs.Complaints.{complaint_lines}
-use Rattle.gtp_check_talks.specs.Dialogues.{wrong_of}
+use Rattle.gtp_check_texts.specs.declared.complaint.Complaint.{Complaint}
+use Rattle.gtp_check_talks.specs.Dialogues.{Wrong, wrong_of}
+use Rattle.gtp_check_app.specs.declared.complaining.Caption.{Caption}
 use Rattle.gtp_check_app.specs.Progress.{cleared, looking_line}
 use Rattle.gtp_check_app.specs.Sequence.{known_of}
-use Rattle.gtp_check_app.specs.Turns.{moment}
+use Rattle.gtp_check_app.specs.Turns.{IsComplaint, caption_of, moment}
 use Rattle.gtp_check_app.specs.private.Steps.{complaint_broke, complaint_refused}
 use Rattle.gtp_check_app.proofs.Progressing.{both_shown}
 use Rattle.gtp_check_app.proofs.Settling.{complained, is_hidden}
 use Rattle.gtp_check_app.proofs.Gathering.{where_err, where_ok}
 use Rattle.gtp_check_app.proofs.Shortening.{shortened_asks}
 use Rattle.gtp_check_app.proofs.check.Check.complain.Goals as goal
+
+-- a complaint has the caption that is the same
+captioned : (rule : KoRule) (one other : Caption) (wrong : Wrong) (complaint : Complaint) → one ≡ other
+    → IsComplaint rule one wrong complaint → IsComplaint rule other wrong complaint
+captioned rule one other wrong complaint same about =
+    subst (λ (caption : Caption). IsComplaint rule caption wrong complaint) same about
 
 pub returns-then-not-find-clause-goes_out : goal.returns-then-not-find-clause-goes_out
 returns-then-not-find-clause-goes_out g c =
@@ -38,7 +47,8 @@ returns-in-Some-2-clause-goes_out g c =
           (moment _ (g.S.Starter.asked c.args.starter.now)) _ c.args.fault (wrong_of c.in-Some.found)
           c.purpose-lesson.result c.find.new.self c.in-Some.ensures.closes c.requires.judged c.purpose-lesson.ensures
           c.find.ensures.found c.find.result c.find.ensures.shown c.if-not-find.false
-          (rw c.in-Some-2.is at c.in_ok-shorter.ensures.shortens) out.0 out.1;
+          (rw c.in-Some-2.is at c.in_ok-shorter.ensures.shortens) out.0
+          (captioned c.args.plan.now.rule _ _ (wrong_of c.in-Some-2.shorter) out.0 c.caption_of-caption.ensures out.1);
       goes_out = line_out out.2 no_line;
       shown = both_shown g.E.WriteOnce c.args.plan.now.shows_progress (looking_line ∷ []) (cleared ∷ []) _ _ _
           c.show_looking.ensures out.3;
@@ -56,7 +66,9 @@ returns-in-Some-2-clause-stops g c =
           (moment _ (g.S.Starter.asked c.args.starter.now)) _ c.args.fault (wrong_of c.in-Some.found)
           c.purpose-lesson.result c.find.new.self c.in-Some.ensures.closes c.requires.judged c.purpose-lesson.ensures
           c.find.ensures.found c.find.result c.find.ensures.shown c.if-not-find.false
-          shortens (broke is).0 (broke is).1)
+          shortens (broke is).0
+          (captioned c.args.plan.now.rule _ _ (wrong_of c.in-Some-2.shorter) (broke is).0 c.caption_of-caption.ensures
+          (broke is).1))
           (broke is).2
           (both_shown g.E.WriteOnce c.args.plan.now.shows_progress (looking_line ∷ []) (cleared ∷ []) _ _ _
           c.show_looking.ensures (broke is).3)
@@ -76,7 +88,9 @@ returns-clause-goes_out g c =
           (moment _ (g.S.Starter.asked c.args.starter.now)) _ c.args.fault (wrong_of c.in-Some.found)
           c.purpose-lesson.result c.find.new.self c.in-Some.ensures.closes c.requires.judged c.purpose-lesson.ensures
           c.find.ensures.found c.find.result c.find.ensures.shown c.if-not-find.false
-          (rw c.in-None.is at c.in_ok-shorter.ensures.shortens) out.0 out.1;
+          (rw c.in-None.is at c.in_ok-shorter.ensures.shortens) out.0
+          (captioned c.args.plan.now.rule _ _ (wrong_of c.in-Some.found) out.0
+          (c.caption_of-caption-in-None.ensures ∙ ap (caption_of _ _) c.shown_unshortened.ensures) out.1);
       goes_out = line_out out.2 no_line;
       shown = both_shown g.E.WriteOnce c.args.plan.now.shows_progress (looking_line ∷ []) (cleared ∷ []) _ _ _
           c.show_looking.ensures out.3;
@@ -95,7 +109,9 @@ returns-clause-stops g c =
           (moment _ (g.S.Starter.asked c.args.starter.now)) _ c.args.fault (wrong_of c.in-Some.found)
           c.purpose-lesson.result c.find.new.self c.in-Some.ensures.closes c.requires.judged c.purpose-lesson.ensures
           c.find.ensures.found c.find.result c.find.ensures.shown c.if-not-find.false
-          shortens (broke is).0 (broke is).1)
+          shortens (broke is).0
+          (captioned c.args.plan.now.rule _ _ (wrong_of c.in-Some.found) (broke is).0
+          (c.caption_of-caption-in-None.ensures ∙ ap (caption_of _ _) c.shown_unshortened.ensures) (broke is).1))
           (broke is).2
           (both_shown g.E.WriteOnce c.args.plan.now.shows_progress (looking_line ∷ []) (cleared ∷ []) _ _ _
           c.show_looking.ensures (broke is).3)
