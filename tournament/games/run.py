@@ -6,8 +6,9 @@ import signal
 import time
 from array import array
 
-from . import family, output, results
-from .game import BROKEN, DONE, ENDING, NO_ROOM, TAKEN, Match, play_here, report
+from . import below, family, output, results
+from .game import BROKEN, DONE, ENDING, NO_ROOM, TAKEN, play_here, report
+from .match import Match
 from .places import Places, Taken, clear_running
 
 AGAIN = 3  # seconds for which games are tried that another process holds, which may be about to end
@@ -19,20 +20,20 @@ class Run:
     """The games that are played now."""
 
     def __init__(self, plan, folder, twogtp):
-        self.folder, self.match = folder, Match(plan, twogtp)
+        self.folder, self.at, self.match = folder, os.path.abspath(folder), Match(plan, twogtp)
         self.playing = {}  # of the process of each game: its name, its places and its lock
         self.family = family.Family()
         self.stopped = None  # the signal that stopped it
         self.no_room = False  # can nothing be written?
         self.ending = [it for it in ENDING if signal.getsignal(it) != signal.SIG_IGN]  # nohup ignores one
         family.adopt()
-        family.be_called("tournament")
+        below.be_called("tournament")
         signal.pthread_sigmask(signal.SIG_BLOCK, [signal.SIGCHLD, *self.ending])
 
     def result(self, name):
         """The parts of a game's result, or None. A damaged one is reported."""
         try:
-            parts = results.read(Places(self.folder, name).result, self.match.has_board)
+            parts = results.read(Places(self.at, name).result, self.match.has_board)
         except FileNotFoundError:
             return None
         if parts is None:
@@ -42,13 +43,14 @@ class Run:
     def begin(self, name):
         """Begins a game. Returns the parts of its result where it has one by now. Raises Taken where another process plays it, and OSError
         where it can't be begun."""
-        places = Places(self.folder, name)
+        places = Places(self.at, name)
         lock = places.take()
         try:
             parts = self.result(name)
             if parts:
                 places.remove()
                 return parts
+            self.match.prepare()
             own = os.getpid()
             process = os.fork()
             if not process:

@@ -101,7 +101,7 @@ class Damages(Case):
     def test_lost(self):
         """What isn't a result is none for --again and the status either."""
         with room() as here:
-            engines = ["--engine", "one=false", "--engine", "two=gtp_engine", "--seeds", "1"]
+            engines = ["--engine", "one=gtp_engine --fault stop:1", "--engine", "two=gtp_engine", "--seeds", "1"]
             here.run("tournament", "play", "all", *engines, "--", "--size", "2")
             cut = here.at / "all/games/1_one_two"
             cut.write_bytes(cut.read_bytes()[:-1])

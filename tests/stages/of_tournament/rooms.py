@@ -120,6 +120,21 @@ def lines(text):
     return sorted(text.splitlines())
 
 
+# An engine that moves along an edge of 9x9, and never answers its genmove of this number; and one that ends there, by this signal.
+HANGS = """\
+#!/bin/bash
+letters=ABCDEFGHJ count=0
+while read -r number command colour _; do
+    vertex=
+    if [ "$command" = genmove ]; then
+        count=$((count + 1))
+        [ "$count" != "$1" ] || { [ -n "$2" ] && kill "-$2" $$ || exec sleep 1000; }
+        vertex=" ${letters:count-1:1}$([ "$colour" = b ] && echo 1 || echo 9)"
+    fi
+    printf '=%s%s\\n\\n' "$number" "$vertex"
+    [ "$command" != quit ] || exit
+done
+"""
 # An engine that waits before it begins, so that a tournament lasts; and one that can only be killed, and so can what it starts.
 SLOW = "#!/bin/bash\nsleep 0.4\nexec gtp_engine \"$@\"\n"
 STUBBORN = """\

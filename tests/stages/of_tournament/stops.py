@@ -100,14 +100,22 @@ class Stubborn(Case):
             self.check("at the limit of a game: the status", 1, status)
             self.check("at the limit of a game: none is left", [], here.left())
             names = ["1_one_two", "1_two_one", "2_one_two", "2_two_one"]
-            said = [f"tournament: {name}: no result: not over in 1 seconds" for name in names]
-            self.check("at the limit of a game: it says so", said, lines(errors))
+            whom = [f"{name.split('_')[1]} was waited for, 0. seconds at '1 boardsize 19'" for name in names]
+            why = [f"not over in 1 seconds; {who}" for who in whom]
+            said = [f"tournament: {name}: no result: {it}" for name, it in zip(names, why)]
+            self.check("at the limit of a game: it says so", said, lines(without_parts(errors)))
             self.check("at the limit of a game: the last line", "0 of 4 games have a result\n", output)
-            logs = [(here.at / "all/logs" / name).read_text().splitlines()[-1] for name in names]
-            self.check("at the limit of a game: the log has it", ["tournament: not over in 1 seconds"] * 4, logs)
+            logs = [without_parts((here.at / "all/logs" / name).read_text().splitlines()[-1]) for name in names]
+            self.check("at the limit of a game: the log has it", [f"tournament: {it}" for it in why], logs)
             status, output, _ = here.run("tally", "all")
-            wanted = "no result: 4\n" + "".join(f"  {name}: not over in 1 seconds\n" for name in names)
-            self.check("the tally: games without a result, and why", (1, wanted), (status, output[output.index("no result:") :]))
+            wanted = "no result: 4\n" + "".join(f"  {name}: {it}\n" for name, it in zip(names, why))
+            got = without_parts(output[output.index("no result:") :])
+            self.check("the tally: games without a result, and why", (1, wanted), (status, got))
+
+
+def without_parts(text):
+    """A text without the parts of seconds in it."""
+    return re.sub(r"(\d\.)\d+ seconds", r"\1 seconds", text)
 
 
 # An engine that leaves a process in a session of its own, and notes which of those before it live still.
@@ -285,7 +293,7 @@ class Full(Case):
         """A full disk."""
         with room() as here:
             (here.at / "disk").mkdir()
-            mounted = subprocess.run(["mount", "-t", "tmpfs", "-o", "size=64k", "none", str(here.at / "disk")], capture_output=True)
+            mounted = subprocess.run(["mount", "-t", "tmpfs", "-o", "size=256k", "none", str(here.at / "disk")], capture_output=True)
             if mounted.returncode != 0:
                 self.skip("a full disk", "nothing may be mounted here")
                 return
@@ -295,14 +303,14 @@ class Full(Case):
                 subprocess.run(["umount", str(here.at / "disk")], check=True)
 
     def play_on_disk(self, here):
-        """Plays where there is room for four files, and then where there is more."""
+        """Plays where there is room for some files, and then where there is more."""
         wanted = results()
         self.check("a full disk: the plan", 0, here.run("tournament", "plan", *two_engines("disk/all"), *SMALL)[0])
         filler = here.at / "disk/filler"
         with open(filler, "wb", buffering=0) as file, contextlib.suppress(OSError):
             while True:
                 file.write(bytes(4096))
-        os.truncate(filler, filler.stat().st_size - 4 * 4096)  # four files more
+        os.truncate(filler, filler.stat().st_size - 14 * 4096)  # those of a game that is played, and those that two leave
         status, output, errors = here.run("tournament", "play", "disk/all", "--jobs", "1")
         played = here.games("disk/all")
         self.check("a full disk: the status", 1, status)
@@ -332,9 +340,13 @@ class Limited(Case):
             self.check("no room for the plan: none is left", False, (here.at / "all/plan").exists())
             here.run("tournament", "plan", *two_engines("all"), *SMALL)
             status, output, errors = here.run("bash", "-c", "ulimit -f 0; tournament game all 1_one_two")
-            said = errors.startswith("tournament: 1_one_two: no result: status 3 of twogtp: is the disk full?")
-            self.check("no room for a result: the status, the output and what is reported", (1, "", True), (status, output, said))
+            said = "tournament: 1_one_two: no result: File too large; its log is not written\ntournament: all can't be written to: File too large"
+            self.check("no room for a result: what is reported", (1, "", said), (status, output, errors[: len(said)]))
             self.check("no room for a result: none is there", {}, here.games("all"))
+            here.run("tournament", "plan", *two_engines("direct"), "--direct", *SMALL)
+            status, output, errors = here.run("bash", "-c", "ulimit -f 0; tournament game direct 1_one_two")
+            said = errors.startswith("tournament: 1_one_two: no result: status 3 of twogtp: is the disk full?")
+            self.check("no room for a result, directly: what is reported", (1, "", True), (status, output, said))
             came = here.run("bash", "-c", "ulimit -f 0; tournament list all | xargs -r -n 1 -P 4 tournament game all")
             reported = sorted(re.findall(r"^tournament: (\w+): no result: ", came.errors, re.MULTILINE))
             self.check("no room for any result: each game is reported", sorted(wanted), reported)
