@@ -1,7 +1,15 @@
-"""The processes below this one, as `between` and `patience` end them. It imports little, since each start of an engine waits for it."""
+"""The processes below this one: how an engine is started, and how all of them are ended. It imports little, since each start of an engine
+waits for it."""
 import os
 
-KILL = 9
+try:
+    import _signal as signal  # what is in C of it: the rest takes as long to import as a third of Python's start
+except ImportError:
+    import signal
+
+ENDING = (signal.SIGTERM, signal.SIGINT, signal.SIGHUP)
+AS_BEFORE = (*ENDING, signal.SIGPIPE, signal.SIGXFSZ)  # signals that do in an engine what they do where nobody asked
+NO_START = 126  # the status of one that can't be started, and 127 where there is no such file
 DEATH, DUMPED, NAME, ADOPTS = 1, 4, 15, 36  # what prctl sets: PR_SET_PDEATHSIG, PR_SET_DUMPABLE, PR_SET_NAME, PR_SET_CHILD_SUBREAPER
 
 
@@ -39,6 +47,40 @@ def be_called(name):
     prctl(NAME, os.fsencode(name)[:15], 0, 0, 0)
 
 
+def start(words, folder, reads, writes, errors=2):
+    """Starts an engine in a folder, with these streams. It ends with this process. Returns its process, and why it can't be started, if it
+    can't."""
+    own, (failed, fails) = os.getpid(), os.pipe()
+    process = os.fork()
+    if not process:
+        become(words, folder, (reads, writes, errors), own, fails)
+    os.close(fails)
+    why = os.read(failed, 4096)  # nothing, once the engine is there
+    os.close(failed)
+    return process, os.fsdecode(why)
+
+
+def become(words, folder, streams, parent, fails):
+    """Becomes the engine, in a new process. What is in the way is written into the pipe."""
+    where, code = folder, NO_START
+    try:
+        for number in AS_BEFORE:
+            signal.signal(number, signal.SIG_DFL)
+        if end_with(parent, signal.SIGKILL):
+            os._exit(NO_START)
+        for number, stream in enumerate(streams):
+            if stream != number:
+                os.dup2(stream, number)
+        os.chdir(where)
+        where = words[0]
+        os.execvp(where, words)
+    except OSError as problem:
+        os.write(fails, os.fsencode(f"{where}: {problem.strerror}"))
+        code += isinstance(problem, FileNotFoundError)
+    finally:
+        os._exit(code)
+
+
 def children_of(process):
     """The children of a process, which each of its threads may have; none where it has ended."""
     found = []
@@ -56,7 +98,7 @@ def end_all():
     try:
         while True:
             for child in children_of(os.getpid()):
-                os.kill(child, KILL)
+                os.kill(child, signal.SIGKILL)
             os.waitpid(-1, 0)
     except ChildProcessError:
         pass

@@ -14,17 +14,12 @@ import os
 import select
 import time
 
-try:
-    import _signal as signal  # what is in C of it: the rest takes as long to import as a third of Python's start
-except ImportError:
-    import signal
-
 from . import below
+from .below import signal
 from .talk import Talk
 
 ROOM = 65536  # bytes that are read at once
-IGNORED = (signal.SIGTERM, signal.SIGINT, signal.SIGHUP)  # who asks a game to end asks twogtp and the engine too
-LATE, NO_NOTES, NO_START = 124, 125, 126
+LATE, NO_NOTES = 124, 125
 PAUSE = 0.2  # seconds in which an engine may end whose output has ended
 
 
@@ -48,7 +43,7 @@ class Game:
         for part in os.fsdecode(text).split("\0"):
             key, _, value = part.partition(" ")
             parts.get(key, []).append(value)
-        (self.place,), self.folder, self.words = parts["notes"], parts["folder"], parts[colour]
+        (self.place,), (self.folder,), self.words = parts["notes"], parts["folder"], parts[colour]
         self.limits = [float(parts[it][0]) if parts[it] else None for it in ("limit", "move-limit")]
         self.opening = [it.encode() for line in parts["opening"] for it in line.split()]
         self.notes = os.open(self.place, os.O_RDWR | os.O_APPEND | os.O_CLOEXEC)
@@ -80,17 +75,11 @@ class Engine:
     """The engine's process."""
 
     def __init__(self, game):
-        (from_caller, self.given), (self.taken, from_engine), (failed, fails) = os.pipe(), os.pipe(), os.pipe()
-        own = os.getpid()
-        self.number = os.fork()
-        if not self.number:
-            become(game, own, from_caller, from_engine, fails)
-        for end in (from_caller, from_engine, fails):
-            os.close(end)
+        (from_caller, self.given), (self.taken, from_engine) = os.pipe(), os.pipe()
+        self.number, self.failure = below.start(game.words, game.folder, from_caller, from_engine)
+        os.close(from_caller)
+        os.close(from_engine)
         os.set_blocking(self.given, False)
-        why = os.read(failed, ROOM)
-        os.close(failed)
-        self.failure = os.fsdecode(why)
 
     def ended(self, seconds=None):
         """The status with which it ended, for which it is waited so long; None where it goes on."""
@@ -102,23 +91,6 @@ class Engine:
             if time.monotonic() > until:
                 return None
             time.sleep(0.002)
-
-
-def become(game, parent, from_caller, from_engine, fails):
-    """Becomes the engine, in a new process, which ends with its parent. What is in the way is written into the pipe."""
-    try:
-        for number in (*IGNORED, signal.SIGPIPE, signal.SIGXFSZ):
-            signal.signal(number, signal.SIG_DFL)
-        if below.end_with(parent, below.KILL):
-            os._exit(NO_START)
-        os.dup2(from_caller, 0), os.dup2(from_engine, 1)
-        where = game.folder[0] if game.folder else "."
-        os.chdir(where)
-        where = game.words[0]
-        os.execvp(where, game.words)
-    except OSError as problem:
-        os.write(fails, os.fsencode(f"{where}: {problem.strerror}"))
-        os._exit(NO_START + isinstance(problem, FileNotFoundError))
 
 
 class Relay:
@@ -237,8 +209,8 @@ def play(game, colour):
 
 def main(text, colour):
     """Does so in the game whose file has this text, and returns the status."""
-    for number in IGNORED:
-        signal.signal(number, signal.SIG_IGN)
+    for number in below.ENDING:
+        signal.signal(number, signal.SIG_IGN)  # who asks a game to end asks twogtp and the engine too
     try:
         game = Game(text, colour)
     except FileNotFoundError:

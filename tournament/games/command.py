@@ -41,7 +41,7 @@ def make_plan(words):
 
 def do_play(words):
     """tournament play"""
-    from .run import play_all
+    from .play import play_all
 
     plan, twogtp = make_plan(words)
     return play_all(plan, words.places[0], twogtp, words.value("--jobs") or processors(), words.has("--again"))
@@ -68,7 +68,7 @@ def do_list(words):
 
 def do_game(words):
     """tournament game"""
-    from .run import play_one
+    from .play import play_one
 
     folder, name = words.places
     plan = read_plan(folder)

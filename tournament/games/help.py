@@ -40,6 +40,7 @@ STATUS = """\
 status: 0  each game has a result, and no side was unfit or abandoned
         1  some game has none, or a side was so
         2  a mistake in the arguments; nothing was played
+        69  an engine can't be started on this machine
         130, 143  stopped by Ctrl-C; by TERM or HUP
 """
 HELP = {

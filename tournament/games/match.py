@@ -19,7 +19,7 @@ class Match:
     def __init__(self, plan, twogtp):
         self.plan, self.twogtp = plan, twogtp
         self.limit, self.has_board, self.is_direct = plan.limit, plan.has_boards(), plan.is_direct
-        self.commands = {} if plan.is_direct else {name: plan.words(name) for name in plan.engines}
+        self.commands = {name: plan.words(name) for name in plan.engines}
         self.folder = os.getcwd() if plan.is_old() else plan.folder
         self.between, self.code = program.between(), None
 
@@ -27,6 +27,10 @@ class Match:
         """Makes what all games need, in the process from which theirs are forked."""
         if self.code is None and not self.is_direct:
             self.code = compiled()
+
+    def command(self, engine, seed):
+        """The words of an engine's command, in a game with this seed."""
+        return [word.replace("%s", seed) for word in self.commands[engine]]
 
     def words(self, game):
         """The command of a game."""
@@ -43,7 +47,7 @@ class Match:
         parts = [f"notes {place}", f"folder {self.folder}"]
         parts += [f"limit {it}" for it in [self.plan.start_limit] if it] + [f"move-limit {it}" for it in [self.plan.move_limit] if it]
         for colour, engine in zip(NAMES, engines):
-            parts += [f"{colour} {word.replace('%s', seed)}" for word in self.commands[engine]]
+            parts += [f"{colour} {word}" for word in self.command(engine, seed)]
         return os.fsencode("\0".join([*parts, f"python {sys.version}"])) + b"\0\0" + self.code
 
 

@@ -16,6 +16,7 @@ At the end come the times that both thought, and the result.
 """
 COLOURS = ("black", "white")
 CUT = ("late", "ended", "waited", "not")
+NOTHING = "nothing was asked"
 
 
 class Notes:
@@ -57,7 +58,10 @@ class Notes:
         command, _, how = text.partition(": ")
         if what == "late":
             return f"no answer to '{command}' in {seconds} seconds"
-        return f"it ended at '{command}': {how}" if what == "ended" else text
+        if what != "ended":
+            return text
+        when = "before anything was asked" if command == NOTHING else f"at '{command}'"
+        return f"it ended {when}: {how}"
 
     def waiting(self):
         """For how long the side is waited for that is, and at which command; an empty text where the notes don't have it."""

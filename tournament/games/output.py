@@ -11,6 +11,10 @@ class Mistake(Exception):
     """A mistake in the arguments or in a plan. Its text says what to write."""
 
 
+class NoStart(Exception):
+    """An engine can't be started on this machine. Its text says which, and why."""
+
+
 def write(number, text):
     """Writes all of a text to a descriptor. Names and commands may have any bytes."""
     write_bytes(number, os.fsencode(text))
@@ -20,6 +24,12 @@ def write_bytes(number, left):
     """Writes all of these bytes to a descriptor."""
     while left:
         left = left[os.write(number, left):]
+
+
+def read_lines(file):
+    """The lines of a file that is open, from its beginning."""
+    text = os.pread(file, os.fstat(file).st_size, 0)
+    return os.fsdecode(text).split("\n")
 
 
 def complain(text, by="tournament"):

@@ -101,9 +101,11 @@ class Plan:
         return "".join(f"{line}\n" for line in [*first, *self.players(), *limits, f"seeds {self.seeds}", f"limit {self.limit}"])
 
     def words(self, name):
-        """The command of an engine as the program between starts it: cut as a shell cuts it."""
+        """The words of an engine's command: cut as a shell cuts it, or directly as twogtp cuts it."""
         import shlex  # which isn't needed elsewhere
 
+        if self.is_direct:
+            return [it for it in self.engines[name].split(" ") if it]
         try:
             words = shlex.split(self.engines[name])
         except ValueError as problem:
@@ -121,7 +123,7 @@ class Plan:
         self.players(), self.games()
         if "\n" in (self.folder or ""):
             raise Mistake(f"the name of the folder {self.folder} has more than one line")
-        for name in [] if self.is_direct else self.engines:
+        for name in self.engines:
             self.words(name)
 
     def has_boards(self):

@@ -6,7 +6,7 @@ import signal
 from tests.shared import checks
 
 from .between import without_seconds
-from .rooms import HANGS, LIMIT, RANDOM, SMALL, Case, lines, room, two_engines
+from .rooms import HANGS, LIMIT, RANDOM, SMALL, Case, lines, room, tried, two_engines
 
 ONE_GAME = ["--seeds", "1", "--jobs", "1", "--", "--size", "9"]
 
@@ -134,7 +134,7 @@ class Limits(Case):
             came = here.run("tournament", "play", "all", *engines, "--move-limit", "1", *ONE_GAME)
             wanted = {"1_one_two": "abandoned black moves 4 restarts 2 0", "1_two_one": "abandoned white moves 5 restarts 0 2"}
             self.check("late: the results", (1, wanted), (came.status, {game: text.splitlines()[0][8:] for game, text in here.games("all").items()}))
-            self.check("late: the engine was started once a game", 2, len((here.at / "starts").read_text().splitlines()))
+            self.check("late: the engine was started once a game, and tried", 3, len((here.at / "starts").read_text().splitlines()))
             said = (here.at / "all/logs/1_one_two").read_text()
             self.check("late: the log says at what", "between: black: no answer in time to '8 genmove b'\n", said[: said.index("\n") + 1])
             notes = [without_seconds(it) for it in notes_of(here, "1_one_two")[-4:]]
@@ -163,10 +163,12 @@ class Limits(Case):
             deaf = here.script("deaf", "#!/bin/bash\nexec sleep 1000\n")
             slow = here.script("slow", '#!/bin/bash\nwhile read -r line; do [ -z "$seen" ] && sleep 0.7; seen=1; echo "$line"; done | gtp_engine\n')
             engines = ["--engine", f"one={deaf}", "--engine", f"two={slow}", "--engine", "three=gtp_engine"]
-            came = here.run("tournament", "play", "all", *engines, "--start-limit", "1.5", *ONE_GAME)
+            here.run("tournament", "plan", "all", *engines, "--start-limit", "1.5", "--seeds", "1")
+            tried(here, "all")
+            came = here.run("tournament", "play", "all", "--jobs", "1")
             self.check("an engine that answers nothing: only the others' games have a result", ["1_three_two", "1_two_three"], sorted(here.games("all")))
             said = re.sub(r"\d\.\d{3} seconds", "S seconds", came.errors)
-            wanted = [f"tournament: 1_{game}: no result: one wasn't started: no answer to '1 boardsize 9' in S seconds"
+            wanted = [f"tournament: 1_{game}: no result: one wasn't started: no answer to '1 boardsize 19' in S seconds"
                       for game in ("one_three", "one_two", "three_one", "two_one")]  # fmt: skip
             self.check("and it is said which engine wasn't started", (1, wanted), (came.status, lines(said)))
 
@@ -174,7 +176,8 @@ class Limits(Case):
         """An engine that crashes is noted, the log has its signal, and its next start goes on."""
         with room() as here:
             hangs = here.script("hangs", HANGS)
-            crashes = here.script("crashes", f'#!/bin/bash\n[ -e "$1" ] && exec gtp_engine\ntouch "$1"\nexec {hangs} 2 SEGV\n')
+            is_second = 'echo >> "$1"; [ "$(wc -l < "$1")" = 2 ]'  # the first is the trial
+            crashes = here.script("crashes", f"#!/bin/bash\n{is_second} || exec gtp_engine\nexec {hangs} 2 SEGV\n")
             engines = ["--engine", f"one={crashes} one%s", "--engine", "two=gtp_engine"]
             here.run("tournament", "play", "all", *engines, *ONE_GAME[:-2], "--size", "9", "--max-moves", "5")
             self.check("a crash: the result", "game 1: limit moves 5 restarts 1 0", here.games("all")["1_one_two"].splitlines()[0])

@@ -5,7 +5,7 @@ import sys
 
 from tests.shared import checks
 
-from .rooms import RANDOM, SCRIPTS, SMALL, Case, lines, results, room, two_engines
+from .rooms import RANDOM, SCRIPTS, SMALL, Case, lines, results, room, tried, two_engines
 
 ONE_AND_TWO = two_engines("all")[1:5]
 PLAN = f"""\
@@ -95,6 +95,8 @@ class Lost(Case):
             self.check(f"{what}: status 1, and both games have a line", (1, ["1_one_two", "1_two_one"]), (came.status, sorted(played)))
             self.check(f"{what}: the line", "game 1: abandoned black moves 0 restarts 0 0\n\n", played["1_two_one"])
             log = (here.at / "all/logs/1_two_one").read_text()
+            unable = "tournament: two: it ended at 'genmove b': exit status 4\n"
+            self.check(f"{what}: its trial says so", unable, came.errors)
             said = 'twogtp: game 1: black: 1 unanswered, "4 genmove b": its output ended, exit status 4'
             self.check(f"{what}: the log says why", said, log[: len(said)])
             here.script("two", f'#!/bin/bash\nexec {RANDOM} "$@"\n')
@@ -107,20 +109,30 @@ class Lost(Case):
         """An engine that isn't there, without what stands between."""
         with room() as here:
             engines = ["--engine", f"one={RANDOM} %s", "--engine", "two=./two %s"]
-            came = here.run("tournament", "play", "all", *engines, "--seeds", "1", "--direct", "--", "--size", "5")
+            here.run("tournament", "plan", "all", *engines, "--seeds", "1", "--direct")
+            tried(here, "all")
+            came = here.run("tournament", "play", "all")
             self.check("directly, an engine that isn't there: no game has a result", (1, {}), (came.status, here.games("all")))
             said = [f"tournament: {game}: no result: two wasn't started: not started: no such file: \"./two\"" for game in GAMES]
             self.check("directly, an engine that isn't there: it says so", said, lines(came.errors))
             here.script("two", "#!/bin/bash\nexit 3\n")
+            again(here)
             came = here.run("tournament", "play", "all")
             said = re.sub(r"(started: ).*", r"\1..", came.errors)
             wanted = [f"tournament: {game}: no result: two wasn't started: .." for game in GAMES]
             self.check("directly, an engine that ends at once: the same", (1, wanted, {}), (came.status, lines(said), here.games("all")))
             here.script("two", "#!/bin/bash\nread -r number _\nprintf '=%s\\n\\n' $number\n")
+            again(here)
             came = here.run("tournament", "play", "all")
             played = {text.splitlines()[0] for text in here.games("all").values()}
             wanted = {"game 1: abandoned white moves 0 restarts 0 2", "game 1: abandoned black moves 0 restarts 2 0"}
             self.check("directly, an engine that answers once: it is abandoned", (1, wanted, ""), (came.status, played, came.errors))
+
+
+def again(here):
+    """Writes down once more that all engines passed their trial."""
+    shutil.rmtree(here.at / "all/tried")
+    tried(here, "all")
 
 
 GAMES = ["1_one_two", "1_two_one"]

@@ -151,6 +151,19 @@ def two_engines(at, first=RANDOM, second=RANDOM):
     return [at, "--engine", f"one={first} %s", "--engine", f"two={second} 10%s", "--seeds", "4"]
 
 
+def tried(here, folder):
+    """Writes down that all engines of a folder passed their trial, also those that wouldn't."""
+    plan = [line.split(" ", 2) for line in (here.at / folder / "plan").read_text().splitlines()]
+    where = next((line[1] for line in plan if line[0] == "folder"), str(here.at))
+    how = "" if any(line[0] == "folder" for line in plan) and ["direct"] not in plan else " directly"
+    options = [line[1] for line in plan if line[0] == "option"]
+    size, komi = (options[options.index(it) + 1] if it in options else usual for it, usual in (("--size", "19"), ("--komi", "6.5")))
+    keys = [f"{line[2]}\t{where}\tsize {size} komi {komi} handicap 0{how}" for line in plan if line[0] == "engine"]
+    place = here.at / folder / "tried" / os.uname().nodename
+    place.mkdir(parents=True, exist_ok=True)
+    (place / "passed").write_text("".join(f"passed {key}\n" for key in keys))
+
+
 SMALL = ["--", "--size", "5", "--komi", "0.5"]
 
 

@@ -10,7 +10,7 @@ import time
 
 from tests.shared import checks
 
-from .rooms import LIMIT, RANDOM, SLOW, SMALL, STUBBORN, Case, heed, lines, results, room, two_engines
+from .rooms import LIMIT, RANDOM, SLOW, SMALL, STUBBORN, Case, heed, lines, results, room, tried, two_engines
 
 
 # An engine that doesn't answer `quit`, and doesn't end.
@@ -90,6 +90,8 @@ class Stubborn(Case):
         with room() as here:
             engine = here.script("stubborn", STUBBORN)
             arguments = ["all", "--engine", f"one={engine}", "--engine", f"two=timeout -k 5 300 {engine}", "--seeds", "2"]
+            here.run("tournament", "plan", *arguments)
+            tried(here, "all")
             process = here.start("tournament", "play", *arguments, "--jobs", "4")
             running = here.until(lambda: len([line for line in here.left() if "stubborn" in line]) >= 16)
             self.check("engines that can only be killed run", True, running)
@@ -141,13 +143,15 @@ class Sessions(Case):
                             "--seeds", "2", "--jobs", "1", "--", "--size", "2")  # fmt: skip
             self.check("what an engine leaves in a session of its own is ended", (0, "", []), (*came[::2], here.left()))
             left = len((here.at / "pids").read_text().split())
-            self.check("it is ended before the next game", (4, False), (left, (here.at / "alive").exists()))
+            self.check("it is ended before the next game, and after the trial", (5, False), (left, (here.at / "alive").exists()))
             ends = here.script("ends", f'#!/bin/bash\n(sleep 0.7; touch {here.at}/"$1") < /dev/null > /dev/null 2>&1 &\nexec gtp_engine\n')
             here.run("tournament", "play", "ended", "--engine", f"one={ends} %s", "--engine", "two=gtp_engine", "--seeds", "1",
                      "--", "--size", "1")  # fmt: skip
             self.check("it has a second to end by itself", True, (here.at / "1").exists())
             endless = here.script("endless", '#!/bin/bash\ntrap "" TERM\nsetsid -f sleep 1000\nsleep 1000\n')
-            process = here.start("tournament", "play", "other", "--engine", f"one={endless}", "--engine", f"two={endless}", "--seeds", "1")
+            here.run("tournament", "plan", "other", "--engine", f"one={endless}", "--engine", f"two={endless}", "--seeds", "1")
+            tried(here, "other")
+            process = here.start("tournament", "play", "other")
             here.until(lambda: len(here.named("sleep")) >= 8)
             process.terminate()
             process.communicate(timeout=LIMIT)
@@ -169,6 +173,7 @@ class Killed(Case):
             engine = here.script("stubborn", STUBBORN)
             plan = ["all", "--engine", f"one={engine}", "--engine", f"two=timeout 300 {engine}", "--seeds", "1"]
             here.run("tournament", "plan", *plan)
+            tried(here, "all")
             words = ["play", "all", "--jobs", "1"] if command == "play" else ["game", "all", "1_one_two"]
             process = here.start("tournament", *words, stdout=subprocess.DEVNULL, stderr=subprocess.DEVNULL)
             here.until(lambda: len([line for line in here.left() if f"bash {engine}" in line]) == 4)
@@ -339,11 +344,16 @@ class Limited(Case):
             self.check("no room for the plan: status 1", 1, came.status)
             self.check("no room for the plan: none is left", False, (here.at / "all/plan").exists())
             here.run("tournament", "plan", *two_engines("all"), *SMALL)
+            said = "tournament: 1_one_two: no result: File too large\ntournament: all can't be written to: File too large"
+            status, output, errors = here.run("bash", "-c", "ulimit -f 0; tournament game all 1_one_two")
+            self.check("no room for a trial: what is reported", (1, "", said), (status, output, errors[: len(said)]))
+            tried(here, "all")
             status, output, errors = here.run("bash", "-c", "ulimit -f 0; tournament game all 1_one_two")
             said = "tournament: 1_one_two: no result: File too large; its log is not written\ntournament: all can't be written to: File too large"
             self.check("no room for a result: what is reported", (1, "", said), (status, output, errors[: len(said)]))
             self.check("no room for a result: none is there", {}, here.games("all"))
             here.run("tournament", "plan", *two_engines("direct"), "--direct", *SMALL)
+            tried(here, "direct")
             status, output, errors = here.run("bash", "-c", "ulimit -f 0; tournament game direct 1_one_two")
             said = errors.startswith("tournament: 1_one_two: no result: status 3 of twogtp: is the disk full?")
             self.check("no room for a result, directly: what is reported", (1, "", True), (status, output, said))
