@@ -8,6 +8,9 @@ The stage finds all processes that a script started by a word in their environme
   under a timeout of their own. A process of a game that is killed costs that game alone.
 - The disk is full: on a file system of 64 kB, where one may be mounted, and by ulimit -f 0 everywhere. The run ends, and says what to
   do, and what was played has to be whole. A result that is cut at any byte is none, in each command.
+- What stands between twogtp and an engine is tried by itself: its bytes, its time, and how an engine ends. The notes of games that are
+  played are compared with their records, and those of games that are stopped have who was waited for. Engines are late.
+- Engines are tried that can't be started, or can't do something, and others that don't start in the middle of a run.
 - Folders go on that the scripts left which were written in bash, and a game of theirs may be played at the same time.
 - What a game costs beside twogtp, and what each command costs in a folder with 100,000 results, is little.
 - The tally is compared with results that were counted by hand, and Wilson's interval is worked out in another way.
@@ -33,6 +36,10 @@ from tests.stages.of_tournament.asked import Forms, Helps, Python, Said  # noqa:
 from tests.stages.of_tournament.damaged import Cut, Damages, Old  # noqa: E402, F401
 from tests.stages.of_tournament.costs import Many, OneGame  # noqa: E402, F401
 from tests.stages.of_tournament.counted import Intervals, Tallies, Wrong  # noqa: E402, F401
+from tests.stages.of_tournament.between import InTime, Late, Passing  # noqa: E402, F401
+from tests.stages.of_tournament.noted import Limits, Noted  # noqa: E402, F401
+from tests.stages.of_tournament.noted import Stopped as StoppedNotes  # noqa: E402, F401
+from tests.stages.of_tournament.tries import InARow, NotStarted, Tried, Unable  # noqa: E402, F401
 from tests.stages.of_tournament.beside import Died, Games, Sample, Taps  # noqa: E402, F401
 
 PARSER = checks.Parser(__doc__)

@@ -3,10 +3,12 @@ import contextlib
 import signal
 
 from . import output, results
+from .folder import make_folders, plan_for, read_plan, write_plan
+from .help import HELP
 from .output import Mistake
-from .plan import Plan, join_plan, make_folders, read_plan, write_plan
+from .plan import Plan
 from .program import find_twogtp, try_options
-from .words import HELP, Words, processors
+from .words import Words, processors
 
 
 def asked_plan(words):
@@ -17,6 +19,11 @@ def asked_plan(words):
             plan.name_engine(value)
     plan.options = words.after or []
     plan.seeds, plan.limit = words.value("--seeds"), words.value("--limit")
+    plan.move_limit, plan.start_limit = words.seconds("--move-limit"), words.seconds("--start-limit")
+    plan.is_direct = words.has("--direct")
+    for option in ("--move-limit", "--start-limit"):
+        if plan.is_direct and words.has(option):
+            raise Mistake(f"{option} wants what --direct leaves out: write one of the two")
     return plan, bool(plan.engines) or words.after is not None
 
 
@@ -25,7 +32,7 @@ def make_plan(words):
     asked, is_given = asked_plan(words)
     words.value("--jobs")
     folder = words.places[0]
-    plan = join_plan(asked, is_given, folder)
+    plan = plan_for(asked, is_given, folder)
     twogtp = find_twogtp()
     try_options(twogtp, plan.options)
     write_plan(plan, folder)
@@ -34,7 +41,7 @@ def make_plan(words):
 
 def do_play(words):
     """tournament play"""
-    from .run import play_all
+    from .play import play_all
 
     plan, twogtp = make_plan(words)
     return play_all(plan, words.places[0], twogtp, words.value("--jobs") or processors(), words.has("--again"))
@@ -61,7 +68,7 @@ def do_list(words):
 
 def do_game(words):
     """tournament game"""
-    from .run import play_one
+    from .play import play_one
 
     folder, name = words.places
     plan = read_plan(folder)

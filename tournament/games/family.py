@@ -3,43 +3,22 @@
 This process adopts what loses its parent (a subreaper), so each of them has a way up to it, and comes to it when those between have ended.
 """
 import contextlib
-import ctypes
 import os
 import signal
 import time
 
+from . import below
+from .below import children_of
+
 TENTH = 0.1  # seconds from one look to the next
 MOST = 10  # seconds after which what can't be killed is left
-_prctl = ctypes.CDLL(None).prctl
 
 
 def adopt():
     """From now on what a process below loses its parent becomes a child of this one."""
-    if _prctl(36, 1, 0, 0, 0):  # PR_SET_CHILD_SUBREAPER
-        raise OSError(0, "this system lets no process adopt others")
+    below.adopt()
     if not os.path.exists(f"/proc/self/task/{os.getpid()}/children"):
         raise OSError(0, "/proc of this system doesn't list the children of a process")
-
-
-def end_with(parent):
-    """From now on TERM comes to this process where its parent ends. Has it ended already?"""
-    _prctl(1, int(signal.SIGTERM), 0, 0, 0)  # PR_SET_PDEATHSIG
-    return os.getppid() != parent
-
-
-def be_called(name):
-    """Names this process, as `ps -e` and `top` show it: 15 bytes at most."""
-    _prctl(15, ctypes.c_char_p(os.fsencode(name)[:15]), 0, 0, 0)  # PR_SET_NAME
-
-
-def children_of(process):
-    """The children of a process, which each of its threads may have; none where it has ended."""
-    found = []
-    with contextlib.suppress(OSError):
-        for thread in os.listdir(f"/proc/{process}/task"):
-            with open(f"/proc/{process}/task/{thread}/children") as file:
-                found += [int(it) for it in file.read().split()]
-    return found
 
 
 def send(number, processes):

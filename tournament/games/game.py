@@ -3,37 +3,22 @@
 The process is a fork of the run, which costs less than a start. It has a session of its own, adopts what the engines start, and gets TERM
 where the run ends. Where it is killed itself, the run ends what it leaves.
 """
+import contextlib
 import os
 import signal
 import time
 
-from . import family, output, program, results
+from . import below, family, output, program, results
+from .match import Noted, why_not_started
 from .places import is_file
 
-# how it ends: with a result, without one, since nothing can be written, since it was asked to, since another process has its files, broken
-DONE, NONE, NO_ROOM, STOPPED, TAKEN, BROKEN = range(6)
+# how it ends: with a result, without one, since nothing can be written, since it was asked to, since another process has its files, broken,
+# or since the engine of Black or of White wasn't started
+DONE, NONE, NO_ROOM, STOPPED, TAKEN, BROKEN, NO_BLACK, NO_WHITE = range(8)
 GRACE = 2  # seconds that engines have to end by themselves after their game, and twogtp at the limit
 SAME = 0.2  # seconds within which TERM reaches this process, where all processes get it
 STOPPING = 1  # seconds in which all gets TERM at a stop, before it is killed
 ENDING = (signal.SIGTERM, signal.SIGINT, signal.SIGHUP)
-
-
-class Match:
-    """What is played: the program's arguments, the most seconds, and whether the result has a board."""
-
-    def __init__(self, plan, twogtp):
-        self.plan, self.twogtp = plan, twogtp
-        self.limit, self.has_board = plan.limit, plan.has_boards()
-
-    def engine(self, name, seed):
-        """The command of an engine in the game with this seed."""
-        return self.plan.engines[name].replace("%s", seed)
-
-    def words(self, game):
-        """The command of a game."""
-        seed, black, white = game.split("_")
-        sides = ["--black", self.engine(black, seed), "--white", self.engine(white, seed)]
-        return [self.twogtp, "--why", "--record", *self.plan.options, *sides]
 
 
 class Game:
@@ -44,21 +29,23 @@ class Game:
         self.family = family.Family()
         self.is_stopped = self.is_over = False  # was it asked to end, was it longer than the limit?
         self.is_alone = False  # has all ended that it started?
-        self.result = self.log = None
+        self.result = self.log = self.noted = None
 
     def play(self):
         """Plays it, and returns how it ended. What has no result is reported."""
         try:
             self.result, self.log = self.places.new_files()
+            self.noted = None if self.match.is_direct else Noted(self.name, self.places, self.match)
         except FileNotFoundError:
             return TAKEN
         except OSError as problem:
-            return self.no_result(output.in_words(problem), True)
+            return self.no_result(output.in_words(problem), NO_ROOM)
         words = self.match.words(self.name)
         try:
-            twogtp = program.start(words, self.result, self.log)
+            os.chdir(self.match.folder if self.match.is_direct else program.HERE)
+            twogtp = program.start(words, self.result, self.log, self.noted and self.noted.environment)
         except OSError as problem:
-            return self.no_result(f"{words[0]} can't be started: {problem.strerror}")
+            return self.no_result(f"{words[0]} can't be started: {output.in_words(problem)}")
         self.family.awaited.add(twogtp)
         self.wait_for(twogtp)
         return self.leave(self.family.ended.get(twogtp, -signal.SIGKILL))
@@ -90,38 +77,65 @@ class Game:
     def leave(self, status):
         """Leaves the result, if there is one. It also counts where an engine doesn't answer `quit`, so that twogtp is ended when its line
         is there."""
-        if status in (2, 3) or not results.parts_of(results.text_of(self.result), self.match.has_board):
+        parts = results.parts_of(results.text_of(self.result), self.match.has_board)
+        found = self.noted and self.noted.read()
+        if status in (2, 3) or not parts:
             if -status in ENDING and not self.is_over:
                 self.heed(SAME)
-            return self.no_result(self.why(status), status in (0, 1, 2, 3) and output.why_no_room(self.places.at))
+            is_full = status in (0, 1, 2, 3) and output.why_no_room(self.places.at)
+            return self.no_result(self.why(status, found), NO_ROOM if is_full else NONE, found)
+        if self.noted and not found:
+            return self.no_result(f"{self.places.notes} can't be written", NO_ROOM)
+        side = results.side_abandoned(parts)
+        if side is not None and (found is None or not found.started[side]):
+            why = found.why(side) if found else why_not_started(self.places.new_log, side)
+            if why == "":
+                return self.no_result(f"what stands between ended: {results.last_line(self.places.new_log)}", NONE, found)
+            if why is not None:
+                return self.no_result(f"{self.engine(side)} wasn't started: {why}", NO_BLACK + side, found)
+        return self.keep(parts, found)
+
+    def keep(self, parts, found):
+        """Leaves this result."""
         try:
+            if found:
+                self.noted.close(found, f"result: {results.line_of(parts)}")
             os.fsync(self.result)
             if not is_file(self.result, self.places.new_result):
                 return TAKEN
             self.places.keep_log()
             os.rename(self.places.new_result, self.places.result)
         except OSError as problem:
-            return self.no_result(f"its result was not written: {problem.strerror}", True)
+            return self.no_result(f"its result was not written: {problem.strerror}", NO_ROOM)
         self.places.remove()
         return DONE
 
-    def why(self, status):
+    def engine(self, side):
+        """The name of an engine."""
+        return self.name.split("_")[1 + side]
+
+    def why(self, status, found):
         """Why there is no result."""
         if self.is_over:
-            return f"not over in {self.match.limit} seconds"
+            waited = found and found.waited
+            who = f"; {self.engine(waited[0])} was waited for{found.waiting()}" if waited else ""
+            return f"not over in {self.match.limit} seconds{who}"
         if status < 0:
             return f"ended by signal {-status}"
         if status in (2, 3):
             return results.last_line(self.places.new_log) or f"status {status} of twogtp: is the disk full?"
         return "what twogtp wrote is not whole: is the disk full?" if status in (0, 1) else f"status {status} of twogtp"
 
-    def no_result(self, why, no_room=None):
+    def no_result(self, why, outcome=NONE, found=None):
         """Reports why there is no result, on standard error and in the log, unless it was asked to end. How it ended then."""
         self.is_stopped = self.is_stopped or bool(signal.sigpending().intersection(ENDING))
+        if found:
+            with contextlib.suppress(OSError):
+                self.noted.close(found, f"no result: {'stopped' if self.is_stopped else why}")
         if not self.is_stopped:
             report(self.name, self.places, why)
         self.places.remove()
-        return STOPPED if self.is_stopped else NO_ROOM if no_room else NONE
+        return STOPPED if self.is_stopped else outcome
 
 
 def report(name, places, why):
@@ -138,10 +152,10 @@ def play_here(name, places, match, parent):
     outcome = BROKEN
     try:
         os.setsid()
-        family.be_called(f"game {name}")
+        below.be_called(f"game {name}")
         signal.signal(signal.SIGTERM, signal.SIG_DFL)
         family.adopt()
-        outcome = STOPPED if family.end_with(parent) else Game(name, places, match).play()
+        outcome = STOPPED if below.end_with(parent, signal.SIGTERM) else Game(name, places, match).play()
     except BaseException as problem:  # this process may not go on as the run
         output.complain(f"{name}: no result: {type(problem).__name__}: {problem}")
     finally:

@@ -4,17 +4,32 @@ import errno
 import os
 
 NO_ROOM = (errno.ENOSPC, errno.EDQUOT, errno.EFBIG)  # the errors of a disk that is full
+ROOM = 65536  # bytes by which it is tried whether there is room: more than a game begins with
 
 
 class Mistake(Exception):
     """A mistake in the arguments or in a plan. Its text says what to write."""
 
 
+class NoStart(Exception):
+    """An engine can't be started on this machine. Its text says which, and why."""
+
+
 def write(number, text):
     """Writes all of a text to a descriptor. Names and commands may have any bytes."""
-    left = os.fsencode(text)
+    write_bytes(number, os.fsencode(text))
+
+
+def write_bytes(number, left):
+    """Writes all of these bytes to a descriptor."""
     while left:
         left = left[os.write(number, left):]
+
+
+def read_lines(file):
+    """The lines of a file that is open, from its beginning."""
+    text = os.pread(file, os.fstat(file).st_size, 0)
+    return os.fsdecode(text).split("\n")
 
 
 def complain(text, by="tournament"):
@@ -55,7 +70,7 @@ def why_no_room(folder):
         try:
             file = os.open(place, os.O_WRONLY | os.O_CREAT, 0o666)
             try:
-                os.write(file, bytes(8192))
+                write_bytes(file, bytes(ROOM))
                 os.fsync(file)
             finally:
                 os.close(file)

@@ -1,12 +1,12 @@
 """The places of a game, and its lock.
 
 FOLDER/running/GAME/lock is locked (`flock`) by who plays a game. Beside it `result` and `log` are written, which become
-FOLDER/games/GAME and FOLDER/logs/GAME; then that folder is removed, under the lock.
+FOLDER/games/GAME and FOLDER/logs/GAME; then that folder is removed, under the lock. FOLDER/notes/GAME is written in its place, so that it
+is there also of a game that is killed.
 """
 import contextlib
 import fcntl
 import os
-import stat
 
 TRIES = 100  # to make a file in a folder that others remove
 
@@ -19,7 +19,7 @@ class Places:
     """Where the files of a game lie."""
 
     def __init__(self, folder, name):
-        self.result, self.log = f"{folder}/games/{name}", f"{folder}/logs/{name}"
+        self.result, self.log, self.notes = (f"{folder}/{kind}/{name}" for kind in ("games", "logs", "notes"))
         self.at = f"{folder}/running/{name}"
         self.new_result, self.new_log, self.lock = f"{self.at}/result", f"{self.at}/log", f"{self.at}/lock"
 
@@ -48,12 +48,7 @@ class Places:
 
     def new_files(self):
         """Makes both files anew, and returns their descriptors."""
-        files = []
-        for place in (self.new_result, self.new_log):
-            with contextlib.suppress(FileNotFoundError):
-                os.unlink(place)
-            files.append(os.open(place, os.O_RDWR | os.O_CREAT | os.O_EXCL | os.O_APPEND, 0o666))
-        return files
+        return [new_file(place) for place in (self.new_result, self.new_log)]
 
     def keep_log(self):
         """Leaves what was written on standard error, if anything was."""
@@ -71,9 +66,19 @@ class Places:
 
     def remove(self):
         """Removes what lies beside the lock, the lock, and the folder. Only who has the lock may do so."""
-        for remove, place in ((os.unlink, self.new_result), (os.unlink, self.new_log), (os.unlink, self.lock), (os.rmdir, self.at)):
+        found = []
+        with contextlib.suppress(OSError):
+            found = [f"{self.at}/{name}" for name in os.listdir(self.at) if name != "lock"]
+        for remove, place in [*((os.unlink, it) for it in found), (os.unlink, self.lock), (os.rmdir, self.at)]:
             with contextlib.suppress(OSError):
                 remove(place)
+
+
+def new_file(place):
+    """Makes a file anew, to be written at its end, and returns its descriptor."""
+    with contextlib.suppress(FileNotFoundError):
+        os.unlink(place)
+    return os.open(place, os.O_RDWR | os.O_CREAT | os.O_EXCL | os.O_APPEND, 0o666)
 
 
 def is_file(descriptor, place):
@@ -93,10 +98,5 @@ def clear_running(folder):
             places = Places(folder, name)
             with contextlib.suppress(Taken, FileNotFoundError):
                 lock = places.take()
-                try:
-                    for other in os.listdir(places.at):
-                        if not stat.S_ISDIR(os.lstat(f"{places.at}/{other}").st_mode):
-                            os.unlink(f"{places.at}/{other}")
-                    places.remove()
-                finally:
-                    os.close(lock)
+                places.remove()
+                os.close(lock)

@@ -1,6 +1,8 @@
 """The plan of a tournament: its engines, the options of twogtp, its seeds and the limit of a game, and the games that come of these.
 
-FOLDER/plan has a line each: `engine NAME COMMAND`, `option WORD`, `seeds N`, `limit SECONDS`.
+FOLDER/plan has a line each: `folder FOLDER`, in which engines start, `engine NAME COMMAND`, `option WORD`, `seeds N`, `limit SECONDS`. Of
+the program between it has `start-limit SECONDS`, `move-limit SECONDS` and `opening MOVE ..`, or `direct` where that is left out. A plan
+without `folder` is one of earlier scripts: its engines start in today's folder, and directly.
 """
 import os
 import re
@@ -10,7 +12,6 @@ from .output import Mistake
 NAME = re.compile(r"[A-Za-z0-9][A-Za-z0-9.+-]{0,39}")
 GAME = re.compile(r"([1-9][0-9]{0,6})_([^_]+)_([^_]+)")
 MOST_GAMES = 10**9
-TWO_ENGINES = "name two engines or more: --engine NAME=CMD --engine NAME=CMD"
 
 
 def number(option, text):
@@ -20,13 +21,23 @@ def number(option, text):
     return int(text)
 
 
+def seconds(option, text):
+    """The seconds above 0 that an option has, as they are written."""
+    if not re.fullmatch(r"[0-9]{1,7}(\.[0-9]{1,6})?", text) or not float(text):
+        raise Mistake(f"{option} wants seconds above 0, such as 60 or 0.5, and not '{text}'")
+    return text
+
+
 class Plan:
-    """A plan, or what the arguments say of one: the engines by their names, the options, the seeds and the limit."""
+    """A plan, or what the arguments say of one: the engines by their names, the options, the seeds and the limits."""
 
     def __init__(self):
         self.engines = {}
         self.options = []
         self.seeds = self.limit = None
+        self.folder = None  # in which engines start; None in a plan of earlier scripts
+        self.is_direct = False  # is nothing between twogtp and the engines?
+        self.start_limit = self.move_limit = None  # seconds, as they are written
         self.made = None  # the games, once they are asked for
 
     def add_engine(self, name, command):
@@ -59,18 +70,61 @@ class Plan:
             self.seeds = number(f"seeds of {place}", rest)
         elif kind == "limit":
             self.limit = number(f"limit of {place}", rest)
+        elif kind == "folder" and rest:
+            self.folder = rest
+        elif line == "direct":
+            self.is_direct = True
+        elif kind == "start-limit":
+            self.start_limit = seconds(f"start-limit of {place}", rest)
+        elif kind == "move-limit":
+            self.move_limit = seconds(f"move-limit of {place}", rest)
         else:
             raise Mistake(f"{place} has a line that isn't known: {line}")
+
+    def between(self):
+        """The lines that say how the engines are started, which may not change either."""
+        if self.is_old():
+            return []
+        return ["direct"] if self.is_direct else [f"move-limit {self.move_limit}"] if self.move_limit else []
 
     def players(self):
         """The lines that may not change in a folder."""
         if any("\n" in it for it in self.options):
             raise Mistake("an option has more than one line")
-        return [f"engine {name} {command}" for name, command in self.engines.items()] + [f"option {it}" for it in self.options]
+        engines = [f"engine {name} {command}" for name, command in self.engines.items()]
+        return engines + [f"option {it}" for it in self.options] + self.between()
 
     def text(self):
         """All lines."""
-        return "".join(f"{line}\n" for line in [*self.players(), f"seeds {self.seeds}", f"limit {self.limit}"])
+        first = [] if self.is_old() else [f"folder {self.folder}"]
+        limits = [f"start-limit {self.start_limit}"] if self.start_limit else []
+        return "".join(f"{line}\n" for line in [*first, *self.players(), *limits, f"seeds {self.seeds}", f"limit {self.limit}"])
+
+    def words(self, name):
+        """The words of an engine's command: cut as a shell cuts it, or directly as twogtp cuts it."""
+        import shlex  # which isn't needed elsewhere
+
+        if self.is_direct:
+            return [it for it in self.engines[name].split(" ") if it]
+        try:
+            words = shlex.split(self.engines[name])
+        except ValueError as problem:
+            raise Mistake(f"the command of {name} can't be cut into words: {problem}") from None
+        if not words or not words[0]:
+            raise Mistake(f"{name} has no command")
+        return words
+
+    def is_old(self):
+        """Is it one of earlier scripts, which started engines directly, and in the folder of the day?"""
+        return self.folder is None
+
+    def look_at(self):
+        """Looks for mistakes in what nothing else looks at."""
+        self.players(), self.games()
+        if "\n" in (self.folder or ""):
+            raise Mistake(f"the name of the folder {self.folder} has more than one line")
+        for name in self.engines:
+            self.words(name)
 
     def has_boards(self):
         """Does twogtp write the last board into each result?"""
@@ -111,67 +165,3 @@ class Games:
         if at is None or not seed.isascii() or not seed.isdigit() or seed[0] == "0" or len(seed) > 7 or int(seed) > self.seeds:
             return None
         return (int(seed) - 1) * len(self.sides) + at
-
-
-def read_plan(folder):
-    """The plan of a folder."""
-    place = f"{folder}/plan"
-    try:
-        with open(place, "rb") as file:
-            lines = os.fsdecode(file.read()).split("\n")
-    except FileNotFoundError:
-        raise Mistake(f"there is no {place}: tournament plan makes it") from None
-    except OSError as problem:
-        raise Mistake(f"{place} can't be read: {problem.strerror}") from None
-    plan = Plan()
-    for line in lines if lines[-1] else lines[:-1]:
-        plan.add_line(line, place)
-    if len(plan.engines) < 2 or not plan.seeds or not plan.limit:
-        raise Mistake(f"{place} lacks engines, seeds or the limit")
-    return plan
-
-
-def join_plan(asked, is_given, folder):
-    """The plan of a folder, with what is asked for: other seeds or another limit. Engines and options, where they are given, have to be
-    the same. A folder without a plan gets what is asked for."""
-    if os.path.exists(f"{folder}/plan"):
-        plan = read_plan(folder)
-        old, new = "\n".join(plan.players()), "\n".join(asked.players())
-        if is_given and old != new:
-            raise Mistake(f"{folder} was begun with other engines or options. It has\n{old}\nand not\n{new}\nTake another folder.")
-        if asked.seeds and asked.seeds < plan.seeds:
-            raise Mistake(f"{folder} was begun with {plan.seeds} seeds: there may be more, but not fewer")
-        asked.engines, asked.options = plan.engines, plan.options
-        asked.seeds, asked.limit = asked.seeds or plan.seeds, asked.limit or plan.limit
-    elif len(asked.engines) < 2:
-        raise Mistake(TWO_ENGINES if asked.engines else f"there is no {folder}/plan, so {TWO_ENGINES}")
-    asked.seeds, asked.limit = asked.seeds or 10, asked.limit or 600
-    asked.players(), asked.games()  # which may have mistakes
-    return asked
-
-
-def make_folders(folder):
-    """Makes what a tournament's folder has, where that isn't there."""
-    for name in ("games", "logs", "running"):
-        os.makedirs(f"{folder}/{name}", exist_ok=True)
-
-
-def write_plan(plan, folder):
-    """Makes the folder and its plan, unless they are there. The plan is written aside, and moved."""
-    place, aside = f"{folder}/plan", f"{folder}/plan.new.{os.getpid()}"
-    make_folders(folder)
-    text = os.fsencode(plan.text())
-    if os.path.exists(place):
-        with open(place, "rb") as file:
-            if file.read() == text:
-                return
-    try:
-        with open(aside, "wb") as file:
-            file.write(text)
-            file.flush()
-            os.fsync(file.fileno())
-        os.replace(aside, place)
-    except OSError as problem:
-        if os.path.exists(aside):
-            os.unlink(aside)
-        raise OSError(problem.errno, f"it can't be written: {problem.strerror}", place) from None

@@ -1,6 +1,7 @@
 """The program twogtp: where it is, and how it is started."""
 import os
 import signal
+import sys
 
 from .output import Mistake
 
@@ -22,13 +23,20 @@ def find_twogtp():
     found = next(filter(is_program, (os.path.join(folder, named) for folder in folders)), None)
     if not found:
         raise Mistake(f"there is no {named}: name it by TWOGTP")
-    return found
+    return os.path.abspath(found)
 
 
-def start(words, result, log):
+def start(words, result, log, environment=None):
     """Starts a program that reads nothing and writes into these files, and returns its process."""
     files = [(os.POSIX_SPAWN_OPEN, 0, os.devnull, os.O_RDONLY, 0), (os.POSIX_SPAWN_DUP2, result, 1), (os.POSIX_SPAWN_DUP2, log, 2)]
-    return os.posix_spawn(words[0], words, os.environ, file_actions=files, setsigmask=(), setsigdef=AS_BEFORE)
+    environment = os.environ if environment is None else environment
+    return os.posix_spawn(words[0], words, environment, file_actions=files, setsigmask=(), setsigdef=AS_BEFORE)
+
+
+def between():
+    """The command of `between` in the folder of these scripts. twogtp cuts it at spaces, so a path that has one isn't in it."""
+    named = sys.executable or " "
+    return "./between" if " " in named else f"{named} -S -E between"
 
 
 def try_options(twogtp, options):

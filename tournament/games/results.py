@@ -50,6 +50,11 @@ def is_lost(parts):
     return parts[1][:1] in b"ua"
 
 
+def side_abandoned(parts):
+    """The side that was abandoned, Black 0 and White 1, or None."""
+    return (b"abandoned black", b"abandoned white").index(parts[1]) if parts[1][:1] == b"a" else None
+
+
 def line_of(parts):
     """The line of a result without `game 1: `."""
     return parts[0][8:-1].decode()

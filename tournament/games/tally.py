@@ -5,25 +5,20 @@ import os
 from collections import Counter
 from typing import NamedTuple, Optional
 
-from . import output, results
+from . import notes, output, results
+from .folder import read_plan
+from .help import HELP
 from .output import Mistake
-from .plan import read_plan
+from .words import Words
 
-HELP = """\
-usage: tally FOLDER
-
-FOLDER is one that `tournament` made.
-status: 0  each game of its plan has a result
-        1  some game has none, or a file that is no result
-        2  a mistake in the arguments
-"""
 Z = 1.959963984540054  # of a 95 % interval
 HAS_LOG = 4  # a game without a result, of which there is a log
-TO_LOOK_INTO = [f"forfeit ({it})" for it in ("illegal move", "no vertex", "no move", "refused play")] + ["unfit", "abandoned"]
+TO_LOOK_INTO = [f"forfeit ({it})" for it in ("illegal move", "no vertex", "no move", "refused play")] + ["unfit", "abandoned", "late"]
 
 
 class End(NamedTuple):
-    """How a game ended: the side that won and the one that is to blame, Black 0 and White 1, and in which way."""
+    """How a game ended: the side that won and the one that is to blame, Black 0 and White 1, and in which way: `late` is abandoned, since
+    an answer was late."""
 
     winner: Optional[int]
     blamed: Optional[int]
@@ -43,27 +38,37 @@ def end_of(verdict):
 
 
 class Counts:
-    """What was counted of the results in a folder."""
+    """What was counted of the results in a folder. The ways in which a side loses that else have no winner are given."""
 
-    def __init__(self, plan, folder):
-        self.games = plan.games()
+    def __init__(self, plan, folder, losing=()):
+        self.games, self.folder, self.losing = plan.games(), folder, losing
+        self.is_direct = plan.is_direct
         self.kinds = bytearray(self.games.count)
         self.ends = [Counter() for _ in self.games.sides]  # of two engines with these colours: how often a game ended so
         self.restarts = Counter()  # of an engine
         self.restarted = 0  # games
+        self.unknown = 0  # games in which a side was abandoned, of which it isn't known whether it was late
         ends = {}
         for game, parts in results.each(plan, folder):
             self.kinds[game] = results.WHOLE if parts else results.DAMAGED
             if parts:
                 sides = game % len(self.ends)
                 end = ends.get(parts[1]) or ends.setdefault(parts[1], end_of(parts[1]))
-                self.ends[sides][end] += 1
+                self.ends[sides][self.abandoned(game, parts, end) if end.way == "abandoned" else end] += 1
                 self.count_restarts(sides, int(parts[3]), int(parts[4]))
         with contextlib.suppress(FileNotFoundError), os.scandir(f"{folder}/logs") as logs:
             for log in logs:
                 game = self.games.number(log.name)
                 if game is not None and self.kinds[game] == results.NONE:
                     self.kinds[game] = HAS_LOG
+
+    def abandoned(self, game, parts, end):
+        """How a game ended in which a side was abandoned, by its notes if they are of this result."""
+        found = None if self.is_direct else notes.read(f"{self.folder}/notes/{self.games.name(game)}")
+        is_known = found is not None and found.result == results.line_of(parts)
+        self.unknown += not is_known
+        way = "late" if is_known and found.late[end.blamed] else "abandoned"
+        return End(1 - end.blamed if way in self.losing else None, end.blamed, way)
 
     def count_restarts(self, sides, *restarts):
         """Counts the restarts of both sides in a game."""
@@ -79,6 +84,10 @@ class Counts:
     def ended(self, *ways):
         """The number of games that ended in one of these ways."""
         return self.sum(lambda _, end: end.way in ways)
+
+    def with_winner(self, way):
+        """The number of games that ended in this way, and have a winner."""
+        return self.sum(lambda _, end: end.way == way and end.winner is not None)
 
 
 class Row:
@@ -171,9 +180,14 @@ class Table:
         """What is said of all games together."""
         ended, won = self.counts.ended, [self.counts.sum(lambda _, end, side=side: end.winner == side) for side in (0, 1)]
         yield ""
-        yield f"Black won {won[0]}, White {won[1]}; {ended('R')} by resignation, {ended(*TO_LOOK_INTO[:4])} by forfeit"
-        nobody = f"{ended('0')} drawn, {ended('limit')} at the limit of moves, {ended('unfit')} unfit, {ended('abandoned')} abandoned"
-        yield f"no winner: {nobody}"
+        decided = {way: self.counts.with_winner(way) for way in ("abandoned", "late")}
+        lost = "".join(f", {count} {way}" for way, count in decided.items() if count)
+        yield f"Black won {won[0]}, White {won[1]}; {ended('R')} by resignation, {ended(*TO_LOOK_INTO[:4])} by forfeit{lost}"
+        left, late = (ended(way) - decided[way] for way in ("abandoned", "late"))
+        nobody = f"{ended('0')} drawn, {ended('limit')} at the limit of moves, {ended('unfit')} unfit, {left} abandoned"
+        yield f"no winner: {nobody}{f', {late} late' if late else ''}"
+        if self.counts.unknown and self.counts.losing == ["late"]:
+            yield f"abandoned, and perhaps late, since there are no notes: {self.counts.unknown}"
         if self.counts.restarted:
             yield f"games with a restart: {self.counts.restarted}"
 
@@ -197,14 +211,24 @@ class Table:
                     yield f"  {name}: {why[12:]}"
 
 
-def main(words):
+def losing_ways(words, plan):
+    """The ways in which a side loses, as the options say."""
+    for name, value in words.options:
+        if value != "loses":
+            raise Mistake(f"{name} wants the word loses after it, and not '{value}'")
+    if words.has("--late") and plan.is_direct:
+        raise Mistake("which side was late is known only where `between` stands: leave out --late, or write --abandoned loses")
+    return ["abandoned", "late"] if words.has("--abandoned") else ["late"] if words.has("--late") else []
+
+
+def main(arguments):
     """Writes the tally of a folder, and returns the status."""
-    if words[:1] in (["-h"], ["--help"]):
-        output.write(1, HELP)
+    words = Words("tally", arguments)
+    if words.is_help:
+        output.write(1, HELP["tally"])
         return 0
-    if len(words) != 1 or words[0].startswith("-"):
-        raise Mistake(f"write tally FOLDER{', and not tally ' + ' '.join(words) if words else ''}")
-    plan = read_plan(words[0])
-    counts = Counts(plan, words[0])
-    output.write_all(1, Table(counts, list(plan.engines)).lines(words[0]))
+    folder, = words.places
+    plan = read_plan(folder)
+    counts = Counts(plan, folder, losing_ways(words, plan))
+    output.write_all(1, Table(counts, list(plan.engines)).lines(folder))
     return 0 if counts.kinds.count(results.WHOLE) == counts.games.count else 1

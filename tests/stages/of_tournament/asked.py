@@ -24,6 +24,16 @@ SAID = {
         f"command: {QUOTED}",
     ("play", "x", "--engine", "a=gtp_engine", "random"):
         f"'random' is a word too many: write tournament play FOLDER ..; a command with spaces wants quotes: {QUOTED}",
+    ("play", "x", "--move-limit", "0"): "--move-limit wants seconds above 0, such as 60 or 0.5, and not '0'",
+    ("play", "x", "--start-limit", "1e3"): "--start-limit wants seconds above 0, such as 60 or 0.5, and not '1e3'",
+    ("play", "x", "--start-limit"): "--start-limit wants seconds after it, such as --start-limit 300",
+    ("play", "x", "--direct", "--move-limit", "5"): "--move-limit wants what --direct leaves out: write one of the two",
+    ("plan", "x", "--start-limit=5", "--direct"): "--start-limit wants what --direct leaves out: write one of the two",
+    ("play", "all", "--direct"): "all was begun without --direct: take another folder",
+    ("play", "all", "--move-limit", "5"): "all was begun with no --move-limit: take another folder",
+    ("play", "direct", "--move-limit", "5"): "direct was begun with --direct, so it can't have --move-limit: take another folder",
+    ("play", "x", "--engine", "a='b", "--engine", "c=cat"): "the command of a can't be cut into words: No closing quotation",
+    ("play", "x", "--engine", "a=''", "--engine", "c=cat"): "a has no command",
     ("play", "x", "--jobs", "many"): "--jobs wants a number from 1 to 9999999, and not 'many'",
     ("play", "x", "--again=yes"): "--again has no value: write --again",
     ("play", "x", "--engine=cat"): "--engine wants NAME=CMD, and not 'cat'",
@@ -49,6 +59,7 @@ class Said(Case):
     def row(self, words):
         with room() as here:
             here.run("tournament", "plan", *two_engines("all"), *SMALL)
+            here.run("tournament", "plan", *two_engines("direct"), "--direct", *SMALL)
             came = here.run("tournament", *words)
             self.same((2, "", f"tournament: {SAID[words]}\n", False), (*came, (here.at / "x").exists()))
 
@@ -63,7 +74,7 @@ class Forms(Case):
         for what, words in forms.items():
             with room() as here:
                 came = here.run("tournament", "plan", *words, "--", "--size=5")
-                plan = f"engine one {RANDOM} %s\nengine two cat\noption --size=5\nseeds 3\nlimit 20\n"
+                plan = f"folder {here.at}\nengine one {RANDOM} %s\nengine two cat\noption --size=5\nstart-limit 60\nseeds 3\nlimit 20\n"
                 self.check(f"options {what}: the plan", (0, "", "", plan), (*came, (here.at / "all/plan").read_text()))
                 self.check(f"options {what}: the same plan again", (0, "", ""), here.run("tournament", "plan", *words, "--", "--size=5"))
 
@@ -90,18 +101,20 @@ class Helps(Case):
                 self.check(f"tournament {command} --help: its options", OPTIONS_OF[command], options_in(said))
             whole = here.run("tournament", "--help")
             self.check("tournament --help has all options of play", OPTIONS_OF["play"], options_in(whole.output))
-            self.check("tally --help", (0, "usage: tally FOLDER\n", ""), shown(here.run("tally", "--help")))
+            came = here.run("tally", "--help")
+            self.check("tally --help", (0, "usage: tally FOLDER [--abandoned loses] [--late loses]\n", ""), shown(came))
+            self.check("tally --help: its options", ["--abandoned", "--late"], options_in(came.output))
             said = whole.output + "".join(here.run("tournament", it, "--help").output for it in COMMANDS)
             self.check("each line of help fits 80 columns", [], [line for line in said.splitlines() if len(line) > 80])
 
 
-OPTIONS_OF = {"play": ["--engine", "--seeds", "--limit", "--jobs", "--again"], "plan": ["--engine", "--seeds", "--limit"],
-              "list": ["--all"], "game": []}  # fmt: skip
+OF_PLAN = ["--engine", "--seeds", "--limit", "--move-limit", "--start-limit", "--direct"]
+OPTIONS_OF = {"play": [*OF_PLAN, "--jobs", "--again"], "plan": OF_PLAN, "list": ["--all"], "game": []}
 
 
 def options_in(text):
     """The options that a help has lines of."""
-    return re.findall(r"^  (--\w+)", text, re.MULTILINE)
+    return re.findall(r"^  (--\w[\w-]*)", text, re.MULTILINE)
 
 
 def shown(came):
@@ -137,8 +150,9 @@ class Python(Case):
             self.check(what, (1, 8), (came.status, len(here.games("all"))))
 
 
-STANDARD = {"__future__", "array", "collections", "contextlib", "ctypes", "difflib", "errno", "fcntl", "math", "os", "random", "re",
-            "select", "signal", "stat", "sys", "time", "typing"}  # fmt: skip
+STANDARD = {"__future__", "array", "collections", "contextlib", "ctypes", "difflib", "errno", "fcntl", "marshal", "math", "os", "random",
+            "re", "select", "shlex", "signal", "sys", "time", "typing"}  # fmt: skip
+IN_C = {"_ctypes", "_signal"}  # what is in C of a module, in place of which the whole one is imported where it isn't there
 
 
 def is_python(place):
@@ -154,4 +168,4 @@ def imported_by(tree):
             names |= {alias.name.split(".")[0] for alias in it.names}
         elif isinstance(it, ast.ImportFrom) and not it.level:
             names.add(it.module.split(".")[0])
-    return sorted(names - STANDARD - {"games"})
+    return sorted(names - STANDARD - {"games"} - {it for it in IN_C if it[1:] in names})

@@ -3,14 +3,17 @@ import os
 import re
 import resource
 
+from tests.shared import checks
+
 from .rooms import Case, room
 
-AT_ONCE = ["--engine", "one=true", "--engine", "two=true", "--jobs", "1"]  # a game ends at once
-OPTIONS = ["--restarts", "0"]
-MATCH = ["--why", "--record", *OPTIONS, "--black", "true", "--white", "true"]
+AT_ONCE = ["--engine", "one=gtp_engine", "--engine", "two=gtp_engine", "--jobs", "1"]
+OPTIONS = ["--size", "1", "--max-moves", "1"]  # a game ends at once
+MATCH = ["--why", "--record", *OPTIONS, "--black", "gtp_engine", "--white", "gtp_engine"]
 GAMES = 40
-MOST = 0.010  # seconds of processor time that a game costs beside twogtp
-TIMES = 5  # or so many times what it costs alone, on a machine that is slower
+# seconds of processor time that a game costs beside twogtp, or so many times what it costs alone, on a machine that is slower, and how
+# many processes it starts beside those of twogtp
+MOST = {"--direct": (0.010, 5, 1), None: (0.060, 20, 3)}
 MANY, SECONDS = 100_000, 3.0  # results, and processor time
 READINGS = 5  # or so many times what it takes to read all files
 # In a namespace of its own each process has the next number: how many a command starts, itself among them.
@@ -37,37 +40,46 @@ def own_seconds():
     return used.ru_utime + used.ru_stime
 
 
+@checks.table(MOST, lambda it: f"a game that ends at once{', with --direct' if it else ''}")
 class OneGame(Case):
     """A game that ends at once, beside twogtp."""
 
-    def test_seconds(self):
+    def row(self, row):
+        words = [row] if row else []
+        self.look_at_seconds(row, words)
+        self.look_at_processes(row, words)
+
+    def look_at_seconds(self, row, words):
         """Its processor time, the best of some tries."""
+        most, times, _ = MOST[row]
+        what = f"a game that ends at once{', with --direct' if row else ''}"
         found = []
         with room() as here:
             twogtp = here.environment["TWOGTP"]
             here.script("matches", f'#!/bin/bash\nfor ((game = 0; game < {GAMES}; game++)); do "$@"; done\n')
             for number in range(5):
                 alone = seconds_of(here, str(here.at / "matches"), twogtp, *MATCH) / GAMES
-                few, more = (seconds_of(here, "tournament", "play", f"{number}.{seeds}", *AT_ONCE, "--seeds", str(seeds), "--", *OPTIONS)
+                few, more = (seconds_of(here, "tournament", "play", f"{number}.{seeds}", *AT_ONCE, "--seeds", str(seeds), *words, "--", *OPTIONS)
                              for seeds in (1, 1 + GAMES // 2))  # fmt: skip
                 found.append(((more - few) / GAMES - alone, alone))
-                if is_little(*found[-1]):
+                if found[-1][0] <= max(most, times * alone):
                     break
             played = here.run("tournament", "list", f"{number}.{1 + GAMES // 2}")
-            self.check("all games were played", (0, "", ""), played)
+            self.check(f"{what}: all were played", (0, "", ""), played)
         said = ", ".join(f"{1000 * it:.1f} beside {1000 * alone:.1f}" for it, alone in found)
-        self.check(f"a game costs at most 10 ms beside twogtp: {said}", True, is_little(*found[-1]))
+        self.check(f"{what} costs at most {1000 * most:.0f} ms beside twogtp: {said}", True, found[-1][0] <= max(most, times * found[-1][1]))
 
-    def test_processes(self):
-        """How many processes it starts: one beside those that twogtp starts, whatever else runs."""
+    def look_at_processes(self, row, words):
+        """How many processes it starts, whatever else runs."""
+        what = f"how many processes a game starts beside those of twogtp{', with --direct' if row else ''}"
         with room() as here:
             alone = self.started_by(here, here.environment["TWOGTP"], *MATCH)
             if alone is None:
-                self.skip("how many processes a game starts", "there are no namespaces of processes (unshare --pid)")
+                self.skip(what, "there are no namespaces of processes (unshare --pid)")
                 return
-            few, more = (self.started_by(here, "tournament", "play", f"all{seeds}", *AT_ONCE, "--seeds", str(seeds), "--", *OPTIONS)
+            few, more = (self.started_by(here, "tournament", "play", f"all{seeds}", *AT_ONCE, "--seeds", str(seeds), *words, "--", *OPTIONS)
                          for seeds in (1, 11))  # fmt: skip
-            self.check("a game starts one process beside twogtp and its engines", 20 * (1 + alone), more - few)
+            self.check(what, 20 * (MOST[row][2] + alone), more - few)
 
     def started_by(self, here, *words):
         """How many processes a command starts; None where they can't be counted."""
@@ -76,11 +88,6 @@ class OneGame(Case):
             if came.status == 0:
                 return int(came.output)
         return None
-
-
-def is_little(beside, alone):
-    """Is it as little as a game may cost beside twogtp?"""
-    return beside <= max(MOST, TIMES * alone)
 
 
 class Many(Case):

@@ -4,7 +4,7 @@ import sys
 
 from tests.shared import checks
 
-from .rooms import LIMIT, RANDOM, SCRIPTS, Case, lines, results, room, two_engines
+from .rooms import LIMIT, RANDOM, SCRIPTS, Case, lines, results, room, tried, two_engines
 
 TINY = ["--size", "2", "--max-moves", "3"]
 # what a whole file becomes, which then is damaged
@@ -101,15 +101,16 @@ class Damages(Case):
     def test_lost(self):
         """What isn't a result is none for --again and the status either."""
         with room() as here:
-            engines = ["--engine", "one=false", "--engine", "two=gtp_engine", "--seeds", "1"]
+            engines = ["--engine", "one=gtp_engine --fault stop:1", "--engine", "two=gtp_engine", "--seeds", "1"]
             here.run("tournament", "play", "all", *engines, "--", "--size", "2")
             cut = here.at / "all/games/1_one_two"
             cut.write_bytes(cut.read_bytes()[:-1])
             status, output, errors = here.run("tournament", "play", "all")
-            said = "tournament: 1_one_two: its file is damaged, and it is played again\n"
-            self.check("a cut game with an abandoned side is played again", (1, 2, said), (status, len(output.splitlines()), errors))
+            unable = "tournament: one: it ended at 'genmove b': exit status 4"
+            said = [unable, "tournament: 1_one_two: its file is damaged, and it is played again"]
+            self.check("a cut game with an abandoned side is played again", (1, 2, said), (status, len(output.splitlines()), errors.splitlines()))
             came = here.run("tournament", "play", "all", "--again")
-            self.check("--again plays both", (1, 3, ""), (came.status, len(came.output.splitlines()), came.errors))
+            self.check("--again plays both", (1, 3, f"{unable}\n"), (came.status, len(came.output.splitlines()), came.errors))
 
 
 # another process removes the folder of a game between the two steps in which this one takes the lock
@@ -206,6 +207,7 @@ class Old(Case):
             self.check("once it is killed it is played", (0, ""), here.run("tournament", "play", "all")[::2])
             self.check("then the results are the same", results(), here.games("all"))
             here.run("tournament", "plan", "other", "--engine", "one=sleep 1000", "--engine", "two=cat", "--seeds", "1")
+            tried(here, "other")
             process = here.start("tournament", "game", "other", "1_one_two")
             here.until(lambda: here.named("sleep"))
             self.check("a game that is played can't be begun by an old script", (1, "", ""), here.run(old, "other", "1_one_two"))

@@ -5,7 +5,7 @@ import signal
 import subprocess
 import time
 
-from .rooms import LIMIT, SLOW, SMALL, Case, results, room, two_engines
+from .rooms import LIMIT, SLOW, SMALL, Case, results, room, tried, two_engines
 
 KILLS = 12
 UNSEEN = {"stdout": subprocess.DEVNULL, "stderr": subprocess.DEVNULL}
@@ -133,7 +133,10 @@ class Unread(Case):
     def test_signals(self):
         """What twogtp has of the signals that its starter ignores."""
         with room() as here:
-            words = ["all", "--engine", "one=sleep 1000", "--engine", "two=sleep 1000", "--seeds", "1", "--jobs", "1"]
+            words = ["all", "--engine", "one=sleep 1000", "--engine", "two=sleep 1000", "--seeds", "1"]
+            here.run("tournament", "plan", *words)
+            tried(here, "all")
+            words += ["--jobs", "1"]
             here.start("bash", "-c", 'trap "" TERM INT; exec tournament play "$@"', "bash", *words, **UNSEEN)
             here.until(lambda: len(here.named("sleep")) == 2)
             ignored = [ignored_by(pid) & {signal.SIGTERM, signal.SIGINT, signal.SIGPIPE} for pid in here.named("sleep")]

@@ -1,9 +1,11 @@
 """What a folder was begun with, what a command is, and the same games by other tools."""
+import re
 import shutil
+import sys
 
 from tests.shared import checks
 
-from .rooms import RANDOM, SCRIPTS, SMALL, Case, lines, results, room, two_engines
+from .rooms import RANDOM, SCRIPTS, SMALL, Case, lines, results, room, tried, two_engines
 
 ONE_AND_TWO = two_engines("all")[1:5]
 PLAN = f"""\
@@ -13,6 +15,7 @@ option --size
 option 5
 option --komi
 option 0.5
+start-limit 60
 seeds 4
 limit 600
 """
@@ -52,7 +55,8 @@ class Plans(Case):
         """The plan, and what is asked for beside it."""
         with room() as here:
             here.run("tournament", "plan", *two_engines("all"), *SMALL)
-            self.check("the plan has what was asked for", PLAN, (here.at / "all/plan").read_text())
+            plan = f"folder {here.at}\n{PLAN}"
+            self.check("the plan has what was asked for", plan, (here.at / "all/plan").read_text())
             for what, arguments in CHANGED.items():
                 status, output, errors = here.run("tournament", "play", "all", *arguments)
                 said = "tournament: all was begun with other engines or options. It has"
@@ -60,7 +64,7 @@ class Plans(Case):
             said = "tournament: all was begun with 4 seeds: there may be more, but not fewer\n"
             self.check("fewer seeds are refused", (2, "", said), here.run("tournament", "play", "all", "--seeds", "3"))
             came = ((here.at / "all/plan").read_text(), here.games("all"))
-            self.check("then the plan is as it was, and nothing was played", (PLAN, {}), came)
+            self.check("then the plan is as it was, and nothing was played", (plan, {}), came)
 
     def test_wrong(self):
         """Mistakes on the command line, help, and no twogtp."""
@@ -83,21 +87,55 @@ class Lost(Case):
     def test_lost(self):
         """Games in which a side is abandoned."""
         with room() as here:
+            two = here.script("two", "#!/bin/bash\nexec gtp_engine --fault stop:1\n")
             engines = ["--engine", f"one={RANDOM} %s", "--engine", "two=./two %s"]
             came = here.run("tournament", "play", "all", *engines, "--seeds", "1", "--", "--size", "5", "--restarts", "0")
             played = here.games("all")
-            what = "an engine that isn't there"
+            what = "an engine that ends at its move"
             self.check(f"{what}: status 1, and both games have a line", (1, ["1_one_two", "1_two_one"]), (came.status, sorted(played)))
-            self.check(f"{what}: the line", "game 1: abandoned white moves 0 restarts 0 0\n\n", played["1_one_two"])
-            log = (here.at / "all/logs/1_one_two").read_text()
-            self.check(f"{what}: the log says why", True, log.startswith("twogtp: game 1: white: not started: no such file"))
+            self.check(f"{what}: the line", "game 1: abandoned black moves 0 restarts 0 0\n\n", played["1_two_one"])
+            log = (here.at / "all/logs/1_two_one").read_text()
+            unable = "tournament: two: it ended at 'genmove b': exit status 4\n"
+            self.check(f"{what}: its trial says so", unable, came.errors)
+            said = 'twogtp: game 1: black: 1 unanswered, "4 genmove b": its output ended, exit status 4'
+            self.check(f"{what}: the log says why", said, log[: len(said)])
             here.script("two", f'#!/bin/bash\nexec {RANDOM} "$@"\n')
             again = here.run("tournament", "play", "all")
             self.check("played again it plays nothing, and has status 1", (1, "2 of 2 games have a result\n", ""), again)
             self.check("--again plays them", (0, ""), here.run("tournament", "play", "all", "--again")[::2])
             self.check("--again: the old logs are gone", [], list((here.at / "all/logs").iterdir()))
 
+    def test_direct(self):
+        """An engine that isn't there, without what stands between."""
+        with room() as here:
+            engines = ["--engine", f"one={RANDOM} %s", "--engine", "two=./two %s"]
+            here.run("tournament", "plan", "all", *engines, "--seeds", "1", "--direct")
+            tried(here, "all")
+            came = here.run("tournament", "play", "all")
+            self.check("directly, an engine that isn't there: no game has a result", (1, {}), (came.status, here.games("all")))
+            said = [f"tournament: {game}: no result: two wasn't started: not started: no such file: \"./two\"" for game in GAMES]
+            self.check("directly, an engine that isn't there: it says so", said, lines(came.errors))
+            here.script("two", "#!/bin/bash\nexit 3\n")
+            again(here)
+            came = here.run("tournament", "play", "all")
+            said = re.sub(r"(started: ).*", r"\1..", came.errors)
+            wanted = [f"tournament: {game}: no result: two wasn't started: .." for game in GAMES]
+            self.check("directly, an engine that ends at once: the same", (1, wanted, {}), (came.status, lines(said), here.games("all")))
+            here.script("two", "#!/bin/bash\nread -r number _\nprintf '=%s\\n\\n' $number\n")
+            again(here)
+            came = here.run("tournament", "play", "all")
+            played = {text.splitlines()[0] for text in here.games("all").values()}
+            wanted = {"game 1: abandoned white moves 0 restarts 0 2", "game 1: abandoned black moves 0 restarts 2 0"}
+            self.check("directly, an engine that answers once: it is abandoned", (1, wanted, ""), (came.status, played, came.errors))
 
+
+def again(here):
+    """Writes down once more that all engines passed their trial."""
+    shutil.rmtree(here.at / "all/tried")
+    tried(here, "all")
+
+
+GAMES = ["1_one_two", "1_two_one"]
 # It stands in for twogtp, which is also run with `true` for an engine, to see whether it takes the options. How a game ends is open.
 STAND_IN = """\
 #!/bin/bash
@@ -119,20 +157,34 @@ class NoResults(Case):
 
 
 class CutAtSpaces(Case):
-    """A command is cut as twogtp cuts it: at spaces, and quotes are letters like others."""
+    """A command is cut at spaces, and quoted as for a shell; with --direct quotes are letters like others, as twogtp has them."""
 
     def test_spaces(self):
         """Commands and folders with spaces."""
         with room() as here:
             engine = here.script("args", f'#!/bin/bash\nprintf \'<%s>\' "$@" > {here.at}/"${{@: -1}}"\nexec gtp_engine\n')
-            engines = ["--engine", f"one=  {engine}   \"a b\"  'c%s' $HOME %s%s one%s ", "--engine", "two=gtp_engine"]
-            came = here.run("tournament", "play", "all", *engines, "--seeds", "1", "--", "--size", "1")
-            self.check("a command with spaces and quotes: status", (0, ""), came[::2])
-            arguments = (here.at / "one1").read_text()
-            self.check("a command with spaces and quotes: its arguments", "<\"a><b\"><'c1'><$HOME><11><one1>", arguments)
+            engines = ["--engine", f"one=  {engine}   \"a b\"  'c%s' $HOME %s%s \\  one%s ", "--engine", "two=gtp_engine"]
+            for more, wanted in ([], "<a b><c1><$HOME><11>< ><one1>"), (["--direct"], "<\"a><b\"><'c1'><$HOME><11><\\><one1>"):
+                what = f"a command with spaces and quotes{', directly' if more else ''}"
+                came = here.run("tournament", "play", f"all {more}", *engines, "--seeds", "1", *more, "--", "--size", "1")
+                self.check(f"{what}: status", (0, ""), came[::2])
+                self.check(f"{what}: its arguments", wanted, (here.at / "one1").read_text())
             came = here.run("tournament", "play", "a folder", *two_engines("")[1:], *SMALL)
             self.check("a folder with a space", (0, "", 8), (*came[::2], len(here.games("a folder"))))
             self.check("a folder with a space: the tally", 0, here.run("tally", "a folder").status)
+
+    def test_scripts(self):
+        """The scripts, the program and the engine lie in folders with spaces, and so does the Python that runs them."""
+        with room() as here:
+            shutil.copytree(SCRIPTS, here.at / "my scripts")
+            for name in ("twogtp", "gtp_engine"):
+                shutil.copy(here.programs / name, here.at / f"my {name}")
+            python = here.at / "my python"
+            python.symlink_to(sys.executable)
+            here.environment["TWOGTP"] = str(here.at / "my twogtp")
+            words = ["my scripts/tournament", "play", "all", "--engine", 'one="./my gtp_engine"', "--engine", "two=./my\\ gtp_engine"]
+            came = here.run(str(python), *words, "--seeds", "1", "--", "--size", "2")
+            self.check("scripts, programs and Python in folders with spaces", (0, "", 2), (*came[::2], len(here.games("all"))))
 
 
 # It stands in for ssh: each machine is a folder.

@@ -120,6 +120,21 @@ def lines(text):
     return sorted(text.splitlines())
 
 
+# An engine that moves along an edge of 9x9, and never answers its genmove of this number; and one that ends there, by this signal.
+HANGS = """\
+#!/bin/bash
+letters=ABCDEFGHJ count=0
+while read -r number command colour _; do
+    vertex=
+    if [ "$command" = genmove ]; then
+        count=$((count + 1))
+        [ "$count" != "$1" ] || { [ -n "$2" ] && kill "-$2" $$ || exec sleep 1000; }
+        vertex=" ${letters:count-1:1}$([ "$colour" = b ] && echo 1 || echo 9)"
+    fi
+    printf '=%s%s\\n\\n' "$number" "$vertex"
+    [ "$command" != quit ] || exit
+done
+"""
 # An engine that waits before it begins, so that a tournament lasts; and one that can only be killed, and so can what it starts.
 SLOW = "#!/bin/bash\nsleep 0.4\nexec gtp_engine \"$@\"\n"
 STUBBORN = """\
@@ -134,6 +149,19 @@ while :; do sleep 0.5; done
 def two_engines(at, first=RANDOM, second=RANDOM):
     """Two engines and four seeds, on a small board."""
     return [at, "--engine", f"one={first} %s", "--engine", f"two={second} 10%s", "--seeds", "4"]
+
+
+def tried(here, folder):
+    """Writes down that all engines of a folder passed their trial, also those that wouldn't."""
+    plan = [line.split(" ", 2) for line in (here.at / folder / "plan").read_text().splitlines()]
+    where = next((line[1] for line in plan if line[0] == "folder"), str(here.at))
+    how = "" if any(line[0] == "folder" for line in plan) and ["direct"] not in plan else " directly"
+    options = [line[1] for line in plan if line[0] == "option"]
+    size, komi = (options[options.index(it) + 1] if it in options else usual for it, usual in (("--size", "19"), ("--komi", "6.5")))
+    keys = [f"{line[2]}\t{where}\tsize {size} komi {komi} handicap 0{how}" for line in plan if line[0] == "engine"]
+    place = here.at / folder / "tried" / os.uname().nodename
+    place.mkdir(parents=True, exist_ok=True)
+    (place / "passed").write_text("".join(f"passed {key}\n" for key in keys))
 
 
 SMALL = ["--", "--size", "5", "--komi", "0.5"]

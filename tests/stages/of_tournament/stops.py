@@ -10,7 +10,7 @@ import time
 
 from tests.shared import checks
 
-from .rooms import LIMIT, RANDOM, SLOW, SMALL, STUBBORN, Case, heed, lines, results, room, two_engines
+from .rooms import LIMIT, RANDOM, SLOW, SMALL, STUBBORN, Case, heed, lines, results, room, tried, two_engines
 
 
 # An engine that doesn't answer `quit`, and doesn't end.
@@ -90,6 +90,8 @@ class Stubborn(Case):
         with room() as here:
             engine = here.script("stubborn", STUBBORN)
             arguments = ["all", "--engine", f"one={engine}", "--engine", f"two=timeout -k 5 300 {engine}", "--seeds", "2"]
+            here.run("tournament", "plan", *arguments)
+            tried(here, "all")
             process = here.start("tournament", "play", *arguments, "--jobs", "4")
             running = here.until(lambda: len([line for line in here.left() if "stubborn" in line]) >= 16)
             self.check("engines that can only be killed run", True, running)
@@ -100,14 +102,22 @@ class Stubborn(Case):
             self.check("at the limit of a game: the status", 1, status)
             self.check("at the limit of a game: none is left", [], here.left())
             names = ["1_one_two", "1_two_one", "2_one_two", "2_two_one"]
-            said = [f"tournament: {name}: no result: not over in 1 seconds" for name in names]
-            self.check("at the limit of a game: it says so", said, lines(errors))
+            whom = [f"{name.split('_')[1]} was waited for, 0. seconds at '1 boardsize 19'" for name in names]
+            why = [f"not over in 1 seconds; {who}" for who in whom]
+            said = [f"tournament: {name}: no result: {it}" for name, it in zip(names, why)]
+            self.check("at the limit of a game: it says so", said, lines(without_parts(errors)))
             self.check("at the limit of a game: the last line", "0 of 4 games have a result\n", output)
-            logs = [(here.at / "all/logs" / name).read_text().splitlines()[-1] for name in names]
-            self.check("at the limit of a game: the log has it", ["tournament: not over in 1 seconds"] * 4, logs)
+            logs = [without_parts((here.at / "all/logs" / name).read_text().splitlines()[-1]) for name in names]
+            self.check("at the limit of a game: the log has it", [f"tournament: {it}" for it in why], logs)
             status, output, _ = here.run("tally", "all")
-            wanted = "no result: 4\n" + "".join(f"  {name}: not over in 1 seconds\n" for name in names)
-            self.check("the tally: games without a result, and why", (1, wanted), (status, output[output.index("no result:") :]))
+            wanted = "no result: 4\n" + "".join(f"  {name}: {it}\n" for name, it in zip(names, why))
+            got = without_parts(output[output.index("no result:") :])
+            self.check("the tally: games without a result, and why", (1, wanted), (status, got))
+
+
+def without_parts(text):
+    """A text without the parts of seconds in it."""
+    return re.sub(r"(\d\.)\d+ seconds", r"\1 seconds", text)
 
 
 # An engine that leaves a process in a session of its own, and notes which of those before it live still.
@@ -133,13 +143,15 @@ class Sessions(Case):
                             "--seeds", "2", "--jobs", "1", "--", "--size", "2")  # fmt: skip
             self.check("what an engine leaves in a session of its own is ended", (0, "", []), (*came[::2], here.left()))
             left = len((here.at / "pids").read_text().split())
-            self.check("it is ended before the next game", (4, False), (left, (here.at / "alive").exists()))
+            self.check("it is ended before the next game, and after the trial", (5, False), (left, (here.at / "alive").exists()))
             ends = here.script("ends", f'#!/bin/bash\n(sleep 0.7; touch {here.at}/"$1") < /dev/null > /dev/null 2>&1 &\nexec gtp_engine\n')
             here.run("tournament", "play", "ended", "--engine", f"one={ends} %s", "--engine", "two=gtp_engine", "--seeds", "1",
                      "--", "--size", "1")  # fmt: skip
             self.check("it has a second to end by itself", True, (here.at / "1").exists())
             endless = here.script("endless", '#!/bin/bash\ntrap "" TERM\nsetsid -f sleep 1000\nsleep 1000\n')
-            process = here.start("tournament", "play", "other", "--engine", f"one={endless}", "--engine", f"two={endless}", "--seeds", "1")
+            here.run("tournament", "plan", "other", "--engine", f"one={endless}", "--engine", f"two={endless}", "--seeds", "1")
+            tried(here, "other")
+            process = here.start("tournament", "play", "other")
             here.until(lambda: len(here.named("sleep")) >= 8)
             process.terminate()
             process.communicate(timeout=LIMIT)
@@ -161,6 +173,7 @@ class Killed(Case):
             engine = here.script("stubborn", STUBBORN)
             plan = ["all", "--engine", f"one={engine}", "--engine", f"two=timeout 300 {engine}", "--seeds", "1"]
             here.run("tournament", "plan", *plan)
+            tried(here, "all")
             words = ["play", "all", "--jobs", "1"] if command == "play" else ["game", "all", "1_one_two"]
             process = here.start("tournament", *words, stdout=subprocess.DEVNULL, stderr=subprocess.DEVNULL)
             here.until(lambda: len([line for line in here.left() if f"bash {engine}" in line]) == 4)
@@ -285,7 +298,7 @@ class Full(Case):
         """A full disk."""
         with room() as here:
             (here.at / "disk").mkdir()
-            mounted = subprocess.run(["mount", "-t", "tmpfs", "-o", "size=64k", "none", str(here.at / "disk")], capture_output=True)
+            mounted = subprocess.run(["mount", "-t", "tmpfs", "-o", "size=256k", "none", str(here.at / "disk")], capture_output=True)
             if mounted.returncode != 0:
                 self.skip("a full disk", "nothing may be mounted here")
                 return
@@ -295,14 +308,14 @@ class Full(Case):
                 subprocess.run(["umount", str(here.at / "disk")], check=True)
 
     def play_on_disk(self, here):
-        """Plays where there is room for four files, and then where there is more."""
+        """Plays where there is room for some files, and then where there is more."""
         wanted = results()
         self.check("a full disk: the plan", 0, here.run("tournament", "plan", *two_engines("disk/all"), *SMALL)[0])
         filler = here.at / "disk/filler"
         with open(filler, "wb", buffering=0) as file, contextlib.suppress(OSError):
             while True:
                 file.write(bytes(4096))
-        os.truncate(filler, filler.stat().st_size - 4 * 4096)  # four files more
+        os.truncate(filler, filler.stat().st_size - 14 * 4096)  # those of a game that is played, and those that two leave
         status, output, errors = here.run("tournament", "play", "disk/all", "--jobs", "1")
         played = here.games("disk/all")
         self.check("a full disk: the status", 1, status)
@@ -331,10 +344,19 @@ class Limited(Case):
             self.check("no room for the plan: status 1", 1, came.status)
             self.check("no room for the plan: none is left", False, (here.at / "all/plan").exists())
             here.run("tournament", "plan", *two_engines("all"), *SMALL)
+            said = "tournament: 1_one_two: no result: File too large\ntournament: all can't be written to: File too large"
             status, output, errors = here.run("bash", "-c", "ulimit -f 0; tournament game all 1_one_two")
-            said = errors.startswith("tournament: 1_one_two: no result: status 3 of twogtp: is the disk full?")
-            self.check("no room for a result: the status, the output and what is reported", (1, "", True), (status, output, said))
+            self.check("no room for a trial: what is reported", (1, "", said), (status, output, errors[: len(said)]))
+            tried(here, "all")
+            status, output, errors = here.run("bash", "-c", "ulimit -f 0; tournament game all 1_one_two")
+            said = "tournament: 1_one_two: no result: File too large; its log is not written\ntournament: all can't be written to: File too large"
+            self.check("no room for a result: what is reported", (1, "", said), (status, output, errors[: len(said)]))
             self.check("no room for a result: none is there", {}, here.games("all"))
+            here.run("tournament", "plan", *two_engines("direct"), "--direct", *SMALL)
+            tried(here, "direct")
+            status, output, errors = here.run("bash", "-c", "ulimit -f 0; tournament game direct 1_one_two")
+            said = errors.startswith("tournament: 1_one_two: no result: status 3 of twogtp: is the disk full?")
+            self.check("no room for a result, directly: what is reported", (1, "", True), (status, output, said))
             came = here.run("bash", "-c", "ulimit -f 0; tournament list all | xargs -r -n 1 -P 4 tournament game all")
             reported = sorted(re.findall(r"^tournament: (\w+): no result: ", came.errors, re.MULTILINE))
             self.check("no room for any result: each game is reported", sorted(wanted), reported)

@@ -1,0 +1,226 @@
+"""What stands between twogtp and an engine of a game: it starts the engine, and passes the bytes both ways.
+
+The file of the game has parts with a zero byte between two: `notes FILE`, `folder FOLDER`, and of the colour
+`black WORD` for each word of the command. There may be `limit SECONDS`, which is of each answer but that of a genmove, `move-limit
+SECONDS`, which is of that, and `opening MOVE ..`. The notes get the moves as they are played, and how the engine ended.
+
+An engine that was late is ended with all that it started, and no other start of it in this game gets any time. The engine ends with this
+process; what it started then is ended by that of the game. This one goes on as long as somebody has the engine's output.
+
+status: the engine's, or the signal that ended it; 124 where an answer was late; 125 where the notes can't be written, or the game is over;
+        126 or 127 where the engine can't be started
+"""
+import os
+import select
+import time
+
+from . import below
+from .below import signal
+from .talk import Talk
+
+ROOM = 65536  # bytes that are read at once
+LATE, NO_NOTES = 124, 125
+PAUSE = 0.2  # seconds in which an engine may end whose output has ended
+
+
+class Ended(Exception):
+    """This process is to end with a status."""
+
+
+def say(colour, text):
+    """Writes a line on standard error."""
+    try:
+        os.write(2, f"between: {colour}: {text}\n".encode(errors="surrogateescape"))
+    except OSError:
+        pass
+
+
+class Game:
+    """What the file of the game says of this colour's engine."""
+
+    def __init__(self, text, colour):
+        parts = {"notes": [], "folder": [], "limit": [], "move-limit": [], "opening": [], colour: []}
+        for part in os.fsdecode(text).split("\0"):
+            key, _, value = part.partition(" ")
+            parts.get(key, []).append(value)
+        (self.place,), (self.folder,), self.words = parts["notes"], parts["folder"], parts[colour]
+        self.limits = [float(parts[it][0]) if parts[it] else None for it in ("limit", "move-limit")]
+        self.opening = [it.encode() for line in parts["opening"] for it in line.split()]
+        self.notes = os.open(self.place, os.O_RDWR | os.O_APPEND | os.O_CLOEXEC)
+        self.colour = colour
+
+    def was_late(self):
+        """Was an engine of this colour late in the game?"""
+        lines = os.pread(self.notes, os.fstat(self.notes).st_size, 0).decode("latin-1").split("\n")
+        return any(line.split(" ")[1:3] == [self.colour, "late"] for line in lines)
+
+    def note(self, text):
+        """Writes a note. Where it can't be written whole the notes are removed, by which the game is known to have no result."""
+        data = text.encode("latin-1", "replace")
+        try:
+            if os.write(self.notes, data) == len(data):
+                return
+            why = "No space left on device"
+        except OSError as problem:
+            why = problem.strerror
+        try:
+            os.unlink(self.place)
+        except OSError:
+            pass
+        say(self.colour, f"{self.place} can't be written: {why}")
+        raise Ended(NO_NOTES)
+
+
+class Engine:
+    """The engine's process."""
+
+    def __init__(self, game):
+        (from_caller, self.given), (self.taken, from_engine) = os.pipe(), os.pipe()
+        self.number, self.failure = below.start(game.words, game.folder, from_caller, from_engine)
+        os.close(from_caller)
+        os.close(from_engine)
+        os.set_blocking(self.given, False)
+
+    def ended(self, seconds=None):
+        """The status with which it ended, for which it is waited so long; None where it goes on."""
+        until = seconds and time.monotonic() + seconds
+        while True:
+            number, status = os.waitpid(self.number, os.WNOHANG if seconds is not None else 0)
+            if number:
+                return status
+            if time.monotonic() > until:
+                return None
+            time.sleep(0.002)
+
+
+class Relay:
+    """The bytes that are passed both ways."""
+
+    def __init__(self, talk, engine):
+        self.talk, self.engine = talk, engine
+        self.to_engine = self.to_caller = b""
+        self.reads = {0, engine.taken}
+        os.set_blocking(1, False)
+
+    def run(self):
+        """Passes them until the engine's output has ended. Is an answer late?"""
+        taken = self.engine.taken
+        while True:
+            pause = self.talk.pause()
+            if pause is not None and pause <= 0:
+                return True
+            writes = [end for end, text in ((self.engine.given, self.to_engine), (1, self.to_caller)) if text]
+            readable, _, _ = select.select(self.reads if len(self.to_caller) < ROOM else self.reads - {taken}, writes, [], pause)
+            if 0 in readable:
+                self.hear_caller()
+            if taken in readable:
+                data = os.read(taken, ROOM)
+                self.to_caller += self.talk.heard(data)
+                if not data:
+                    return False
+            if self.to_engine:
+                self.to_engine = rest(self.engine.given, self.to_engine)
+            if self.to_caller:
+                self.to_caller = rest(1, self.to_caller)
+            if 0 not in self.reads and not self.to_engine and self.engine.given is not None:
+                self.engine.given = os.close(self.engine.given)
+
+    def hear_caller(self):
+        """Reads what twogtp wrote. Where it has ended, that is noted if it waited for an answer."""
+        data = os.read(0, ROOM)
+        self.to_engine += self.talk.asked(data)
+        if not data:
+            self.reads.discard(0)
+            if self.talk.waiting:
+                self.talk.cut("waited")
+            for command in self.talk.waiting:
+                command.is_noted = True
+
+    def finish(self):
+        """Passes on what is left, once the engine's output has ended."""
+        os.set_blocking(1, True)
+        left = self.to_caller + (self.talk.held or b"" if self.talk.inside else b"")
+        while left:
+            left = rest(1, left)
+
+    def caller_is_gone(self):
+        """Has twogtp ended?"""
+        if 0 in self.reads and select.select([0], [], [], 0)[0]:
+            self.hear_caller()
+        return 0 not in self.reads
+
+
+def rest(end, data):
+    """Writes what there is room for, and returns the rest. Where nobody reads any more, nothing is left."""
+    try:
+        return data[os.write(end, data):]
+    except BlockingIOError:
+        return data
+    except BrokenPipeError:
+        return b""
+
+
+def how(status):
+    """How an engine ended that ended with this status."""
+    if status is None:
+        return "its output ended, but it ran on"
+    return f"signal {os.WTERMSIG(status)}" if os.WIFSIGNALED(status) else f"exit status {os.WEXITSTATUS(status)}"
+
+
+def end_as(status):
+    """Ends as an engine that ended with this status, but without a dump of memory."""
+    if os.WIFSIGNALED(status):
+        number = os.WTERMSIG(status)
+        below.prctl(below.DUMPED, 0, 0, 0, 0)
+        if number != signal.SIGKILL:
+            signal.signal(number, signal.SIG_DFL)
+        os.kill(os.getpid(), number)
+    raise Ended(below.code(status))
+
+
+def play(game, colour):
+    """Starts the engine of a game and passes the bytes, until it has ended. Ends with its status."""
+    if game.was_late():
+        raise Ended(LATE)
+    below.adopt()
+    talk = Talk(colour, game.limits, game.opening, game.note)
+    engine = Engine(game)
+    if engine.failure:
+        talk.tell(f"not started: {engine.failure}")
+        say(colour, f"not started: {engine.failure}")
+        end_as(engine.ended())
+    relay = Relay(talk, engine)
+    if relay.run():
+        if 0 in relay.reads:
+            talk.cut("late")
+        say(colour, f"no answer in time to {talk.waiting[0].text.decode('latin-1')!r}")
+        below.end_all()
+        raise Ended(LATE)
+    relay.finish()
+    status = engine.ended(PAUSE)
+    is_due = talk.waiting and talk.waiting[0].name != b"quit" or not talk.has_answered
+    if not relay.caller_is_gone() and is_due:
+        talk.cut("ended", how(status))
+    if status is None:
+        os.close(1)
+        status = engine.ended()
+    end_as(status)
+
+
+def main(text, colour):
+    """Does so in the game whose file has this text, and returns the status."""
+    for number in below.ENDING:
+        signal.signal(number, signal.SIG_IGN)  # who asks a game to end asks twogtp and the engine too
+    try:
+        game = Game(text, colour)
+    except FileNotFoundError:
+        say(colour, "the game is over")
+        return NO_NOTES
+    try:
+        below.be_called(f"between {colour}")
+        play(game, colour)
+    except Ended as end:
+        if end.args[0] == NO_NOTES:
+            below.end_all()
+        return end.args[0]
+    return 0

@@ -1,0 +1,91 @@
+"""The plan in a tournament's folder: how it is read, joined with what is asked for, and written."""
+import os
+
+from .output import Mistake
+from .plan import Plan
+
+SEEDS, LIMIT, START_LIMIT = 10, 600, "60"  # of a plan that doesn't say otherwise
+TWO_ENGINES = "name two engines or more: --engine NAME=CMD --engine NAME=CMD"
+
+
+def read_plan(folder):
+    """The plan of a folder."""
+    place = f"{folder}/plan"
+    try:
+        with open(place, "rb") as file:
+            lines = os.fsdecode(file.read()).split("\n")
+    except FileNotFoundError:
+        raise Mistake(f"there is no {place}: tournament plan makes it") from None
+    except OSError as problem:
+        raise Mistake(f"{place} can't be read: {problem.strerror}") from None
+    plan = Plan()
+    for line in lines if lines[-1] else lines[:-1]:
+        plan.add_line(line, place)
+    if len(plan.engines) < 2 or not plan.seeds or not plan.limit:
+        raise Mistake(f"{place} lacks engines, seeds or the limit")
+    plan.is_direct = plan.is_direct or plan.is_old()
+    return plan
+
+
+def plan_for(asked, is_given, folder):
+    """The plan of a folder, with what is asked for: other seeds or other limits. Engines and options, where they are given, have to be
+    the same. A folder without a plan gets what is asked for."""
+    if os.path.exists(f"{folder}/plan"):
+        plan = read_plan(folder)
+        asked.folder = plan.folder
+        look_at_limits(plan, asked, folder)
+        if is_given and plan.players() != asked.players():
+            old, new = "\n".join(plan.players()), "\n".join(asked.players())
+            raise Mistake(f"{folder} was begun with other engines or options. It has\n{old}\nand not\n{new}\nTake another folder.")
+        if asked.seeds and asked.seeds < plan.seeds:
+            raise Mistake(f"{folder} was begun with {plan.seeds} seeds: there may be more, but not fewer")
+    elif len(asked.engines) < 2:
+        raise Mistake(TWO_ENGINES if asked.engines else f"there is no {folder}/plan, so {TWO_ENGINES}")
+    else:
+        plan = asked
+        plan.folder = os.getcwd()
+        plan.start_limit = plan.start_limit or (None if plan.is_direct else START_LIMIT)
+    plan.seeds, plan.limit = asked.seeds or plan.seeds or SEEDS, asked.limit or plan.limit or LIMIT
+    plan.start_limit = asked.start_limit or plan.start_limit
+    plan.look_at()
+    return plan
+
+
+def look_at_limits(plan, asked, folder):
+    """Is what is asked for of the program between as the plan has it?"""
+    if asked.is_direct and not plan.is_direct:
+        raise Mistake(f"{folder} was begun without --direct: take another folder")
+    given = [option for option, value in (("--start-limit", asked.start_limit), ("--move-limit", asked.move_limit)) if value]
+    if given and plan.is_direct:
+        why = "by earlier scripts, which had none" if plan.is_old() else "with --direct"
+        raise Mistake(f"{folder} was begun {why}, so it can't have {given[0]}: take another folder")
+    if asked.move_limit and asked.move_limit != plan.move_limit:
+        old = f"--move-limit {plan.move_limit}" if plan.move_limit else "no --move-limit"
+        raise Mistake(f"{folder} was begun with {old}: take another folder")
+
+
+def make_folders(folder):
+    """Makes what a tournament's folder has, where that isn't there."""
+    for name in ("games", "logs", "notes", "running"):
+        os.makedirs(f"{folder}/{name}", exist_ok=True)
+
+
+def write_plan(plan, folder):
+    """Makes the folder and its plan, unless they are there. The plan is written aside, and moved."""
+    place, aside = f"{folder}/plan", f"{folder}/plan.new.{os.getpid()}"
+    make_folders(folder)
+    text = os.fsencode(plan.text())
+    if os.path.exists(place):
+        with open(place, "rb") as file:
+            if file.read() == text:
+                return
+    try:
+        with open(aside, "wb") as file:
+            file.write(text)
+            file.flush()
+            os.fsync(file.fileno())
+        os.replace(aside, place)
+    except OSError as problem:
+        if os.path.exists(aside):
+            os.unlink(aside)
+        raise OSError(problem.errno, f"it can't be written: {problem.strerror}", place) from None

@@ -1,0 +1,100 @@
+"""What `--help` prints."""
+
+HEAD = """\
+usage: tournament play FOLDER --engine NAME=CMD --engine NAME=CMD ..
+           [--seeds N] [--limit SECONDS] [--jobs N] .. [-- OPTION ..]
+       tournament play FOLDER [--again]     goes on with what FOLDER/plan says
+       tournament plan FOLDER --engine ..   writes FOLDER/plan, plays nothing
+       tournament list FOLDER [--all]       the games without a result, or all
+       tournament game FOLDER GAME          plays one of them
+       tournament COMMAND --help            says more of one
+"""
+PLAN = """\
+  --engine NAME=CMD  an engine and its command, cut at spaces; what has one is
+                     quoted as for a shell. %s in it is the game's seed. NAME:
+                     letters, digits, . + -
+  --seeds N          the seeds 1 to N; each pair plays two games with each.
+                     There may be more later, and the old games count. [10]
+  --limit SECONDS    how long a game may take [600]
+  --move-limit SECONDS
+                     how long a genmove may take [as long as a game]
+  --start-limit SECONDS
+                     how long each other answer may take, also the first [60]
+  --direct           engines are started by twogtp, which knows no quotes: no
+                     such limits, and moves aren't kept as they are played
+"""
+PLAY = """\
+  --jobs N           how many games at once [as many as processors]
+  --again            games with an unfit or abandoned side are played again
+"""
+OPTION = """\
+  -- OPTION ..       options of twogtp, such as --size 9 --komi 7.5
+"""
+FILES = """\
+A game is named SEED_BLACK_WHITE. FOLDER/games has its result and record,
+FOLDER/notes its moves as they are played, FOLDER/logs what came on standard
+error, if anything did. TWOGTP names the program where it is neither beside
+these scripts nor in PATH.
+"""
+STATUS = """\
+status: 0  each game has a result, and no side was unfit or abandoned
+        1  some game has none, or a side was so
+        2  a mistake in the arguments; nothing was played
+        69  an engine can't be started on this machine
+        130, 143  stopped by Ctrl-C; by TERM or HUP
+"""
+HELP = {
+    None: "\n".join([HEAD, PLAN + PLAY + OPTION, FILES, STATUS]),
+    "play": "\n".join(["""\
+usage: tournament play FOLDER --engine NAME=CMD --engine NAME=CMD ..
+           [--seeds N] [--limit SECONDS] [--move-limit SECONDS]
+           [--start-limit SECONDS] [--direct] [--jobs N] [--again]
+           [-- OPTION ..]
+       tournament play FOLDER .. where it has a plan
+
+Plays all games of FOLDER that have no result; a damaged one is none. The
+same command goes on where it was stopped. What isn't given is taken from
+FOLDER/plan, which has to have the same engines and options.
+""", PLAN + PLAY + OPTION, FILES, STATUS]),
+    "plan": "\n".join(["""\
+usage: tournament plan FOLDER --engine NAME=CMD --engine NAME=CMD ..
+           [--seeds N] [--limit SECONDS] [--move-limit SECONDS]
+           [--start-limit SECONDS] [--direct] [-- OPTION ..]
+
+Makes FOLDER and FOLDER/plan, and plays nothing. It takes the words of
+tournament play. Where there is a plan it may have more seeds or another
+limit.
+""", PLAN + OPTION, """\
+status: 0  FOLDER/plan is what was asked for
+        1  it can't be written
+        2  a mistake in the arguments, or other engines or options
+"""]),
+    "list": """\
+usage: tournament list FOLDER [--all]
+
+Prints the names of the games that have no result, a line each, in the plan's
+order. A damaged result is none.
+
+  --all  all games of FOLDER/plan
+
+status: 0, or 2 for a mistake in the arguments
+""",
+    "game": "\n".join(["""\
+usage: tournament game FOLDER GAME
+
+Plays one game of FOLDER/plan, such as 1_one_two, unless it has a result or
+another process plays it.
+""", FILES, STATUS]),
+    "tally": """\
+usage: tally FOLDER [--abandoned loses] [--late loses]
+
+Counts the results of a folder that tournament made.
+
+  --abandoned loses  a side that was abandoned loses
+  --late loses       a side that was abandoned since it was late loses
+
+status: 0  each game of its plan has a result
+        1  some game has none, or a file that is no result
+        2  a mistake in the arguments
+""",
+}
