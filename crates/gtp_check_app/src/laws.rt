@@ -22,7 +22,7 @@ pub fn a_pass_is_earned<P: Process>()
     ensures { APassIsEarned P.Process }
 {}
 
-/// Where nothing was found so far, nothing was wrong in any turn. And at each point of a check, each answer that was
+/// Where nothing was found so far, nothing that is judged was wrong in any turn. And at each point of a check, each answer that was
 /// heard of its engine is a right one.
 pub fn silent_checks_are_right<P: Process, O: WriteOnce, E: WriteOnce>()
     ensures { SilentChecksAreRight (known_of P.Process O.WriteOnce E.WriteOnce) }
@@ -68,7 +68,7 @@ pub fn three_starts_in_vain_end_it<P: Process, O: WriteOnce, E: WriteOnce>()
 }
 
 /// A run whose status is 1 wrote a complaint; one whose status is 0 passed the engine, or was asked for a text alone;
-/// and in one whose status is 4 nothing was wrong, and the engine hasn't passed.
+/// and in one whose status is 4 nothing that is judged was wrong, and the engine hasn't passed.
 pub fn statuses_say<P: Process, O: WriteOnce, E: WriteOnce>()
     ensures { StatusesSay (known_of P.Process O.WriteOnce E.WriteOnce) }
 {

@@ -394,7 +394,7 @@ commands_of (exchange ∷ later) = exchange.entry ∷ commands_of later
 
 -- Whatever the engine is, if all that it wrote are right answers to the commands that it was asked, and what was heard
 -- and is heard now are a front of that, nothing is found. So an engine that refuses sizes, one that takes back just one
--- move, one of other texts, one that estimates scores, and one without `final_score` aren't blamed.
+-- move, one of other texts, and one without `final_score` aren't blamed; and of scores none that differ as komis do.
 abbrev pub WhoAnswersRightlyIsNotBlamed : Type 0
 WhoAnswersRightlyIsNotBlamed = (rule : KoRule) (out sent came : List ℕ) (said : List Exchange) (old new : Exam)
     (bytes later : List ℕ) (used : ℕ) (read : Option (Result Reply ReplyFault)) (finding : Option Finding)

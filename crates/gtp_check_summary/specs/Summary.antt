@@ -119,11 +119,11 @@ plural number = if number == 1 then [] else codes "s"
 abbrev pub counted_text : ℕ → List ℕ → List ℕ
 counted_text number what = concat (decimal number ∷ what ∷ plural number ∷ [])
 
--- how many moves in a row the engine takes back, where it refused to take back more
+-- how many moves in a row the engine had taken back where it first refused an `undo`
 abbrev pub undos_line : Option ℕ → List ℕ
 undos_line None = []
 undos_line (Some most) =
-    concat (codes "check: it takes back at most " ∷ counted_text most (codes " move") ∷ codes " in a row\n" ∷ [])
+    concat (codes "check: it first refused an undo after " ∷ counted_text most (codes " undo") ∷ codes " in a row\n" ∷ [])
 
 -- a size after a space
 abbrev pub spaced_size : ℕ → List ℕ

@@ -306,15 +306,15 @@ fn add_lack(text: &mut Vec<u8>, lacks: bool, name: &[u8]) -> Result<(), AllocErr
     )
 }
 
-/// How many moves in a row the engine takes back, where it refused to take back more.
+/// How many moves in a row the engine had taken back where it first refused an `undo`.
 fn add_most_undos(text: &mut Vec<u8>, most: Option<u32>) -> Result<(), AllocError>
     ensures { OnOk result (text.new.items ≡ text.old.items ++ undos_line most) }
 {
     let Some(most) = most else {
         return Ok(());
     };
-    text.extend_from_slice(b"check: it takes back at most ")?;
-    add_count(text, most, b" move")?;
+    text.extend_from_slice(b"check: it first refused an undo after ")?;
+    add_count(text, most, b" undo")?;
     text.extend_from_slice(b" in a row\n")?;
     Ok(())
 }

@@ -1,11 +1,12 @@
 -- The text of a complaint. (Own.)
 use Rattle.std.specs.Prelude.{ℕ, Bool, true, false, List, [], ◌∷◌, codes, length, take}
-use Rattle.std.specs.Prelude.{◌++◌, ◌==◌, slice_get, unwrap_or, Option, None, Some}
+use Rattle.std.specs.Prelude.{◌++◌, ◌==◌, nat_lt, slice_get, unwrap_or, Option, None, Some}
 use Rattle.std.specs.Borrow.{Bor}
 use Rattle.std.specs.Fmt.{decimal}
-use Rattle.std.specs.List.{concat}
+use Rattle.std.specs.List.{concat, list_any}
 use Rattle.std.specs.Prelude.{option_map}
 use Rattle.gtp_check_questions.specs.Lessons.{is_in_pieces, name_of}
+use Rattle.go_base.specs.Bytes.{space}
 use Rattle.gtp_process.specs.Shown.{ending_text, quoted}
 use Rattle.gtp_process.specs.declared.starter.Ending.{Ending}
 use Rattle.gtp_wire.specs.Replies.{most_shown}
@@ -27,10 +28,11 @@ use Rattle.gtp_process.specs.declared.causes.PipeCause.TheVariants.{Ended}
 
 -- ---- the lines
 
--- Its output ended within a reply: that is what was wrong, and it had written something since its last whole reply.
+-- Its output ended within a reply: that is what was wrong, and since its last whole reply it had written something that
+-- isn't blank. (Blanks and empty lines before a reply belong to none.)
 abbrev pub is_within : Fault → List ℕ → Bool
-is_within (CutOff Ended) (byte ∷ more) = true
-is_within _ _ = false
+is_within (CutOff Ended) wrote = list_any (λ byte. nat_lt space byte) wrote
+is_within _ wrote = false
 
 -- that it was within a reply
 abbrev pub within_text : Bool → List ℕ

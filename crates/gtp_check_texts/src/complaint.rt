@@ -161,12 +161,12 @@ impl<'t> Complaint<'t> {
         }
     }
 
-    /// Whether its output ended within a reply.
+    /// Whether its output ended within a reply, of which something was written that isn't blank.
     fn is_within(&self) -> bool
         ensures { result ≡ is_within self.now.fault self.now.wrote.now }
     {
         match self.fault {
-            Fault::CutOff(PipeCause::Ended) => !self.wrote.is_empty(),
+            Fault::CutOff(PipeCause::Ended) => self.wrote.iter().any(|byte| *byte > b' '),
             _ => false,
         }
     }

@@ -44,7 +44,7 @@ LACKS = {
     "without_undo": ["check: it lacks undo; nothing was asked that needs it"],
     "without_handicaps": ["check: it lacks fixed_handicap; nothing was asked that needs it"],
     "without_scores": ["check: it lacks final_score; nothing was asked that needs it"],
-    "short_history": ["check: it takes back at most 20 moves in a row"],
+    "short_history": ["check: it first refused an undo after 20 undos in a row"],
     # the sizes from 5 on until one is taken, and each size from 1 to 25; in the order in which they are refused first
     "three_sizes": ["check: it refuses the sizes 5 6 7 8 1 2 3 4 10 11 12 14 15 16 17 18 20 21 22 23 24 25"],
     "nineteen": ["check: it refuses the sizes 5 6 7 8 9 10 11 12 13 14 15 16 17 18 1 2 3 4 20 21 22 23 24 25"],
@@ -80,7 +80,7 @@ FREEDOMS = {
 SUICIDAL = {"allows_suicide", "allows_suicide_of_chains", "has_all_freedoms", "suicide_and_no_ko", "captures_are_suicide"}
 UNASKED = ("--suicide", "unasked")
 # lines on what these engines lack, which depend on what is drawn
-MAY_BE_SAID = re.compile(r"check: it takes back at most \d+ moves? in a row|check: .*\b(?:suicide|score)s?\b.*")
+MAY_BE_SAID = re.compile(r"check: it first refused an undo after \d+ undos? in a row|check: .*\b(?:suicide|score)s?\b.*")
 # engines that go beyond a freedom: the lessons in which this is noticed, and the command that is answered wrongly at first
 GO_BEYOND = {
     "half_of_komi_is_lost": (SCORES, "final_score"),

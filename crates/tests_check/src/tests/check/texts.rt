@@ -51,7 +51,7 @@ check: not asked, or not to their end, since no start was left: games restarts
 check: suicide: no play and no genmove was asked on any board of it
 check: genmoves: no play and no genmove was asked on any board of it
 check: it lacks undo; nothing was asked that needs it
-check: it takes back at most 400 moves in a row
+check: it first refused an undo after 400 undos in a row
 check: it refuses the sizes 1 25
 check: 1 suicide by genmove, not judged, as the options say
 check: 13 commands, 2 starts, 0 complaints
