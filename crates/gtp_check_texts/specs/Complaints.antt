@@ -26,7 +26,7 @@ use Rattle.gtp_process.specs.declared.causes.PipeCause.TheVariants.{Ended}
 
 -- ---- the conversation
 
--- where the line of the command with this number, counted from 0, ends in all that was sent
+-- where the line of the command with this number, counted from 0, ends in all that was asked
 abbrev pub line_end : Complaint → ℕ → ℕ
 line_end complaint number =
     option_map_or (λ said. said.end) (slice_get complaint.talk.now number) (length complaint.sent.now)
@@ -52,9 +52,9 @@ asked_line complaint = drop (line_start complaint complaint.answered) (conversat
 abbrev pub faulty_line : Complaint → List ℕ
 faulty_line complaint = strip_last newline (asked_line complaint)
 
--- the lines of what was asked after it
+-- the lines that were sent after it: those that still waited aren't among them
 abbrev pub after_lines : Complaint → List ℕ
-after_lines complaint = drop (line_end complaint complaint.answered) complaint.sent.now
+after_lines complaint = drop (line_end complaint complaint.answered) (take complaint.went_out complaint.sent.now)
 
 -- ---- the lines
 
@@ -119,7 +119,7 @@ abbrev pub ahead_text : Bool → List ℕ
 ahead_text true = []
 ahead_text false = codes "# asked before this answer was read:\n"
 
--- what was asked after the faulty command, before that was answered
+-- what was sent after the faulty command, before that was answered
 abbrev pub ahead_lines : List ℕ → List ℕ
 ahead_lines lines = ahead_text (length lines == 0) ++ lines
 

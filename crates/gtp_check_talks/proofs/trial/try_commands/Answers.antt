@@ -33,7 +33,7 @@ returns-in-Some-clause-tried g c =
     (rw c.in-Some.is at c.in_ok-fault.ensures.ends)
     (c.in_ok-fault.ensures.first (asked_nothing c.new-engine.result c.args.notes.now c.in-Ok.process
     (c.new-engine.ensures c.args.notes.now))) c.end-said.ensures.ended
-    (rw (c.answered-answered.ensures, said.0, said.1, said.2) refl))
+    (rw (c.answered-answered.ensures, said.0, said.1, said.2, c.end-said.ensures.out) refl))
 
 pub returns-in-None-clause-tried : goal.returns-in-None-clause-tried
 returns-in-None-clause-tried g c =
@@ -44,5 +44,5 @@ returns-in-None-clause-tried g c =
     (dialogue c.ask_all-found.new.engine c.ask_all-found.new.notes) c.end-said.result.ending
     c.started.ensures (c.new-engine.ensures c.args.notes.now) c.ask_all-found.ensures.check c.in-Ok.ensures.asked
     (rw c.in-None.is at c.in_ok-fault.ensures.ends)
-    (c.in_ok-fault.ensures.first (asked_nothing c.new-engine.result c.args.notes.now c.in-Ok.process
-    (c.new-engine.ensures c.args.notes.now))) c.end-said.ensures.ended)
+    (rw c.in-None.is at (c.in_ok-fault.ensures.all (asked_nothing c.new-engine.result c.args.notes.now c.in-Ok.process
+    (c.new-engine.ensures c.args.notes.now)))) c.end-said.ensures.ended)
