@@ -4,7 +4,6 @@ use Rattle.std.proofs.lemmas.List.{append-nil, length-append}
 use Rattle.gtp_process.specs.declared.starter.Process.{Ghosts}
 use Rattle.gtp_check_judge.specs.declared.asking.CheckCommand.{CheckCommand}
 use Rattle.gtp_check_judge.specs.declared.exam.Exam.{Exam}
-use Rattle.gtp_check_judge.specs.declared.unanswered.Asked.{Asked}
 use Rattle.gtp_check_shortening.specs.declared.talk.Purpose.{Purpose}
 use Rattle.gtp_check_shortening.specs.Shortening.{commands_of}
 use Rattle.gtp_check_talks.specs.Dialogues.{AreFor, Converses, asks, begins}
@@ -19,32 +18,33 @@ pub record IsAskedMore (count : ℕ) (old new : Exam) : Type 0 where
 
 module _ {P : Type 0} (purpose : Purpose) (first : Standing P) where
   -- the conversation goes on
-  pub asked_on : (known : Ghosts P) {commands : List CheckCommand} {last : Standing P}
+  pub asked_on : (known : Ghosts P) {commands : List CheckCommand} (last : Standing P)
       → AreAsked purpose first commands last → Converses known first.exam first.engine last.exam last.engine
-  asked_on known none = begins
-  asked_on known (one_more command more asked) = asks purpose command (asked_on known more) asked
+  asked_on known last none = begins
+  asked_on known last (one_more {mid = mid} command more asked) =
+      asks purpose command (asked_on known mid more) asked
 
   -- these are its commands
-  pub asked_talk : {commands : List CheckCommand} {last : Standing P} → AreAsked purpose first commands last
+  pub asked_talk : {commands : List CheckCommand} (last : Standing P) → AreAsked purpose first commands last
       → commands_of last.engine.talk ≡ commands_of first.engine.talk ++ commands
-  asked_talk none = sym (append-nil (commands_of first.engine.talk))
-  asked_talk (one_more {commands = commands} {mid = mid} {last = last} command more asked) =
+  asked_talk last none = sym (append-nil (commands_of first.engine.talk))
+  asked_talk last (one_more {commands = commands} {mid = mid} command more asked) =
       asked_more purpose mid.exam mid.engine command last.exam last.engine asked
-      ∙ ap (λ (talk : List CheckCommand). talk ++ command ∷ []) (asked_talk more)
+      ∙ ap (λ (talk : List CheckCommand). talk ++ command ∷ []) (asked_talk mid more)
       ∙ append_assoc (commands_of first.engine.talk) commands (command ∷ [])
 
   -- each for the purpose of those before
-  pub asked_purposes : {commands : List CheckCommand} {last : Standing P} → AreAsked purpose first commands last
+  pub asked_purposes : {commands : List CheckCommand} (last : Standing P) → AreAsked purpose first commands last
       → AreFor purpose first.engine.talk → AreFor purpose last.engine.talk
-  asked_purposes none all = all
-  asked_purposes (one_more {mid = mid} {last = last} command more asked) all =
-      asked_for purpose mid.exam mid.engine command last.exam last.engine asked (asked_purposes more all)
+  asked_purposes last none all = all
+  asked_purposes last (one_more {mid = mid} command more asked) all =
+      asked_for purpose mid.exam mid.engine command last.exam last.engine asked (asked_purposes mid more all)
 
-  pub asked_exam : {commands : List CheckCommand} {last : Standing P} → AreAsked purpose first commands last
+  pub asked_exam : {commands : List CheckCommand} (last : Standing P) → AreAsked purpose first commands last
       → IsAskedMore (length commands) first.exam last.exam
-  asked_exam none = record { up = refl; reader = refl; more = omega arith }
-  asked_exam (one_more {commands = commands} {mid = mid} {last = last} command more asked) =
-      let before = asked_exam more in
+  asked_exam last none = record { up = refl; reader = refl; more = omega arith }
+  asked_exam last (one_more {commands = commands} {mid = mid} command more asked) =
+      let before = asked_exam mid more in
       let is = asked.asks.new_is in
       let owes : length last.exam.unanswered ≡ length mid.exam.unanswered + 1 =
       ap (λ (exam : Exam). length exam.unanswered) is ∙ length-append mid.exam.unanswered _ in
@@ -55,8 +55,8 @@ module _ {P : Type 0} (purpose : Purpose) (first : Standing P) where
       }
 
   -- where none was asked, what waits is the same
-  pub asked_none : {commands : List CheckCommand} {last : Standing P} → AreAsked purpose first commands last
+  pub asked_none : {commands : List CheckCommand} (last : Standing P) → AreAsked purpose first commands last
       → length commands ≡ 0 → last.engine.waiting ≡ first.engine.waiting
-  asked_none none is = refl
-  asked_none (one_more {commands = commands} command more asked) is =
+  asked_none last none is = refl
+  asked_none last (one_more {commands = commands} command more asked) is =
       absurd (omega (arith, length-append commands (command ∷ [])))

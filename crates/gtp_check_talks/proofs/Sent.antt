@@ -1,5 +1,5 @@
 -- How much of what an engine was asked was sent.
-use Rattle.std.proofs.Common.{◌≡◌, ◌∙◌, ◌+◌, ◌-◌, ◌<◌, ◌≤◌, ap, refl, sym, subst, arith, ℕ, Bool, true, false}
+use Rattle.std.proofs.Common.{◌≡◌, ◌∙◌, ◌+◌, ◌-◌, ◌≤◌, ap, refl, sym, subst, arith, ℕ, Bool, true, false}
 use Rattle.std.proofs.Common.{List, [], ◌∷◌, ◌++◌, length, take, drop, slice_get, append_assoc, take-append-drop}
 use Rattle.std.proofs.Common.{Option, None, Some}
 use Rattle.std.specs.List.{concat}
@@ -17,7 +17,7 @@ use Rattle.gtp_check_shortening.specs.declared.talk.Said.{Said}
 use Rattle.gtp_check_texts.specs.declared.fault.Fault.{Fault}
 use Rattle.gtp_check_talks.specs.declared.notes.Notes.{Notes}
 use Rattle.gtp_check_talks.specs.Dialogues.{AreHeard, AreTaken, Converses, Dialogue, EndsSo, IsAsked, IsExchanged, IsRead}
-use Rattle.gtp_check_talks.specs.Dialogues.{IsSent, begun_with, ends_in_pieces, pieces_of, two_pieces, went_out}
+use Rattle.gtp_check_talks.specs.Dialogues.{IsSent, begun_with, ends_in_pieces, last_move, pieces_of, went_out}
 use Rattle.gtp_check_talks.specs.Laws.{IsHanded, IsSentSoFar, lines_end}
 use Rattle.gtp_check_talks.proofs.Trials.{at_back}
 
@@ -67,8 +67,18 @@ module _ {P : Type 0} (known : Ghosts P) (process : P) where
 
 -- ---- a conversation
 
+-- what is said of lines: the process, all that it was asked, and what waits
+record Lines (P : Type 0) : Type 0 where
+  process : P
+  sent : List ℕ
+  talk : List Said
+  waiting : List ℕ
+
+abbrev lines_of : {P : Type 0} → Dialogue P → Lines P
+lines_of now = record { process = now.process; sent = now.sent; talk = now.talk; waiting = now.waiting }
+
 -- What was sent, and after it what waits, are all lines. What was sent are those of the first commands.
-record SentSoFar {P : Type 0} (known : Ghosts P) (process : P) (now : Dialogue P) : Type 0 where
+record SentSoFar {P : Type 0} (known : Ghosts P) (process : P) (now : Lines P) : Type 0 where
   front : List ℕ
   lines : now.sent ≡ front ++ now.waiting
   last : length now.sent ≡ lines_end now.talk
@@ -85,26 +95,39 @@ end_of_more talk said =
     ∙ ap (λ (one : Option Said). option_map_or (λ (one : Said). one.end) one 0) (at_back talk (said ∷ []) 0)
 
 module _ {P : Type 0} (known : Ghosts P) (process : P) (first : Notes) (exam : Exam) where
+  -- so it is with an engine
+  abbrev Sent : Dialogue P → Type 0
+  Sent now = SentSoFar known process (lines_of now)
+
   asked_sent : (purpose : Purpose) (old : Exam) (before : Dialogue P) (command : CheckCommand) (new : Exam)
-      (after : Dialogue P) → IsAsked purpose old before command new after → SentSoFar known process before
-      → SentSoFar known process after
+      (after : Dialogue P) → IsAsked purpose old before command new after → Sent before
+      → Sent after
   asked_sent purpose old before command new after asked so =
-      subst (SentSoFar known process) (sym asked.joins)
-      (let line = written_check new.sent command in
-      record {
+      let line = written_check new.sent command in
+      let said : Said = record {
+        command = command;
+        purpose = purpose;
+        is_illegal = asked.is_illegal;
+        size = old.game.size;
+        moves = length old.game.moves;
+        last = last_move old.game;
+        end = length (before.sent ++ line);
+      } in
+      subst Sent (sym asked.joins)
+      (record {
         front = so.front;
         lines = ap (λ (all : List ℕ). all ++ line) so.lines ∙ append_assoc so.front before.waiting line;
-        last = sym (end_of_more before.talk _);
+        last = sym (end_of_more before.talk said);
         count = so.count;
-        few = omega (arith, so.few, length-append before.talk _);
-        whole = so.whole ∙ ap lines_end (sym (take-append-le so.count before.talk _ so.few));
+        few = omega (arith, so.few, length-append before.talk (said ∷ []));
+        whole = so.whole ∙ ap lines_end (sym (take-append-le so.count before.talk (said ∷ []) so.few));
         handed = so.handed;
       })
 
   -- what waits was sent
-  all_sent : (before : Dialogue P) (next : P) → SentSoFar known process before
+  all_sent : (before : Dialogue P) (next : P) → Sent before
       → IsSent known (ends_in_pieces before.talk) before.waiting before.process next
-      → SentSoFar known process (record before { process = next; waiting = [] })
+      → Sent (record before { process = next; waiting = [] })
   all_sent before next so sent = record {
     front = before.sent;
     lines = sym (append-nil before.sent);
@@ -119,35 +142,15 @@ module _ {P : Type 0} (known : Ghosts P) (process : P) (first : Notes) (exam : E
         before.process next so.handed (pieces_handed known process so.front sent));
   }
 
-  -- only its process changed, which was handed nothing, and what is held, kept and noted
+  -- what was heard leaves the lines
   heard_sent : (bytes : List ℕ) (old : Exam) (before : Dialogue P) (fault : Option Fault) (new : Exam)
-      (after : Dialogue P) → AreHeard bytes old before fault new after → SentSoFar known process before
-      → SentSoFar known process after
-  heard_sent bytes old before None new after heard so =
-      subst (SentSoFar known process) (sym heard.1)
-      (record {
-        front = so.front;
-        lines = so.lines;
-        last = so.last;
-        count = so.count;
-        few = so.few;
-        whole = so.whole;
-        handed = so.handed;
-      })
-  heard_sent bytes old before (Some fault) new after heard so =
-      subst (SentSoFar known process) (sym heard.1)
-      (record {
-        front = so.front;
-        lines = so.lines;
-        last = so.last;
-        count = so.count;
-        few = so.few;
-        whole = so.whole;
-        handed = so.handed;
-      })
+      (after : Dialogue P) → AreHeard bytes old before fault new after → Sent before → Sent after
+  heard_sent bytes old before None new after heard so = subst Sent (sym heard.1) so
+  heard_sent bytes old before (Some fault) new after heard so = subst Sent (sym heard.1) so
 
+  -- its process changed, and was handed nothing
   kept_sent : (before : Dialogue P) (next : P) → Keeps (known.taken before.process) (known.taken next)
-      → SentSoFar known process before → SentSoFar known process (record before { process = next })
+      → Sent before → Sent (record before { process = next })
   kept_sent before next kept so = record {
     front = so.front;
     lines = so.lines;
@@ -159,7 +162,7 @@ module _ {P : Type 0} (known : Ghosts P) (process : P) (first : Notes) (exam : E
   }
 
   read_sent : (old : Exam) (before : Dialogue P) {fault : Option Fault} {new : Exam} {after : Dialogue P}
-      → SentSoFar known process before → IsRead known old before fault new after → SentSoFar known process after
+      → Sent before → IsRead known old before fault new after → Sent after
   read_sent old before so
       (IsRead.gives {fault = fault} {new = new} {after = after} bytes next some gave unbroken taken heard) =
       heard_sent bytes old (record before { process = next }) fault new after heard (kept_sent before next taken so)
@@ -167,26 +170,18 @@ module _ {P : Type 0} (known : Ghosts P) (process : P) (first : Notes) (exam : E
   read_sent old before so (IsRead.breaks next cut given taken) = kept_sent before next taken so
 
   exchanged_sent : (old : Exam) (before : Dialogue P) {fault : Option Fault} {new : Exam} {after : Dialogue P}
-      → SentSoFar known process before → IsExchanged known old before fault new after
-      → SentSoFar known process after
+      → Sent before → IsExchanged known old before fault new after
+      → Sent after
   exchanged_sent old before so (IsExchanged.owes_nothing next none sent) = all_sent before next so sent
   exchanged_sent old before so
       (IsExchanged.held {fault = fault} {new = new} {after = after} owes some heard) =
       heard_sent before.held old (record before { held = [] }) fault new after heard
-      (record {
-        front = so.front;
-        lines = so.lines;
-        last = so.last;
-        count = so.count;
-        few = so.few;
-        whole = so.whole;
-        handed = so.handed;
-      })
+      so
   exchanged_sent old before so (IsExchanged.reads next owes none sent read) =
       read_sent old (record before { process = next; waiting = [] }) (all_sent before next so sent) read
 
   converses_sent : {now : Exam} {after : Dialogue P}
-      → Converses known exam (begun_with process first) now after → SentSoFar known process after
+      → Converses known exam (begun_with process first) now after → Sent after
   converses_sent Converses.begins = record {
     front = [];
     lines = refl;
@@ -203,12 +198,12 @@ module _ {P : Type 0} (known : Ghosts P) (process : P) (first : Notes) (exam : E
       exchanged_sent old before (converses_sent more) exchanged
 
   ends : (new : Exam) (fault : Option Fault) (after : Dialogue P)
-      → EndsSo known exam (begun_with process first) fault new after → SentSoFar known process after
+      → EndsSo known exam (begun_with process first) fault new after → Sent after
   ends new None after converses = converses_sent converses
   ends new (Some fault) after wrong = exchanged_sent wrong.old wrong.before (converses_sent wrong.converses) wrong.exchanged
 
 -- the front is what counts as sent
-counted_so : {P : Type 0} (known : Ghosts P) (process : P) (now : Dialogue P) → SentSoFar known process now
+counted_so : {P : Type 0} (known : Ghosts P) (process : P) (now : Dialogue P) → SentSoFar known process (lines_of now)
     → IsSentSoFar known process now
 counted_so known process now so =
     let count : length so.front ≡ went_out now =

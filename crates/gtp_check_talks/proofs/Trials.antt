@@ -82,7 +82,7 @@ some_more_of mid new rest left commands count is more left-is =
     cc
 
 -- what comes next in two lists is what comes next in the second
-at_back : {A : Type 0} (xs ys : List A) (k : ℕ) → slice_get (xs ++ ys) (length xs + k) ≡ slice_get ys k
+pub at_back : {A : Type 0} (xs ys : List A) (k : ℕ) → slice_get (xs ++ ys) (length xs + k) ≡ slice_get ys k
 at_back [] ys k = ap (slice_get ys) (zero-add k)
 at_back (x ∷ xs) ys k =
     let one : suc (length xs) + k ≡ suc (length xs + k) = omega arith in

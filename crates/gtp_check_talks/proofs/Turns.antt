@@ -8,15 +8,17 @@ use Rattle.gtp_wire.specs.declared.replies.ReplyFault.{ReplyFault}
 use Rattle.gtp_wire.specs.declared.replies.ReplyFault.TheVariants.{Overlong}
 use Rattle.gtp_wire.specs.Replies.{GivesNoAnswer, ReadsFirst}
 use Rattle.gtp_process.specs.declared.starter.Process.{Ghosts}
+use Rattle.gtp_check_judge.specs.declared.asking.CheckCommand.{CheckCommand}
 use Rattle.gtp_check_judge.specs.declared.exam.Exam.{Exam}
-use Rattle.gtp_check_judge.specs.declared.exam.Finding.{Finding}
 use Rattle.gtp_check_judge.specs.declared.judging.Judgement.{Judgement}
 use Rattle.gtp_check_judge.specs.declared.judging.Judgement.TheVariants.{Right, Plays, Resized, Undone, Opines, Wrong}
 use Rattle.gtp_check_judge.specs.declared.unanswered.Asked.{Asked}
 use Rattle.gtp_check_judge.specs.Judging.{oldest, has_id}
-use Rattle.gtp_check_judge.specs.Exam.{Hears, IdLeaves, Leaves, ReplyLeaves, after_judged, finding_of, with_learned, with_rest}
+use Rattle.gtp_check_judge.specs.Exam.{IdLeaves, Leaves, ReplyLeaves, after_judged, finding_of, with_learned, with_rest}
+use Rattle.gtp_check_shortening.specs.declared.talk.Purpose.{Purpose}
 use Rattle.gtp_check_talks.specs.Dialogues.{AreHeard, Dialogue, IsExchanged, IsRead}
-use Rattle.gtp_check_talks.proofs.Asked.{IsAskedMore}
+use Rattle.gtp_check_talks.specs.private.Asking.{AreAsked, Standing}
+use Rattle.gtp_check_talks.proofs.Asked.{IsAskedMore, asked_exam, asked_none}
 
 -- ---- what was heard
 
@@ -26,9 +28,9 @@ record IsAnswered (old new : Exam) : Type 0 where
   less : length new.unanswered + 1 ≡ length old.unanswered
 
 -- the same, or more of a reply is read, which has an end
-pub record GetsOn (old new : Exam) : Type 0 where
-  pub up : new.up ≡ true
-  pub less : (length new.unanswered + 1 ≡ length old.unanswered)
+record GetsOn (old new : Exam) : Type 0 where
+  up : new.up ≡ true
+  less : (length new.unanswered + 1 ≡ length old.unanswered)
       ⊎ ((length new.unanswered ≡ length old.unanswered) × (length old.reader < length new.reader)
       × (length new.reader ≤ 8192))
 
@@ -104,7 +106,7 @@ module _ {P : Type 0} (known : Ghosts P) where
       quiet_on bytes old (record before { process = next }) new after up some owes heard
 
   -- an engine that owes an answer was heard
-  pub exchanged_on : (old : Exam) (before : Dialogue P) (new : Exam) (after : Dialogue P) → old.up ≡ true
+  exchanged_on : (old : Exam) (before : Dialogue P) (new : Exam) (after : Dialogue P) → old.up ≡ true
       → 0 < length old.unanswered → IsExchanged known old before None new after → GetsOn old new
   exchanged_on old before new after up owes (IsExchanged.owes_nothing next none sent) = absurd (omega arith)
   exchanged_on old before new after up owes (IsExchanged.held some more heard) =
@@ -113,7 +115,7 @@ module _ {P : Type 0} (known : Ghosts P) where
       read_on old (record before { process = next; waiting = [] }) new after up owes read
 
   -- one that owes none was sent what waits
-  pub exchanged_out : (old : Exam) (before : Dialogue P) (new : Exam) (after : Dialogue P)
+  exchanged_out : (old : Exam) (before : Dialogue P) (new : Exam) (after : Dialogue P)
       → length old.unanswered ≡ 0 → IsExchanged known old before None new after
       → (new ≡ old) × (after.waiting ≡ [])
   exchanged_out old before new after owes (IsExchanged.owes_nothing next none sent) = (refl, refl)
@@ -130,7 +132,7 @@ left rest exam waiting =
 
 module _ (rest count later : ℕ) (first old new : Exam) (waits had waiting : List ℕ) where
   -- after commands were asked, and the engine was heard, less is left
-  pub less_left : later + count ≡ rest → IsAskedMore count first old → GetsOn old new
+  less_left : later + count ≡ rest → IsAskedMore count first old → GetsOn old new
       → left later new waiting < left rest first waits
   less_left is asked on =
       let reader : length old.reader ≡ length first.reader = ap (λ (text : List ℕ). length text) asked.reader in
@@ -140,7 +142,7 @@ module _ (rest count later : ℕ) (first old new : Exam) (waits had waiting : Li
       ]
 
   -- and where it owed nothing, and was sent what waited
-  pub less_sent : later + count ≡ rest → IsAskedMore count first old → length old.unanswered ≡ 0 → new ≡ old
+  less_sent : later + count ≡ rest → IsAskedMore count first old → length old.unanswered ≡ 0 → new ≡ old
       → waiting ≡ [] → 0 < length had → (count ≡ 0 → had ≡ waits) → left later new waiting < left rest first waits
   less_sent is asked none same sent some kept =
       let nothing : count ≡ 0 = omega (arith, asked.more) in
@@ -151,3 +153,48 @@ module _ (rest count later : ℕ) (first old new : Exam) (waits had waiting : Li
       let reads : length new.reader ≡ length first.reader =
       ap (λ (exam : Exam). length exam.reader) same ∙ ap (λ (text : List ℕ). length text) asked.reader in
       omega (arith, asked.more)
+
+-- ---- a turn
+
+-- what becomes of a trial in a turn: the engine is up, and less is left
+pub record TurnsOn (rest later : ℕ) (first new : Exam) (waits waiting : List ℕ) : Type 0 where
+  pub up : new.up ≡ true
+  pub less : left later new waiting < left rest first waits
+
+-- Commands were asked, and the engine owed something: an answer, or it had not been sent all. Then it was heard, and
+-- nothing was wrong.
+pub turned : {P : Type 0} (known : Ghosts P) (purpose : Purpose) (first old : Standing P) (commands : List CheckCommand)
+    (rest later : ℕ) (new : Exam) (after : Dialogue P) → later + length commands ≡ rest → first.exam.up ≡ true
+    → AreAsked purpose first commands old
+    → (0 < length old.engine.waiting) ⊎ (0 < length old.exam.unanswered)
+    → IsExchanged known old.exam old.engine None new after
+    → TurnsOn rest later first.exam new first.engine.waiting after.waiting
+turned known purpose first old commands rest later new after is up asks owes exchanged =
+    by old.exam.unanswered refl
+  where
+    asked : IsAskedMore (length commands) first.exam old.exam
+    asked = asked_exam purpose first old asks
+    by : (list : List Asked) → old.exam.unanswered ≡ list
+        → TurnsOn rest later first.exam new first.engine.waiting after.waiting
+    by [] none =
+        let nothing : length old.exam.unanswered ≡ 0 = ap (λ (list : List Asked). length list) none in
+        let out = exchanged_out known old.exam old.engine new after nothing exchanged in
+        let some : 0 < length old.engine.waiting =
+        elim owes as (λ _. 0 < length old.engine.waiting) [
+          inl waits ↦ waits
+          | inr more ↦ absurd (omega (arith, more, nothing))
+        ] in
+        record {
+          up = ap (λ (exam : Exam). exam.up) out.0 ∙ asked.up ∙ up;
+          less = less_sent rest (length commands) later first.exam old.exam new first.engine.waiting
+              old.engine.waiting after.waiting is asked nothing out.0 out.1 some (asked_none purpose first old asks);
+        }
+    by (one ∷ more) are =
+        let some : 0 < length old.exam.unanswered =
+        omega (arith, ap (λ (list : List Asked). length list) are) in
+        let on = exchanged_on known old.exam old.engine new after (asked.up ∙ up) some exchanged in
+        record {
+          up = on.up;
+          less = less_left rest (length commands) later first.exam old.exam new first.engine.waiting
+              old.engine.waiting after.waiting is asked on;
+        }

@@ -1,6 +1,6 @@
 -- What is said with an engine since it was started: what it is asked, what it writes, and what is found. (Own.)
 use Rattle.std.specs.Prelude.{◌≡◌, ℕ, ◌+◌, ◌*◌, ◌<◌, ◌⊎◌, Bool, true, false, List, [], ◌∷◌, ◌++◌, length, take, drop}
-use Rattle.std.specs.Prelude.{◌-◌, ◌==◌, ◌&&◌, slice_get, Option, None, Some, IfSome, is_some, option_map, if◌then◌else◌}
+use Rattle.std.specs.Prelude.{◌-◌, slice_get, Option, None, Some, IfSome, is_some, option_map, if◌then◌else◌}
 use Rattle.std.specs.List.{position_or_len}
 use Rattle.std.specs.Option.{option_map_or}
 use Rattle.std.specs.Prelude.{Result, Ok, Err, IsTrue, ◌↔◌, All}

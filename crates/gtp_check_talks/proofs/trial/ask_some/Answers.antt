@@ -1,4 +1,4 @@
-use Rattle.std.proofs.Common.{◌≡◌, ap, arith, refl, sym, subst, ◌∙◌, ℕ, List, ◌∷◌, ◌++◌, take, length}
+use Rattle.std.proofs.Common.{ap, refl, sym, subst, ◌∙◌, List, [], ◌∷◌, ◌++◌, take}
 use Rattle.std.proofs.lemmas.List.{take_more}
 use Rattle.gtp_check_judge.specs.declared.asking.CheckCommand.{CheckCommand}
 use Rattle.gtp_check_talks.specs.Dialogues.{dialogue}
@@ -20,7 +20,9 @@ loop-index-preserved g c =
           (λ (asked : List CheckCommand). AreAsked c.args.purpose
           (standing c.args.examiner.now.exam (dialogue c.args.engine.now c.args.notes.now)) asked
           (standing c.ask.new.examiner.exam (dialogue c.ask.new.self c.ask.new.notes)))
-          (sym more) (one_more c.index-commands-index.result before.asks c.in_ok-ask.ensures.asked);
+          (sym more)
+          (one_more {last = standing c.ask.new.examiner.exam (dialogue c.ask.new.self c.ask.new.notes)}
+          c.index-commands-index.result before.asks c.in_ok-ask.ensures.asked);
       check = with_another c.args.examiner.now c.loop-index.examiner c.ask.new.examiner before.check
           c.ask.ensures.check;
     }
