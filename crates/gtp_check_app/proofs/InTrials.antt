@@ -20,7 +20,7 @@ use Rattle.gtp_check_talks.specs.Laws.{RightAnswersEndStartsInVain, SilenceSaysA
 use Rattle.gtp_check_plan.specs.declared.plan.Plan.{Plan}
 use Rattle.gtp_check_app.specs.RunLaws.{IsGrounded, IsShownBy}
 use Rattle.gtp_check_app.specs.Turns.{IsReduced, IsShortened, IsTried, Moment, Reduces, Shortens, State, TriesOne}
-use Rattle.gtp_check_app.specs.Turns.{TriesShorter, or_else}
+use Rattle.gtp_check_app.specs.Trials.{LastGames, or_else}
 
 -- what there is is one thing
 pub one_there : {A : Type 0} {one other : A} → Some one ≡ Some other → one ≡ other
@@ -159,22 +159,15 @@ module _ {P : Type 0} (known : Ghosts P) (laws : Laws known) where
     one_comes commands before same (TriesOne.alike {tried = one} {after = after} may tried like) =
         tried_comes commands before (Some one) after same tried
 
-    shorter_comes : (how : Shortening) (before : Moment P) → before.state.check.exam.game.rule ≡ rule
-        → {result : Option Wrong} {after : Moment P} → TriesShorter known plan found how before result after
-        → Comes known rule before.state result after.state
-    shorter_comes how before same (TriesShorter.left_out none) = nothing_comes known rule before.state
-    shorter_comes how before same (TriesShorter.tries is_for tries) = one_comes _ before same tries
-
     shortens_comes : (before : Moment P) → before.state.check.exam.game.rule ≡ rule → {hows : List Shortening}
-        {after : Moment P} {result : Option Wrong} → Shortens known plan found hows before result after
-        → Comes known rule before.state result after.state
+        {after : Moment P} {games : LastGames} → Shortens known plan found hows before games after
+        → Comes known rule before.state games.ended after.state
     shortens_comes before same Shortens.none_left = nothing_comes known rule before.state
-    shortens_comes before same
-        (Shortens.missed {how = how} {mid = mid} {after = after} {result = result} tried more) =
-        let one = shorter_comes how before same tried in
-        later known rule before.state mid.state after.state result one.stays
+    shortens_comes before same (Shortens.missed {mid = mid} {after = after} {games = games} tried more) =
+        let one = one_comes _ before same tried in
+        later known rule before.state mid.state after.state games.ended one.stays
         (shortens_comes mid (one.stays.rule ∙ same) more)
-    shortens_comes before same (Shortens.shortened_so {how = how} tried) = shorter_comes how before same tried
+    shortens_comes before same (Shortens.shortened_so tried) = one_comes _ before same tried
 
     reduces_comes : (first : Reduction) (before : Moment P) → before.state.check.exam.game.rule ≡ rule
         → {now : Reduction} {best : Option Wrong} {after : Moment P}
@@ -214,5 +207,5 @@ module _ {P : Type 0} (known : Ghosts P) (laws : Laws known) where
       let games = shortens_comes plan found rule before same shortens in
       let best = reduces_comes plan found rule _ mid (games.stays.rule ∙ same) reduces in (
         both_stay before.state mid.state after.state games.stays best.stays,
-        of_either rule other one best.grounded games.grounded,
+        of_either rule other one.ended best.grounded games.grounded,
       )

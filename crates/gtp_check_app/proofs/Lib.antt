@@ -1,3 +1,4 @@
+mod FewTrials
 mod Gathering
 mod InStatus
 mod InTrials
@@ -10,4 +11,5 @@ mod Running
 mod Settling
 mod Shortening
 mod Suicides
+mod Trying
 mod Turning

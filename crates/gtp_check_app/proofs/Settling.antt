@@ -18,13 +18,14 @@ use Rattle.gtp_check_app.specs.declared.tally.Tally.{Tally}
 use Rattle.gtp_check_texts.specs.Complaints.{complaint_lines}
 use Rattle.gtp_check_talks.specs.Dialogues.{IsTrial, Wrong, right, unstarted, wrong, wrong_purpose, wrong_talk}
 use Rattle.gtp_check_app.specs.Progress.{IsShown, cleared, clearing, looking, looking_line}
-use Rattle.gtp_check_shortening.specs.Shortening.{shortened, shortenings}
+use Rattle.gtp_check_shortening.specs.Shortening.{shortened}
+use Rattle.gtp_check_app.specs.Trials.{LastGames, shortenings_of}
 use Rattle.gtp_check_app.specs.Tally.{found, is_shown}
 use Rattle.gtp_check_app.specs.declared.streams.Streams.{Streams}
 use Rattle.gtp_check_app.specs.Sequence.{Known, Point, StopsIn, first_line_broke, no_memory_for_first_line}
 use Rattle.gtp_check_app.specs.Sequence.{complaint_broke as turn_complaint_broke, no_memory_to_complain, point}
 use Rattle.gtp_check_app.specs.Turns.{Closes, Complains, Exchanges, IsComplaint, IsReduced, IsShortened, IsTried}
-use Rattle.gtp_check_app.specs.Turns.{Moment, Reduces, Shortens, State, TriesOne, TriesShorter, caption_of, found_in}
+use Rattle.gtp_check_app.specs.Turns.{Moment, Reduces, Shortens, State, TriesOne, caption_of, found_in}
 use Rattle.gtp_check_app.specs.Turns.{hidden, missed, moment, none_left, process_of, shortened_so, shown, shown_of}
 use Rattle.gtp_check_app.specs.Turns.{waiting}
 use Rattle.gtp_check_shortening.specs.Reduction.{Reduction}
@@ -212,21 +213,15 @@ one_down known plan about commands before (TriesOne.other may tried differs) dow
 one_down known plan about commands before (TriesOne.alike may tried same) down =
     tried_down known plan about commands before tried down
 
-tries_down : {P : Type 0} (known : Ghosts P) (plan : Plan) (about : Wrong) (how : Shortening) (before : Moment P)
-    → {result : Option Wrong} {after : Moment P} → TriesShorter known plan about how before result after
-    → before.state.check.exam.up ≡ false → after.state.check.exam.up ≡ false
-tries_down known plan about how before (TriesShorter.left_out not) down = down
-tries_down known plan about how before (TriesShorter.tries may one) down =
-    one_down known plan about (shortened how (wrong_talk about)) before one down
-
 shortens_down : {P : Type 0} (known : Ghosts P) (plan : Plan) (found : Wrong) (all : List Shortening)
-    → {before : Moment P} {result : Option Wrong} {after : Moment P} → Shortens known plan found all before result after
+    → {before : Moment P} {games : LastGames} {after : Moment P} → Shortens known plan found all before games after
     → before.state.check.exam.up ≡ false → after.state.check.exam.up ≡ false
 shortens_down known plan found [] none_left down = down
 shortens_down known plan found (how ∷ later) (missed {before = before} one more) down =
-    shortens_down known plan found later more (tries_down known plan found how before one down)
+    shortens_down known plan found later more
+    (one_down known plan found (shortened how (wrong_talk found)) before one down)
 shortens_down known plan found (how ∷ later) (shortened_so {before = before} one) down =
-    tries_down known plan found how before one down
+    one_down known plan found (shortened how (wrong_talk found)) before one down
 
 reduces_down : {P : Type 0} (known : Ghosts P) (plan : Plan) (about : Wrong) (first : Reduction) (before : Moment P)
     → {last : Reduction} {best : Option Wrong} {after : Moment P}
@@ -243,7 +238,8 @@ shortened_down : {P : Type 0} (known : Ghosts P) (plan : Plan) (about : Wrong) (
     → before.state.check.exam.up ≡ false → after.state.check.exam.up ≡ false
 shortened_down known plan about before
     (IsShortened.both_ways {mid = mid} shortens (IsReduced.reduced reduces over)) down =
-    reduces_down known plan about _ mid reduces (shortens_down known plan about shortenings shortens down)
+    reduces_down known plan about _ mid reduces
+    (shortens_down known plan about (shortenings_of plan.trials (wrong_talk about)) shortens down)
 
 pub complains_down : {P : Type 0} (known : Ghosts P) (plan : Plan) (before : Moment P) (fault : Fault)
     → {after : Moment P} {said : List (List ℕ)} (which : Option Fault) → which ≡ Some fault

@@ -1,7 +1,8 @@
 -- The starts that are asked for while shorter conversations are tried.
-use Rattle.std.proofs.Common.{◌≡◌, ◌∙◌, refl, sym, subst, Option, None, Some, Err, Ok, [], ◌∷◌, ◌++◌, append_assoc}
+use Rattle.std.proofs.Common.{◌≡◌, ◌∙◌, add-zero, ap, arith, refl, sym, subst, Option, None, Some, Err, Ok, [], ◌∷◌, ◌++◌, append_assoc}
 use Rattle.std.proofs.Common.{ℕ, ◌+◌, ◌<◌, ◌≤◌, length, take, drop, get_or}
-use Rattle.std.proofs.lemmas.List.{append-nil, at_drop_more, take-append-drop, take_all, take_more}
+use Rattle.std.proofs.lemmas.List.{append-nil, at_drop_more, length-append, length-take, take-append-drop, take_all}
+use Rattle.std.proofs.lemmas.List.{take_more}
 use Rattle.std.specs.Prelude.{List}
 use Rattle.gtp_process.specs.declared.starter.Process.{Ghosts}
 use Rattle.gtp_process.specs.declared.starter.StartFault.TheVariants as start_fault
@@ -14,9 +15,11 @@ use Rattle.gtp_check_plan.specs.declared.plan.Plan.{Plan}
 use Rattle.gtp_check_talks.specs.Dialogues.{AsksForMore, IsTrial, Wrong, none, one_more, right, unstarted, wrong}
 use Rattle.gtp_check_talks.specs.Dialogues.{wrong_purpose, wrong_talk}
 use Rattle.gtp_check_shortening.specs.declared.talk.Purpose.{Purpose}
-use Rattle.gtp_check_shortening.specs.Shortening.{shortened, shortenings}
+use Rattle.gtp_check_shortening.specs.declared.talk.Said.{Said}
+use Rattle.gtp_check_shortening.specs.Shortening.{shortened}
+use Rattle.gtp_check_app.specs.Trials.{LastGames, shortenings_of}
 use Rattle.gtp_check_app.specs.Turns.{IsReduced, IsShortened, IsTried, Moment, Reduces, Shortens, TriesOne}
-use Rattle.gtp_check_app.specs.Turns.{TriesShorter, missed, none_left, or_else}
+use Rattle.gtp_check_app.specs.Turns.{missed, none_left}
 use Rattle.gtp_check_shortening.specs.Reduction.{Reduction}
 use Rattle.gtp_check_app.specs.Turns.{shortened_so}
 
@@ -59,86 +62,102 @@ one_asks known plan found commands before (TriesOne.other may tried differs) =
 one_asks known plan found commands before (TriesOne.alike may tried same) =
     tried_asks known plan found commands before tried
 
-pub tries_asks : {P : Type 0} (known : Ghosts P) (plan : Plan) (found : Wrong) (how : Shortening)
-    (before : Moment P) → {result : Option Wrong} {after : Moment P}
-    → TriesShorter known plan found how before result after
-    → AsksForMore (program_line plan.words.items) before.asked after.asked
-tries_asks known plan found how before (TriesShorter.left_out not) = none
-tries_asks known plan found how before (TriesShorter.tries may one) =
-    one_asks known plan found (shortened how (wrong_talk found)) before one
-
 -- and so do several
 pub shortens_asks : {P : Type 0} (known : Ghosts P) (plan : Plan) (found : Wrong) (all : List Shortening)
-    → {before : Moment P} {result : Option Wrong} {after : Moment P}
-    → Shortens known plan found all before result after
+    → {before : Moment P} {games : LastGames} {after : Moment P}
+    → Shortens known plan found all before games after
     → AsksForMore (program_line plan.words.items) before.asked after.asked
 shortens_asks known plan found [] none_left = none
 shortens_asks known plan found (how ∷ later) (missed {before = before} {mid = mid} one more) =
-    then_more (program_line plan.words.items) before.asked mid.asked (tries_asks known plan found how before one)
+    then_more (program_line plan.words.items) before.asked mid.asked
+    (one_asks known plan found (shortened how (wrong_talk found)) before one)
     (shortens_asks known plan found later more)
 shortens_asks known plan found (how ∷ later) (shortened_so {before = before} one) =
-    tries_asks known plan found how before one
+    one_asks known plan found (shortened how (wrong_talk found)) before one
 
 -- these shorter conversations were tried, and none ended like the one that was found
 pub data Missed {P : Type 0} (known : Ghosts P) (plan : Plan) (found : Wrong) (first : Moment P)
     : List Shortening → Moment P → Type 0 where
   nothing : Missed known plan found first [] first
-  more : {all : List Shortening} {how : Shortening} {mid after : Moment P} → Missed known plan found first all mid
-      → TriesShorter known plan found how mid None after
+  more : {all : List Shortening} {mid after : Moment P} (how : Shortening) → Missed known plan found first all mid
+      → TriesOne known plan found (shortened how (wrong_talk found)) mid None after
       → Missed known plan found first (all ++ how ∷ []) after
 
--- and then the others
-pub missed_then : {P : Type 0} (known : Ghosts P) (plan : Plan) (found : Wrong) (first : Moment P)
-    → {all : List Shortening} {mid : Moment P} → Missed known plan found first all mid
-    → (later : List Shortening) {result : Option Wrong} {after : Moment P}
-    → Shortens known plan found later mid result after
-    → Shortens known plan found (all ++ later) first result after
-missed_then known plan found first Missed.nothing later rest = rest
-missed_then known plan found first (Missed.more {all = all} {how = how} one tried) later rest =
-    rw (append_assoc all (how ∷ []) later)
-    (missed_then known plan found first one (how ∷ later) (missed tried rest))
+-- so many were tried before
+abbrev with_more : ℕ → LastGames → LastGames
+with_more count games = record games { tried = games.tried + count }
 
--- programs were asked for in them
-pub missed_asks : {P : Type 0} (known : Ghosts P) (plan : Plan) (found : Wrong) (first : Moment P)
-    → {all : List Shortening} {mid : Moment P} → Missed known plan found first all mid
-    → AsksForMore (program_line plan.words.items) first.asked mid.asked
-missed_asks known plan found first Missed.nothing = none
-missed_asks known plan found first (Missed.more {how = how} {mid = mid} one tried) =
-    then_more (program_line plan.words.items) first.asked mid.asked (missed_asks known plan found first one)
-    (tries_asks known plan found how mid tried)
+module _ {P : Type 0} (known : Ghosts P) (plan : Plan) (found : Wrong) (first : Moment P) where
+  -- and then the others
+  missed_then : {all : List Shortening} {mid : Moment P} → Missed known plan found first all mid
+      → (later : List Shortening) {games : LastGames} {after : Moment P}
+      → Shortens known plan found later mid games after
+      → Shortens known plan found (all ++ later) first (with_more (length all) games) after
+  missed_then Missed.nothing later {games = games} {after = after} rest =
+      subst (λ (came : LastGames). Shortens known plan found later first came after)
+      (ap (λ (tried : ℕ). record games { tried = tried }) (sym (add-zero games.tried))) rest
+  missed_then (Missed.more {all = all} how one tried) later {games = games} {after = after} rest =
+      let count : games.tried + 1 + length all ≡ games.tried + length (all ++ how ∷ []) =
+      omega (arith, length-append all (how ∷ [])) in
+      subst (λ (came : LastGames). Shortens known plan found ((all ++ how ∷ []) ++ later) first came after)
+      (ap (λ (number : ℕ). record games { tried = number }) count)
+      (rw (append_assoc all (how ∷ []) later) (missed_then one (how ∷ later) (missed tried rest)))
 
--- one of them is found after the others
-pub found_here : {P : Type 0} (known : Ghosts P) (plan : Plan) (found : Wrong) (first : Moment P)
-    (all : List Shortening) (index : ℕ) (other : Shortening) (mid : Moment P) → index < length all
-    → Missed known plan found first (take index all) mid → {tried : Wrong} {after : Moment P}
-    → TriesShorter known plan found (get_or all index other) mid (Some tried) after
-    → Shortens known plan found all first (Some tried) after
-found_here {P} known plan found first all index other mid within none_before {tried = tried} {after = after} attempt =
-    let parts : take index all ++ get_or all index other ∷ drop (index + 1) all ≡ all =
-    sym (at_drop_more (λ (rest : List Shortening). take index all ++ rest) all index other within)
-    ∙ take-append-drop index all in
-    subst (λ (list : List Shortening). Shortens known plan found list first (Some tried) after) parts
-    (missed_then known plan found first none_before (get_or all index other ∷ drop (index + 1) all)
-    (shortened_so attempt))
+  -- programs were asked for in them
+  pub missed_asks : {all : List Shortening} {mid : Moment P} → Missed known plan found first all mid
+      → AsksForMore (program_line plan.words.items) first.asked mid.asked
+  missed_asks Missed.nothing = none
+  missed_asks (Missed.more {mid = mid} how one tried) =
+      then_more (program_line plan.words.items) first.asked mid.asked (missed_asks one)
+      (one_asks known plan found (shortened how (wrong_talk found)) mid tried)
 
--- one more is missed
-pub one_missed : {P : Type 0} (known : Ghosts P) (plan : Plan) (found : Wrong) (first : Moment P)
-    (all : List Shortening) (index : ℕ) (other : Shortening) (mid : Moment P) → index < length all
-    → Missed known plan found first (take index all) mid → {after : Moment P}
-    → TriesShorter known plan found (get_or all index other) mid None after
-    → Missed known plan found first (take (index + 1) all) after
-one_missed {P} known plan found first all index other mid within none_before {after = after} attempt =
-    subst (λ (list : List Shortening). Missed known plan found first list after)
-    (sym (take_more all index other within)) (Missed.more none_before attempt)
+  -- Of a list all before this index were tried, and none ended like it. (It is the list of those that are tried, and the
+  -- conversation the one that was found.)
+  module _ (all list : List Shortening) (talk : List Said) (index tried : ℕ) (mid : Moment P)
+      (same : list ≡ all) (is : talk ≡ wrong_talk found) (count : tried ≡ index)
+      (before : Missed known plan found first (take index list) mid) where
+    -- the next one ended like it
+    pub found_here : (other : Shortening) (commands : List CheckCommand) {ended : Wrong} {after : Moment P}
+        → commands ≡ shortened (get_or list index other) talk → index < length list
+        → TriesOne known plan found commands mid (Some ended) after
+        → Shortens known plan found all first (record { ended = Some ended; tried = tried + 1 }) after
+    found_here other commands {ended = ended} {after = after} which within attempt =
+        let parts : take index list ++ get_or list index other ∷ drop (index + 1) list ≡ all =
+        sym (at_drop_more (λ (rest : List Shortening). take index list ++ rest) list index other within)
+        ∙ take-append-drop index list ∙ same in
+        let number : 1 + length (take index list) ≡ tried + 1 = omega (arith, count, length-take index list) in
+        subst
+        (λ (n : ℕ). Shortens known plan found all first (record { ended = Some ended; tried = n }) after)
+        number
+        (subst
+        (λ (ones : List Shortening). Shortens known plan found ones first
+        (record { ended = Some ended; tried = 1 + length (take index list) }) after) parts
+        (missed_then before (get_or list index other ∷ drop (index + 1) list)
+        (shortened_so (rw (which, is) at attempt))))
 
--- all are missed
-pub all_missed : {P : Type 0} (known : Ghosts P) (plan : Plan) (found : Wrong) (first : Moment P)
-    (all : List Shortening) (index : ℕ) (mid : Moment P) → length all ≤ index
-    → Missed known plan found first (take index all) mid → Shortens known plan found all first None mid
-all_missed {P} known plan found first all index mid past none_before =
-    let whole : take index all ++ [] ≡ all = append-nil (take index all) ∙ take_all index all past in
-    subst (λ (list : List Shortening). Shortens known plan found list first None mid) whole
-    (missed_then known plan found first none_before [] none_left)
+    -- the next one didn't
+    pub one_missed : (other : Shortening) (commands : List CheckCommand) {after : Moment P}
+        → commands ≡ shortened (get_or list index other) talk → index < length list
+        → TriesOne known plan found commands mid None after
+        → Missed known plan found first (take (index + 1) list) after
+    one_missed other commands {after = after} which within attempt =
+        subst (λ (ones : List Shortening). Missed known plan found first ones after)
+        (sym (take_more list index other within))
+        (Missed.more (get_or list index other) before (rw (which, is) at attempt))
+
+    -- there is no other
+    pub all_missed : length list ≤ index → index ≤ length list
+        → Shortens known plan found all first (record { ended = None; tried = tried }) mid
+    all_missed past within =
+        let whole : take index list ++ [] ≡ all = append-nil (take index list) ∙ take_all index list past ∙ same in
+        let number : 0 + length (take index list) ≡ tried = omega (arith, count, length-take index list) in
+        subst
+        (λ (n : ℕ). Shortens known plan found all first (record { ended = None; tried = n }) mid)
+        number
+        (subst
+        (λ (ones : List Shortening). Shortens known plan found ones first
+        (record { ended = None; tried = 0 + length (take index list) }) mid) whole
+        (missed_then before [] none_left))
 
 -- ---- delta debugging
 
@@ -161,10 +180,5 @@ pub shortened_asks : {P : Type 0} (known : Ghosts P) (plan : Plan) (found : Wron
     → AsksForMore (program_line plan.words.items) before.asked after.asked
 shortened_asks known plan found before (IsShortened.both_ways {mid = mid} shortens (IsReduced.reduced reduces over)) =
     then_more (program_line plan.words.items) before.asked mid.asked
-    (shortens_asks known plan found shortenings shortens)
+    (shortens_asks known plan found (shortenings_of plan.trials (wrong_talk found)) shortens)
     (reduces_asks known plan found _ mid reduces)
-
--- the one, or else nothing, is the one
-pub or_else-none : (one : Option Wrong) → one ≡ or_else one None
-or_else-none None = refl
-or_else-none (Some one) = refl

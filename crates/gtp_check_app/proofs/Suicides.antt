@@ -17,7 +17,7 @@ use Rattle.gtp_check_plan.specs.declared.plan.Plan.{Plan}
 use Rattle.gtp_check_app.specs.Laws.{IsOfOther}
 use Rattle.gtp_check_app.specs.Tally.{with_suicide}
 use Rattle.gtp_check_app.specs.Turns.{Complains, IsReduced, IsShortened, Moment, Reduces, Shortens, State, TriesOne}
-use Rattle.gtp_check_app.specs.Turns.{TriesShorter, or_else}
+use Rattle.gtp_check_app.specs.Trials.{LastGames, or_else}
 use Rattle.gtp_check_app.specs.Unjudged.{is_unjudged}
 
 -- a conversation, where there is one, ended with this fault
@@ -39,16 +39,11 @@ module _ {P : Type 0} (known : Ghosts P) (plan : Plan) (found : Wrong) where
   of_one (TriesOne.other may tried differs) = by_none found.fault
   of_one (TriesOne.alike {tried = one} may tried same) = by_alike found one same
 
-  of_shorter : {how : Shortening} {before after : Moment P} {result : Option Wrong}
-      → TriesShorter known plan found how before result after → HasFault found.fault result
-  of_shorter (TriesShorter.left_out not) = by_none found.fault
-  of_shorter (TriesShorter.tries may one) = of_one one
-
-  of_shortens : (all : List Shortening) {before after : Moment P} {result : Option Wrong}
-      → Shortens known plan found all before result after → HasFault found.fault result
+  of_shortens : (all : List Shortening) {before after : Moment P} {games : LastGames}
+      → Shortens known plan found all before games after → HasFault found.fault games.ended
   of_shortens [] Shortens.none_left = by_none found.fault
   of_shortens (how ∷ later) (Shortens.missed one more) = of_shortens later more
-  of_shortens (how ∷ later) (Shortens.shortened_so one) = of_shorter one
+  of_shortens (how ∷ later) (Shortens.shortened_so one) = of_one one
 
   of_reduces : {first : Reduction} {before : Moment P} {last : Reduction} {best : Option Wrong} {after : Moment P}
       → Reduces known plan found first before last best after → HasFault found.fault best
@@ -69,7 +64,7 @@ module _ {P : Type 0} (known : Ghosts P) (plan : Plan) (found : Wrong) where
   pub shown_fault : {before after : Moment P} {shorter : Option Wrong}
       → IsShortened known plan found before shorter after → (unwrap_or shorter found).fault ≡ found.fault
   shown_fault (IsShortened.both_ways {games = games} {best = best} shortens (IsReduced.reduced reduces over)) =
-      of_shown (or_else best games) (of_either best games (of_reduces reduces) (of_shortens _ shortens))
+      of_shown (or_else best games.ended) (of_either best games.ended (of_reduces reduces) (of_shortens _ shortens))
 
 -- a suicide that was chosen isn't judged where it isn't asked
 unjudged_so : (rule : SuicideRule) (fault : Fault) → rule ≡ Unasked → fault ≡ Wrote (Unlawful Suicide)

@@ -1,5 +1,5 @@
 -- A pass is earned, and suicide isn't judged where it isn't asked. (Own.)
-use Rattle.std.specs.Prelude.{◌≡◌, ◌≤◌, ◌<◌, ◌↔◌, ◌⊎◌, ℕ, true, All, List, [], ◌++◌, length, Option, Some, Result}
+use Rattle.std.specs.Prelude.{◌≡◌, ◌+◌, ◌≤◌, ◌<◌, ◌↔◌, ◌⊎◌, ℕ, true, All, List, [], ◌++◌, length, Option, Some, Result}
 use Rattle.std.specs.Io.KnownBytes.{Appends}
 use Rattle.go_base.specs.declared.colours.Colour.{Colour}
 use Rattle.go_base.specs.declared.moves.Move.{Move}
@@ -55,6 +55,14 @@ pub record NoChosenSuicideIsBlamed {P : Type 0} (known : Ghosts P) : Type 0 wher
       (said : List (List ℕ)) → plan.suicide ≡ Unasked → fault ≡ Some (Wrote (Unlawful Suicide))
       → Complains known plan before fault after said
       → (said ≡ []) × (after.state.tally ≡ with_suicide before.state.tally)
+
+-- ---- shorter conversations
+
+-- For one complaint no more engines are started than the plan has trials.
+abbrev pub TrialsAreFew : {P : Type 0} → Ghosts P → Type 0
+TrialsAreFew {P} known = (plan : Plan) (before after : Moment P) (fault : Option Fault) (said : List (List ℕ))
+    → Complains known plan before fault after said
+    → after.state.check.starts ≤ before.state.check.starts + plan.trials
 
 -- ---- a pass
 

@@ -5,6 +5,7 @@ pub mod RunLaws
 pub mod Sequence
 pub mod Status
 pub mod Tally
+pub mod Trials
 pub mod Turns
 pub mod Unjudged
 pub mod private

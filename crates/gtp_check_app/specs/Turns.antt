@@ -1,5 +1,4 @@
 -- A check, turn by turn: what the engine is asked, when it is started and ended, and what is written. (Own.)
-use Rattle.std.specs.Prelude.{max, nat_lt, count_by, if◌then◌else◌}
 use Rattle.std.specs.Prelude.{IsTrue, ◌↔◌, ◌≡◌, ◌⊎◌, ℕ, ◌+◌, ◌<◌, ◌≤◌, Bool, true, false, not, ◌&&◌, ◌||◌, List, []}
 use Rattle.std.specs.Prelude.{◌∷◌, ◌++◌, length}
 use Rattle.std.specs.Prelude.{Option, None, Some, IfSome, is_some, option_map, unwrap_or, Ok, Err}
@@ -49,14 +48,14 @@ use Rattle.gtp_check_talks.specs.Dialogues.{wrong_with}
 use Rattle.gtp_check_talks.specs.Notes.{nothing_noted}
 use Rattle.gtp_check_talks.specs.Notes.{started as noted_start}
 use Rattle.gtp_check_app.specs.Progress.{before_read, clearing, looking}
-use Rattle.gtp_check_shortening.specs.Shortening.{commands_of, games_in, shortened, shortenings}
+use Rattle.gtp_check_shortening.specs.Shortening.{commands_of, shortened}
 use Rattle.gtp_check_shortening.specs.Reduction.{Reduction, after_failure, after_success, next}
 use Rattle.gtp_check_shortening.specs.Reduction.{begun as begun_reduction}
-use Rattle.gtp_check_shortening.specs.declared.limits.Limits.{Limits}
 use Rattle.gtp_check_summary.specs.Summary.{first_line}
 use Rattle.gtp_check_shortening.specs.Played.{played}
 use Rattle.gtp_check_shortening.specs.Superko.{IsPositional, game_before}
 use Rattle.gtp_check_app.specs.Unjudged.{HasPassedOver, is_blamed, is_unjudged, owed_purpose}
+use Rattle.gtp_check_app.specs.Trials.{LastGames, limits_of, or_else, shortenings_of}
 use Rattle.gtp_check_app.specs.Tally.{found, is_shown, nothing_found, started_again, with_suicide, without_start}
 
 -- how many turns a check has at most; no check within the limits has this number
@@ -67,34 +66,9 @@ most_turns = 1000000000000
 abbrev pub most_fruitless : ℕ
 most_fruitless = 3
 
--- a conversation of so many commands isn't shortened
-abbrev pub few_commands : ℕ
-few_commands = 12
-
--- so many commands may be asked in trials of a conversation, however short its lesson was
-abbrev pub least_tried : ℕ
-least_tried = 20000
-
 -- a conversation of at most so many commands is shown whole, also where nothing shorter was found
 abbrev pub most_whole : ℕ
 most_whole = 40
-
--- how many commands of the conversation were asked in the lesson in which it ended
-abbrev pub lesson_commands : Wrong → ℕ
-lesson_commands wrong = count_by (λ said. is_same_lesson (wrong_purpose wrong) said.purpose) (wrong_talk wrong)
-
--- How much may be tried: so many trials as the plan has, where there are more commands than are few; and in all of
--- them together as many commands as this conversation has in the lesson, or twenty thousand.
-abbrev pub limits_of : Plan → Wrong → Limits
-limits_of plan wrong = record {
-  trials = if nat_lt few_commands (length (wrong_talk wrong)) then plan.trials else 0;
-  commands = max least_tried (lesson_commands wrong);
-}
-
--- the one, if there is one, or else the other
-abbrev pub or_else : Option Wrong → Option Wrong → Option Wrong
-or_else None other = other
-or_else (Some one) other = Some one
 
 -- How often engines are started at most: more often than by the course, after each of a thousand findings, and for a
 -- thousand trials of each.
@@ -253,6 +227,7 @@ pub record IsComplaint (rule : KoRule) (caption : Caption) (wrong : Wrong) (comp
   pub shown_is : complaint.shown ≡ caption.shown
   pub fault : complaint.fault ≡ wrong.fault
   pub sent : complaint.sent.now ≡ wrong.sent
+  pub went_out : complaint.went_out ≡ wrong.went_out
   pub talk : complaint.talk.now ≡ wrong.talk
   pub answered : complaint.answered ≡ wrong.answered
   pub wrote : complaint.wrote.now ≡ wrong.wrote
@@ -331,31 +306,15 @@ module _ {P : Type 0} (known : Ghosts P) (plan : Plan) where
         → IsTried found commands before (Some tried) after → EndsLike tried found
         → TriesOne found commands before (Some tried) after
 
-  -- A conversation is shortened so where trials are made, it has more commands than are few, and more games than this
-  -- is for, and what is left of it has fewer commands than it.
-  pub record IsFor (found : Wrong) (how : Shortening) : Type 0 where
-    pub trials : 0 < plan.trials
-    pub long : few_commands < length (wrong_talk found)
-    pub games : how.more_than < games_in (wrong_talk found)
-    pub shorter : length (shortened how (wrong_talk found)) < length (wrong_talk found)
-
-  -- One shorter conversation was tried, where it may be.
-  pub data TriesShorter (found : Wrong) (how : Shortening) (before : Moment P)
-      : Option Wrong → Moment P → Type 0 where
-    left_out : (IsFor found how → ⊥) → TriesShorter found how before None before
-    tries : {result : Option Wrong} {after : Moment P} → IsFor found how
-        → TriesOne found (shortened how (wrong_talk found)) before result after
-        → TriesShorter found how before result after
-
-  -- These shorter conversations were tried in their order, up to the first that ended like the one that was found.
-  pub data Shortens (found : Wrong) : List Shortening → Moment P → Option Wrong → Moment P → Type 0 where
-    none_left : {before : Moment P} → Shortens found [] before None before
-    missed : {how : Shortening} {later : List Shortening} {before mid after : Moment P} {result : Option Wrong}
-        → TriesShorter found how before None mid → Shortens found later mid result after
-        → Shortens found (how ∷ later) before result after
-    shortened_so : {how : Shortening} {later : List Shortening} {before after : Moment P} {tried : Wrong}
-        → TriesShorter found how before (Some tried) after
-        → Shortens found (how ∷ later) before (Some tried) after
+  -- The last games of it were tried so, in this order, up to the first that ended like the one that was found.
+  pub data Shortens (found : Wrong) : List Shortening → Moment P → LastGames → Moment P → Type 0 where
+    none_left : {before : Moment P} → Shortens found [] before (record { ended = None; tried = 0 }) before
+    missed : {how : Shortening} {later : List Shortening} {before mid after : Moment P} {games : LastGames}
+        → TriesOne found (shortened how (wrong_talk found)) before None mid → Shortens found later mid games after
+        → Shortens found (how ∷ later) before (record games { tried = games.tried + 1 }) after
+    shortened_so : {how : Shortening} {later : List Shortening} {before after : Moment P} {ended : Wrong}
+        → TriesOne found (shortened how (wrong_talk found)) before (Some ended) after
+        → Shortens found (how ∷ later) before (record { ended = Some ended; tried = 1 }) after
 
   -- ---- delta debugging
 
@@ -378,12 +337,14 @@ module _ {P : Type 0} (known : Ghosts P) (plan : Plan) where
     reduced : {last : Reduction} {best : Option Wrong} {after : Moment P}
         → Reduces found first before last best after → next last ≡ None → IsReduced found first before best after
 
-  -- It was made shorter: to its last games, as far as one of these ends alike, and then by leaving out parts.
+  -- It was made shorter: to its last games, as far as one of these ends alike, and then by leaving out parts. In all no
+  -- more conversations were tried than the plan says.
   pub data IsShortened (found : Wrong) (before : Moment P) : Option Wrong → Moment P → Type 0 where
-    both_ways : {games best : Option Wrong} {mid after : Moment P} → Shortens found shortenings before games mid
-        → IsReduced found (begun_reduction (commands_of (wrong_talk (unwrap_or games found)))
-        (limits_of plan (unwrap_or games found))) mid best after
-        → IsShortened found before (or_else best games) after
+    both_ways : {games : LastGames} {best : Option Wrong} {mid after : Moment P}
+        → Shortens found (shortenings_of plan.trials (wrong_talk found)) before games mid
+        → IsReduced found (begun_reduction (commands_of (wrong_talk (unwrap_or games.ended found)))
+        (limits_of plan (unwrap_or games.ended found) games.tried)) mid best after
+        → IsShortened found before (or_else best games.ended) after
 
   -- ---- a complaint
 

@@ -1,22 +1,23 @@
 //! Something is wrong with the engine: it is ended, and a complaint is written.
-ghost use Rattle.std.specs.Prelude.{◌≡◌, ◌<◌, ◌≤◌, ◌⊎◌, [], ◌∷◌, true, false, None, IfErr, IfOk, IfSome, IsSome, OnOk};
-ghost use Rattle.std.specs.Prelude.{Some, length};
-ghost use Rattle.std.specs.Prelude.{count_by, option_map};
+ghost use Rattle.std.specs.Prelude.{◌≡◌, ◌⊎◌, [], ◌∷◌, true, None, Some, IfErr, IfOk, IfSome, IsSome, OnOk};
+ghost use Rattle.std.specs.Prelude.{◌<◌, ◌^◌, count_by, length, option_map, unwrap_or};
 ghost use Rattle.byte_streams.specs.Writing.{BreaksAt, GoesOut};
 ghost use Rattle.gtp_process.specs.Starts.{program_line};
 ghost use Rattle.gtp_check_texts.specs.Complaints.{complaint_lines};
 ghost use Rattle.gtp_check_talks.specs.Dialogues.{AsksForMore, wrong_of, wrong_talk};
 ghost use Rattle.gtp_check_shortening.specs.Purposes.{is_same_lesson, is_same_purpose};
 ghost use Rattle.gtp_check_app.specs.Progress.{IsShown, cleared};
-ghost use Rattle.gtp_check_shortening.specs.Shortening.{commands_of, games_in, shortenings};
+ghost use Rattle.gtp_check_shortening.specs.Shortening.{commands_of};
 ghost use Rattle.gtp_check_app.specs.Turns.{Closes, HasNoted, IsComplaint, IsReduced, IsShortened, Shortens};
-ghost use Rattle.gtp_check_app.specs.Turns.{TriesOne, TriesShorter, few_commands, is_loss, limits_of};
+ghost use Rattle.gtp_check_app.specs.Trials.{is_for, limits_of, shortenings_of};
+ghost use Rattle.gtp_check_app.specs.Turns.{TriesOne, is_loss};
 ghost use Rattle.gtp_check_shortening.specs.Played.{played};
 ghost use Rattle.gtp_check_shortening.specs.Reduction.{begun as begun_reduction};
 ghost use Rattle.gtp_check_shortening.specs.Superko.{game_before};
 ghost use Rattle.gtp_check_app.specs.Sequence.{known_of, point};
 ghost use Rattle.gtp_check_app.specs.Turns.{caption_of, moment, shown_of, state_of};
 ghost use Rattle.gtp_check_app.specs.Unjudged.{is_blamed};
+ghost use Rattle.gtp_check_app.specs.private.LastGames.{games_of};
 ghost use Rattle.gtp_check_app.specs.private.Steps.{ComplaintGoesOut, ComplaintStops};
 ghost use Rattle.gtp_check_texts.specs.declared.complaint.Complaint.{Complaint};
 ghost use Rattle.cli.specs.declared.failure.Failure.TheVariants as failure;
@@ -183,78 +184,57 @@ impl<S: Starter> Check<S> {
             (S.asked starter.old) (S.asked starter.new)) }
         ensures engine { self.new.engine ≡ self.old.engine }
     {
-        match self.last_games(found, plan, starter)? {
-            None => self.reduced(found, found, plan, starter),
-            Some(games) => match self.reduced(found, &games, plan, starter)? {
-                None => Ok(Some(games)),
-                Some(best) => Ok(Some(best)),
-            },
+        let games = self.last_games(found, plan, starter)?;
+        match self.reduced(found, &games, plan, starter)? {
+            None => Ok(games.ended),
+            Some(best) => Ok(Some(best)),
         }
     }
 
-    /// The last games of a conversation, where they have the same end: they are tried one after the other.
+    /// The last games of a conversation: they are tried one after the other, up to the first that has the same end.
     fn last_games(
         &mut self,
         found: &Tried,
         plan: &Plan<'_>,
         starter: &mut S,
-    ) -> Result<Option<Tried>, Failure>
-        ensures shortens { IfOk result (λ shorter. Shortens S.Process.Process plan.now
-            (wrong_of found.now) shortenings (moment (state_of self.old) (S.asked starter.old))
-            (option_map wrong_of shorter) (moment (state_of self.new) (S.asked starter.new))) }
-        ensures refused { IfErr result (λ why. (why ≡ failure.OutOfMemory)
-            × AsksForMore (program_line plan.now.words.items)
-            (S.asked starter.old) (S.asked starter.new)) }
-        ensures engine { self.new.engine ≡ self.old.engine }
-    {
-        let all = shortenings();
-        for shortening in &all {
-            if let Some(shorter) = self.try_shorter(found, *shortening, plan, starter)? {
-                return Ok(Some(shorter));
-            }
-        }
-        Ok(None)
-    }
-
-    /// One shorter conversation is tried, where it may be. It is returned where it has the same end.
-    fn try_shorter(
-        &mut self,
-        found: &Tried,
-        shortening: Shortening,
-        plan: &Plan<'_>,
-        starter: &mut S,
-    ) -> Result<Option<Tried>, Failure>
-        ensures tries { IfOk result (λ shorter. TriesShorter S.Process.Process plan.now
-            (wrong_of found.now) shortening (moment (state_of self.old) (S.asked starter.old))
-            (option_map wrong_of shorter) (moment (state_of self.new) (S.asked starter.new))) }
+    ) -> Result<LastGames, Failure>
+        ensures shortens { IfOk result (λ games. Shortens S.Process.Process plan.now
+            (wrong_of found.now) (shortenings_of plan.now.trials (wrong_talk (wrong_of found.now)))
+            (moment (state_of self.old) (S.asked starter.old))
+            (games_of games) (moment (state_of self.new) (S.asked starter.new))) }
         ensures refused { IfErr result (λ why. (why ≡ failure.OutOfMemory)
             × AsksForMore (program_line plan.now.words.items)
             (S.asked starter.old) (S.asked starter.new)) }
         ensures engine { self.new.engine ≡ self.old.engine }
     {
         let talk = found.conversation();
-        if !may_shorten(plan.trials, talk, shortening) {
-            return Ok(None);
+        let all = shortenings_of(self.alloc, talk, plan.trials)?;
+        let mut tried: u32 = 0;
+        for shortening in &all {
+            let commands = shortened(self.alloc, talk, *shortening)?;
+            tried += 1;
+            if let Some(ended) = self.try_one(found, commands.as_slice(), plan, starter)? {
+                let ended = Some(ended);
+                return Ok(LastGames { ended, tried });
+            }
         }
-        let commands = shortened(self.alloc, talk, shortening)?;
-        if commands.len() >= talk.len() {
-            return Ok(None);
-        }
-        self.try_one(found, commands.as_slice(), plan, starter)
+        Ok(LastGames { ended: None, tried })
     }
 
-    /// What is left of a conversation where parts are left out, and that has the same end as the one that was found. The
-    /// shortest that was tried, if any has.
+    /// What is left of a conversation where parts are left out, and that has the same end as the one that was found: the
+    /// shortest that was tried, if any has. It begins with the last games that ended so, or with all.
     fn reduced(
         &mut self,
         found: &Tried,
-        longer: &Tried,
+        games: &LastGames,
         plan: &Plan<'_>,
         starter: &mut S,
     ) -> Result<Option<Tried>, Failure>
-        ensures reduced { IfOk result (λ best. IsReduced S.Process.Process plan.now
-            (wrong_of found.now) (begun_reduction (commands_of (wrong_talk (wrong_of longer.now)))
-            (limits_of plan.now (wrong_of longer.now)))
+        ensures reduced { IfOk result (λ best.
+            let longer = unwrap_or (games_of games.now).ended (wrong_of found.now) in
+            IsReduced S.Process.Process plan.now (wrong_of found.now)
+            (begun_reduction (commands_of (wrong_talk longer))
+            (limits_of plan.now longer games.now.tried))
             (moment (state_of self.old) (S.asked starter.old))
             (option_map wrong_of best) (moment (state_of self.new) (S.asked starter.new))) }
         ensures refused { IfErr result (λ why. (why ≡ failure.OutOfMemory)
@@ -262,8 +242,9 @@ impl<S: Starter> Check<S> {
             (S.asked starter.old) (S.asked starter.new)) }
         ensures engine { self.new.engine ≡ self.old.engine }
     {
+        let longer = games.ended.as_ref().unwrap_or(found);
         let commands = commands_of(self.alloc, longer.conversation())?;
-        let limits = limits_of(plan, longer);
+        let limits = limits_of(plan, longer, games.tried);
         let mut reduction = Reduction::new(self.alloc, commands.as_slice(), limits)?;
         let mut best = None;
         while let Some(commands) = reduction.next(self.alloc)? {
@@ -320,15 +301,13 @@ impl<S: Starter> Check<S> {
     }
 }
 
-/// Whether a conversation may be shortened so: trials are made, it has more commands than are few, and more games than
-/// this is for.
-fn may_shorten(trials: u32, talk: &[Said], shortening: Shortening) -> bool
-    ensures yes { result ≡ true → (0 < trials) × (few_commands < length talk.now)
-        × (shortening.more_than < games_in talk.now) }
-    ensures no { result ≡ false → (trials ≡ 0) ⊎ ((length talk.now ≤ few_commands)
-        ⊎ (games_in talk.now ≤ shortening.more_than)) }
-{
-    trials > 0 && talk.len() > FEW_COMMANDS && games_in(talk) > shortening.more_than
+/// What came of the last games of a conversation.
+#[derive(Drop)]
+struct LastGames {
+    /// The first of them that ended like it, if one did.
+    ended: Option<Tried>,
+    /// How many were tried.
+    tried: u32,
 }
 
 /// How much is shown of a conversation for which nothing shorter was found, where so many trials are made at most.
@@ -342,14 +321,45 @@ fn shown_unshortened(trials: u32, found: &Tried) -> Shown
     }
 }
 
-/// How much may be tried of a conversation.
-fn limits_of(plan: &Plan<'_>, longer: &Tried) -> Limits
-    ensures { result ≡ limits_of plan.now (wrong_of longer.now) }
+/// The shortenings that are tried of a conversation, so many at most.
+fn shortenings_of(
+    alloc: Global,
+    talk: &[Said],
+    trials: u32,
+) -> Result<Vec<Shortening>, AllocError>
+    ensures those { IfOk result (λ all. all.items ≡ shortenings_of trials talk.now) }
+    ensures few { IfOk result (λ all. length all.items < 2 ^ 32) }
+{
+    let mut tried = Vec::new(alloc);
+    let all = shortenings();
+    for shortening in &all {
+        if tried.len() < trials as usize && is_for(alloc, talk, *shortening)? {
+            tried.push(*shortening)?;
+        }
+    }
+    Ok(tried)
+}
+
+/// Whether a conversation is shortened so: it has more commands than are few, and more games than this is for, and what
+/// is left of it has fewer commands.
+fn is_for(alloc: Global, talk: &[Said], shortening: Shortening) -> Result<bool, AllocError>
+    ensures { IfOk result (λ may. may ≡ is_for talk.now shortening) }
+{
+    if talk.len() <= FEW_COMMANDS || games_in(talk) <= shortening.more_than {
+        return Ok(false);
+    }
+    let commands = shortened(alloc, talk, shortening)?;
+    Ok(commands.len() < talk.len())
+}
+
+/// How much may be tried of a conversation, where so many shorter ones were tried before.
+fn limits_of(plan: &Plan<'_>, longer: &Tried, tried: u32) -> Limits
+    ensures { result ≡ limits_of plan.now (wrong_of longer.now) tried }
 {
     let talk = longer.conversation();
     let purpose = longer.purpose();
     let trials = if talk.len() > FEW_COMMANDS {
-        plan.trials
+        plan.trials.saturating_sub(tried)
     } else {
         0
     };
@@ -402,6 +412,7 @@ fn complaint_of<'t>(
         lesson: caption.lesson,
         fault: found.fault,
         sent: found.said.sent.as_slice(),
+        went_out: found.said.went_out,
         talk: found.said.talk.as_slice(),
         answered: found.answered,
         wrote: found.said.wrote.as_slice(),

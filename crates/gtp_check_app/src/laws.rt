@@ -1,5 +1,5 @@
 //! Laws of the check. Each is the contract of a function that does nothing.
-ghost use Rattle.gtp_check_app.specs.Laws.{APassIsEarned, NoChosenSuicideIsBlamed};
+ghost use Rattle.gtp_check_app.specs.Laws.{APassIsEarned, NoChosenSuicideIsBlamed, TrialsAreFew};
 ghost use Rattle.gtp_check_app.specs.RunLaws.{EachComplaintIsJust, QuitGoesToWhoOwesNothing, SilentChecksAreRight};
 ghost use Rattle.gtp_check_app.specs.RunLaws.{StatusesSay, ThreeStartsInVainEndIt};
 ghost use Rattle.gtp_check_app.specs.Sequence.{known_of};
@@ -14,6 +14,11 @@ use gtp_process::Process;
 /// Where suicide isn't asked, no complaint is about a suicide that a `genmove` chose: it is counted, and nothing else.
 pub fn no_chosen_suicide_is_blamed<P: Process>()
     ensures { NoChosenSuicideIsBlamed P.Process }
+{}
+
+/// For one complaint no more engines are started than the plan has trials: those for its last games are among them.
+pub fn trials_are_few<P: Process>()
+    ensures { TrialsAreFew P.Process }
 {}
 
 /// The status of a check that is over is 1 exactly where something was found, and 0 exactly where nothing was, each

@@ -10,7 +10,7 @@ use Rattle.gtp_check_judge.specs.Check.{Check, after_loss, started, with_exam}
 use Rattle.gtp_check_texts.specs.declared.fault.Fault.{Fault}
 use Rattle.gtp_check_talks.specs.declared.notes.Notes.{Notes}
 use Rattle.gtp_check_shortening.specs.declared.talk.Purpose.{Purpose}
-use Rattle.gtp_check_talks.specs.Dialogues.{AsksFirst, Converses, Dialogue, EndsWrong, IsTrial, Wrong, asks, begins}
+use Rattle.gtp_check_talks.specs.Dialogues.{AsksAll, AsksFirst, Converses, Dialogue, EndsWrong, IsTrial, Wrong, asks, begins}
 use Rattle.gtp_check_talks.specs.Dialogues.{begun_with, exchanges}
 use Rattle.gtp_check_talks.specs.Dialogues.{right, wrong, wrong_with}
 
@@ -45,7 +45,7 @@ module _ {P : Type 0} (known : Ghosts P) (line : List Text) (purpose : Purpose) 
   -- a trial in which nothing was wrong
   pub trial_right : mid ≡ started old → start ≡ begun_with process first
       → new ≡ with_exam mid new.exam → Tries had has line (Ok process)
-      → Converses known mid.exam start new.exam engine → AsksFirst purpose commands engine.talk
+      → Converses known mid.exam start new.exam engine → AsksAll purpose commands new.exam engine
       → known.leaves engine.process ending
       → IsTrial known line purpose commands old had first None (after_loss new) has engine.notes
   trial_right mid-is start-is new-is tried converses asked left =

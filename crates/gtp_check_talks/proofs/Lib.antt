@@ -1,8 +1,11 @@
+mod Asked
 mod Conversations
 mod Fruitless
 mod Illegal
 mod Pieces
 mod Rules
+mod Sent
 mod Silence
 mod Talks
 mod Trials
+mod Turns

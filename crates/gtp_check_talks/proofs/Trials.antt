@@ -1,21 +1,22 @@
 -- Which commands an engine was asked in a trial.
-use Rattle.std.proofs.Common.{◌≡◌, ◌∙◌, ap, sym, ℕ, ◌+◌, ◌<◌, List, [], ◌∷◌, ◌++◌, length, take, drop, get_or, refl}
-use Rattle.std.proofs.Common.{append_assoc, subst}
-use Rattle.std.specs.Prelude.{Option, Some, None}
-use Rattle.std.proofs.lemmas.List.{length-map, map-append, take_more}
+use Rattle.std.proofs.Common.{◌≡◌, ◌∙◌, ap, sym, ℕ, suc, ◌+◌, ◌≤◌, List, [], ◌∷◌, ◌++◌, length, take, drop, refl}
+use Rattle.std.proofs.Common.{◌⊎◌, inl, inr, append_assoc, arith, slice_get, subst, zero-add}
+use Rattle.std.specs.Prelude.{Option, Some, None, IfSome}
+use Rattle.std.proofs.lemmas.List.{length-append, length-map, length-take, map-append}
 use Rattle.std.proofs.lemmas.List.{take-append-drop}
 use Rattle.std.proofs.lemmas.List.Elements.{All-append, All-cons, All-nil}
 use Rattle.std.proofs.Math.Seq.{take-append_seam}
 use Rattle.gtp_process.specs.declared.starter.Process.{Ghosts}
 use Rattle.gtp_check_judge.specs.declared.asking.CheckCommand.{CheckCommand}
 use Rattle.gtp_check_judge.specs.declared.exam.Exam.{Exam}
+use Rattle.gtp_check_judge.specs.Exam.{HasRoomFor}
 use Rattle.gtp_check_talks.specs.declared.engine.Engine.{Engine}
 use Rattle.gtp_check_texts.specs.declared.fault.Fault.{Fault}
 use Rattle.gtp_check_talks.specs.declared.notes.Notes.{Notes}
 use Rattle.gtp_check_shortening.specs.declared.talk.Purpose.{Purpose}
 use Rattle.gtp_check_shortening.specs.declared.talk.Said.{Said}
 use Rattle.gtp_check_talks.specs.Dialogues.{AreFor, AreHeard, Dialogue, IsAsked, IsExchanged, IsRead, begun_with}
-use Rattle.gtp_check_talks.specs.Dialogues.{dialogue}
+use Rattle.gtp_check_talks.specs.Dialogues.{IsFull, dialogue}
 use Rattle.gtp_check_shortening.specs.Shortening.{commands_of}
 
 -- an engine that was just started was asked nothing
@@ -72,15 +73,6 @@ asks_first commands rest talk is =
     ∙ ap (λ (n : ℕ). take n (commands_of talk ++ rest)) (length-map talk (λ (said : Said). said.command))
     ∙ ap (take (length talk)) is
 
--- one command more
-pub one_more_of : (old mid new commands : List CheckCommand) (count : ℕ) (command : CheckCommand)
-    → mid ≡ old ++ take count commands → new ≡ mid ++ command ∷ [] → count < length commands
-    → command ≡ get_or commands count command → new ≡ old ++ take (count + 1) commands
-one_more_of old mid new commands count command is more within at =
-    let one = append_assoc old (take count commands) (command ∷ []) in
-    let taken = take_more commands count command within in
-    cc
-
 -- some commands more
 pub some_more_of : (mid new rest left commands : List CheckCommand) (count : ℕ) → mid ++ rest ≡ commands
     → new ≡ mid ++ take count rest → left ≡ drop count rest → new ++ left ≡ commands
@@ -88,3 +80,38 @@ some_more_of mid new rest left commands count is more left-is =
     let one = append_assoc mid (take count rest) (drop count rest) in
     let both = take-append-drop count rest in
     cc
+
+-- what comes next in two lists is what comes next in the second
+pub at_back : {A : Type 0} (xs ys : List A) (k : ℕ) → slice_get (xs ++ ys) (length xs + k) ≡ slice_get ys k
+at_back [] ys k = ap (slice_get ys) (zero-add k)
+at_back (x ∷ xs) ys k =
+    let one : suc (length xs) + k ≡ suc (length xs + k) = omega arith in
+    ap (λ (n : ℕ). slice_get (x ∷ (xs ++ ys)) n) one ∙ at_back xs ys k
+
+-- which command comes next, after some more of the rest of them were asked
+pub next_of : (old rest commands : List CheckCommand) (talk : List Said) (count : ℕ) → old ++ rest ≡ commands
+    → commands_of talk ≡ old ++ take count rest → count ≤ length rest
+    → slice_get commands (length talk) ≡ slice_get rest count
+next_of old rest commands talk count is more few =
+    let mapped : length (commands_of talk) ≡ length talk = length-map talk (λ (said : Said). said.command) in
+    let long : length talk ≡ length old + count =
+    omega (
+    arith, mapped, ap (λ (list : List CheckCommand). length list) more, length-append old (take count rest),
+    length-take count rest) in
+    ap (λ (list : List CheckCommand). slice_get list (length talk)) (sym is)
+    ∙ ap (λ (n : ℕ). slice_get (old ++ rest) n) long ∙ at_back old rest count
+
+-- where nothing waits, the next one may not be asked
+pub next_may_not : (exam : Exam) (talk : List Said) (waiting : List ℕ) (next : Option CheckCommand) → waiting ≡ []
+    → IfSome next (λ command. IsFull talk waiting ⊎ ¬ HasRoomFor exam command)
+    → IfSome next (λ command. ¬ HasRoomFor exam command)
+next_may_not exam talk waiting None none h = h
+next_may_not exam talk waiting (Some command) none h =
+    let empty : length waiting ≡ 0 = ap (λ (lines : List ℕ). length lines) none in
+    elim h as (λ _. ¬ HasRoomFor exam command) [
+      inl full ↦ elim full as (λ _. ¬ HasRoomFor exam command) [
+        inl long ↦ absurd (omega (arith, long))
+        | inr pieces ↦ absurd (omega (arith, pieces.1))
+      ]
+      | inr may_not ↦ may_not
+    ]

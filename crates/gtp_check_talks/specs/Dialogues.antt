@@ -1,6 +1,6 @@
 -- What is said with an engine since it was started: what it is asked, what it writes, and what is found. (Own.)
-use Rattle.std.specs.Prelude.{◌≡◌, ℕ, ◌+◌, ◌<◌, Bool, true, false, List, [], ◌∷◌, ◌++◌, length, take, drop}
-use Rattle.std.specs.Prelude.{◌-◌, ◌==◌, ◌&&◌, slice_get, Option, None, Some, is_some, option_map, if◌then◌else◌}
+use Rattle.std.specs.Prelude.{◌≡◌, ℕ, ◌+◌, ◌*◌, ◌<◌, ◌⊎◌, Bool, true, false, List, [], ◌∷◌, ◌++◌, length, take, drop}
+use Rattle.std.specs.Prelude.{◌-◌, slice_get, Option, None, Some, IfSome, is_some, option_map, if◌then◌else◌}
 use Rattle.std.specs.List.{position_or_len}
 use Rattle.std.specs.Option.{option_map_or}
 use Rattle.std.specs.Prelude.{Result, Ok, Err, IsTrue, ◌↔◌, All}
@@ -8,6 +8,7 @@ use Rattle.std.specs.Io.KnownBytes.{Appends, Keeps}
 use Rattle.byte_streams.specs.Parts.{TakesPart}
 use Rattle.go_base.specs.declared.moves.Move.{Move}
 use Rattle.go_board.specs.Game.{GameRecord, IsLegal}
+use Rattle.gtp_wire.specs.Commands.{most_command_bytes}
 use Rattle.gtp_wire.specs.Replies.{most_shown}
 use Rattle.gtp_wire.specs.declared.commands.Command.TheVariants.{Play}
 use Rattle.gtp_wire.specs.declared.replies.Reply.{Reply}
@@ -80,6 +81,10 @@ begun_with process notes = record {
   notes = notes;
 }
 
+-- how many bytes of the lines that it was asked were sent: all but those that wait
+abbrev pub went_out : {P : Type 0} → Dialogue P → ℕ
+went_out engine = length engine.sent - length engine.waiting
+
 -- ---- a command
 
 -- a `play` that isn't legal in this game: a right engine refuses it
@@ -101,6 +106,15 @@ ends_in_pieces talk =
 -- the last of those that are sent with it.
 abbrev pub MayFollow : List Said → List ℕ → Type 0
 MayFollow talk waiting = ends_in_pieces talk ≡ true → waiting ≡ []
+
+-- how many bytes of lines can wait to be sent
+abbrev pub lines_room : ℕ
+lines_room = 16 * most_command_bytes
+
+-- Another line can't wait: there is no room for it, or one waits that is sent in two pieces.
+abbrev pub IsFull : List Said → List ℕ → Type 0
+IsFull talk waiting =
+    (lines_room < length waiting + most_command_bytes) ⊎ ((ends_in_pieces talk ≡ true) × (0 < length waiting))
 
 -- A command is asked, for this purpose: it may be asked, and its line is joined to what the engine was asked and to
 -- what is sent next, which it may follow. It is counted.
@@ -299,12 +313,13 @@ EndsSo known first start (Some fault) new after = EndsWrong known first start fa
 
 -- ---- a conversation that ended with something wrong
 
--- What is wrong, how many commands were answered before, all that was sent, the commands, what the engine wrote since
--- its last whole reply, and how its process ended.
+-- What is wrong, how many commands were answered before, the lines of all that the engine was asked, how many bytes of
+-- them were sent, the commands, what it wrote since its last whole reply, and how its process ended.
 pub record Wrong : Type 0 where
   pub fault : Fault
   pub answered : ℕ
   pub sent : List ℕ
+  pub went_out : ℕ
   pub talk : List Said
   pub wrote : List ℕ
   pub ending : Ending
@@ -314,6 +329,7 @@ wrong_of tried = record {
   fault = tried.fault;
   answered = tried.answered;
   sent = tried.said.sent.items;
+  went_out = tried.said.went_out;
   talk = tried.said.talk.items;
   wrote = tried.said.wrote.items;
   ending = tried.said.ending;
@@ -325,6 +341,7 @@ wrong_with fault exam engine ending = record {
   fault = fault;
   answered = length engine.talk - length exam.unanswered;
   sent = engine.sent;
+  went_out = went_out engine;
   talk = engine.talk;
   wrote = engine.wrote;
   ending = ending;
@@ -368,8 +385,19 @@ pub record AsksFirst (purpose : Purpose) (commands : List CheckCommand) (talk : 
   pub order : commands_of talk ≡ take (length talk) commands
   pub purposes : AreFor purpose talk
 
+-- An engine that is up was asked all of these commands. Or it was asked the first of them, and the next one may not be
+-- asked in this game. It was sent all that it was asked, and has answered it.
+pub record AsksAll {P : Type 0} (purpose : Purpose) (commands : List CheckCommand) (exam : Exam) (engine : Dialogue P)
+    : Type 0 where
+  pub first : AsksFirst purpose commands engine.talk
+  pub next : IfSome (slice_get commands (length engine.talk)) (λ command. ¬ HasRoomFor exam command)
+  pub up : exam.up ≡ true
+  pub sent : engine.waiting ≡ []
+  pub answered : exam.unanswered ≡ []
+
 -- A conversation was tried, for this purpose, on an engine that was asked for by this command line. It wasn't started.
--- Or it was, and asked the first of these commands, and then nothing was wrong, or this was; and its process ended.
+-- Or it was, and answered all of these commands rightly, as far as they may be asked. Or it was asked the first of them,
+-- and then this was wrong. Its process was ended.
 pub data IsTrial {P : Type 0} (known : Ghosts P) (line : List Text) (purpose : Purpose) (commands : List CheckCommand)
     (old : Check) (had : Attempts P) (first : Notes) : Option Wrong → Check → Attempts P → Notes → Type 0 where
   unstarted : {has : Attempts P} (reason : StartReason) → Tries had has line (Err (start_fault.NotStarted reason))
@@ -377,7 +405,7 @@ pub data IsTrial {P : Type 0} (known : Ghosts P) (line : List Text) (purpose : P
   right : {has : Attempts P} {exam : Exam} {engine : Dialogue P} (process : P) (ending : Ending)
       → Tries had has line (Ok process)
       → Converses known (started old).exam (begun_with process first) exam engine
-      → AsksFirst purpose commands engine.talk → known.leaves engine.process ending
+      → AsksAll purpose commands exam engine → known.leaves engine.process ending
       → IsTrial known line purpose commands old had first None (after_loss (with_exam (started old) exam)) has
       engine.notes
   wrong : {has : Attempts P} {exam : Exam} {engine : Dialogue P} (process : P) (ending : Ending) (fault : Fault)

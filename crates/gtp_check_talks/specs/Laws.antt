@@ -1,5 +1,7 @@
 -- What is complained of is wrong, what a right engine writes is never complained of. (Own.)
-use Rattle.std.specs.Prelude.{◌≡◌, ◌≤◌, ◌<◌, ℕ, true, List, ◌++◌, length, Option, None, Some, Result}
+use Rattle.std.specs.Prelude.{◌≡◌, ◌-◌, ◌≤◌, ◌<◌, ℕ, true, List, ◌++◌, length, take, slice_get}
+use Rattle.std.specs.Prelude.{Option, None, Some, Result}
+use Rattle.std.specs.Option.{option_map_or}
 use Rattle.std.specs.Io.KnownBytes.{Appends}
 use Rattle.go_board.specs.declared.rules.KoRule.{KoRule}
 use Rattle.gtp_wire.specs.declared.replies.Reply.{Reply}
@@ -17,10 +19,12 @@ use Rattle.gtp_check_judge.specs.declared.judging.Kind.{Kind}
 use Rattle.gtp_check_judge.specs.Exam.{Hears, begun}
 use Rattle.gtp_check_judge.specs.Laws.{Exchange, IsJustified, IsRightSoFar, Talks}
 use Rattle.gtp_check_shortening.specs.declared.talk.Purpose.{Purpose}
+use Rattle.gtp_check_shortening.specs.declared.talk.Said.{Said}
 use Rattle.gtp_check_texts.specs.declared.fault.Fault.{Fault}
 use Rattle.gtp_check_texts.specs.declared.fault.Fault.TheVariants.{CutOff, Wrote}
 use Rattle.gtp_check_talks.specs.declared.notes.Notes.{Notes}
 use Rattle.gtp_check_talks.specs.Dialogues.{Converses, Dialogue, EndsSo, EndsWrong, IsAsked, IsExchanged, begun_with}
+use Rattle.gtp_check_talks.specs.Dialogues.{IsTakenInPart, went_out}
 
 -- What was found in what an engine wrote. What it was asked and what was heard are a talk in which all answers were
 -- right; then what was heard is a wrong answer, of this kind, and the finding is justified. What was heard is a front
@@ -124,3 +128,31 @@ pub record RightAnswersEndStartsInVain {P : Type 0} (known : Ghosts P) : Type 0 
   pub talked : (rule : KoRule) (process : P) (first : Notes) (fault : Option Fault) (new : Exam) (after : Dialogue P)
       → EndsSo known (begun rule true) (begun_with process first) fault new after
       → after.notes.fruitless ≤ first.fruitless
+
+-- ---- what was sent
+
+-- where the line of the last of these commands ends in all that an engine was asked
+abbrev pub lines_end : List Said → ℕ
+lines_end talk = option_map_or (λ said. said.end) (slice_get talk (length talk - 1)) 0
+
+-- A process was handed these bytes. It took them all. Or it was cut off while it took a piece of them, and had taken
+-- all before that.
+pub data IsHanded {P : Type 0} (known : Ghosts P) (process : P) (bytes : List ℕ) (now : P) : Type 0 where
+  taken : Appends (known.taken process) (known.taken now) bytes → IsHanded known process bytes now
+  cut_off : {mid after : P} (before piece later : List ℕ) → bytes ≡ before ++ (piece ++ later)
+      → Appends (known.taken process) (known.taken mid) before → IsTakenInPart known piece mid after
+      → IsHanded known process bytes now
+
+-- What counts as sent of the lines that an engine was asked are all but those that wait. These are the lines of the first
+-- commands, so many, and its process was handed them.
+pub record IsSentSoFar {P : Type 0} (known : Ghosts P) (process : P) (now : Dialogue P) : Type 0 where
+  pub lines : now.sent ≡ take (went_out now) now.sent ++ now.waiting
+  pub count : ℕ
+  pub whole : went_out now ≡ lines_end (take count now.talk)
+  pub handed : IsHanded known process (take (went_out now) now.sent) now.process
+
+-- So it is in whatever is said with an engine since its start.
+abbrev pub WhatCountsAsSentWasHanded : {P : Type 0} → Ghosts P → Type 0
+WhatCountsAsSentWasHanded {P} known = (exam new : Exam) (process : P) (first : Notes) (fault : Option Fault)
+    (after : Dialogue P) → EndsSo known exam (begun_with process first) fault new after
+    → IsSentSoFar known process after

@@ -9,7 +9,7 @@ ghost use Rattle.gtp_check_judge.specs.Exam.{Asks, HasRoomFor};
 ghost use Rattle.gtp_check_talks.specs.declared.notes.Notes.{Notes};
 ghost use Rattle.gtp_check_talks.specs.Dialogues.{AreHeard, AreTaken, IsAsked, IsRead, IsExchanged, IsSent};
 ghost use Rattle.gtp_check_talks.specs.Dialogues.{begun_with, dialogue, two_pieces};
-ghost use Rattle.gtp_check_talks.specs.Dialogues.{IsIllegal, IsTaken, IsTakenInPart, MayFollow, ends_in_pieces};
+ghost use Rattle.gtp_check_talks.specs.Dialogues.{IsFull, IsIllegal, IsTaken, IsTakenInPart, MayFollow, ends_in_pieces};
 ghost use Rattle.gtp_check_talks.specs.Dialogues.{kept_after, last_move, listener, through_line};
 ghost use Rattle.gtp_check_talks.specs.private.Hearing.{IsHeardBy};
 ghost use Rattle.gtp_check_talks.specs.private.Illegal.{is_bad_move};
@@ -91,8 +91,7 @@ impl<P: Process> Engine<P> {
         ensures room { result ≡ true → array_vec_len self.now.waiting + 64 ≤ LINES_ROOM }
         ensures follows { result ≡ true
             → MayFollow self.now.talk.items self.now.waiting.items }
-        ensures full { result ≡ false → (LINES_ROOM < array_vec_len self.now.waiting + 64)
-            ⊎ ((ends_in_pieces self.now.talk.items ≡ true) × (0 < length self.now.waiting.items)) }
+        ensures full { result ≡ false → IsFull self.now.talk.items self.now.waiting.items }
     {
         let is_cut = !self.waiting.is_empty() && ends_in_pieces(&self.talk);
         !is_cut && self.waiting.len() + MOST_COMMAND_BYTES <= LINES_ROOM
@@ -141,7 +140,7 @@ impl<P: Process> Engine<P> {
     /// and the engine is read once. Returns what is wrong with it, if anything.
     ///
     /// So the engine is asked the next commands after each reply, however many come at once: what it was asked when
-    /// something is found doesn't hang on the time.
+    /// something is found doesn't hang on the time. How much of that was sent may.
     pub fn exchange(
         &mut self,
         examiner: &mut Examiner,
@@ -246,12 +245,24 @@ impl<P: Process> Engine<P> {
         self.talk.len().saturating_sub(examiner.unanswered())
     }
 
+    /// Whether the engine was sent all that it was asked, and has answered it.
+    pub fn owes_nothing(&self, examiner: &Examiner) -> bool
+        ensures sent { result ≡ true → self.now.waiting.items ≡ [] }
+        ensures answered { result ≡ true → examiner.now.exam.unanswered ≡ [] }
+        ensures owes { result ≡ false → (0 < length self.now.waiting.items)
+            ⊎ (0 < length examiner.now.exam.unanswered) }
+    {
+        self.waiting.is_empty() && examiner.unanswered() == 0
+    }
+
     /// The process is ended, and what was said stays.
     pub fn end(self) -> Ended
         ensures said { (result.sent.items ≡ self.sent.items)
             × (result.talk.items ≡ self.talk.items) × (result.wrote.items ≡ self.wrote.items) }
+        ensures out { result.went_out ≡ length self.sent.items - length self.waiting.items }
         ensures ended { P.leaves self.process result.ending }
     {
+        let went_out = self.sent.len().saturating_sub(self.waiting.len());
         let Engine {
             process,
             sent,
@@ -263,6 +274,7 @@ impl<P: Process> Engine<P> {
         let ending = process.end();
         Ended {
             sent,
+            went_out,
             talk,
             wrote,
             ending,
@@ -443,6 +455,8 @@ fn last_move(game: &Game) -> Option<Move>
 pub struct Ended {
     /// The lines of all that it was asked.
     pub sent: Vec<u8>,
+    /// How many bytes of these lines were sent to it. The rest still waited.
+    pub went_out: usize,
     /// The commands.
     pub talk: Vec<Said>,
     /// The beginning of what it wrote since its last whole reply.

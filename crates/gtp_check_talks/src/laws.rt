@@ -1,7 +1,7 @@
 //! Laws of what is said with an engine. Each is the contract of a function that does nothing.
 ghost use Rattle.gtp_check_talks.specs.Laws.{ComplaintsAreJustified, NoRightEngineIsComplainedOf};
 ghost use Rattle.gtp_check_talks.specs.Laws.{KoRulesStay, LossesAreNoWrongAnswers, RightAnswersEndStartsInVain};
-ghost use Rattle.gtp_check_talks.specs.Laws.{SilenceSaysAllIsRight};
+ghost use Rattle.gtp_check_talks.specs.Laws.{SilenceSaysAllIsRight, WhatCountsAsSentWasHanded};
 
 use gtp_check_judge::laws::{
     findings_are_justified, no_right_engine_is_blamed, silence_says_all_is_right,
@@ -49,4 +49,10 @@ pub fn ko_rules_stay<P: Process>()
 /// A right answer ends the starts in vain, and nothing that is heard makes them more.
 pub fn right_answers_end_starts_in_vain<P: Process>()
     ensures { RightAnswersEndStartsInVain P.Process }
+{}
+
+/// What counts as sent of the lines that an engine was asked are all but those that wait: the lines of its first commands.
+/// Its process was handed them.
+pub fn what_counts_as_sent_was_handed<P: Process>()
+    ensures { WhatCountsAsSentWasHanded P.Process }
 {}

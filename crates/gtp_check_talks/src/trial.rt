@@ -1,10 +1,12 @@
 //! A shorter conversation is tried on a new engine.
-ghost use Rattle.std.specs.Prelude.{◌≡◌, ◌<◌, ◌≤◌, ◌↔◌, ◌++◌, IsTrue, IfOk, OnOk, OnErr, option_map, [], length, take};
+ghost use Rattle.std.specs.Prelude.{◌≡◌, ◌<◌, ◌≤◌, ◌↔◌, ◌⊎◌, true, [], length, take, slice_get};
+ghost use Rattle.std.specs.Prelude.{IsTrue, IfOk, IfNone, IfSome, OnOk, OnErr, option_map};
 ghost use Rattle.gtp_process.specs.Starts.{program_line};
 ghost use Rattle.gtp_check_judge.specs.Check.{with_exam};
-ghost use Rattle.gtp_check_talks.specs.Dialogues.{AsksForMore, Converses, EndsLike, EndsSo, IsTrial, dialogue};
-ghost use Rattle.gtp_check_talks.specs.Dialogues.{AreFor, AsksFirst, wrong_command, wrong_of, wrong_purpose, wrong_talk};
-ghost use Rattle.gtp_check_shortening.specs.Shortening.{commands_of};
+ghost use Rattle.gtp_check_judge.specs.Exam.{HasRoomFor};
+ghost use Rattle.gtp_check_talks.specs.Dialogues.{AsksAll, AsksFirst, AsksForMore, EndsLike, EndsSo, IsTrial, dialogue};
+ghost use Rattle.gtp_check_talks.specs.Dialogues.{IsFull, wrong_command, wrong_of, wrong_purpose, wrong_talk};
+ghost use Rattle.gtp_check_talks.specs.private.Asking.{AreAsked, standing};
 
 use crate::engine::{Ended, Engine, Room};
 use crate::notes::Notes;
@@ -14,9 +16,6 @@ use gtp_check_shortening::talk::{Purpose, Said};
 use gtp_check_texts::fault::Fault;
 use gtp_process::{Process, StartFault, Starter};
 use std::alloc::{AllocError, Global};
-
-/// How many exchanges a trial has at most for each command.
-const MOST_EXCHANGES: usize = 1_000_000_000;
 
 /// A conversation that ended with something wrong.
 #[derive(Drop)]
@@ -113,7 +112,11 @@ pub fn try_commands<S: Starter>(
     }
 }
 
-/// The engine is asked these commands, one after the other, until something is wrong.
+/// The engine, which is up, is asked these commands, one after the other: until something is wrong, or it has answered all
+/// that may be asked.
+///
+/// Each turn of the loop gets on: a command is answered, or more of a reply is read, which has 8,192 bytes at most, or what
+/// waits is sent.
 fn ask_all<P: Process>(
     engine: &mut Engine<P>,
     examiner: &mut Examiner,
@@ -122,25 +125,26 @@ fn ask_all<P: Process>(
     room: &mut Room,
     notes: &mut Notes,
 ) -> Result<Option<Fault>, AllocError>
+    requires up { examiner.old.exam.up ≡ true }
     ensures ends { IfOk result (λ fault. EndsSo P.Process examiner.old.exam
         (dialogue engine.old notes.old) fault examiner.new.exam (dialogue engine.new notes.new)) }
     ensures check { examiner.new ≡ with_exam examiner.old examiner.new.exam }
     ensures first { engine.old.talk.items ≡ []
         → OnOk result (AsksFirst purpose commands.now engine.new.talk.items) }
+    ensures all { engine.old.talk.items ≡ [] → IfOk result (λ fault. IfNone fault
+        (AsksAll purpose commands.now examiner.new.exam (dialogue engine.new notes.new))) }
 {
     let mut rest = commands;
-    for _exchange in 0..MOST_EXCHANGES {
+    'turns: loop {
         let asked = ask_some(engine, examiner, rest, purpose, notes)?;
         rest = rest.split_at(asked).1;
-        if examiner.unanswered() == 0 {
-            // All was answered, or the next command may not be asked in this game.
+        if engine.owes_nothing(examiner) {
             return Ok(None);
         }
         if let Some(fault) = engine.exchange(examiner, room, notes) {
             return Ok(Some(fault));
         }
     }
-    Ok(None)
 }
 
 /// The engine is asked the first of these commands, as many as may be asked at once. Returns how many.
@@ -151,14 +155,14 @@ fn ask_some<P: Process>(
     purpose: Purpose,
     notes: &mut Notes,
 ) -> Result<usize, AllocError>
-    ensures asks { OnOk result (Converses P.Process examiner.old.exam
-        (dialogue engine.old notes.old) examiner.new.exam (dialogue engine.new notes.new)) }
+    ensures asks { IfOk result (λ count. AreAsked purpose
+        (standing examiner.old.exam (dialogue engine.old notes.old)) (take count commands.now)
+        (standing examiner.new.exam (dialogue engine.new notes.new))) }
+    ensures few { IfOk result (λ count. count ≤ length commands.now) }
+    ensures most { IfOk result (λ count. IfSome (slice_get commands.now count) (λ next.
+        IsFull engine.new.talk.items engine.new.waiting.items
+        ⊎ ¬ HasRoomFor examiner.new.exam next)) }
     ensures check { examiner.new ≡ with_exam examiner.old examiner.new.exam }
-    ensures first { IfOk result (λ count. (count ≤ length commands.now)
-        × (commands_of engine.new.talk.items
-        ≡ commands_of engine.old.talk.items ++ take count commands.now)) }
-    ensures purposes { OnOk result (AreFor purpose engine.old.talk.items
-        → AreFor purpose engine.new.talk.items) }
 {
     for index in 0..commands.len() {
         let command = commands[index];

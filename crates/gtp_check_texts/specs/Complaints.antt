@@ -90,7 +90,7 @@ abbrev pub ahead_text : Bool → List ℕ
 ahead_text true = []
 ahead_text false = codes "# asked before this answer was read:\n"
 
--- what was asked after the faulty command, before that was answered
+-- what was sent after the faulty command, before that was answered
 abbrev pub ahead_lines : List ℕ → List ℕ
 ahead_lines lines = ahead_text (length lines == 0) ++ lines
 

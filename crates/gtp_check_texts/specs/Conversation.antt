@@ -37,6 +37,6 @@ asked_line complaint = line_of complaint complaint.answered
 abbrev pub faulty_line : Complaint → List ℕ
 faulty_line complaint = strip_last newline (asked_line complaint)
 
--- the lines of what was asked after it
+-- the lines that were sent after it: those that still waited aren't among them
 abbrev pub after_lines : Complaint → List ℕ
-after_lines complaint = drop (line_end complaint complaint.answered) complaint.sent.now
+after_lines complaint = drop (line_end complaint complaint.answered) (take complaint.went_out complaint.sent.now)

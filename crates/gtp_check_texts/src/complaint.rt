@@ -41,6 +41,8 @@ pub struct Complaint<'t> {
     pub fault: Fault,
     /// The lines of all that the engine was asked since it was started.
     pub sent: &'t [u8],
+    /// How many bytes of these lines were sent to it.
+    pub went_out: usize,
     /// The commands.
     pub talk: &'t [Said],
     /// How many of them it answered before.
@@ -58,7 +60,7 @@ pub struct Complaint<'t> {
 }
 
 /// The text of a complaint: what was wrong, the conversation as it was sent with the board before the faulty command,
-/// what the engine wrote, what is right, and what was asked before that answer was read.
+/// what the engine wrote, what is right, and what was sent before that answer was read.
 ///
 /// # Errors
 ///
@@ -143,12 +145,13 @@ impl<'t> Complaint<'t> {
         without_newline(self.asked_line())
     }
 
-    /// The lines of what was asked after it.
+    /// The lines that were sent after it.
     fn after_lines(&self) -> &'t [u8]
         ensures { result.now ≡ after_lines self.now }
     {
+        let lines = front(self.sent, self.went_out);
         let end = self.line_end(self.answered);
-        &self.sent[end.min(self.sent.len())..]
+        &lines[end.min(lines.len())..]
     }
 
     /// That the line of the faulty command came in two pieces, where it did.

@@ -1,4 +1,5 @@
 //! Texts of a check, its options and its counts, as they are written by hand.
+mod ahead;
 mod complaints;
 mod counts;
 mod options;

@@ -1,15 +1,20 @@
-use Rattle.std.proofs.Common.{◌≡◌, [], ◌++◌}
+use Rattle.std.proofs.Common.{◌≡◌, true, [], ◌++◌, length}
 use Rattle.gtp_check_judge.specs.Check.{with_exam}
 use Rattle.gtp_check_talks.specs.Dialogues.{AreFor, Converses, dialogue}
 use Rattle.gtp_check_shortening.specs.Shortening.{commands_of}
+use Rattle.gtp_check_talks.proofs.Turns.{left}
 use Rattle.gtp_check_talks.proofs.trial.ask_all.Given as goal
 
 -- nothing was wrong so far
-abbrev pub invariant-loop-exchange : goal.invariant-loop-exchange
-invariant-loop-exchange g l = record {
+abbrev pub invariant-turns : goal.invariant-turns
+invariant-turns g l = record {
   converses : Converses g.P.Process l.fn.examiner.exam (dialogue l.fn.engine l.fn.notes) l.examiner.exam
       (dialogue l.engine l.notes);
   check : l.examiner ≡ with_exam l.fn.examiner l.examiner.exam;
+  up : l.examiner.exam.up ≡ true;
   first : l.fn.engine.talk.items ≡ [] → commands_of l.engine.talk.items ++ l.rest ≡ l.commands;
   purposes : l.fn.engine.talk.items ≡ [] → AreFor l.purpose l.engine.talk.items;
 }
+
+abbrev pub decreases-turns : goal.decreases-turns
+decreases-turns g l = left (length l.rest) l.examiner.exam l.engine.waiting.items

@@ -2,7 +2,7 @@ use Rattle.std.proofs.Common.{Err, Ok, refl}
 use Rattle.std.proofs.lemmas.Result.{err_from_is_err_and}
 use Rattle.gtp_process.specs.declared.starter.StartFault.TheVariants as start_fault
 use Rattle.gtp_process.specs.Starts.{program_line}
-use Rattle.gtp_check_talks.specs.Dialogues.{dialogue, none, one_more, unstarted}
+use Rattle.gtp_check_talks.specs.Dialogues.{dialogue, none, one_more, unstarted, wrong_with}
 use Rattle.gtp_check_talks.proofs.Conversations.{trial_right, trial_wrong}
 use Rattle.gtp_check_talks.proofs.Trials.{asked_nothing}
 use Rattle.gtp_check_talks.proofs.trial.try_commands.Goals as goal
@@ -33,7 +33,9 @@ returns-in-Some-clause-tried g c =
     (rw c.in-Some.is at c.in_ok-fault.ensures.ends)
     (c.in_ok-fault.ensures.first (asked_nothing c.new-engine.result c.args.notes.now c.in-Ok.process
     (c.new-engine.ensures c.args.notes.now))) c.end-said.ensures.ended
-    (rw (c.answered-answered.ensures, said.0, said.1, said.2) refl))
+    (rw (c.answered-answered.ensures, said.0, said.1, said.2, c.end-said.ensures.out)
+    (refl {a = wrong_with c.in-Some.fault c.ask_all-found.new.examiner.exam
+    (dialogue c.ask_all-found.new.engine c.ask_all-found.new.notes) c.end-said.result.ending})))
 
 pub returns-in-None-clause-tried : goal.returns-in-None-clause-tried
 returns-in-None-clause-tried g c =
@@ -44,5 +46,5 @@ returns-in-None-clause-tried g c =
     (dialogue c.ask_all-found.new.engine c.ask_all-found.new.notes) c.end-said.result.ending
     c.started.ensures (c.new-engine.ensures c.args.notes.now) c.ask_all-found.ensures.check c.in-Ok.ensures.asked
     (rw c.in-None.is at c.in_ok-fault.ensures.ends)
-    (c.in_ok-fault.ensures.first (asked_nothing c.new-engine.result c.args.notes.now c.in-Ok.process
-    (c.new-engine.ensures c.args.notes.now))) c.end-said.ensures.ended)
+    (rw c.in-None.is at (c.in_ok-fault.ensures.all (asked_nothing c.new-engine.result c.args.notes.now c.in-Ok.process
+    (c.new-engine.ensures c.args.notes.now)))) c.end-said.ensures.ended)

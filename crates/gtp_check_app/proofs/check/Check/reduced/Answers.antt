@@ -1,12 +1,16 @@
-use Rattle.std.proofs.Common.{◌≡◌, ◌∙◌, ap, arith, length, option_map, refl, sym, List, None, Some}
+use Rattle.std.proofs.Common.{◌≡◌, ◌∙◌, ap, arith, length, option_map, refl, sym, List, Option, None, Some}
+use Rattle.std.specs.Borrow.{Bor}
+use Rattle.std.specs.Option.{option_copied, unwrap_or}
 use Rattle.std.proofs.lemmas.Result.{err_from_is_err_and}
 use Rattle.gtp_process.specs.Starts.{program_line}
 use Rattle.gtp_check_judge.specs.declared.asking.CheckCommand.{CheckCommand}
-use Rattle.gtp_check_talks.specs.Dialogues.{none, wrong_of, wrong_talk}
+use Rattle.gtp_check_talks.specs.declared.trial.Tried.{Tried}
+use Rattle.gtp_check_talks.specs.Dialogues.{Wrong, none, wrong_of, wrong_talk}
 use Rattle.gtp_check_shortening.specs.Reduction.{begun, next}
 use Rattle.gtp_check_shortening.specs.Shortening.{commands_of}
 use Rattle.gtp_check_shortening.specs.declared.limits.Limits.{Limits}
-use Rattle.gtp_check_app.specs.Turns.{IsReduced, Reduces, limits_of}
+use Rattle.gtp_check_app.specs.Trials.{limits_of}
+use Rattle.gtp_check_app.specs.Turns.{IsReduced, Reduces}
 use Rattle.gtp_check_app.proofs.Shortening.{reduces_asks, then_more}
 use Rattle.gtp_check_app.proofs.check.Check.reduced.Goals as goal
 use Rattle.gtp_check_app.proofs.check.Check.reduced.Goals.{in-None, in-Some-2}
@@ -23,17 +27,28 @@ returns-in_err-reduction-clause-refused g c =
     let failed = err_from_is_err_and exit.result exit.ensures.1 in
     rw failed.1 (failed.2, none)
 
+-- the last games that ended like what was found, if any did, or what was found
+longer_is : (ended : Option (Bor Tried)) (games : Option Tried) (found : Bor Tried) → option_copied ended ≡ games
+    → wrong_of (unwrap_or ended found).now ≡ unwrap_or (option_map wrong_of games) (wrong_of found.now)
+longer_is None games found is = rw (← is) refl
+longer_is (Some one) games found is = rw (← is) refl
+
 pub loop-best-init : goal.loop-best-init
 loop-best-init g c =
-    let commands : c.as_slice.result.now ≡ commands_of (wrong_talk (wrong_of c.args.longer.now)) =
+    let plan = c.args.plan.now in
+    let tried = c.args.games.now.tried in
+    let longer = c.unwrap_or-longer.result.now in
+    let commands : c.as_slice.result.now ≡ commands_of (wrong_talk (wrong_of longer)) =
     c.as_slice.ensures.value ∙ c.in_ok-commands.ensures ∙ ap commands_of c.conversation.ensures in
-    let is : c.in_ok-reduction.reduction ≡ begun (commands_of (wrong_talk (wrong_of c.args.longer.now)))
-    (limits_of c.args.plan.now (wrong_of c.args.longer.now)) =
-    c.in_ok-reduction.ensures
+    let is : wrong_of longer ≡ unwrap_or (option_map wrong_of c.args.games.now.ended) (wrong_of c.args.found.now) =
+    ap (λ (one : Bor Tried). wrong_of one.now) c.unwrap_or-longer.ensures
+    ∙ longer_is c.as_ref.result c.args.games.now.ended c.args.found c.as_ref.ensures.value in
+    let begins = c.in_ok-reduction.ensures
     ∙ ap (λ (all : List CheckCommand). begun all c.limits_of-limits.result) commands
-    ∙ ap (λ (limits : Limits). begun (commands_of (wrong_talk (wrong_of c.args.longer.now))) limits)
-    c.limits_of-limits.ensures in
-    record { reduces = rw is Reduces.begins; engine = refl }
+    ∙ ap (λ (limits : Limits). begun (commands_of (wrong_talk (wrong_of longer))) limits)
+    c.limits_of-limits.ensures
+    ∙ ap (λ (wrong : Wrong). begun (commands_of (wrong_talk wrong)) (limits_of plan wrong tried)) is in
+    record { reduces = rw begins Reduces.begins; engine = refl }
 
 pub returns-in_err-commands-2-clause-refused : goal.returns-in_err-commands-2-clause-refused
 returns-in_err-commands-2-clause-refused g c =

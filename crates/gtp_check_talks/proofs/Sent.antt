@@ -1,0 +1,226 @@
+-- How much of what an engine was asked was sent.
+use Rattle.std.proofs.Common.{◌≡◌, ◌∙◌, ◌+◌, ◌-◌, ◌≤◌, ap, refl, sym, subst, arith, ℕ, Bool, true, false}
+use Rattle.std.proofs.Common.{List, [], ◌∷◌, ◌++◌, length, take, drop, slice_get, append_assoc, take-append-drop}
+use Rattle.std.proofs.Common.{Option, None, Some}
+use Rattle.std.specs.List.{concat}
+use Rattle.std.specs.Option.{option_map_or}
+use Rattle.std.proofs.lemmas.List.{append-nil, length-append, take-append-le}
+use Rattle.std.proofs.Math.Seq.{take-append_seam, take-length}
+use Rattle.std.specs.Io.KnownBytes.{Appends, Keeps}
+use Rattle.std.proofs.KnownBytes.{Appends-kept, Appends-nil, Appends-trans}
+use Rattle.gtp_process.specs.declared.starter.Process.{Ghosts}
+use Rattle.gtp_check_judge.specs.declared.asking.CheckCommand.{CheckCommand}
+use Rattle.gtp_check_judge.specs.declared.exam.Exam.{Exam}
+use Rattle.gtp_check_judge.specs.Asking.{written_check}
+use Rattle.gtp_check_shortening.specs.declared.talk.Purpose.{Purpose}
+use Rattle.gtp_check_shortening.specs.declared.talk.Said.{Said}
+use Rattle.gtp_check_texts.specs.declared.fault.Fault.{Fault}
+use Rattle.gtp_check_talks.specs.declared.notes.Notes.{Notes}
+use Rattle.gtp_check_talks.specs.Dialogues.{AreHeard, AreTaken, Converses, Dialogue, EndsSo, IsAsked, IsExchanged, IsRead}
+use Rattle.gtp_check_talks.specs.Dialogues.{IsSent, begun_with, ends_in_pieces, last_move, pieces_of, went_out}
+use Rattle.gtp_check_talks.specs.Laws.{IsHanded, IsSentSoFar, lines_end}
+use Rattle.gtp_check_talks.proofs.Trials.{at_back}
+
+-- ---- pieces
+
+-- the pieces in which lines are sent are these lines
+joined_pieces : (in_pieces : Bool) (lines : List ℕ) → concat (pieces_of in_pieces lines) ≡ lines
+joined_pieces in_pieces [] = refl
+joined_pieces false (byte ∷ more) = append-nil (byte ∷ more)
+joined_pieces true (byte ∷ more) =
+    ap (λ (last : List ℕ). take (length (byte ∷ more) - 2) (byte ∷ more) ++ last)
+    (append-nil (drop (length (byte ∷ more) - 2) (byte ∷ more)))
+    ∙ take-append-drop (length (byte ∷ more) - 2) (byte ∷ more)
+
+module _ {P : Type 0} (known : Ghosts P) (process : P) where
+  -- more was handed to it
+  more_handed : (bytes more : List ℕ) (mid now : P) → IsHanded known process bytes mid
+      → (Appends (known.taken process) (known.taken mid) bytes → IsHanded known process (bytes ++ more) now)
+      → IsHanded known process (bytes ++ more) now
+  more_handed bytes more mid now (IsHanded.taken took) then = then took
+  more_handed bytes more mid now (IsHanded.cut_off {mid = at} {after = after} before piece later is took cut) then =
+      IsHanded.cut_off before piece (later ++ more)
+      (ap (λ (all : List ℕ). all ++ more) is ∙ append_assoc before (piece ++ later) more
+      ∙ ap (λ (all : List ℕ). before ++ all) (append_assoc piece later more))
+      took cut
+
+  -- after these bytes it was handed pieces
+  pieces_handed : (bytes : List ℕ) {pieces : List (List ℕ)} {mid now : P} → AreTaken known pieces mid now
+      → Appends (known.taken process) (known.taken mid) bytes → IsHanded known process (bytes ++ concat pieces) now
+  pieces_handed bytes (AreTaken.no_piece {before = mid}) took =
+      subst (λ (all : List ℕ). IsHanded known process all mid) (sym (append-nil bytes)) (IsHanded.taken took)
+  pieces_handed bytes
+      (AreTaken.whole {pieces = pieces} {before = mid} {mid = next} {after = now} piece taken more) took =
+      subst (λ (all : List ℕ). IsHanded known process all now) (append_assoc bytes piece (concat pieces))
+      (pieces_handed (bytes ++ piece) more
+      (Appends-trans (known.taken process) (known.taken mid) (known.taken next) bytes piece took taken.taken))
+  pieces_handed bytes (AreTaken.part {pieces = pieces} piece cut) took =
+      IsHanded.cut_off bytes piece (concat pieces) refl took cut
+
+  -- nothing more was handed to it
+  same_handed : (bytes : List ℕ) (mid now : P) → Keeps (known.taken mid) (known.taken now)
+      → IsHanded known process bytes mid → IsHanded known process bytes now
+  same_handed bytes mid now kept (IsHanded.taken took) =
+      IsHanded.taken (Appends-kept (known.taken process) (known.taken mid) (known.taken now) bytes took kept)
+  same_handed bytes mid now kept (IsHanded.cut_off before piece later is took cut) =
+      IsHanded.cut_off before piece later is took cut
+
+-- ---- a conversation
+
+-- what is said of lines: the process, all that it was asked, and what waits
+record Lines (P : Type 0) : Type 0 where
+  process : P
+  sent : List ℕ
+  talk : List Said
+  waiting : List ℕ
+
+abbrev lines_of : {P : Type 0} → Dialogue P → Lines P
+lines_of now = record { process = now.process; sent = now.sent; talk = now.talk; waiting = now.waiting }
+
+-- What was sent, and after it what waits, are all lines. What was sent are those of the first commands.
+record SentSoFar {P : Type 0} (known : Ghosts P) (process : P) (now : Lines P) : Type 0 where
+  front : List ℕ
+  lines : now.sent ≡ front ++ now.waiting
+  last : length now.sent ≡ lines_end now.talk
+  count : ℕ
+  few : count ≤ length now.talk
+  whole : length front ≡ lines_end (take count now.talk)
+  handed : IsHanded known process front now.process
+
+-- one command more
+end_of_more : (talk : List Said) (said : Said) → lines_end (talk ++ said ∷ []) ≡ said.end
+end_of_more talk said =
+    let at : length (talk ++ said ∷ []) - 1 ≡ length talk + 0 = omega (arith, length-append talk (said ∷ [])) in
+    ap (λ (n : ℕ). option_map_or (λ (one : Said). one.end) (slice_get (talk ++ said ∷ []) n) 0) at
+    ∙ ap (λ (one : Option Said). option_map_or (λ (one : Said). one.end) one 0) (at_back talk (said ∷ []) 0)
+
+module _ {P : Type 0} (known : Ghosts P) (process : P) (first : Notes) (exam : Exam) where
+  -- so it is with an engine
+  abbrev Sent : Dialogue P → Type 0
+  Sent now = SentSoFar known process (lines_of now)
+
+  asked_sent : (purpose : Purpose) (old : Exam) (before : Dialogue P) (command : CheckCommand) (new : Exam)
+      (after : Dialogue P) → IsAsked purpose old before command new after → Sent before
+      → Sent after
+  asked_sent purpose old before command new after asked so =
+      let line = written_check new.sent command in
+      let said : Said = record {
+        command = command;
+        purpose = purpose;
+        is_illegal = asked.is_illegal;
+        size = old.game.size;
+        moves = length old.game.moves;
+        last = last_move old.game;
+        end = length (before.sent ++ line);
+      } in
+      subst Sent (sym asked.joins)
+      (record {
+        front = so.front;
+        lines = ap (λ (all : List ℕ). all ++ line) so.lines ∙ append_assoc so.front before.waiting line;
+        last = sym (end_of_more before.talk said);
+        count = so.count;
+        few = omega (arith, so.few, length-append before.talk (said ∷ []));
+        whole = so.whole ∙ ap lines_end (sym (take-append-le so.count before.talk (said ∷ []) so.few));
+        handed = so.handed;
+      })
+
+  -- what waits was sent
+  all_sent : (before : Dialogue P) (next : P) → Sent before
+      → IsSent known (ends_in_pieces before.talk) before.waiting before.process next
+      → Sent (record before { process = next; waiting = [] })
+  all_sent before next so sent = record {
+    front = before.sent;
+    lines = sym (append-nil before.sent);
+    last = so.last;
+    count = length before.talk;
+    few = omega arith;
+    whole = so.last ∙ ap lines_end (sym (take-length before.talk));
+    handed = subst (λ (all : List ℕ). IsHanded known process all next)
+        (ap (λ (all : List ℕ). so.front ++ all) (joined_pieces (ends_in_pieces before.talk) before.waiting)
+        ∙ sym so.lines)
+        (more_handed known process so.front (concat (pieces_of (ends_in_pieces before.talk) before.waiting))
+        before.process next so.handed (pieces_handed known process so.front sent));
+  }
+
+  -- what was heard leaves the lines
+  heard_sent : (bytes : List ℕ) (old : Exam) (before : Dialogue P) (fault : Option Fault) (new : Exam)
+      (after : Dialogue P) → AreHeard bytes old before fault new after → Sent before → Sent after
+  heard_sent bytes old before None new after heard so = subst Sent (sym heard.1) so
+  heard_sent bytes old before (Some fault) new after heard so = subst Sent (sym heard.1) so
+
+  -- its process changed, and was handed nothing
+  kept_sent : (before : Dialogue P) (next : P) → Keeps (known.taken before.process) (known.taken next)
+      → Sent before → Sent (record before { process = next })
+  kept_sent before next kept so = record {
+    front = so.front;
+    lines = so.lines;
+    last = so.last;
+    count = so.count;
+    few = so.few;
+    whole = so.whole;
+    handed = same_handed known process so.front before.process next kept so.handed;
+  }
+
+  read_sent : (old : Exam) (before : Dialogue P) {fault : Option Fault} {new : Exam} {after : Dialogue P}
+      → Sent before → IsRead known old before fault new after → Sent after
+  read_sent old before so
+      (IsRead.gives {fault = fault} {new = new} {after = after} bytes next some gave unbroken taken heard) =
+      heard_sent bytes old (record before { process = next }) fault new after heard (kept_sent before next taken so)
+  read_sent old before so (IsRead.ends next ended given taken) = kept_sent before next taken so
+  read_sent old before so (IsRead.breaks next cut given taken) = kept_sent before next taken so
+
+  exchanged_sent : (old : Exam) (before : Dialogue P) {fault : Option Fault} {new : Exam} {after : Dialogue P}
+      → Sent before → IsExchanged known old before fault new after
+      → Sent after
+  exchanged_sent old before so (IsExchanged.owes_nothing next none sent) = all_sent before next so sent
+  exchanged_sent old before so
+      (IsExchanged.held {fault = fault} {new = new} {after = after} owes some heard) =
+      heard_sent before.held old (record before { held = [] }) fault new after heard
+      so
+  exchanged_sent old before so (IsExchanged.reads next owes none sent read) =
+      read_sent old (record before { process = next; waiting = [] }) (all_sent before next so sent) read
+
+  converses_sent : {now : Exam} {after : Dialogue P}
+      → Converses known exam (begun_with process first) now after → Sent after
+  converses_sent Converses.begins = record {
+    front = [];
+    lines = refl;
+    last = refl;
+    count = 0;
+    few = omega arith;
+    whole = refl;
+    handed = IsHanded.taken (Appends-nil (known.taken process));
+  }
+  converses_sent
+      (Converses.asks {old = old} {new = new} {before = before} {after = after} purpose command more asked) =
+      asked_sent purpose old before command new after asked (converses_sent more)
+  converses_sent (Converses.exchanges {old = old} {before = before} more exchanged) =
+      exchanged_sent old before (converses_sent more) exchanged
+
+  ends : (new : Exam) (fault : Option Fault) (after : Dialogue P)
+      → EndsSo known exam (begun_with process first) fault new after → Sent after
+  ends new None after converses = converses_sent converses
+  ends new (Some fault) after wrong = exchanged_sent wrong.old wrong.before (converses_sent wrong.converses) wrong.exchanged
+
+-- the front is what counts as sent
+counted_so : {P : Type 0} (known : Ghosts P) (process : P) (now : Dialogue P) → SentSoFar known process (lines_of now)
+    → IsSentSoFar known process now
+counted_so known process now so =
+    let count : length so.front ≡ went_out now =
+    omega (arith, ap (λ (all : List ℕ). length all) so.lines, length-append so.front now.waiting) in
+    let front : so.front ≡ take (went_out now) now.sent =
+    sym (take-append_seam so.front now.waiting)
+    ∙ ap (λ (n : ℕ). take n (so.front ++ now.waiting)) count
+    ∙ ap (take (went_out now)) (sym so.lines) in
+    record {
+      lines = so.lines ∙ ap (λ (all : List ℕ). all ++ now.waiting) front;
+      count = so.count;
+      whole = sym count ∙ so.whole;
+      handed = subst (λ (all : List ℕ). IsHanded known process all now.process) front so.handed;
+    }
+
+pub ends_sent : {P : Type 0} (known : Ghosts P) (exam new : Exam) (process : P) (first : Notes) (fault : Option Fault)
+    (after : Dialogue P) → EndsSo known exam (begun_with process first) fault new after
+    → IsSentSoFar known process after
+ends_sent known exam new process first fault after so =
+    counted_so known process after (ends known process first exam new fault after so)
