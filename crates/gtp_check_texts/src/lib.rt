@@ -16,8 +16,6 @@ mod plays;
 mod reasons;
 mod rules;
 mod sentences;
-#[cfg(test)]
-mod tests;
 pub mod texts;
 
 pub use board::add_board;

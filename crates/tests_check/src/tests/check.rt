@@ -7,6 +7,7 @@ mod progress;
 mod reductions;
 mod shorter;
 mod texts;
+mod worked_texts;
 
 use crate::asserts::{assert_true, some};
 use crate::tests::commands::command;

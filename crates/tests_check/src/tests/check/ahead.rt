@@ -13,6 +13,7 @@ use gtp_check_talks::notes::Notes;
 use gtp_check_talks::trial::{Tried, try_commands};
 use gtp_check_texts::complaint::{Complaint, complaint_text};
 use gtp_check_texts::fault::Fault;
+use gtp_check_texts::last_game::Shown;
 use gtp_process::{Ending, Process, StartFault, Starter};
 use std::process::Abort;
 use std::test::Fail;
@@ -176,6 +177,7 @@ fn what_was_never_sent_is_not_shown(rt: HostRuntime) -> Result<(), Fail> {
             ending: said.ending,
             is_positional: false,
             game: None,
+            shown: Shown::Whole,
         };
         let text = complaint_text(rt.alloc(), &complaint)?;
         let shown = text_of(&rt, text.as_slice());

@@ -1,15 +1,13 @@
 //! What complaints say of worked positions.
-use crate::board::add_board;
-use crate::complaint::{Complaint, complaint_text};
-use crate::fault::Fault;
-use crate::junk::first_line;
-use crate::last_game::Shown;
-use crate::reasons::add_reason;
 use go_base::{Colour, Komi, Move, Size, Vertex};
 use go_board::{Game, KoRule, PlayFault};
 use gtp_check_judge::{Cause, CheckCommand, Kind};
 use gtp_check_questions::Lesson;
 use gtp_check_shortening::talk::{Purpose, Said};
+use gtp_check_texts::complaint::{Complaint, complaint_text};
+use gtp_check_texts::fault::Fault;
+use gtp_check_texts::last_game::Shown;
+use gtp_check_texts::{add_board, add_reason, first_line};
 use gtp_process::Ending;
 use gtp_wire::Command;
 use std::alloc::AllocError;
@@ -243,6 +241,7 @@ fn block_of(
             lesson: Lesson::Games,
             fault: Fault::Wrote(Kind::Refused),
             sent: asked.sent.as_slice(),
+            went_out: asked.sent.len(),
             talk: asked.talk.as_slice(),
             answered,
             wrote: b"? no\n\n",
