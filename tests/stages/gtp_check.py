@@ -6,7 +6,8 @@ are as right, and those that have what the standard leaves to engines (tests/eng
 (tests/engines/wrong/beyond). The sample engine has no traceback where it is ended.
 
 Wrong engines (tests/engines/wrong) are noticed by the lessons that show their bugs, and each complaint is pasted into one more process of
-the wrong engine and of the right one. One that takes each piece of a line for a line (tests/engines/wrong/pieces) is noticed.
+the wrong engine and of the right one. One that takes each piece of a line for a line (tests/engines/wrong/pieces) is noticed. Of one that
+no short conversation shows (tests/engines/wrong/late) the last game is shown alone.
 of_gtp_check/table.py says what shows each bug, and what isn't noticed. Engines that misbehave (tests/engines/hostile/engine) end as was
 worked out by hand. Where standard error is a terminal, what is waited for is on it, and the output is the same. At last no process may be
 left.
@@ -151,6 +152,11 @@ class Pieces(checks.Case):
     def test_pieces(self):
         """an engine that takes each piece of a line for a line is noticed by the part that is sent in pieces alone."""
         self.nothing(wrong.pieces())
+
+
+@checks.table(wrong.LATELY, lambda it: f"a late mistake: {it[0]}, at command {it[1]}", wrong.late)
+class Late(Checks):
+    """A mistake that no shorter conversation shows: the last game of more than forty commands is shown alone."""
 
 
 class Table(checks.Case):

@@ -20,6 +20,7 @@ HEAD = re.compile(r'# (\d+) (\w+): "(.*)": (.*)')
 LAST = re.compile(r"check: (\d+) commands?, (\d+) starts?, (\d+) complaints?")
 HIDDEN = re.compile(r"check: \w+: more complaints, of kinds that were shown three times: (\d+)")
 PIECES = "# that line came in two pieces: a right engine waits for its newline"
+LEFT_OUT = re.compile(r"# earlier lines left out: ([1-9]\d*) \(--trials 0 shows them\); this block alone may not show the mistake")
 
 
 @dataclass(frozen=True)
@@ -34,11 +35,8 @@ class Complaint:
     wrote: str  # a character for each byte
     right: str
     in_pieces: bool = False  # whether that line came in two
-
-    @property
-    def is_shortened(self):
-        """Is it a conversation that was tried once more? One that wasn't begins with the questions of each start."""
-        return not self.lines[0].startswith("1 name")
+    left_out: int = 0  # how many lines before are said to be left out
+    chosen: tuple = ()  # pairs of a line and what the engine chose then
 
 
 @dataclass(frozen=True)
@@ -86,9 +84,17 @@ def is_board(lines):
     return lines == [*rows, letters] and all(len(it.split()) == len(lines) + 1 for it in rows)
 
 
+def with_choices(lines):
+    """The pairs of a line that asks for a move and what the engine chose, which the line after it has; and the other lines."""
+    pairs = [pair for pair in zip(lines, lines[1:]) if re.fullmatch(r"\d+ genmove \w+", pair[0]) and pair[1].startswith("# = ")]
+    return tuple((asked, choice[4:]) for asked, choice in pairs), [it for it in lines if not it.startswith("# = ")]
+
+
 def block_read(lines):
     """The complaint that a block of lines is, or what is odd about it."""
     head = HEAD.fullmatch(lines[0])
+    left_out = LEFT_OUT.fullmatch(lines[1]) if len(lines) > 1 else None
+    chosen, lines = with_choices([*lines[:1], *lines[1 + bool(left_out) :]])
     end = next((at for at, it in enumerate(lines) if it.startswith("# it wrote: ")), len(lines))
     talk = [it for it in lines[1:end] if not it.startswith("#")]
     pieces = [it for it in lines[end - 1 : end] if it == PIECES]
@@ -102,7 +108,12 @@ def block_read(lines):
     more = rest[2:-1] if rest[-1].startswith("# under positional ko") else rest[2:]
     if more and (more[0] != "# asked before this answer was read:" or len(more) == 1 or any(it.startswith("#") for it in more[1:])):
         return f"other lines at the end of a complaint: {rest}"
-    return Complaint(int(head[1]), head[2], head[3], head[4], tuple(talk), quoted(rest[0][13:-1]), rest[1][9:], bool(pieces))
+    asked = [it for it in talk[:-1] if " genmove " in it]
+    if [it for it, _ in chosen] != (asked if left_out or chosen else []):
+        return f"the engine chose {chosen}, and was asked {asked}"
+    count = int(left_out[1]) if left_out else 0
+    parts = (int(head[1]), head[2], head[3], head[4], tuple(talk), quoted(rest[0][13:-1]), rest[1][9:], bool(pieces))
+    return Complaint(*parts, count, chosen)
 
 
 def read(output):

@@ -13,6 +13,9 @@ from bugs import BUGS  # noqa: E402
 OF_A_SUBJECT = 8  # bugs that ./test tries of each subject, at most
 ENGINE = PYTHON + " tests/engines/wrong/engine"
 PIECES = PYTHON + " tests/engines/wrong/pieces"
+LATE = PYTHON + " tests/engines/wrong/late"
+# lessons of which a command is the first that is answered wrongly, by its id, and whether its last game alone is shown: of more than forty
+LATELY = (("ko", 40, False), ("ko", 41, True), ("games", 300, True), ("genmoves", 90, True))
 QUICKLY = ("--only", "start", "--only", "komi", "--only", "games", "--only", "restarts")  # for the unnoticed ones, where not all are tried
 
 
@@ -86,15 +89,29 @@ def noticed(name):
     lessons = lessons_of(name, bug.subject)
     only = [word for lesson in lessons for word in ("--only", lesson)]
     command = " ".join([*(["timeout", "1"] if name in WAITING else []), ENGINE, *bug.options, "--bug", name])
+    how = ["--restarts", "12", *rule_of(bug), *only]
     with tempfile.TemporaryDirectory() as folder:
         # few trials, since some of these conversations are long, and the engines slow
-        result = checked(["--restarts", "12", "--trials", "12", *rule_of(bug), *only], command, folder=folder)
+        result = checked(["--trials", "12", *how], command, folder=folder)
         report = read(result.output)
         odd = faults_of_report(name, lessons, result, report)
         if odd or name in ANEW:
             return odd
-        unreal = [f"complaint {it.number}: {odd}" for it in report.complaints if (odd := is_real(it, name, folder))]
+        found = report.complaints
+        if any(it.left_out for it in found):
+            # what is left out is looked for where each conversation is whole
+            whole = read(checked(["--trials", "0", *how], command, folder=folder).output)
+            found = whole if isinstance(whole, str) else [of_whole(it, whole.complaints) if it.left_out else it for it in found]
+        if isinstance(found, str) or None in found:
+            return f"without trials others are found: {found}"
+        unreal = [f"complaint {it.number}: {odd}" for it in found if (odd := is_real(it, name, folder))]
     return "\n".join(unreal) or None
+
+
+def of_whole(shown, complaints):
+    """The one of these complaints that is the same, with the whole conversation."""
+    of_it = lambda it: (it.number, it.lesson, it.command, it.fault)  # noqa: E731
+    return next((it for it in complaints if of_it(it) == of_it(shown) and set(shown.lines) <= set(it.lines)), None)
 
 
 def unnoticed(name, is_all):
@@ -120,6 +137,39 @@ def pieces():
         return f"{report}: {result}, {others}"
     found = [(it.lesson, it.fault, it.in_pieces) for it in report.complaints]
     return None if found == [("start", "a reply without the id of the command", True)] else f"{found}: {result.output}"
+
+
+def answers(lines):
+    """What the right engine answers to these lines, by the line, where all of them are pasted into it."""
+    how = dict(cwd=TOP, env=environment(tempfile.gettempdir()), capture_output=True, timeout=LIMIT)
+    done = subprocess.run(ENGINE.split(), input=("\n".join(lines) + "\n").encode(), **how)
+    texts = [re.sub(r"^=\d+ ?", "", it) for it in done.stdout.decode("latin-1").split("\n\n")]
+    return dict(zip(lines, texts))
+
+
+def last_game(lines):
+    """The last game of a conversation in whose lesson no size is refused, after the lines that set its size and komi."""
+    start = max(at for at, it in enumerate(lines) if it.endswith(" clear_board"))
+    settings = {max(at for at, it in enumerate(lines[:start]) if f" {name} " in it) for name in ("boardsize", "komi")}
+    return [*(lines[at] for at in sorted(settings)), *lines[start:]]
+
+
+def late(row):
+    """What is odd about the complaint of a mistake that no shorter conversation shows, where some are tried. Where none is, all is shown."""
+    lesson, first, is_alone = row
+    options = ("--only", lesson, "--restarts", "0", "--trials")
+    reports = [read(checked((*options, trials), f"{LATE} {first}").output) for trials in ("3", "0")]
+    if any(isinstance(it, str) or len(it.complaints) != 1 for it in reports):
+        return f"{reports}"
+    shown, whole = (it.complaints[0] for it in reports)
+    if (whole.left_out, whole.chosen, len(whole.lines)) != (0, (), first):
+        return f"{len(whole.lines)} lines, without {whole.left_out}: {whole}"
+    wanted = last_game(whole.lines) if is_alone else list(whole.lines)
+    right = answers(whole.lines)
+    chosen = tuple((it, right[it]) for it in wanted[:-1] if " genmove " in it) if is_alone else ()
+    found = (list(shown.lines), shown.left_out, shown.chosen, shown.command, shown.fault, shown.wrote)
+    same = (wanted, len(whole.lines) - len(wanted), chosen, whole.command, whole.fault, whole.wrote)
+    return None if found == same else f"{found}, and not {same}"
 
 
 def odd_table():
