@@ -1,6 +1,7 @@
 //! The block of a complaint.
-ghost use Rattle.std.specs.Prelude.{◌≡◌, ◌≤◌, ◌+◌, ◌++◌, length, take, IfOk, OnOk, option_map};
-ghost use Rattle.go_base.specs.Bytes.{newline};
+ghost use Rattle.std.specs.Prelude.{◌≡◌, ◌≤◌, ◌+◌, ◌++◌, length, nat_lt, take, IfOk, OnOk, option_map};
+ghost use Rattle.std.specs.List.{list_any};
+ghost use Rattle.go_base.specs.Bytes.{newline, space};
 ghost use Rattle.std.specs.Io.BufRead.{strip_last};
 ghost use Rattle.gtp_process.specs.Shown.{quoted};
 ghost use Rattle.gtp_wire.specs.Replies.{most_shown};
@@ -169,7 +170,7 @@ impl<'t> Complaint<'t> {
         ensures { result ≡ is_within self.now.fault self.now.wrote.now }
     {
         match self.fault {
-            Fault::CutOff(PipeCause::Ended) => self.wrote.iter().any(|byte| *byte > b' '),
+            Fault::CutOff(PipeCause::Ended) => has_more_than_blanks(self.wrote),
             _ => false,
         }
     }
@@ -244,6 +245,13 @@ fn pieces_text(in_pieces: bool) -> &'static [u8]
     } else {
         b""
     }
+}
+
+/// Whether something is written that isn't blank.
+fn has_more_than_blanks(wrote: &[u8]) -> bool
+    ensures { result ≡ list_any (λ byte. nat_lt space byte) wrote.now }
+{
+    wrote.iter().any(|byte| *byte > b' ')
 }
 
 /// That its output ended within a reply.
