@@ -1,6 +1,6 @@
 -- A check, turn by turn: what the engine is asked, when it is started and ended, and what is written. (Own.)
 use Rattle.std.specs.Prelude.{IsTrue, ◌↔◌, ◌≡◌, ◌⊎◌, ℕ, ◌+◌, ◌<◌, ◌≤◌, Bool, true, false, not, ◌&&◌, ◌||◌, List, []}
-use Rattle.std.specs.Prelude.{◌∷◌, ◌++◌, length}
+use Rattle.std.specs.Prelude.{◌∷◌, ◌++◌, if◌then◌else◌, length, nat_lt}
 use Rattle.std.specs.Prelude.{Option, None, Some, IfSome, is_some, option_map, unwrap_or, Ok, Err}
 use Rattle.gtp_process.specs.declared.starter.Process.{Ghosts}
 use Rattle.gtp_process.specs.declared.starter.Ending.{Ending}

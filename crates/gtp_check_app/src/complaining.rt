@@ -322,11 +322,7 @@ fn shown_unshortened(trials: u32, found: &Tried) -> Shown
 }
 
 /// The shortenings that are tried of a conversation, so many at most.
-fn shortenings_of(
-    alloc: Global,
-    talk: &[Said],
-    trials: u32,
-) -> Result<Vec<Shortening>, AllocError>
+fn shortenings_of(alloc: Global, talk: &[Said], trials: u32) -> Result<Vec<Shortening>, AllocError>
     ensures those { IfOk result (λ all. all.items ≡ shortenings_of trials talk.now) }
     ensures few { IfOk result (λ all. length all.items < 2 ^ 32) }
 {

@@ -9,10 +9,10 @@ ghost use Rattle.gtp_check_summary.specs.Summary.{lack_line, lack_lines, last_li
 ghost use Rattle.gtp_check_summary.specs.Summary.{refused_line, shown_or, sizes_line, spaced_name, spaced_size};
 ghost use Rattle.gtp_check_summary.specs.Summary.{suicides_line, suicides_text, undos_line, unstarted_line};
 
-use gtp_check_plan::plan::Plan;
 use arrayvec::ArrayVec;
 use go_base::{push, write_int};
 use go_board::KoRule;
+use gtp_check_plan::plan::Plan;
 use gtp_check_questions::{LESSONS, Lesson, Lessons};
 use gtp_check_talks::among::is_among;
 use gtp_check_talks::notes::{Beginning, Notes};

@@ -96,8 +96,12 @@ next_of old rest commands talk count is more few =
     let mapped : length (commands_of talk) ≡ length talk = length-map talk (λ (said : Said). said.command) in
     let long : length talk ≡ length old + count =
     omega (
-    arith, mapped, ap (λ (list : List CheckCommand). length list) more, length-append old (take count rest),
-    length-take count rest) in
+      arith,
+      mapped,
+      ap (λ (list : List CheckCommand). length list) more,
+      length-append old (take count rest),
+      length-take count rest,
+    ) in
     ap (λ (list : List CheckCommand). slice_get list (length talk)) (sym is)
     ∙ ap (λ (n : ℕ). slice_get (old ++ rest) n) long ∙ at_back old rest count
 
@@ -109,8 +113,8 @@ next_may_not exam talk waiting None none h = h
 next_may_not exam talk waiting (Some command) none h =
     let empty : length waiting ≡ 0 = ap (λ (lines : List ℕ). length lines) none in
     elim h as (λ _. ¬ HasRoomFor exam command) [
-      inl full ↦ elim full as (λ _. ¬ HasRoomFor exam command) [
-        inl long ↦ absurd (omega (arith, long))
+      | inl full ↦ elim full as (λ _. ¬ HasRoomFor exam command) [
+        | inl long ↦ absurd (omega (arith, long))
         | inr pieces ↦ absurd (omega (arith, pieces.1))
       ]
       | inr may_not ↦ may_not

@@ -137,7 +137,7 @@ module _ (rest count later : ℕ) (first old new : Exam) (waits had waiting : Li
   less_left is asked on =
       let reader : length old.reader ≡ length first.reader = ap (λ (text : List ℕ). length text) asked.reader in
       elim on.less as (λ _. left later new waiting < left rest first waits) [
-        inl answered ↦ omega (arith, reader, asked.more, answered)
+        | inl answered ↦ omega (arith, reader, asked.more, answered)
         | inr more ↦ omega (arith, reader, asked.more, more.0, more.1, more.2)
       ]
 
@@ -174,6 +174,7 @@ turned known purpose first old commands rest later new after is up asks owes exc
   where
     asked : IsAskedMore (length commands) first.exam old.exam
     asked = asked_exam purpose first old asks
+
     by : (list : List Asked) → old.exam.unanswered ≡ list
         → TurnsOn rest later first.exam new first.engine.waiting after.waiting
     by [] none =
@@ -181,7 +182,7 @@ turned known purpose first old commands rest later new after is up asks owes exc
         let out = exchanged_out known old.exam old.engine new after nothing exchanged in
         let some : 0 < length old.engine.waiting =
         elim owes as (λ _. 0 < length old.engine.waiting) [
-          inl waits ↦ waits
+          | inl waits ↦ waits
           | inr more ↦ absurd (omega (arith, more, nothing))
         ] in
         record {

@@ -19,13 +19,13 @@ loop-shortening-preserved c =
     let index = c.loop-shortening.shortening-index in
     let tried = c.loop-shortening.tried.items in
     elim c.if-len-trials.branch [
-      then-len-trials+in_ok-is_for+then-branch+in_ok-push w ↦
+      | then-len-trials+in_ok-is_for+then-branch+in_ok-push w ↦
           let may = rw c.shortenings-all.ensures at w.in_ok-is_for.ensures in
           rw (w.tried-is, w.in_ok-push.ensures.items, c.shortenings-all.ensures)
           (added c.args.trials talk shortenings index other tried c.loop-shortening-test.true
           c.loop-shortening.invariant (omega (arith, w.if-len-trials.true, c.len.ensures)) (sym may ∙ w.if-branch.true))
       | else-len-trials w ↦ elim w.else-len-trials.branch [
-        else-len-trials-via-then-len-trials+in_ok-is_for+else-branch more ↦
+        | else-len-trials-via-then-len-trials+in_ok-is_for+else-branch more ↦
             let may = rw c.shortenings-all.ensures at more.in_ok-is_for.ensures in
             rw w.tried-is
             (passed c.args.trials talk shortenings index other tried c.loop-shortening-test.true
@@ -47,7 +47,10 @@ returns c =
       those = c.loop-shortening.invariant
           ∙ ap (λ (all : List Shortening). take c.args.trials (those_for c.args.talk.now all)) whole;
       few = omega (
-        arith, count, c.ranges.trials.fits,
+        arith,
+        count,
+        c.ranges.trials.fits,
         length-take c.args.trials
-        (those_for c.args.talk.now (take c.loop-shortening.shortening-index shortenings)));
+            (those_for c.args.talk.now (take c.loop-shortening.shortening-index shortenings)),
+      );
     }

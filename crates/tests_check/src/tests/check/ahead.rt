@@ -164,7 +164,12 @@ fn what_was_never_sent_is_not_shown(rt: HostRuntime) -> Result<(), Fail> {
         let tried = some(&rt, tried);
         assert_equal_for(&rt, refusal.after, tried.fault, Fault::Wrote(Kind::Refused));
         let said = &tried.said;
-        assert_equal_for(&rt, refusal.after, said.ending, Ending::Status(refusal.sent));
+        assert_equal_for(
+            &rt,
+            refusal.after,
+            said.ending,
+            Ending::Status(refusal.sent),
+        );
         let complaint = Complaint {
             number: 1,
             lesson: Lesson::Komi,

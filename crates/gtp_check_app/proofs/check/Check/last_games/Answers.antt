@@ -63,17 +63,17 @@ returns-in-Some-clause-shortens g c =
 pub loop-shortening-preserved : goal.loop-shortening-preserved
 loop-shortening-preserved g c = record {
   missed = one_missed
-    g.S.Process.Process c.args.plan.now (wrong_of c.args.found.now)
-    (moment (state_of c.args.self.now) (g.S.Starter.asked c.args.starter.now))
-    (shortenings_of c.args.plan.now.trials (wrong_talk (wrong_of c.args.found.now)))
-    c.deref-shortening-items.result.now c.conversation-talk.result.now c.loop-shortening.shortening-index
-    c.loop-shortening.tried (moment (state_of c.loop-shortening.self) (g.S.Starter.asked c.loop-shortening.starter))
-    (c.deref-shortening-items.ensures.value ∙ c.in_ok-all.ensures.those
-    ∙ ap (λ (talk : List Said). shortenings_of c.args.plan.now.trials talk) c.conversation-talk.ensures)
-    c.conversation-talk.ensures c.loop-shortening.invariant.tried c.loop-shortening.invariant.missed
-    (record { games = 0; more_than = 0; is_whole = false; is_played = false }) c.as_slice.result.now
-    (c.as_slice.ensures.value ∙ c.in_ok-commands.ensures) c.loop-shortening-test.true
-    (rw c.in_default.is at c.in_ok-ended.ensures.tries);
+      g.S.Process.Process c.args.plan.now (wrong_of c.args.found.now)
+      (moment (state_of c.args.self.now) (g.S.Starter.asked c.args.starter.now))
+      (shortenings_of c.args.plan.now.trials (wrong_talk (wrong_of c.args.found.now)))
+      c.deref-shortening-items.result.now c.conversation-talk.result.now c.loop-shortening.shortening-index
+      c.loop-shortening.tried (moment (state_of c.loop-shortening.self) (g.S.Starter.asked c.loop-shortening.starter))
+      (c.deref-shortening-items.ensures.value ∙ c.in_ok-all.ensures.those
+      ∙ ap (λ (talk : List Said). shortenings_of c.args.plan.now.trials talk) c.conversation-talk.ensures)
+      c.conversation-talk.ensures c.loop-shortening.invariant.tried c.loop-shortening.invariant.missed
+      (record { games = 0; more_than = 0; is_whole = false; is_played = false }) c.as_slice.result.now
+      (c.as_slice.ensures.value ∙ c.in_ok-commands.ensures) c.loop-shortening-test.true
+      (rw c.in_default.is at c.in_ok-ended.ensures.tries);
   tried = omega (arith, c.loop-shortening.invariant.tried);
   engine = c.try_one.ensures.engine ∙ c.loop-shortening.invariant.engine;
 }
