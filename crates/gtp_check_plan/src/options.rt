@@ -22,8 +22,8 @@ use std::convert::AsStr;
 /// What the help says below the options: what is written, the statuses, and an example.
 const AFTER_OPTIONS: &str = "\
 Each complaint is a block of lines: the conversation since the engine was
-started, as it was sent, and what was wrong. The other lines begin with #,
-which is a comment, so a block can be pasted into the engine as it is.
+started, as it was sent, or a part of it, and what was wrong. The other lines
+begin with #, a comment, so a block can be pasted into the engine as it is.
 The last line is: check: N commands, M starts, K complaints
 An engine that doesn't answer is waited for. With patience before its command
 it is ended where an answer takes too long.
