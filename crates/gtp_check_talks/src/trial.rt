@@ -135,7 +135,7 @@ fn ask_all<P: Process>(
         (AsksAll purpose commands.now examiner.new.exam (dialogue engine.new notes.new))) }
 {
     let mut rest = commands;
-    'turns: loop {
+    loop {
         let asked = ask_some(engine, examiner, rest, purpose, notes)?;
         rest = rest.split_at(asked).1;
         if engine.owes_nothing(examiner) {

@@ -11,8 +11,8 @@ use Rattle.gtp_check_talks.proofs.Trials.{asks_first, exchanged_talk, next_may_n
 use Rattle.gtp_check_talks.proofs.Turns.{turned}
 use Rattle.gtp_check_talks.proofs.trial.ask_all.Goals as goal
 
-pub turns-init : goal.turns-init
-turns-init g c = record {
+pub loop-asked-init : goal.loop-asked-init
+loop-asked-init g c = record {
   converses = begins;
   check = refl;
   up = c.requires.up;
@@ -23,42 +23,42 @@ turns-init g c = record {
 
 pub returns-then-owes_nothing-clause-ends : goal.returns-then-owes_nothing-clause-ends
 returns-then-owes_nothing-clause-ends g c =
-    one_after g.P.Process c.args.examiner.now.exam c.turns.examiner.exam
+    one_after g.P.Process c.args.examiner.now.exam c.loop-asked.examiner.exam
     (dialogue c.args.engine.now c.args.notes.now)
-    (dialogue c.turns.engine c.turns.notes) c.turns.invariant.converses
-    (asked_on c.args.purpose (standing c.turns.examiner.exam (dialogue c.turns.engine c.turns.notes)) g.P.Process
+    (dialogue c.loop-asked.engine c.loop-asked.notes) c.loop-asked.invariant.converses
+    (asked_on c.args.purpose (standing c.loop-asked.examiner.exam (dialogue c.loop-asked.engine c.loop-asked.notes)) g.P.Process
     (standing c.ask_some.new.examiner.exam (dialogue c.ask_some.new.engine c.ask_some.new.notes))
     c.in_ok-asked.ensures.asks)
 
 pub returns-then-owes_nothing-clause-first : goal.returns-then-owes_nothing-clause-first
 returns-then-owes_nothing-clause-first g c = λ none.
-    let from = standing c.turns.examiner.exam (dialogue c.turns.engine c.turns.notes) in
+    let from = standing c.loop-asked.examiner.exam (dialogue c.loop-asked.engine c.loop-asked.notes) in
     let now = standing c.ask_some.new.examiner.exam (dialogue c.ask_some.new.engine c.ask_some.new.notes) in
     let asks = c.in_ok-asked.ensures.asks in
     record {
-      order = asks_first c.args.commands.now (drop c.in_ok-asked.asked c.turns.rest.now)
+      order = asks_first c.args.commands.now (drop c.in_ok-asked.asked c.loop-asked.rest.now)
           c.ask_some.new.engine.talk.items
-          (some_more_of (commands_of c.turns.engine.talk.items) (commands_of c.ask_some.new.engine.talk.items)
-          c.turns.rest.now (drop c.in_ok-asked.asked c.turns.rest.now) c.args.commands.now
-          c.in_ok-asked.asked (c.turns.invariant.first none) (asked_talk c.args.purpose from now asks) refl);
-      purposes = asked_purposes c.args.purpose from now asks (c.turns.invariant.purposes none);
+          (some_more_of (commands_of c.loop-asked.engine.talk.items) (commands_of c.ask_some.new.engine.talk.items)
+          c.loop-asked.rest.now (drop c.in_ok-asked.asked c.loop-asked.rest.now) c.args.commands.now
+          c.in_ok-asked.asked (c.loop-asked.invariant.first none) (asked_talk c.args.purpose from now asks) refl);
+      purposes = asked_purposes c.args.purpose from now asks (c.loop-asked.invariant.purposes none);
     }
 
 pub returns-then-owes_nothing-clause-all : goal.returns-then-owes_nothing-clause-all
 returns-then-owes_nothing-clause-all g c = λ none.
-    let from = standing c.turns.examiner.exam (dialogue c.turns.engine c.turns.notes) in
+    let from = standing c.loop-asked.examiner.exam (dialogue c.loop-asked.engine c.loop-asked.notes) in
     let now = standing c.ask_some.new.examiner.exam (dialogue c.ask_some.new.engine c.ask_some.new.notes) in
     let asks = c.in_ok-asked.ensures.asks in
     let sent = c.owes_nothing.ensures.sent c.if-owes_nothing.true in
-    let next = next_of (commands_of c.turns.engine.talk.items) c.turns.rest.now c.args.commands.now
-    c.ask_some.new.engine.talk.items c.in_ok-asked.asked (c.turns.invariant.first none)
+    let next = next_of (commands_of c.loop-asked.engine.talk.items) c.loop-asked.rest.now c.args.commands.now
+    c.ask_some.new.engine.talk.items c.in_ok-asked.asked (c.loop-asked.invariant.first none)
     (asked_talk c.args.purpose from now asks) c.in_ok-asked.ensures.few in
     record {
       first = returns-then-owes_nothing-clause-first g c none;
       next = rw next
           (next_may_not c.ask_some.new.examiner.exam c.ask_some.new.engine.talk.items
           c.ask_some.new.engine.waiting.items _ sent c.in_ok-asked.ensures.most);
-      up = (asked_exam c.args.purpose from now asks).up ∙ c.turns.invariant.up;
+      up = (asked_exam c.args.purpose from now asks).up ∙ c.loop-asked.invariant.up;
       sent = sent;
       answered = c.owes_nothing.ensures.answered c.if-owes_nothing.true;
     }
@@ -67,10 +67,10 @@ pub returns-in-Some-clause-ends : goal.returns-in-Some-clause-ends
 returns-in-Some-clause-ends g c = record {
   old = c.ask_some.new.examiner.exam;
   before = dialogue c.ask_some.new.engine c.ask_some.new.notes;
-  converses = one_after g.P.Process c.args.examiner.now.exam c.turns.examiner.exam
+  converses = one_after g.P.Process c.args.examiner.now.exam c.loop-asked.examiner.exam
       (dialogue c.args.engine.now c.args.notes.now)
-      (dialogue c.turns.engine c.turns.notes) c.turns.invariant.converses
-      (asked_on c.args.purpose (standing c.turns.examiner.exam (dialogue c.turns.engine c.turns.notes)) g.P.Process
+      (dialogue c.loop-asked.engine c.loop-asked.notes) c.loop-asked.invariant.converses
+      (asked_on c.args.purpose (standing c.loop-asked.examiner.exam (dialogue c.loop-asked.engine c.loop-asked.notes)) g.P.Process
       (standing c.ask_some.new.examiner.exam (dialogue c.ask_some.new.engine c.ask_some.new.notes))
       c.in_ok-asked.ensures.asks);
   exchanged = c.in-Some.ensures.exchanged;
@@ -78,68 +78,68 @@ returns-in-Some-clause-ends g c = record {
 
 pub returns-in-Some-clause-first : goal.returns-in-Some-clause-first
 returns-in-Some-clause-first g c = λ none.
-    let from = standing c.turns.examiner.exam (dialogue c.turns.engine c.turns.notes) in
+    let from = standing c.loop-asked.examiner.exam (dialogue c.loop-asked.engine c.loop-asked.notes) in
     let now = standing c.ask_some.new.examiner.exam (dialogue c.ask_some.new.engine c.ask_some.new.notes) in
     let asks = c.in_ok-asked.ensures.asks in
     let same = exchanged_talk g.P.Process c.ask_some.new.examiner.exam
     (dialogue c.ask_some.new.engine c.ask_some.new.notes)
     {after = dialogue c.exchange.new.self c.exchange.new.notes} c.in-Some.ensures.exchanged in
     record {
-      order = asks_first c.args.commands.now (drop c.in_ok-asked.asked c.turns.rest.now)
+      order = asks_first c.args.commands.now (drop c.in_ok-asked.asked c.loop-asked.rest.now)
           c.exchange.new.self.talk.items
-          (ap (λ (talk : List Said). commands_of talk ++ drop c.in_ok-asked.asked c.turns.rest.now) same
-          ∙ some_more_of (commands_of c.turns.engine.talk.items)
-          (commands_of c.ask_some.new.engine.talk.items) c.turns.rest.now
-          (drop c.in_ok-asked.asked c.turns.rest.now) c.args.commands.now c.in_ok-asked.asked
-          (c.turns.invariant.first none) (asked_talk c.args.purpose from now asks) refl);
+          (ap (λ (talk : List Said). commands_of talk ++ drop c.in_ok-asked.asked c.loop-asked.rest.now) same
+          ∙ some_more_of (commands_of c.loop-asked.engine.talk.items)
+          (commands_of c.ask_some.new.engine.talk.items) c.loop-asked.rest.now
+          (drop c.in_ok-asked.asked c.loop-asked.rest.now) c.args.commands.now c.in_ok-asked.asked
+          (c.loop-asked.invariant.first none) (asked_talk c.args.purpose from now asks) refl);
       purposes = subst (AreFor c.args.purpose) (sym same)
-          (asked_purposes c.args.purpose from now asks (c.turns.invariant.purposes none));
+          (asked_purposes c.args.purpose from now asks (c.loop-asked.invariant.purposes none));
     }
 
-pub turns-smaller : goal.turns-smaller
-turns-smaller g c =
-    let count = length-take-le c.in_ok-asked.asked c.turns.rest.now c.in_ok-asked.ensures.few in
-    let later : length c.split_at.result.1.now ≡ length c.turns.rest.now - c.in_ok-asked.asked =
-    ap length c.split_at.ensures.back ∙ length-drop c.in_ok-asked.asked c.turns.rest.now in
-    (turned g.P.Process c.args.purpose (standing c.turns.examiner.exam (dialogue c.turns.engine c.turns.notes))
+pub loop-asked-smaller : goal.loop-asked-smaller
+loop-asked-smaller g c =
+    let count = length-take-le c.in_ok-asked.asked c.loop-asked.rest.now c.in_ok-asked.ensures.few in
+    let later : length c.split_at.result.1.now ≡ length c.loop-asked.rest.now - c.in_ok-asked.asked =
+    ap length c.split_at.ensures.back ∙ length-drop c.in_ok-asked.asked c.loop-asked.rest.now in
+    (turned g.P.Process c.args.purpose (standing c.loop-asked.examiner.exam (dialogue c.loop-asked.engine c.loop-asked.notes))
     (standing c.ask_some.new.examiner.exam (dialogue c.ask_some.new.engine c.ask_some.new.notes))
-    (take c.in_ok-asked.asked c.turns.rest.now) (length c.turns.rest.now) (length c.split_at.result.1.now)
+    (take c.in_ok-asked.asked c.loop-asked.rest.now) (length c.loop-asked.rest.now) (length c.split_at.result.1.now)
     c.exchange.new.examiner.exam (dialogue c.exchange.new.self c.exchange.new.notes)
-    (omega (arith, count, later, c.in_ok-asked.ensures.few)) c.turns.invariant.up c.in_ok-asked.ensures.asks
+    (omega (arith, count, later, c.in_ok-asked.ensures.few)) c.loop-asked.invariant.up c.in_ok-asked.ensures.asks
     (c.owes_nothing.ensures.owes c.if-owes_nothing.false) c.in_default.ensures.exchanged).less
 
-pub turns-preserved : goal.turns-preserved
-turns-preserved g c =
-    let before = c.turns.invariant in
-    let from = standing c.turns.examiner.exam (dialogue c.turns.engine c.turns.notes) in
+pub loop-asked-preserved : goal.loop-asked-preserved
+loop-asked-preserved g c =
+    let before = c.loop-asked.invariant in
+    let from = standing c.loop-asked.examiner.exam (dialogue c.loop-asked.engine c.loop-asked.notes) in
     let now = standing c.ask_some.new.examiner.exam (dialogue c.ask_some.new.engine c.ask_some.new.notes) in
     let asks = c.in_ok-asked.ensures.asks in
     let same = exchanged_talk g.P.Process c.ask_some.new.examiner.exam
     (dialogue c.ask_some.new.engine c.ask_some.new.notes)
     {after = dialogue c.exchange.new.self c.exchange.new.notes} c.in_default.ensures.exchanged in
-    let count = length-take-le c.in_ok-asked.asked c.turns.rest.now c.in_ok-asked.ensures.few in
-    let later : length c.split_at.result.1.now ≡ length c.turns.rest.now - c.in_ok-asked.asked =
-    ap length c.split_at.ensures.back ∙ length-drop c.in_ok-asked.asked c.turns.rest.now in
+    let count = length-take-le c.in_ok-asked.asked c.loop-asked.rest.now c.in_ok-asked.ensures.few in
+    let later : length c.split_at.result.1.now ≡ length c.loop-asked.rest.now - c.in_ok-asked.asked =
+    ap length c.split_at.ensures.back ∙ length-drop c.in_ok-asked.asked c.loop-asked.rest.now in
     record {
       converses = exchanges
-          (one_after g.P.Process c.args.examiner.now.exam c.turns.examiner.exam
+          (one_after g.P.Process c.args.examiner.now.exam c.loop-asked.examiner.exam
           (dialogue c.args.engine.now c.args.notes.now)
-          (dialogue c.turns.engine c.turns.notes) before.converses
+          (dialogue c.loop-asked.engine c.loop-asked.notes) before.converses
           (asked_on c.args.purpose from g.P.Process now asks))
           c.in_default.ensures.exchanged;
       check = with_another c.args.examiner.now c.ask_some.new.examiner c.exchange.new.examiner
-          (with_another c.args.examiner.now c.turns.examiner c.ask_some.new.examiner before.check
+          (with_another c.args.examiner.now c.loop-asked.examiner c.ask_some.new.examiner before.check
           c.ask_some.ensures.check)
           c.exchange.ensures.check;
       up = (turned g.P.Process c.args.purpose from now
-          (take c.in_ok-asked.asked c.turns.rest.now) (length c.turns.rest.now) (length c.split_at.result.1.now)
+          (take c.in_ok-asked.asked c.loop-asked.rest.now) (length c.loop-asked.rest.now) (length c.split_at.result.1.now)
           c.exchange.new.examiner.exam (dialogue c.exchange.new.self c.exchange.new.notes)
           (omega (arith, count, later, c.in_ok-asked.ensures.few)) before.up asks
           (c.owes_nothing.ensures.owes c.if-owes_nothing.false) c.in_default.ensures.exchanged).up;
       first = λ none.
           ap (λ (talk : List Said). commands_of talk ++ c.split_at.result.1.now) same
-          ∙ some_more_of (commands_of c.turns.engine.talk.items)
-          (commands_of c.ask_some.new.engine.talk.items) c.turns.rest.now
+          ∙ some_more_of (commands_of c.loop-asked.engine.talk.items)
+          (commands_of c.ask_some.new.engine.talk.items) c.loop-asked.rest.now
           c.split_at.result.1.now c.args.commands.now c.in_ok-asked.asked (before.first none)
           (asked_talk c.args.purpose from now asks) c.split_at.ensures.back;
       purposes = λ none. subst (AreFor c.args.purpose) (sym same)

@@ -6,8 +6,8 @@ use Rattle.gtp_check_talks.proofs.Turns.{left}
 use Rattle.gtp_check_talks.proofs.trial.ask_all.Given as goal
 
 -- nothing was wrong so far
-abbrev pub invariant-turns : goal.invariant-turns
-invariant-turns g l = record {
+abbrev pub invariant-loop-asked : goal.invariant-loop-asked
+invariant-loop-asked g l = record {
   converses : Converses g.P.Process l.fn.examiner.exam (dialogue l.fn.engine l.fn.notes) l.examiner.exam
       (dialogue l.engine l.notes);
   check : l.examiner ≡ with_exam l.fn.examiner l.examiner.exam;
@@ -16,5 +16,5 @@ invariant-turns g l = record {
   purposes : l.fn.engine.talk.items ≡ [] → AreFor l.purpose l.engine.talk.items;
 }
 
-abbrev pub decreases-turns : goal.decreases-turns
-decreases-turns g l = left (length l.rest) l.examiner.exam l.engine.waiting.items
+abbrev pub decreases-loop-asked : goal.decreases-loop-asked
+decreases-loop-asked g l = left (length l.rest) l.examiner.exam l.engine.waiting.items
