@@ -1,20 +1,25 @@
 #!/bin/bash
 #SBATCH --job-name=tournament
 #SBATCH --cpus-per-task=1
-#SBATCH --time=00:15:00
+#SBATCH --time=04:00:00
 #SBATCH --output=tournament.%A.log
 #SBATCH --open-mode=append
-# A tournament as a Slurm array: a task plays one game of FOLDER. FOLDER and the programs lie where all nodes see them.
+# A tournament as a Slurm array: each of TASKS tasks plays its share of the games of FOLDER, one after the other. FOLDER and the programs
+# lie where all nodes see them.
 #
 #   tournament plan FOLDER --engine .. --engine .. --limit 600
-#   sbatch --array=1-$(tournament list FOLDER --all | wc -l) tournament.sbatch FOLDER
+#   sbatch --array=1-100 tournament.sbatch FOLDER 100
 #
-# Submit it again to go on: a task whose game has a result ends at once. --time has to be more than the limit of a game.
-# Where `tournament` isn't in PATH, TOURNAMENT names it.
-if [ $# -ne 1 ] || [ -z "${SLURM_ARRAY_TASK_ID:-}" ]; then
-    echo 'usage: sbatch --array=1-GAMES tournament.sbatch FOLDER' >&2
+# Submit it again to go on, with the same number of tasks, or some of it: --array=3,7. A task begins no game that the time left to it
+# doesn't hold, so --time has to be more than the limit of a game. Where `tournament` isn't in PATH, TOURNAMENT names it.
+if [ $# -ne 2 ] || [ -z "${SLURM_ARRAY_TASK_ID:-}" ]; then
+    echo 'usage: sbatch --array=1-TASKS tournament.sbatch FOLDER TASKS' >&2
     exit 2
 fi
-tournament=${TOURNAMENT:-tournament}
-game=$("$tournament" list "$1" --all | sed -n "${SLURM_ARRAY_TASK_ID}p")
-exec "$tournament" game "$1" "$game"
+words=(--task "$SLURM_ARRAY_TASK_ID/$2" --jobs "${SLURM_CPUS_PER_TASK:-1}")
+if left=$(squeue --noheader --jobs "${SLURM_JOB_ID:-}" --Format TimeLeft) && [ -n "$left" ]; then
+    words+=(--time-left "$left")
+else
+    echo "tournament.sbatch: squeue doesn't say how much time is left" >&2
+fi
+exec "${TOURNAMENT:-tournament}" play "$1" "${words[@]}"

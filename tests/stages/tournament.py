@@ -17,7 +17,7 @@ The stage finds all processes that a script started by a word in their environme
 - tap is tried with two engines. The sample engine plays whole games on many sizes, and takes and refuses the same moves as
   gtp_engine.
 - The same games are played by xargs, by the script for Slurm without Slurm, and by GNU Parallel on two machines, for which a
-  script plays ssh. The results have to be the same.
+  script plays ssh. The results have to be the same. Machines leave that can't be reached, or have no engine. Each lock fails.
 - Each process that watches over a game is killed, and no engine may be left. Silent engines are tried as docs/tournaments.md says.
 """
 import sys
@@ -31,7 +31,8 @@ from tests.stages.of_tournament import rooms  # noqa: E402
 from tests.stages.of_tournament.stops import Full, Interrupted, Killed, Limited, OneKilled, Sessions, Silent  # noqa: E402, F401
 from tests.stages.of_tournament.stops import Stopped, Stubborn, Whole  # noqa: E402, F401
 from tests.stages.of_tournament.drawn import Drawn, Two, Unread  # noqa: E402, F401
-from tests.stages.of_tournament.plans import CutAtSpaces, Elsewhere, Lost, NoResults, Plans  # noqa: E402, F401
+from tests.stages.of_tournament.plans import CutAtSpaces, Lost, NoResults, Plans  # noqa: E402, F401
+from tests.stages.of_tournament.machines import Arrays, Elsewhere, Leaving, Locks  # noqa: E402, F401
 from tests.stages.of_tournament.asked import Forms, Helps, Python, Said  # noqa: E402, F401
 from tests.stages.of_tournament.damaged import Cut, Damages, Old  # noqa: E402, F401
 from tests.stages.of_tournament.costs import Many, OneGame  # noqa: E402, F401

@@ -6,7 +6,7 @@ from . import output, results
 from .folder import make_folders, plan_for, read_plan, write_plan
 from .help import HELP
 from .output import Mistake
-from .plan import Plan
+from .plan import Plan, number, seconds, share, time_left
 from .program import find_twogtp, try_options
 from .words import Words, processors
 
@@ -18,8 +18,8 @@ def asked_plan(words):
         if name == "--engine":
             plan.name_engine(value)
     plan.options = words.after or []
-    plan.seeds, plan.limit = words.value("--seeds"), words.value("--limit")
-    plan.move_limit, plan.start_limit = words.seconds("--move-limit"), words.seconds("--start-limit")
+    plan.seeds, plan.limit = words.last("--seeds", number), words.last("--limit", number)
+    plan.move_limit, plan.start_limit = words.last("--move-limit", seconds), words.last("--start-limit", seconds)
     plan.is_direct = words.has("--direct")
     for option in ("--move-limit", "--start-limit"):
         if plan.is_direct and words.has(option):
@@ -30,7 +30,7 @@ def asked_plan(words):
 def make_plan(words):
     """The plan of the folder, which is made or looked at, and the program twogtp."""
     asked, is_given = asked_plan(words)
-    words.value("--jobs")
+    words.last("--jobs", number), words.last("--task", share), words.last("--time-left", time_left)
     folder = words.places[0]
     plan = plan_for(asked, is_given, folder)
     twogtp = find_twogtp()
@@ -44,7 +44,8 @@ def do_play(words):
     from .play import play_all
 
     plan, twogtp = make_plan(words)
-    return play_all(plan, words.places[0], twogtp, words.value("--jobs") or processors(), words.has("--again"))
+    task, left = words.last("--task", share), words.last("--time-left", time_left)
+    return play_all(plan, words.places[0], twogtp, words.last("--jobs", number) or processors(), words.has("--again"), task, left)
 
 
 def do_plan(words):

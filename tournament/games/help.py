@@ -26,6 +26,9 @@ PLAN = """\
 PLAY = """\
   --jobs N           how many games at once [as many as processors]
   --again            games with an unfit or abandoned side are played again
+  --task K/T         plays the games K, K+T, K+2T .. of all
+  --time-left TIME   begins no game that this time doesn't hold, as Slurm writes
+                     it: 1-00:30:00, 30:00, or 90 for seconds
 """
 OPTION = """\
   -- OPTION ..       options of twogtp, such as --size 9 --komi 7.5
@@ -49,7 +52,7 @@ HELP = {
 usage: tournament play FOLDER --engine NAME=CMD --engine NAME=CMD ..
            [--seeds N] [--limit SECONDS] [--move-limit SECONDS]
            [--start-limit SECONDS] [--direct] [--jobs N] [--again]
-           [-- OPTION ..]
+           [--task K/T] [--time-left TIME] [-- OPTION ..]
        tournament play FOLDER .. where it has a plan
 
 Plays all games of FOLDER that have no result; a damaged one is none. The
@@ -83,7 +86,7 @@ status: 0, or 2 for a mistake in the arguments
 usage: tournament game FOLDER GAME
 
 Plays one game of FOLDER/plan, such as 1_one_two, unless it has a result or
-another process plays it.
+another process plays it, which isn't a failure.
 """, FILES, STATUS]),
     "tally": """\
 usage: tally FOLDER [--abandoned loses] [--late loses]

@@ -6,6 +6,7 @@ without `folder` is one of earlier scripts: its engines start in today's folder,
 """
 import os
 import re
+from typing import NamedTuple
 
 from .output import Mistake
 
@@ -26,6 +27,39 @@ def seconds(option, text):
     if not re.fullmatch(r"[0-9]{1,7}(\.[0-9]{1,6})?", text) or not float(text):
         raise Mistake(f"{option} wants seconds above 0, such as 60 or 0.5, and not '{text}'")
     return text
+
+
+class Share(NamedTuple):
+    """Every so many games of a plan, from one on: those of a task."""
+
+    task: int
+    tasks: int
+
+    def of(self, count):
+        """The numbers of the games, of so many."""
+        return range(self.task - 1, count, self.tasks)
+
+    def __str__(self):
+        return f"{self.task}/{self.tasks}"
+
+
+def share(option, text):
+    """The share that an option has."""
+    found = re.fullmatch("([1-9][0-9]{0,8})/([1-9][0-9]{0,8})", text)
+    if not found or int(found[1]) > int(found[2]):
+        raise Mistake(f"{option} wants K/T, the K-th of T tasks, such as 3/100, and not '{text}'")
+    return Share(int(found[1]), int(found[2]))
+
+
+def time_left(option, text):
+    """The seconds of a time as Slurm writes it, [DAYS-][[HOURS:]MINUTES:]SECONDS. None where it has no limit."""
+    if text.strip() in ("UNLIMITED", "NOT_SET"):
+        return None
+    found = re.fullmatch(r"(?:([0-9]{1,5})-)?(?:(?:([0-9]{1,5}):)?([0-9]{1,5}):)?([0-9]{1,9})", text.strip())
+    if not found:
+        raise Mistake(f"{option} wants a time such as 1-00:30:00, 30:00 or 90, and not '{text}'")
+    days, hours, minutes, rest = (int(it or 0) for it in found.groups())
+    return ((days * 24 + hours) * 60 + minutes) * 60 + rest
 
 
 class Plan:

@@ -16,19 +16,23 @@ from .tried import Tried
 
 AGAIN = 3  # seconds for which games are tried that another process holds, which may be about to end
 PAUSE = 0.2  # seconds between two such tries
+SHORT = 0.6  # seconds for which one game is tried that another process holds, perhaps to look at it
+SPARE = 10  # seconds beside its limit that a game may take, and the end of the run
 FEWER = (errno.EAGAIN, errno.ENOMEM, errno.EMFILE, errno.ENFILE)  # errors of which more games at once are the cause
 NO_START = 69  # the status where an engine can't be started
 IN_A_ROW = 10  # games in which an engine isn't started, after which the run ends
 
 
 class Play:
-    """All games of a plan that have no result."""
+    """All games of a plan that have no result, or those of a share. There may be a time at which it ends."""
 
-    def __init__(self, run, plan, jobs):
-        self.run, self.plan, self.jobs = run, plan, jobs
+    def __init__(self, run, plan, jobs, share=None, left=None):
+        self.run, self.plan, self.jobs, self.share = run, plan, jobs, share
+        self.until = None if left is None else time.monotonic() + left
         self.games = plan.games()
-        self.kinds = results.kinds_of(plan, run.folder)
-        self.count = self.with_result()
+        self.own = share.of(self.games.count) if share else range(self.games.count)
+        self.kinds = results.kinds_of(plan, run.folder, share=share)
+        self.count, self.total = self.with_result(), len(self.own)
         self.later = array("Q")  # games that another process plays
         self.tried = Tried(run, plan)
         self.not_started = Counter()  # of an engine, in how many games in a row it wasn't
@@ -37,16 +41,20 @@ class Play:
 
     def with_result(self):
         """How many games have a result."""
-        return self.kinds.count(results.WHOLE) + self.kinds.count(results.LOST)
+        return self.of_kind(results.WHOLE) + self.of_kind(results.LOST)
+
+    def of_kind(self, kind):
+        """How many games are of this kind."""
+        return self.kinds[self.own.start :: self.own.step].count(kind)
 
     def missing(self):
         """The games that have none."""
-        return (game for game, kind in enumerate(self.kinds) if kind in (results.NONE, results.DAMAGED))
+        return (game for game in self.own if self.kinds[game] in (results.NONE, results.DAMAGED))
 
     def forget_lost(self):
         """Removes the results of games in which a side was unfit or abandoned."""
-        for game, kind in enumerate(self.kinds):
-            if kind == results.LOST:
+        for game in self.own:
+            if self.kinds[game] == results.LOST:
                 with contextlib.suppress(FileNotFoundError):
                     os.unlink(Places(self.run.folder, self.games.name(game)).result)
                 self.kinds[game] = results.NONE
@@ -63,7 +71,11 @@ class Play:
 
     def is_over(self):
         """Is no other game to be begun?"""
-        return self.run.stopped or self.run.no_room or self.is_unable
+        return self.run.stopped or self.run.no_room or self.is_unable or self.has_no_time()
+
+    def has_no_time(self):
+        """Is less time left than a game may take?"""
+        return self.until is not None and time.monotonic() + self.plan.limit + SPARE > self.until
 
     def note(self, game, parts):
         """Takes note of a game's result."""
@@ -91,7 +103,7 @@ class Play:
             game, engines = self.games.number(name), name.split("_")[1:]
             if parts:
                 self.note(game, parts)
-                self.tell(f"{self.count} of {self.games.count}: {name}: {results.line_of(parts)}")
+                self.tell(f"{self.count} of {self.total}: {name}: {results.line_of(parts)}")
                 for engine in engines:
                     self.not_started[engine] = 0
             elif outcome == TAKEN:
@@ -129,7 +141,7 @@ class Play:
     def play(self):
         """Plays all that are missing, once each engine was tried here. Those that another process plays are tried again at the end, some
         seconds long."""
-        if self.count < self.games.count:
+        if self.count < self.total and not self.has_no_time():
             self.try_engines()
         self.play_these(self.missing())
         until = time.monotonic() + AGAIN
@@ -141,71 +153,99 @@ class Play:
             elif not self.is_over():
                 self.run.wait(PAUSE)
         self.run.family.end()
-        if self.count < self.games.count:
-            results.kinds_of(self.plan, self.run.folder, self.kinds)
+        if self.count < self.total:
+            results.kinds_of(self.plan, self.run.folder, self.kinds, self.share)
             self.count = self.with_result()
+
+    def counted(self):
+        """How many games have a result, and of a share how many are missing."""
+        missing = self.total - self.count
+        share = f" of task {self.share}" if self.share else ""
+        return f"{self.count} of {self.total} games{share} have a result{f', {missing} are missing' if share and missing else ''}"
 
     def status(self):
         """Says how many games have a result, and returns the status."""
-        counted = f"{self.count} of {self.games.count} games have a result"
+        counted = self.counted()
         if self.run.stopped:
             output.complain(f"stopped: {counted}; the same command goes on")
             return self.run.stop_status()
+        if self.count < self.total and self.has_no_time():
+            output.complain(f"the time left doesn't hold another game of {self.plan.limit} seconds; the same command goes on")
         if self.later and not self.run.no_room:
             output.complain(f"games that another process plays: {len(self.later)}")
         self.tell(counted)
         if self.is_unable:
             return NO_START
-        is_good = self.count == self.games.count and not self.kinds.count(results.LOST) and self.is_written and not self.run.stopped
+        others = len(self.later) if self.share else 0  # of a task that was submitted twice
+        is_good = self.count + others >= self.total and not self.of_kind(results.LOST) and self.is_written and not self.run.stopped
         return 0 if is_good else 1
 
 
-def play_all(plan, folder, twogtp, jobs, again):
-    """Plays all games that have no result, and returns the status."""
+def play_all(plan, folder, twogtp, jobs, again=False, share=None, left=None):
+    """Plays all games that have no result, or those of a share, and returns the status."""
     run = Run(plan, folder, twogtp)
-    play = Play(run, plan, jobs)
+    play = Play(run, plan, jobs, share, left)
     if again:
         play.forget_lost()
-    clear_running(folder)
+    if not share:
+        clear_running(folder)
     play.play()
     return play.status()
 
 
-def play_one(plan, folder, twogtp, name):
-    """Plays a game, unless it has a result, and returns the status."""
-    run = Run(plan, folder, twogtp)
-    tried = Tried(run, plan)
-    engines = name.split("_")[1:]
-    try:
-        if not run.has_result(name):
-            tried.try_all(engines)
-        if run.stopped:
-            return run.stop_status()
-        if run.begin(name):
-            return 0
-    except NoStart as problem:
-        output.complain(f"{name}: {problem.args[0]}")
-        return NO_START
-    except Taken:
-        output.complain(f"{name}: another process plays it")
-        return 1
-    except OSError as problem:
-        output.complain(f"{name}: no result: {output.in_words(problem)}")
-        run.has_no_room(problem)
-        return 1
-    parts = None
-    while run.playing:
-        for _, outcome, parts in run.wait():
-            if outcome == TAKEN:
-                output.complain(f"{name}: another process plays it")
-            if outcome in (NO_BLACK, NO_WHITE):
-                tried.note("failed", engines[outcome - NO_BLACK])
-    run.family.end()
-    if parts:
+class One:
+    """One game of a plan, by its name."""
+
+    def __init__(self, plan, folder, twogtp, name):
+        self.run, self.name = Run(plan, folder, twogtp), name
+        self.tried, self.engines = Tried(self.run, plan), name.split("_")[1:]
+
+    def begin(self):
+        """Begins it. Returns the status where that is known by then: it has a result, another process plays it, or it can't be begun."""
         try:
-            output.write(1, f"{name}: {results.line_of(parts)}\n")
+            if not self.run.has_result(self.name):
+                self.tried.try_all(self.engines)
+            until = time.monotonic() + SHORT
+            while not self.run.stopped:
+                try:
+                    return 0 if self.run.begin(self.name) else None
+                except Taken:
+                    if time.monotonic() > until:
+                        output.complain(f"{self.name}: another process plays it")
+                        return 0
+                self.run.heed(PAUSE)
+        except NoStart as problem:
+            output.complain(f"{self.name}: {problem.args[0]}")
+            return NO_START
+        except OSError as problem:
+            output.complain(f"{self.name}: no result: {output.in_words(problem)}")
+            self.run.has_no_room(problem)
+            return 1
+        return self.run.stop_status()
+
+    def end(self):
+        """Waits for its end, and returns the status."""
+        parts = outcome = None
+        while self.run.playing:
+            for _, outcome, parts in self.run.wait():
+                if outcome in (NO_BLACK, NO_WHITE):
+                    self.tried.note("failed", self.engines[outcome - NO_BLACK])
+        self.run.family.end()
+        if outcome == TAKEN:
+            output.complain(f"{self.name}: another process plays it")
+            return 0
+        if not parts:
+            return self.run.stop_status() if self.run.stopped else 1
+        try:
+            output.write(1, f"{self.name}: {results.line_of(parts)}\n")
         except OSError:
-            output.complain(f"{name}: it has a result, but this line was not written")
+            output.complain(f"{self.name}: it has a result, but this line was not written")
             return 1
         return 1 if results.is_lost(parts) else 0
-    return run.stop_status() if run.stopped else 1
+
+
+def play_one(plan, folder, twogtp, name):
+    """Plays a game, unless it has a result or another process plays it, and returns the status."""
+    one = One(plan, folder, twogtp, name)
+    status = one.begin()
+    return one.end() if status is None else status

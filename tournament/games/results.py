@@ -83,11 +83,22 @@ def each(plan, folder, known=None):
         os.close(games)
 
 
-def kinds_of(plan, folder, kinds=None):
-    """What each game of the plan has, by its number. Where it was looked at before, that is brought up to date."""
+def of_share(plan, folder, share, known):
+    """The same of a share of the games, for which no other is looked at."""
+    games, has_board = plan.games(), plan.has_boards()
+    for number in share.of(games.count):
+        if known[number] not in (WHOLE, LOST):
+            try:
+                yield number, read(f"{folder}/games/{games.name(number)}", has_board)
+            except FileNotFoundError:
+                continue
+
+
+def kinds_of(plan, folder, kinds=None, share=None):
+    """What each game of the plan has, by its number, or each of a share. Where it was looked at before, that is brought up to date."""
     if kinds is None:
         kinds = bytearray(plan.games().count)
-    for number, parts in each(plan, folder, kinds):
+    for number, parts in of_share(plan, folder, share, kinds) if share else each(plan, folder, kinds):
         kinds[number] = DAMAGED if parts is None else LOST if is_lost(parts) else WHOLE
     return kinds
 

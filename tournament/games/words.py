@@ -2,12 +2,12 @@
 import os
 
 from .output import Mistake
-from .plan import number, seconds
 
 QUOTED = "--engine 'one=gtp_engine --policy random --seed %s'"
 OF_PLAN = {"--engine": ("NAME=CMD", QUOTED), "--seeds": ("a number", "--seeds 10"),
            "--limit": ("a number of seconds", "--limit 600"), "--move-limit": ("seconds", "--move-limit 30"),
-           "--start-limit": ("seconds", "--start-limit 300"), "--direct": None, "--jobs": ("a number", "--jobs 4"), "--again": None}
+           "--start-limit": ("seconds", "--start-limit 300"), "--direct": None, "--jobs": ("a number", "--jobs 4"), "--again": None,
+           "--task": ("K/T", "--task 3/100"), "--time-left": ("a time", "--time-left 30:00")}
 OF_TALLY = {name: ("the word loses", f"{name} loses") for name in ("--abandoned", "--late")}
 OPTIONS = {"play": OF_PLAN, "plan": OF_PLAN, "list": {"--all": None}, "game": {}, "tally": OF_TALLY}  # what each has after it, an example
 PLACES = {"play": ["FOLDER"], "plan": ["FOLDER"], "list": ["FOLDER"], "game": ["FOLDER", "GAME"], "tally": ["FOLDER"]}
@@ -71,13 +71,9 @@ class Words:
             more = f"; a command with spaces wants quotes: {QUOTED}" if OPTIONS[self.command] is OF_PLAN else ""
             raise Mistake(f"'{self.places[len(wanted)]}' is a word too many: write {line}{more}")
 
-    def value(self, name):
-        """The last value of an option that is a number; None where it isn't given. All are looked at."""
-        return ([number(name, value) for option, value in self.options if option == name] or [None])[-1]
-
-    def seconds(self, name):
-        """The same of an option that is seconds, as they are written."""
-        return ([seconds(name, value) for option, value in self.options if option == name] or [None])[-1]
+    def last(self, name, read):
+        """What this reads of the last value of an option; None where it isn't given. All are looked at."""
+        return ([read(name, value) for option, value in self.options if option == name] or [None])[-1]
 
     def has(self, name):
         """Is the option given?"""

@@ -35,6 +35,9 @@ SAID = {
     ("play", "x", "--engine", "a='b", "--engine", "c=cat"): "the command of a can't be cut into words: No closing quotation",
     ("play", "x", "--engine", "a=''", "--engine", "c=cat"): "a has no command",
     ("play", "x", "--jobs", "many"): "--jobs wants a number from 1 to 9999999, and not 'many'",
+    ("play", "all", "--task", "4/3"): "--task wants K/T, the K-th of T tasks, such as 3/100, and not '4/3'",
+    ("play", "all", "--task", "3"): "--task wants K/T, the K-th of T tasks, such as 3/100, and not '3'",
+    ("play", "all", "--time-left", "soon"): "--time-left wants a time such as 1-00:30:00, 30:00 or 90, and not 'soon'",
     ("play", "x", "--again=yes"): "--again has no value: write --again",
     ("play", "x", "--engine=cat"): "--engine wants NAME=CMD, and not 'cat'",
     ("play",): "FOLDER is missing: write tournament play FOLDER ..",
@@ -109,7 +112,7 @@ class Helps(Case):
 
 
 OF_PLAN = ["--engine", "--seeds", "--limit", "--move-limit", "--start-limit", "--direct"]
-OPTIONS_OF = {"play": [*OF_PLAN, "--jobs", "--again"], "plan": OF_PLAN, "list": ["--all"], "game": []}
+OPTIONS_OF = {"play": [*OF_PLAN, "--jobs", "--again", "--task", "--time-left"], "plan": OF_PLAN, "list": ["--all"], "game": []}
 
 
 def options_in(text):

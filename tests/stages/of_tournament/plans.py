@@ -1,11 +1,11 @@
-"""What a folder was begun with, what a command is, and the same games by other tools."""
+"""What a folder was begun with, and what a command is."""
 import re
 import shutil
 import sys
 
 from tests.shared import checks
 
-from .rooms import RANDOM, SCRIPTS, SMALL, Case, lines, results, room, tried, two_engines
+from .rooms import RANDOM, SCRIPTS, SMALL, Case, lines, room, tried, two_engines
 
 ONE_AND_TWO = two_engines("all")[1:5]
 PLAN = f"""\
@@ -185,71 +185,3 @@ class CutAtSpaces(Case):
             words = ["my scripts/tournament", "play", "all", "--engine", 'one="./my gtp_engine"', "--engine", "two=./my\\ gtp_engine"]
             came = here.run(str(python), *words, "--seeds", "1", "--", "--size", "2")
             self.check("scripts, programs and Python in folders with spaces", (0, "", 2), (*came[::2], len(here.games("all"))))
-
-
-# It stands in for ssh: each machine is a folder.
-SSH = """\
-#!/bin/bash
-while [[ $1 == -* ]]; do shift; done
-cd "$(dirname "$0")/$1" || exit 255
-shift
-[ "$1" != -- ] || shift
-exec bash -c "$*"
-"""
-
-
-class Elsewhere(Case):
-    """The same games by other tools: a list and xargs, a Slurm array's script, GNU Parallel where it is there."""
-
-    def test_list(self):
-        """The list of a plan, and xargs."""
-        wanted = results()
-        with room() as here:
-            here.run("tournament", "plan", *two_engines("all"), *SMALL)
-            self.check("the list of a plan", sorted(wanted), lines(here.run("tournament", "list", "all").output))
-            line = f"1_one_two: {wanted['1_one_two'].splitlines()[0][8:]}\n"
-            self.check("one game", (0, line, ""), here.run("tournament", "game", "all", "1_one_two"))
-            self.check("one game again plays nothing", (0, "", ""), here.run("tournament", "game", "all", "1_one_two"))
-            self.check("the list without it", sorted(set(wanted) - {"1_one_two"}), lines(here.run("tournament", "list", "all").output))
-            self.check("the list of all", sorted(wanted), lines(here.run("tournament", "list", "all", "--all").output))
-            came = here.run("bash", "-c", "tournament list all | xargs -n 1 -P 3 tournament game all")
-            self.check("by xargs: the same results", (0, "", wanted), (*came[::2], here.games("all")))
-
-    def test_array(self):
-        """The script for a Slurm array."""
-        script = str(SCRIPTS / "tournament.sbatch")
-        with room() as here:
-            here.run("tournament", "plan", *two_engines("array"), *SMALL)
-            for task in range(1, 9):
-                here.environment["SLURM_ARRAY_TASK_ID"] = str(task)
-                here.run(script, "array")
-            self.check("by the script for a Slurm array, a task a game: the same results", results(), here.games("array"))
-            self.check("the script for a Slurm array without a folder: status 2", 2, here.run(script).status)
-
-    def test_both(self):
-        """two at once in one folder: the same results."""
-        with room() as here:
-            here.run("tournament", "plan", *two_engines("both"), *SMALL)
-            here.run("bash", "-c", "tournament play both & tournament play both; wait")
-            self.same((results(), []), (here.games("both"), list((here.at / "both/running").iterdir())))
-
-    def test_machines(self):
-        """Two machines without a shared folder, by GNU Parallel: the folder is copied there, and the results back."""
-        what = "two machines by GNU Parallel"
-        with room() as here:
-            if not shutil.which("parallel") or "GNU" not in here.run("parallel", "--version").output:
-                self.skip(what, "it is not there")
-                return
-            here.run("tournament", "plan", *two_engines("far"), *SMALL)
-            ssh = here.script("ssh", SSH)
-            for machine in ("one", "two"):
-                shutil.copytree(here.at / "far", here.at / machine / "far")
-            # A login sets both. Without SHELL, GNU Parallel starts nothing and ends with status 0.
-            here.environment |= {"SHELL": "/bin/bash", "HOME": str(here.at)}
-            parallel = f"parallel --will-cite --ssh {ssh} --sshlogin 2/one,2/two tournament game far"
-            came = here.run("bash", "-c", f"tournament list far | {parallel}")
-            self.check(f"{what}: the status", (0, ""), came[::2])
-            self.check(f"{what}: each plays some", True, all(here.games(f"{machine}/far") for machine in ("one", "two")))
-            for machine in ("one", "two"):
-                shutil.copytree(here.at / machine / "far/games", here.at / "far/games", dirs_exist_ok=True)
-            self.check(f"{what}: the same results", results(), here.games("far"))
