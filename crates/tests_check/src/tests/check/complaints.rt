@@ -43,7 +43,7 @@ static ROWS: [Row; 11] = [
         sent: b"1 clear_board\n2 undo\n3 undo\n",
         wrote: b"=2\n\n",
         is_positional: false,
-        text: "# 3 captures: \"2 undo\": it was taken
+        text: "# 3 captures: \"2 undo\": it was accepted
 1 clear_board
 2 undo
 # it wrote: \"=2\\n\\n\"
