@@ -67,6 +67,14 @@ class Beyond(Checks):
     """Engines that go beyond a freedom: something is found."""
 
 
+class Earned(Checks):
+    """A pass is earned by answers, and not by questions."""
+
+    def test_moves_have_to_be_answered(self):
+        """a move that is asked and never answered rightly earns no pass."""
+        self.nothing(right.unanswered())
+
+
 class Sample(Checks):
     """The engine to start from, tournament/engine.py, has no traceback where it is ended, or isn't read."""
 

@@ -97,7 +97,7 @@ def checks_of_engines():
     # It refuses its name and each size: 5 questions, and in each of three parts the sizes 5 to 25, and 5 again.
     sizes = " ".join(map(str, range(5, 26)))
     yield Run("a check in which nothing is found and no move is asked", 4,
-              f'check: "", version "", seed 1, simple ko\n{asked}check: record: no play and no genmove was asked on any board of it\n'
+              f'check: "", version "", seed 1, simple ko\n{asked}check: record: no play and no genmove was answered rightly on any board of it\n'
               f"check: it refuses the sizes {sizes}\ncheck: 71 commands, 1 start, 0 complaints\n", "",
               ["gtp_check", "--only", "record", f"{HOSTILE} refuses"])  # fmt: skip
     # It ends at once, three times, and a lesson is over after three losses.
@@ -106,7 +106,7 @@ def checks_of_engines():
     others = "check: not asked, as the options say: start sizes ko captures suicide joining handicaps drawn record genmoves games restarts\n"
     yield Run("a check in which something is found", 1,
               f"check: an engine without a name, version unknown, seed 1, simple ko\n{found}{others}"
-              "check: komi: no play and no genmove was asked on any board of it\n"
+              "check: komi: no play and no genmove was answered rightly on any board of it\n"
               "check: 3 commands, 3 starts, 3 complaints\n", "",
               ["gtp_check", "--only", "komi", "--singly", f"{HOSTILE} exits"])  # fmt: skip
 

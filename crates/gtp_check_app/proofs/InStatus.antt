@@ -1,13 +1,15 @@
 -- What the status of a run says of its turns.
 use Rattle.std.proofs.Common.{◌≡◌, ◌∙◌, ◌<◌, ◌+◌, ◌⊎◌, arith, refl, sym, ap, Bool, true, false, List, [], ℕ}
 use Rattle.std.proofs.Common.{Option, inl, inr, zero, suc}
-use Rattle.std.specs.Prelude.{if◌then◌else◌, length, nat_lt}
+use Rattle.std.specs.Prelude.{if◌then◌else◌, length, nat_lt, All}
+use Rattle.std.proofs.lemmas.List.Elements.{All-weaker}
 use Rattle.cli.specs.Requests.{Outputs, Shows, Writers}
 use Rattle.cli.specs.Status.{done}
 use Rattle.gtp_process.specs.declared.starter.Process.{Ghosts}
 use Rattle.gtp_process.specs.Starts.{Attempts, Text}
 use Rattle.gtp_check_questions.specs.declared.lessons.Lesson.{Lesson}
 use Rattle.gtp_check_texts.specs.declared.fault.Fault.{Fault}
+use Rattle.gtp_check_talks.specs.Among.{is_among}
 use Rattle.gtp_check_talks.specs.Dialogues.{wrong_purpose}
 use Rattle.gtp_check_plan.specs.declared.plan.Plan.{Plan}
 use Rattle.gtp_check_summary.specs.declared.summary.Over.{Over}
@@ -16,13 +18,14 @@ use Rattle.gtp_check_app.specs.declared.tally.Tally.{Tally}
 use Rattle.gtp_check_app.specs.Checks.{AsksForList, HasRun, IsHeld}
 use Rattle.gtp_check_app.specs.Laws.{APassIsEarned, IsPass}
 use Rattle.gtp_check_plan.specs.Options.{AsksForText}
-use Rattle.gtp_check_app.specs.RunLaws.{AsksForCheck, HasComplained, HasNotPassed, HasPassed, HasTurn, IsOverAt}
+use Rattle.gtp_check_app.specs.RunLaws.{AsksForCheck, HasAnswered, HasComplained, HasNotPassed, HasPassed, HasTurn, IsOverAt}
 use Rattle.gtp_check_app.specs.RunLaws.{StatusesSay, complaints_in, fault_in}
 use Rattle.gtp_check_app.specs.Sequence.{Beginning, Known, Point, Turns, TurnsAreOver, beginning, first_point}
 use Rattle.gtp_check_app.specs.Status.{not_earned, something_found}
 use Rattle.gtp_check_app.specs.Tally.{alike, is_last, is_shown, most_shown_alike, started_again, without_start}
 use Rattle.gtp_check_app.specs.Unjudged.{is_blamed}
 use Rattle.gtp_check_app.specs.Turns.{Complains, IsOver, Moment, State, Turn, WritesFirst, found_in, moment}
+use Rattle.gtp_check_app.proofs.Answered.{over_answered}
 use Rattle.gtp_check_app.proofs.InTrials.{Laws, shortened_comes}
 use Rattle.gtp_check_app.proofs.InTurns.{asked_tally, some_found, turn_none}
 use Rattle.gtp_check_app.proofs.OverTurns.{silent_checks}
@@ -232,6 +235,17 @@ module _ {P O E : Type 0} (known : Known P O E) (laws : Laws known.processes) (e
           (silent_checks known laws).no_fault begins (last_before over)
           (sym (over_tally over.before why last.now over.over) ∙ none)
 
+      -- and a move was answered rightly in each lesson of which that is noted
+      answered_all : {why : Over} {last : Point P O E}
+          → (over : TurnsAreOver known begins.plan (first_point begins) why last) → IsPass begins.plan last.now.state
+          → All (HasAnswered known begins (last_before over)) begins.plan.lessons.items
+      answered_all {why = why} {last = last} over pass =
+          All-weaker (λ (lesson : Lesson). is_among last.now.state.notes.answered.items lesson ≡ true)
+          (HasAnswered known begins (last_before over))
+          (λ lesson among. over_answered known laws earned.noted begins lesson last.now over.turns over.over
+          (sym (over_tally over.before why last.now over.over) ∙ pass.nothing_found) among)
+          begins.plan.lessons.items pass.moves
+
       held_found : {status : ℕ} {has : Attempts P} {after : Streams O E}
           → IsHeld known begins status has after → status ≡ something_found → HasComplained known begins
       held_found (IsHeld.is_over {why = why} {last = last} over shown not_first closed lines goes_out) is =
@@ -255,6 +269,7 @@ module _ {P O E : Type 0} (known : Known P O E) (laws : Laws known.processes) (e
             last = last.now.state;
             over = over_at over;
             pass = pass;
+            answered = answered_all over pass;
             no_fault = quiet over pass.nothing_found;
           }
       held_passed (IsHeld.not_started over shown first closed reported) is = absurd (omega (arith, is))

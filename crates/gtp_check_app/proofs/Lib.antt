@@ -1,3 +1,4 @@
+mod Answered
 mod FewTrials
 mod Gathering
 mod InStatus

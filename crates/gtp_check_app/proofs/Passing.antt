@@ -1,28 +1,18 @@
 -- What the status of a check says.
-use Rattle.std.proofs.Common.{◌≡◌, ◌⊎◌, ◌<◌, ◌≤◌, ◌==◌, ◌++◌, ◌∷◌, [], ℕ, Bool, true, false, List, refl, inl, inr, nat_lt}
+use Rattle.std.proofs.Common.{◌≡◌, ◌<◌, ◌≤◌, ◌==◌, ℕ, Bool, true, false, List, refl, nat_lt}
 use Rattle.std.proofs.Common.{if◌then◌else◌, length-drop}
 use Rattle.std.proofs.lemmas.Bool.Decides.{nat_tests}
 use Rattle.std.proofs.Common.{arith, length, drop, min}
 use Rattle.std.specs.Prelude.{◌↔◌}
-use Rattle.std.proofs.lemmas.Bool.{and_parts, and_from, eq-eqb, eqb-true, or_cases, or_left, or_right}
+use Rattle.std.proofs.lemmas.Bool.{and_parts, and_from, eq-eqb, eqb-true}
 use Rattle.std.proofs.lemmas.List.Sums.{AllPass-from_list_all, list_all-from_AllPass}
-use Rattle.gtp_wire.specs.declared.commands.Command.TheVariants.{Boardsize, Komi, ClearBoard, FixedHandicap, Play}
-use Rattle.gtp_wire.specs.declared.commands.Command.TheVariants.{Genmove, Undo, Quit}
-use Rattle.gtp_check_judge.specs.declared.asking.CheckCommand.{CheckCommand}
-use Rattle.gtp_check_judge.specs.declared.asking.CheckCommand.TheVariants.{Match, FinalScore, Name, Version}
-use Rattle.gtp_check_judge.specs.declared.asking.CheckCommand.TheVariants.{KnownCommand, PlayInFull, GenmoveInFull}
-use Rattle.gtp_check_judge.specs.declared.asking.CheckCommand.TheVariants.{ListCommands}
-use Rattle.gtp_check_questions.specs.Lessons.{all_lessons, number_of}
 use Rattle.gtp_check_questions.specs.declared.lessons.Lesson.{Lesson}
 use Rattle.cli.specs.Status.{done}
-use Rattle.gtp_check_talks.specs.declared.notes.Notes.{Notes}
 use Rattle.gtp_check_plan.specs.declared.plan.Plan.{Plan}
 use Rattle.gtp_check_app.specs.Checks.{missed_from, status_in}
-use Rattle.gtp_check_app.specs.Laws.{AsksForMove, IsPass}
-use Rattle.gtp_check_talks.specs.Notes.{counted, nothing_noted, with_lesson}
+use Rattle.gtp_check_app.specs.Laws.{IsPass}
 use Rattle.gtp_check_talks.specs.Among.{is_among}
 use Rattle.gtp_check_app.specs.Status.{is_earned, not_earned, something_found}
-use Rattle.gtp_check_talks.specs.Counts.{one_more, with_more}
 use Rattle.gtp_check_app.specs.Turns.{State}
 
 -- ---- the status, by the complaints and whether a pass is earned
@@ -84,7 +74,7 @@ is_none_missed lesson lessons over =
 
 module _ {P : Type 0} (plan : Plan) (last : State P) where
   earned : Bool
-  earned = is_earned plan.lessons.items (missed_from plan last.course.place.lesson) last.notes.asked.items
+  earned = is_earned plan.lessons.items (missed_from plan last.course.place.lesson) last.notes.answered.items
 
   of_pass : earned ≡ true → last.tally.complaints ≡ 0 → IsPass plan last
   unfolding earned
@@ -93,13 +83,13 @@ module _ {P : Type 0} (plan : Plan) (last : State P) where
       record {
         nothing_found = none_found;
         over = none_missed last.course.place.lesson plan.lessons.items both.0;
-        moves = AllPass-from_list_all (is_among last.notes.asked.items) plan.lessons.items both.1;
+        moves = AllPass-from_list_all (is_among last.notes.answered.items) plan.lessons.items both.1;
       }
 
   by_pass : IsPass plan last → earned ≡ true
   unfolding earned
   by_pass pass = and_from _ _ (is_none_missed last.course.place.lesson plan.lessons.items pass.over)
-      (list_all-from_AllPass (is_among last.notes.asked.items) plan.lessons.items pass.moves)
+      (list_all-from_AllPass (is_among last.notes.answered.items) plan.lessons.items pass.moves)
 
   by_none : (some : Bool) → earned ≡ some → last.tally.complaints ≡ 0 → (IsPass plan last → ⊥) → some ≡ false
   by_none true is none_found no_pass = absurd (no_pass (of_pass is none_found))
@@ -122,80 +112,3 @@ module _ {P : Type 0} (plan : Plan) (last : State P) where
         λ is. ((way.0 is).0, λ pass. absurd (cc ((way.0 is).1, by_pass pass))),
         λ both. way.1 (both.0, by_none earned refl both.0 both.1),
       )
-
--- ---- where a move was asked
-
-pub no_one_at_first : (lesson : Lesson) → is_among nothing_noted.asked.items lesson ≡ true → ⊥
-no_one_at_first lesson is = absurd (cc is)
-
-among_more : (list : List Lesson) (last other : Lesson) → is_among (list ++ last ∷ []) other ≡ true
-    → (is_among list other ≡ true) ⊎ (number_of last ≡ number_of other)
-among_more [] last other is =
-    elim (or_cases (number_of last == number_of other) false is) [
-      | inl same ↦ inr (eqb-true _ _ same)
-      | inr never ↦ absurd (cc never)
-    ]
-among_more (one ∷ list) last other is =
-    elim (or_cases (number_of one == number_of other) (is_among (list ++ last ∷ []) other) is) [
-      | inl same ↦ inl (or_left (number_of one == number_of other) (is_among list other) same)
-      | inr later ↦ elim (among_more list last other later) [
-        | inl among ↦ inl (or_right (number_of one == number_of other) (is_among list other) among)
-        | inr same ↦ inr same
-      ]
-    ]
-
-among_with_more : (room : ℕ) (list : List Lesson) (last other : Lesson)
-    → is_among (with_more room list last) other ≡ true
-    → (is_among list other ≡ true) ⊎ (number_of last ≡ number_of other)
-among_with_more room list last other is = by (nat_lt (length list) room) refl is
-  where
-    by : (b : Bool) → nat_lt (length list) room ≡ b
-        → is_among (if b then list ++ last ∷ [] else list) other ≡ true
-        → (is_among list other ≡ true) ⊎ (number_of last ≡ number_of other)
-    by true test among = among_more list last other among
-    by false test among = inl among
-
-asked_with : (lesson other : Lesson) (notes : Notes) → is_among (with_lesson lesson notes).asked.items other ≡ true
-    → (is_among notes.asked.items other ≡ true) ⊎ (number_of lesson ≡ number_of other)
-asked_with lesson other notes is = by (is_among notes.asked.items lesson) refl is
-  where
-    by : (b : Bool) → is_among notes.asked.items lesson ≡ b
-        → is_among (if b then notes else record notes {
-          asked = record { items = with_more (length all_lessons) notes.asked.items lesson };
-        }).asked.items other ≡ true
-        → (is_among notes.asked.items other ≡ true) ⊎ (number_of lesson ≡ number_of other)
-    by true test among = inl among
-    by false test among = among_with_more (length all_lessons) notes.asked.items lesson other among
-
-moved : (lesson other : Lesson) (command : CheckCommand) (notes : Notes) → AsksForMove command
-    → is_among (with_lesson lesson notes).asked.items other ≡ true
-    → (is_among notes.asked.items other ≡ true) ⊎ ((number_of lesson ≡ number_of other) × AsksForMove command)
-moved lesson other command notes asks is =
-    elim (asked_with lesson other notes is) [ inl before ↦ inl before | inr same ↦ inr (same, asks) ]
-
-pub was_asked : (lesson other : Lesson) (command : CheckCommand) (notes : Notes)
-    → is_among (counted lesson command notes).asked.items other ≡ true
-    → (is_among notes.asked.items other ≡ true) ⊎ ((number_of lesson ≡ number_of other) × AsksForMove command)
-was_asked lesson other (Match (Play move)) notes is =
-    moved lesson other (Match (Play move)) (record notes { commands = one_more notes.commands })
-    (AsksForMove.plays move) is
-was_asked lesson other (Match (Genmove colour)) notes is =
-    moved lesson other (Match (Genmove colour)) (record notes { commands = one_more notes.commands })
-    (AsksForMove.chooses colour) is
-was_asked lesson other (Match (Boardsize size)) notes is = inl is
-was_asked lesson other (Match (Komi komi)) notes is = inl is
-was_asked lesson other (Match ClearBoard) notes is = inl is
-was_asked lesson other (Match (FixedHandicap stones)) notes is = inl is
-was_asked lesson other (Match Undo) notes is = inl is
-was_asked lesson other (Match Quit) notes is = inl is
-was_asked lesson other FinalScore notes is = inl is
-was_asked lesson other Name notes is = inl is
-was_asked lesson other Version notes is = inl is
-was_asked lesson other (KnownCommand known) notes is = inl is
-was_asked lesson other ListCommands notes is = inl is
-was_asked lesson other (PlayInFull move) notes is =
-    moved lesson other (PlayInFull move) (record notes { commands = one_more notes.commands })
-    (AsksForMove.plays_in_full move) is
-was_asked lesson other (GenmoveInFull colour) notes is =
-    moved lesson other (GenmoveInFull colour) (record notes { commands = one_more notes.commands })
-    (AsksForMove.chooses_in_full colour) is

@@ -134,5 +134,5 @@ pub held_status : {P O E : Type 0} {known : Known P O E} (begins : Beginning P O
 held_status begins status (IsHeld.is_over {last = last} turns shown started closed lines goes) =
     found_status (nat_lt 0 last.now.state.tally.complaints)
     (is_earned begins.plan.lessons.items (missed_from begins.plan last.now.state.course.place.lesson)
-    last.now.state.notes.asked.items)
+    last.now.state.notes.answered.items)
 held_status begins status (IsHeld.not_started turns shown none closed wrote) = inr (inr (inl refl))

@@ -54,7 +54,7 @@ missed_from plan lesson = drop (min lesson (length plan.lessons.items)) plan.les
 -- the status of a check that is over so
 abbrev pub status_in : {P : Type 0} → Plan → State P → ℕ
 status_in plan last = status_of last.tally.complaints
-    (is_earned plan.lessons.items (missed_from plan last.course.place.lesson) last.notes.asked.items)
+    (is_earned plan.lessons.items (missed_from plan last.course.place.lesson) last.notes.answered.items)
 
 -- What the last lines say of a check that is over for this reason: the lessons from the one on in which the course is,
 -- what isn't shown, the starts, the complaints, and the suicides that weren't judged.

@@ -1,38 +1,30 @@
 -- A pass is earned, and suicide isn't judged where it isn't asked. (Own.)
 use Rattle.std.specs.Prelude.{◌≡◌, ◌+◌, ◌≤◌, ◌<◌, ◌↔◌, ◌⊎◌, ℕ, true, All, List, [], ◌++◌, length, Option, Some, Result}
 use Rattle.std.specs.Io.KnownBytes.{Appends}
-use Rattle.go_base.specs.declared.colours.Colour.{Colour}
-use Rattle.go_base.specs.declared.moves.Move.{Move}
 use Rattle.go_board.specs.declared.faults.PlayFault.TheVariants.{Suicide}
 use Rattle.go_board.specs.declared.rules.KoRule.{KoRule}
-use Rattle.gtp_wire.specs.declared.commands.Command.TheVariants.{Play, Genmove}
 use Rattle.gtp_wire.specs.declared.replies.Reply.{Reply}
 use Rattle.gtp_wire.specs.declared.replies.ReplyFault.{ReplyFault}
 use Rattle.gtp_process.specs.declared.starter.Process.{Ghosts}
 use Rattle.gtp_session.specs.Policy.{May}
 use Rattle.gtp_session.specs.Engine.{Engine, Engages, fresh_under}
-use Rattle.gtp_check_judge.specs.declared.asking.CheckCommand.{CheckCommand}
-use Rattle.gtp_check_judge.specs.declared.asking.CheckCommand.TheVariants.{Match, PlayInFull, GenmoveInFull}
 use Rattle.gtp_check_judge.specs.declared.exam.Exam.{Exam}
 use Rattle.gtp_check_judge.specs.declared.exam.Finding.{Finding}
 use Rattle.gtp_check_judge.specs.declared.judging.Kind.{Kind}
 use Rattle.gtp_check_judge.specs.declared.judging.Kind.TheVariants.{Unlawful}
 use Rattle.gtp_check_judge.specs.Exam.{Hears, begun}
 use Rattle.gtp_check_judge.specs.Laws.{Exchange, IsJustified, Talks}
-use Rattle.gtp_check_questions.specs.Lessons.{number_of}
-use Rattle.gtp_check_questions.specs.declared.lessons.Lesson.{Lesson}
 use Rattle.gtp_check_questions.specs.declared.suicides.Suicide.TheVariants.{Unasked}
 use Rattle.cli.specs.Status.{done}
 use Rattle.gtp_check_texts.specs.Complaints.{complaint_lines}
 use Rattle.gtp_check_texts.specs.declared.complaint.Complaint.{Complaint}
 use Rattle.gtp_check_texts.specs.declared.fault.Fault.{Fault}
 use Rattle.gtp_check_texts.specs.declared.fault.Fault.TheVariants.{Wrote}
-use Rattle.gtp_check_talks.specs.declared.notes.Notes.{Notes}
 use Rattle.gtp_check_plan.specs.declared.plan.Plan.{Plan}
 use Rattle.gtp_check_app.specs.Checks.{status_in}
 use Rattle.gtp_check_talks.specs.Dialogues.{Dialogue, EndsWrong, begun_with}
-use Rattle.gtp_check_talks.specs.Notes.{counted, nothing_noted}
 use Rattle.gtp_check_talks.specs.Among.{is_among}
+use Rattle.gtp_check_talks.specs.Laws.{MovesAreNotedOnceAnswered}
 use Rattle.gtp_check_app.specs.Status.{not_earned, something_found}
 use Rattle.gtp_check_app.specs.Tally.{with_suicide}
 use Rattle.gtp_check_app.specs.Turns.{Complains, Moment, State}
@@ -66,28 +58,19 @@ TrialsAreFew {P} known = (plan : Plan) (before after : Moment P) (fault : Option
 
 -- ---- a pass
 
--- a command that asks for a move
-pub data AsksForMove : CheckCommand → Type 0 where
-  plays : (move : Move) → AsksForMove (Match (Play move))
-  chooses : (colour : Colour) → AsksForMove (Match (Genmove colour))
-  plays_in_full : (move : Move) → AsksForMove (PlayInFull move)
-  chooses_in_full : (colour : Colour) → AsksForMove (GenmoveInFull colour)
-
 -- A check is over so, and the engine has passed: nothing was found, the course is over, and of each of its lessons it
--- is noted that a move was asked.
+-- is noted that a move was answered rightly.
 pub record IsPass {P : Type 0} (plan : Plan) (last : State P) : Type 0 where
   pub nothing_found : last.tally.complaints ≡ 0
   pub over : length plan.lessons.items ≤ last.course.place.lesson
-  pub moves : All (λ lesson. is_among last.notes.asked.items lesson ≡ true) plan.lessons.items
+  pub moves : All (λ lesson. is_among last.notes.answered.items lesson ≡ true) plan.lessons.items
 
 -- What a status says of a check that is over so: 1 that something was found, 0 that the engine has passed, and 4 that
--- nothing was found and it hasn't passed. And a move is noted as asked in a lesson only where one was asked in it.
+-- nothing was found and it hasn't passed. And a lesson is noted only where a move that was asked in it was answered
+-- rightly.
 pub record APassIsEarned {P : Type 0} (known : Ghosts P) : Type 0 where
   pub found : (plan : Plan) (last : State P) → (status_in plan last ≡ something_found) ↔ (0 < last.tally.complaints)
   pub passed : (plan : Plan) (last : State P) → (status_in plan last ≡ done) ↔ IsPass plan last
   pub neither : (plan : Plan) (last : State P) → (status_in plan last ≡ not_earned)
       ↔ ((last.tally.complaints ≡ 0) × (¬ IsPass plan last))
-  pub none_at_first : (lesson : Lesson) → is_among nothing_noted.asked.items lesson ≡ true → ⊥
-  pub noted : (lesson other : Lesson) (command : CheckCommand) (notes : Notes)
-      → is_among (counted lesson command notes).asked.items other ≡ true
-      → (is_among notes.asked.items other ≡ true) ⊎ ((number_of lesson ≡ number_of other) × AsksForMove command)
+  pub noted : MovesAreNotedOnceAnswered known

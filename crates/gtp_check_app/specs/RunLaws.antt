@@ -12,6 +12,7 @@ use Rattle.gtp_process.specs.Starts.{Attempts, Tries, program_line}
 use Rattle.gtp_check_judge.specs.declared.exam.Exam.{Exam}
 use Rattle.gtp_check_judge.specs.declared.judging.Kind.{Kind}
 use Rattle.gtp_check_judge.specs.Exam.{begun}
+use Rattle.gtp_check_questions.specs.declared.lessons.Lesson.{Lesson}
 use Rattle.gtp_check_app.specs.declared.complaining.Caption.{Caption}
 use Rattle.gtp_check_texts.specs.Complaints.{complaint_lines}
 use Rattle.gtp_check_texts.specs.declared.complaint.Complaint.{Complaint}
@@ -20,7 +21,7 @@ use Rattle.gtp_check_texts.specs.declared.fault.Fault.TheVariants.{CutOff, Wrote
 use Rattle.gtp_check_talks.specs.declared.engine.Engine.{Engine}
 use Rattle.gtp_check_talks.specs.declared.notes.Notes.{Notes}
 use Rattle.gtp_check_talks.specs.Dialogues.{Dialogue, EndsSo, Wrong, begun_with, dialogue, wrong_with}
-use Rattle.gtp_check_talks.specs.Laws.{IsLost, IsRightlyAnswered, IsWronglyWritten}
+use Rattle.gtp_check_talks.specs.Laws.{IsLost, IsMoveAnswered, IsRightlyAnswered, IsWronglyWritten}
 use Rattle.gtp_check_plan.specs.declared.plan.Plan.{Plan}
 use Rattle.gtp_check_app.specs.declared.streams.Streams.{Streams}
 use Rattle.gtp_check_app.specs.Progress.{IsShown}
@@ -232,11 +233,29 @@ pub record HasComplained {P O E : Type 0} (known : Known P O E) (begins : Beginn
   pub turn : HasTurn known begins over.now
   pub written : 0 < length (complaints_in turn.is.turn)
 
--- A check is over, and the engine has passed: nothing that is judged was wrong in any turn, and the pass is earned.
+-- A `play` or a `genmove` of the lesson was answered rightly in a turn: nothing was found then.
+abbrev pub IsAnsweredIn : {P : Type 0} {known : Ghosts P} {plan : Plan} {before after : Moment P}
+    {texts shows : List (List ℕ)} → Lesson → Turn known plan before after texts shows → Type 0
+IsAnsweredIn lesson (Turn.starts process steps next fruitful may tries quits fresh) = ⊥
+IsAnsweredIn lesson (Turn.restarts steps next quits) = ⊥
+IsAnsweredIn lesson (Turn.kills steps next ended) = ⊥
+IsAnsweredIn lesson (Turn.exchanges {fault = fault} heard first complains) =
+    (fault ≡ None)
+    × IsMoveAnswered lesson heard.heard.engine.talk.items heard.mid.check.exam heard.heard.exam
+
+-- A check that comes to this point had such a turn.
+pub record HasAnswered {P O E : Type 0} (known : Known P O E) (begins : Beginning P O E) (last : Point P O E)
+    (lesson : Lesson) : Type 0 where
+  pub turn : HasTurn known begins last
+  pub answered : IsAnsweredIn lesson turn.is.turn
+
+-- A check is over, and the engine has passed: nothing that is judged was wrong in any turn, and the pass is earned. In
+-- each lesson of the plan there was a turn in which a `play` or a `genmove` of it was answered rightly.
 pub record HasPassed {P O E : Type 0} (known : Known P O E) (begins : Beginning P O E) : Type 0 where
   pub last : State P
   pub over : IsOverAt known begins last
   pub pass : IsPass begins.plan last
+  pub answered : All (HasAnswered known begins over.now) begins.plan.lessons.items
   pub no_fault : (turn : HasTurn known begins over.now) → is_blamed begins.plan.suicide (fault_in turn.is.turn) ≡ false
 
 -- A check is over, nothing that is judged was wrong in any turn, and a pass isn't earned.

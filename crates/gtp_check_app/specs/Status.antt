@@ -18,9 +18,10 @@ something_found = 1
 abbrev pub not_earned : ℕ
 not_earned = 4
 
--- A pass is earned: none of the lessons that were to be asked is missed, and in each of them a move was asked.
+-- A pass is earned: none of the lessons that were to be asked is missed, and in each of them a move was answered
+-- rightly.
 abbrev pub is_earned : List Lesson → List Lesson → List Lesson → Bool
-is_earned lessons missed asked = (length missed == 0) && list_all (is_among asked) lessons
+is_earned lessons missed answered = (length missed == 0) && list_all (is_among answered) lessons
 
 -- the status of a check with so many complaints
 abbrev pub status_of : ℕ → Bool → ℕ

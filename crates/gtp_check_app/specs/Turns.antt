@@ -42,7 +42,7 @@ use Rattle.gtp_check_shortening.specs.declared.talk.Purpose.{Purpose}
 use Rattle.gtp_check_app.specs.declared.tally.Tally.{Tally}
 use Rattle.gtp_check_texts.specs.Complaints.{complaint_lines}
 use Rattle.gtp_check_talks.specs.Dialogues.{EndsLike, IsAsked, IsExchanged, IsTrial, Wrong, begun_with}
-use Rattle.gtp_check_talks.specs.Dialogues.{dialogue, wrong_purpose, wrong_talk}
+use Rattle.gtp_check_talks.specs.Dialogues.{dialogue, owed_purpose, wrong_purpose, wrong_talk}
 use Rattle.gtp_check_shortening.specs.Purposes.{is_same_lesson, is_same_purpose}
 use Rattle.gtp_check_talks.specs.Dialogues.{wrong_with}
 use Rattle.gtp_check_talks.specs.Notes.{nothing_noted}
@@ -54,7 +54,7 @@ use Rattle.gtp_check_shortening.specs.Reduction.{begun as begun_reduction}
 use Rattle.gtp_check_summary.specs.Summary.{first_line}
 use Rattle.gtp_check_shortening.specs.Played.{played}
 use Rattle.gtp_check_shortening.specs.Superko.{IsPositional, game_before}
-use Rattle.gtp_check_app.specs.Unjudged.{HasPassedOver, is_blamed, is_unjudged, owed_purpose}
+use Rattle.gtp_check_app.specs.Unjudged.{HasPassedOver, is_blamed, is_unjudged}
 use Rattle.gtp_check_app.specs.Trials.{LastGames, limits_of, or_else, shortenings_of}
 use Rattle.gtp_check_app.specs.Tally.{found, is_shown, nothing_found, started_again, with_suicide, without_start}
 
@@ -271,7 +271,7 @@ module _ {P : Type 0} (known : Ghosts P) where
     pub ending : Ending
     pub ended : known.leaves engine.process ending
     pub course : Course
-    pub left : HasPassedOver (is_same_purpose (owed_purpose engine before.check.exam) (purpose_in before.course))
+    pub left : HasPassedOver (is_same_purpose (owed_purpose engine.talk.items before.check.exam) (purpose_in before.course))
         before.course course
     pub leads : after ≡ record before {
       check = after_loss before.check;

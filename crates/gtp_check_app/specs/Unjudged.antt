@@ -1,15 +1,11 @@
 -- Suicide where it isn't judged: some rule sets forbid it, and others don't. (Own.)
-use Rattle.std.specs.Prelude.{◌≡◌, ◌-◌, Bool, true, false, not, length, slice_get, Option, None, Some, IfSome}
+use Rattle.std.specs.Prelude.{◌≡◌, Bool, true, false, not, Option, None, Some, IfSome}
 use Rattle.go_board.specs.declared.faults.PlayFault.TheVariants.{Suicide as SuicideFault}
-use Rattle.gtp_check_judge.specs.declared.exam.Exam.{Exam}
 use Rattle.gtp_check_judge.specs.declared.judging.Kind.TheVariants.{Unlawful}
 use Rattle.gtp_check_questions.specs.declared.suicides.Suicide.{Suicide}
 use Rattle.gtp_check_questions.specs.declared.suicides.Suicide.TheVariants.{Unasked}
 use Rattle.gtp_check_questions.specs.Asking.{lesson_of}
 use Rattle.gtp_check_questions.specs.Course.{Course, Leaves, part_over}
-use Rattle.gtp_check_shortening.specs.declared.talk.Purpose.{Purpose}
-use Rattle.gtp_check_talks.specs.declared.engine.Engine.{Engine}
-use Rattle.gtp_check_talks.specs.Dialogues.{purpose_of}
 use Rattle.gtp_check_texts.specs.declared.fault.Fault.{Fault}
 use Rattle.gtp_check_texts.specs.declared.fault.Fault.TheVariants.{Wrote}
 
@@ -22,11 +18,6 @@ is_unjudged _ _ = false
 abbrev pub is_blamed : Suicide → Option Fault → Bool
 is_blamed suicide None = false
 is_blamed suicide (Some fault) = not (is_unjudged suicide fault)
-
--- for what the oldest command that isn't answered was asked
-abbrev pub owed_purpose : {P : Type 0} → Engine P → Exam → Purpose
-owed_purpose engine exam =
-    purpose_of (slice_get engine.talk.items (length engine.talk.items - length exam.unanswered))
 
 -- Something in a part isn't judged. The part is left, if the course is there, and nothing counts as found in it.
 pub record HasPassedOver (is_there : Bool) (old new : Course) : Type 0 where

@@ -399,7 +399,7 @@ impl<S: Starter> Check<S> {
         ensures { result ≡ status_in plan.now (state_of self.now) }
     {
         let missed = missed_from(plan, self.course.place().lesson);
-        let is_earned = is_earned(&plan.lessons, missed, &self.notes.asked);
+        let is_earned = is_earned(&plan.lessons, missed, &self.notes.answered);
         status_of(self.tally.complaints, is_earned)
     }
 

@@ -7,7 +7,8 @@ ghost use Rattle.gtp_check_app.specs.Sequence.{known_of};
 use byte_streams::WriteOnce;
 use gtp_check_talks::laws::{
     complaints_are_justified, ko_rules_stay, losses_are_no_wrong_answers,
-    right_answers_end_starts_in_vain, silent_conversations_are_right,
+    moves_are_noted_once_answered, right_answers_end_starts_in_vain,
+    silent_conversations_are_right,
 };
 use gtp_process::Process;
 
@@ -22,10 +23,12 @@ pub fn trials_are_few<P: Process>()
 {}
 
 /// The status of a check that is over is 1 exactly where something was found, and 0 exactly where nothing was, each
-/// lesson was asked to its end, and a `play` or a `genmove` was asked in each.
+/// lesson was asked to its end, and a `play` or a `genmove` was answered rightly in each.
 pub fn a_pass_is_earned<P: Process>()
     ensures { APassIsEarned P.Process }
-{}
+{
+    moves_are_noted_once_answered::<P>();
+}
 
 /// Where nothing was found so far, nothing that is judged was wrong in any turn. And at each point of a check, each answer that was
 /// heard of its engine is a right one.

@@ -32,12 +32,12 @@ use std::convert::AsStr;
 /// Does what the words of the command line ask for, the first of which is the program's name. Checks the engine that
 /// they name, and writes what is wrong with it to the output. Returns the status that the program ends with:
 ///
-/// - 0 where nothing was found, each lesson was asked to its end, and in each a move was asked; and where the words ask
+/// - 0 where nothing was found, each lesson was asked to its end, and in each a move was answered rightly; and where the words ask
 ///   for help, the version or the list of lessons, which goes to the output;
 /// - 1 where something was found;
 /// - 2 where the words have a mistake or leave no lesson, or the engine wasn't started at the first try;
 /// - 3 where the output can't be written, memory was refused, or a check had too many turns;
-/// - 4 where nothing was found, and a lesson wasn't asked to its end, or no move was asked in it.
+/// - 4 where nothing was found, and a lesson wasn't asked to its end, or no move was answered rightly in it.
 ///
 /// What a status of 2 or 3 means is written to standard error, and whether that can be written changes nothing. Where
 /// `shows_progress` is asked for, that is a terminal: what is waited for is written to it, each time in place of its

@@ -21,11 +21,11 @@ pub fn status_of(complaints: u32, is_earned: bool) -> u8
     }
 }
 
-/// Whether a pass is earned: none of these lessons is missed, and in each a move was asked.
-pub fn is_earned(lessons: &[Lesson], missed: &[Lesson], asked: &[Lesson]) -> bool
-    ensures { result ≡ is_earned lessons.now missed.now asked.now }
+/// Whether a pass is earned: none of these lessons is missed, and in each a move was answered rightly.
+pub fn is_earned(lessons: &[Lesson], missed: &[Lesson], answered: &[Lesson]) -> bool
+    ensures { result ≡ is_earned lessons.now missed.now answered.now }
 {
-    missed.is_empty() && are_among(lessons, asked)
+    missed.is_empty() && are_among(lessons, answered)
 }
 
 /// Whether each of these lessons is among those.

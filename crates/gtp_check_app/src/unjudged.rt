@@ -1,6 +1,5 @@
 //! A suicide that a `genmove` chose, where that isn't judged.
 ghost use Rattle.std.specs.Prelude.{◌≡◌, None, IsSome};
-ghost use Rattle.gtp_check_talks.specs.Dialogues.{purpose_of};
 ghost use Rattle.gtp_check_shortening.specs.Purposes.{is_same_purpose};
 ghost use Rattle.gtp_check_app.specs.Turns.{PassesOver, purpose_in, state_of};
 ghost use Rattle.gtp_check_app.specs.Unjudged.{HasPassedOver, is_blamed, is_unjudged};
@@ -8,8 +7,8 @@ ghost use Rattle.gtp_check_app.specs.Unjudged.{HasPassedOver, is_blamed, is_unju
 use crate::check::{Check, purpose_in};
 use go_board::PlayFault;
 use gtp_check_judge::Kind;
-use gtp_check_questions::{Course, Lesson, Suicide};
-use gtp_check_shortening::talk::{Purpose, Said, said_at};
+use gtp_check_questions::{Course, Suicide};
+use gtp_check_shortening::talk::Purpose;
 use gtp_check_texts::fault::Fault;
 use gtp_process::{Process, Starter};
 
@@ -46,25 +45,11 @@ impl<S: Starter> Check<S> {
         let Some(engine) = self.engine.take() else {
             return;
         };
-        let answered = engine.answered(&self.examiner);
-        let purpose = purpose_of(said_at(engine.talk.as_slice(), answered));
+        let purpose = engine.owed_purpose(&self.examiner);
         self.examiner.lost();
         let _ = engine.end();
         leave_part(&mut self.course, purpose);
         self.tally.count_suicide();
-    }
-}
-
-/// What a command was asked for, if there is one.
-fn purpose_of(said: Option<Said>) -> Purpose
-    ensures { result ≡ purpose_of said }
-{
-    match said {
-        Some(said) => said.purpose,
-        None => Purpose {
-            lesson: Lesson::Start,
-            part: 0,
-        },
     }
 }
 

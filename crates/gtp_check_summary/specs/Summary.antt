@@ -81,22 +81,22 @@ missed_lines NoRightAnswer missed =
 missed_lines (NotStarted unstarted) missed =
     unstarted_line unstarted ++ lessons_line (codes "not asked, or not to their end, for that:") missed
 
--- The lesson was to be asked and isn't missed, but no move was asked in it: the sizes of its boards were refused, or
--- something was found in each part, or often enough, before its first move.
+-- The lesson was to be asked and isn't missed, but no move was answered rightly in it: the sizes of its boards were
+-- refused, or each part, or often enough, was left before that.
 abbrev pub is_unplayed : List Lesson → List Lesson → List Lesson → Lesson → Bool
-is_unplayed lessons missed asked lesson =
-    is_among lessons lesson && (not (is_among missed lesson) && not (is_among asked lesson))
+is_unplayed lessons missed answered lesson =
+    is_among lessons lesson && (not (is_among missed lesson) && not (is_among answered lesson))
 
 -- the line of such a lesson, and nothing of another one
 abbrev pub unplayed_line : Bool → Lesson → List ℕ
 unplayed_line false lesson = []
 unplayed_line true lesson = concat (
-    codes "check: " ∷ name_of lesson ∷ codes ": no play and no genmove was asked on any board of it\n" ∷ [])
+    codes "check: " ∷ name_of lesson ∷ codes ": no play and no genmove was answered rightly on any board of it\n" ∷ [])
 
 -- those lines of all lessons, in their order
 abbrev pub unplayed_lines : List Lesson → List Lesson → List Lesson → List ℕ
-unplayed_lines lessons missed asked =
-    concat (map (λ lesson. unplayed_line (is_unplayed lessons missed asked lesson) lesson) all_lessons)
+unplayed_lines lessons missed answered =
+    concat (map (λ lesson. unplayed_line (is_unplayed lessons missed answered lesson) lesson) all_lessons)
 
 -- that the engine lacks the command of this name, where it said so
 abbrev pub lack_line : Bool → List ℕ → List ℕ
@@ -154,13 +154,13 @@ counts_line commands starts complaints = concat (
     codes ", " ∷ counted_text starts (codes " start") ∷
     codes ", " ∷ counted_text complaints (codes " complaint") ∷ codes "\n" ∷ [])
 
--- The last lines: complaints that aren't shown, lessons that weren't asked, those in which no move was asked, what the
+-- The last lines: complaints that aren't shown, lessons that weren't asked, those in which no move was answered, what the
 -- engine lacks, how far it takes back, what it refuses, the suicides that weren't judged, and the counts.
 abbrev pub last_lines : Plan → Notes → Ending → List ℕ
 last_lines plan notes ending = concat (
     hidden_lines ending.hidden.now ∷
     lessons_line (codes "not asked, as the options say:") plan.left_out.items ∷
     missed_lines ending.over.now ending.missed.now ∷
-    unplayed_lines plan.lessons.items ending.missed.now notes.asked.items ∷
+    unplayed_lines plan.lessons.items ending.missed.now notes.answered.items ∷
     lack_lines notes ∷ undos_line notes.most_undos ∷ refused_line notes.refused.items ∷
     suicides_line ending.suicides ∷ counts_line notes.commands ending.starts ending.complaints ∷ [])

@@ -114,7 +114,7 @@ pub fn last_lines(
     add_hidden(&mut text, ending.hidden)?;
     add_lessons(&mut text, &plan.left_out, b"not asked, as the options say:")?;
     add_missed(&mut text, ending.over, ending.missed)?;
-    add_unplayed(&mut text, &plan.lessons, ending.missed, &notes.asked)?;
+    add_unplayed(&mut text, &plan.lessons, ending.missed, &notes.answered)?;
     add_lacks(&mut text, notes)?;
     add_most_undos(&mut text, notes.most_undos)?;
     add_refused(&mut text, &notes.refused)?;
@@ -217,18 +217,18 @@ fn add_missed(text: &mut Vec<u8>, over: &Over, missed: &[Lesson]) -> Result<(), 
     }
 }
 
-/// The lessons of these that were asked to their end without a move, a line each.
+/// The lessons of these that were asked to their end, and in which no move was answered rightly, a line each.
 fn add_unplayed(
     text: &mut Vec<u8>,
     lessons: &[Lesson],
     missed: &[Lesson],
-    asked: &[Lesson],
+    answered: &[Lesson],
 ) -> Result<(), AllocError>
     ensures { OnOk result (text.new.items ≡
-        text.old.items ++ unplayed_lines lessons.now missed.now asked.now) }
+        text.old.items ++ unplayed_lines lessons.now missed.now answered.now) }
 {
     for lesson in LESSONS {
-        add_if_unplayed(text, is_unplayed(lessons, missed, asked, lesson), lesson)?;
+        add_if_unplayed(text, is_unplayed(lessons, missed, answered, lesson), lesson)?;
     }
     Ok(())
 }
@@ -245,19 +245,19 @@ fn add_if_unplayed(text: &mut Vec<u8>, is_one: bool, lesson: Lesson) -> Result<(
         &[
             b"check: ",
             lesson.name().as_bytes(),
-            b": no play and no genmove was asked on any board of it\n",
+            b": no play and no genmove was answered rightly on any board of it\n",
         ],
     )
 }
 
-/// Whether a lesson is among these and isn't missed, but no move was asked in it.
-fn is_unplayed(lessons: &[Lesson], missed: &[Lesson], asked: &[Lesson], lesson: Lesson) -> bool
-    ensures { result ≡ is_unplayed lessons.now missed.now asked.now lesson }
+/// Whether a lesson is among these and isn't missed, but no move was answered rightly in it.
+fn is_unplayed(lessons: &[Lesson], missed: &[Lesson], answered: &[Lesson], lesson: Lesson) -> bool
+    ensures { result ≡ is_unplayed lessons.now missed.now answered.now lesson }
 {
     if !is_among(lessons, lesson) || is_among(missed, lesson) {
         return false;
     }
-    !is_among(asked, lesson)
+    !is_among(answered, lesson)
 }
 
 /// The line of a program that was not started.

@@ -1,123 +1,70 @@
 -- What is noted of starts without a right answer.
 use Rattle.std.proofs.Common.{◌≡◌, ◌∙◌, ◌≤◌, ◌<◌, arith, refl, ap, ℕ, Bool, true, false, List, [], length}
 use Rattle.std.proofs.Common.{Option, None, Some, Result, Ok, Err}
-use Rattle.std.specs.Prelude.{if◌then◌else◌, ◌||◌, is_some}
+use Rattle.std.specs.Prelude.{if◌then◌else◌}
 use Rattle.go_board.specs.declared.rules.KoRule.{KoRule}
-use Rattle.gtp_wire.specs.declared.commands.Command.{Command}
-use Rattle.gtp_wire.specs.declared.commands.Command.TheVariants.{Play, Genmove}
 use Rattle.gtp_wire.specs.declared.replies.Reply.{Reply}
 use Rattle.gtp_wire.specs.declared.replies.ReplyFault.{ReplyFault}
 use Rattle.gtp_process.specs.declared.starter.Process.{Ghosts}
 use Rattle.gtp_check_judge.specs.declared.asking.CheckCommand.{CheckCommand}
-use Rattle.gtp_check_judge.specs.declared.asking.CheckCommand.TheVariants.{Match, FinalScore, Name, Version}
-use Rattle.gtp_check_judge.specs.declared.asking.CheckCommand.TheVariants.{KnownCommand, ListCommands, PlayInFull, GenmoveInFull}
 use Rattle.gtp_check_judge.specs.declared.exam.Exam.{Exam}
 use Rattle.gtp_check_judge.specs.declared.judging.Refusal.{Refusal}
-use Rattle.gtp_check_judge.specs.declared.judging.Refusal.TheVariants as refusal
 use Rattle.gtp_check_judge.specs.declared.skills.Skills.{Skills}
 use Rattle.gtp_check_judge.specs.declared.unanswered.Asked.{Asked}
-use Rattle.gtp_check_judge.specs.Judging.{oldest}
+use Rattle.gtp_check_judge.specs.Judging.{oldest, refused_by}
 use Rattle.gtp_check_judge.specs.Exam.{Leaves, ReplyLeaves, begun, with_rest}
 use Rattle.gtp_check_questions.specs.Lessons.{all_lessons}
 use Rattle.gtp_check_questions.specs.declared.lessons.Lesson.{Lesson}
 use Rattle.gtp_check_shortening.specs.declared.talk.Purpose.{Purpose}
 use Rattle.gtp_check_texts.specs.declared.fault.Fault.{Fault}
 use Rattle.gtp_check_talks.specs.Among.{is_among}
-use Rattle.gtp_check_talks.specs.Counts.{one_more, with_more}
+use Rattle.gtp_check_talks.specs.Counts.{with_more}
 use Rattle.gtp_check_talks.specs.declared.notes.Notes.{Notes}
 use Rattle.gtp_check_talks.specs.Dialogues.{AreHeard, Converses, Dialogue, EndsSo, IsAsked, IsExchanged}
-use Rattle.gtp_check_talks.specs.Dialogues.{IsRead, begun_with, noted_of_read}
+use Rattle.gtp_check_talks.specs.Dialogues.{IsRead, begun_with, noted_of_read, owed_purpose}
 use Rattle.gtp_check_talks.specs.Laws.{RightAnswersEndStartsInVain}
-use Rattle.gtp_check_talks.specs.Notes.{asks_for_move, counted, is_refused, is_taken, noted, noted_of, taken_by}
-use Rattle.gtp_check_talks.specs.Notes.{undos_after, with_answer, with_lesson, with_most_undos, with_refusal, with_size}
-use Rattle.gtp_check_talks.specs.Notes.{with_match, with_taken}
+use Rattle.gtp_check_talks.specs.Notes.{asks_for_move, noted, noted_in, with_lesson}
+use Rattle.gtp_check_talks.proofs.Kept.{noted_keeps}
 use Rattle.gtp_check_talks.proofs.Talks.{converses_talk}
 
 -- ---- what is noted
 
 lesson_keeps : (lesson : Lesson) (notes : Notes) → (with_lesson lesson notes).fruitless ≡ notes.fruitless
-lesson_keeps lesson notes = by (is_among notes.asked.items lesson)
+lesson_keeps lesson notes = by (is_among notes.answered.items lesson)
   where
     by : (b : Bool) → (if b then notes else record notes {
-      asked = record { items = with_more (length all_lessons) notes.asked.items lesson };
+      answered = record { items = with_more (length all_lessons) notes.answered.items lesson };
     }).fruitless ≡ notes.fruitless
     by true = refl
     by false = refl
 
-counted_keeps : (lesson : Lesson) (command : CheckCommand) (notes : Notes)
-    → (counted lesson command notes).fruitless ≡ notes.fruitless
-counted_keeps lesson command notes = by (asks_for_move command)
+in_keeps : (lesson : Lesson) (answered : Option Asked) (notes : Notes)
+    → (noted_in lesson answered notes).fruitless ≡ notes.fruitless
+in_keeps lesson None notes = refl
+in_keeps lesson (Some entry) notes = by (asks_for_move entry.command)
   where
-    by : (b : Bool) → (if b then with_lesson lesson (record notes { commands = one_more notes.commands })
-        else record notes { commands = one_more notes.commands }).fruitless ≡ notes.fruitless
-    by true = lesson_keeps lesson (record notes { commands = one_more notes.commands })
+    by : (b : Bool) → (if b then with_lesson lesson notes else notes).fruitless ≡ notes.fruitless
+    by true = lesson_keeps lesson notes
     by false = refl
-
-taken_keeps : (notes : Notes) (taken : Option ℕ) → (with_taken notes taken).fruitless ≡ notes.fruitless
-taken_keeps notes None = refl
-taken_keeps notes (Some size) = by (is_taken notes size)
-  where
-    by : (b : Bool) → (if b then notes else record notes {
-      taken = record { items = with_more 25 notes.taken.items size };
-    }).fruitless ≡ notes.fruitless
-    by true = refl
-    by false = refl
-
-match_keeps : (command : Command) (reply : Reply) (notes : Notes)
-    → (with_match notes command reply.ok).fruitless ≡ notes.fruitless
-match_keeps command reply notes =
-    taken_keeps (record notes { in_a_row = undos_after notes.in_a_row command reply.ok }) (taken_by command reply.ok)
-
-of_keeps : (command : CheckCommand) (reply : Reply) (skills : Skills) (notes : Notes)
-    → (noted_of command reply skills notes).fruitless ≡ notes.fruitless
-of_keeps Name reply skills notes = refl
-of_keeps Version reply skills notes = refl
-of_keeps (KnownCommand known) reply skills notes = refl
-of_keeps (Match command) reply skills notes = match_keeps command reply notes
-of_keeps FinalScore reply skills notes = refl
-of_keeps ListCommands reply skills notes = refl
-of_keeps (PlayInFull move) reply skills notes = match_keeps (Play move) reply notes
-of_keeps (GenmoveInFull colour) reply skills notes = match_keeps (Genmove colour) reply notes
-
-size_keeps : (notes : Notes) (size : ℕ) → (with_size notes size).fruitless ≡ notes.fruitless
-size_keeps notes size = by (is_refused notes size || is_taken notes size)
-  where
-    by : (b : Bool) → (if b then notes else record notes {
-      refused = record { items = with_more 25 notes.refused.items size };
-    }).fruitless ≡ notes.fruitless
-    by true = refl
-    by false = refl
-
-undos_keep : (notes : Notes) → (with_most_undos notes).fruitless ≡ notes.fruitless
-undos_keep notes = by (is_some notes.most_undos)
-  where
-    by : (b : Bool) → (if b then notes else record notes { most_undos = Some notes.in_a_row }).fruitless
-        ≡ notes.fruitless
-    by true = refl
-    by false = refl
-
-refusal_keeps : (notes : Notes) (refused : Option Refusal) → (with_refusal notes refused).fruitless ≡ notes.fruitless
-refusal_keeps notes None = refl
-refusal_keeps notes (Some (refusal.Size size)) = size_keeps notes size
-refusal_keeps notes (Some refusal.Undo) = undos_keep notes
 
 noted_ends : (notes : Notes) (entry : Asked) (refused : Option Refusal) (reply : Reply) (skills : Skills)
     → (noted notes (Some entry) refused reply skills).fruitless ≡ 0
-noted_ends notes entry refused reply skills =
-    refusal_keeps (noted_of entry.command reply skills (with_answer notes)) refused
-    ∙ of_keeps entry.command reply skills (with_answer notes)
+noted_ends notes entry refused reply skills = (noted_keeps notes entry refused reply skills).fruitless
 
 -- ---- what is heard
 
-nothing_read : (notes : Notes) (entry : Option Asked) (skills : Skills)
-    → (noted_of_read notes entry None skills).fruitless ≡ notes.fruitless
-nothing_read notes None skills = refl
-nothing_read notes (Some entry) skills = refl
+nothing_read : (lesson : Lesson) (notes : Notes) (entry : Option Asked) (skills : Skills)
+    → (noted_of_read lesson notes entry None skills).fruitless ≡ notes.fruitless
+nothing_read lesson notes None skills = refl
+nothing_read lesson notes (Some entry) skills = refl
 
-reply_ends : (exam : Exam) (entry : Option Asked) (reply : Reply) (new : Exam) (notes : Notes) (skills : Skills)
-    → ReplyLeaves exam entry reply None new → (noted_of_read notes entry (Some (Ok reply)) skills).fruitless ≡ 0
-reply_ends exam None reply new notes skills h = absurd (cc (h.0))
-reply_ends exam (Some entry) reply new notes skills h = noted_ends notes entry _ reply skills
+reply_ends : (lesson : Lesson) (exam : Exam) (entry : Option Asked) (reply : Reply) (new : Exam) (notes : Notes)
+    (skills : Skills) → ReplyLeaves exam entry reply None new
+    → (noted_of_read lesson notes entry (Some (Ok reply)) skills).fruitless ≡ 0
+reply_ends lesson exam None reply new notes skills h = absurd (cc (h.0))
+reply_ends lesson exam (Some entry) reply new notes skills h =
+    in_keeps lesson (Some entry) (noted notes (Some entry) (refused_by entry.due reply.ok) reply skills)
+    ∙ noted_ends notes entry (refused_by entry.due reply.ok) reply skills
 
 -- what comes of what was heard: no more starts in vain than before, and none where fewer are unanswered
 record Comes (old new : Exam) (before after : Notes) : Type 0 where
@@ -130,16 +77,16 @@ same_comes old new before after same is =
     let count : length new.unanswered ≡ length old.unanswered = ap length same in
     record { less = omega (arith, is); none = λ fewer. absurd (omega (arith, fewer, count)) }
 
-leaves_comes : (old : Exam) (rest : List ℕ) (read : Option (Result Reply ReplyFault)) (new : Exam)
+leaves_comes : (lesson : Lesson) (old : Exam) (rest : List ℕ) (read : Option (Result Reply ReplyFault)) (new : Exam)
     (before after : Notes) → Leaves (with_rest old rest) read None new
-    → after ≡ noted_of_read before (oldest old.unanswered) read new.skills → Comes old new before after
-leaves_comes old rest None new before after h is =
+    → after ≡ noted_of_read lesson before (oldest old.unanswered) read new.skills → Comes old new before after
+leaves_comes lesson old rest None new before after h is =
     same_comes old new before after (ap (λ (e : Exam). e.unanswered) h.1)
-    (ap (λ (n : Notes). n.fruitless) is ∙ nothing_read before (oldest old.unanswered) new.skills)
-leaves_comes old rest (Some (Err shown)) new before after h is = absurd (cc (h.0))
-leaves_comes old rest (Some (Ok reply)) new before after h is =
+    (ap (λ (n : Notes). n.fruitless) is ∙ nothing_read lesson before (oldest old.unanswered) new.skills)
+leaves_comes lesson old rest (Some (Err shown)) new before after h is = absurd (cc (h.0))
+leaves_comes lesson old rest (Some (Ok reply)) new before after h is =
     let none : after.fruitless ≡ 0 = ap (λ (n : Notes). n.fruitless) is
-    ∙ reply_ends (with_rest old rest) (oldest old.unanswered) reply new before new.skills h in
+    ∙ reply_ends lesson (with_rest old rest) (oldest old.unanswered) reply new before new.skills h in
     record { less = omega (arith, none); none = λ fewer. none }
 
 module _ {P : Type 0} (known : Ghosts P) where
@@ -148,7 +95,8 @@ module _ {P : Type 0} (known : Ghosts P) where
   quiet_comes bytes old before new after up heard =
       let quiet = heard.0 in
       let hears = quiet.heard.up up in
-      leaves_comes old hears.0 quiet.read new before.notes after.notes hears.2 quiet.notes
+      leaves_comes (owed_purpose before.talk old).lesson old hears.0 quiet.read new before.notes after.notes hears.2
+      quiet.notes
 
   read_comes : (old : Exam) (before : Dialogue P) (new : Exam) (after : Dialogue P) → old.up ≡ true
       → IsRead known old before None new after → Comes old new before.notes after.notes
@@ -196,7 +144,7 @@ module _ {P : Type 0} (known : Ghosts P) where
       (after : Dialogue P) → IsAsked purpose old before command new after
       → after.notes.fruitless ≡ before.notes.fruitless
   asked_keeps purpose old before command new after asked =
-      ap (λ (d : Dialogue P). d.notes.fruitless) asked.joins ∙ counted_keeps purpose.lesson command before.notes
+      ap (λ (d : Dialogue P). d.notes.fruitless) asked.joins
 
   converses_up : (rule : KoRule) (process : P) (first : Notes) (exam : Exam) (now : Dialogue P)
       → Converses known (begun rule true) (begun_with process first) exam now → exam.up ≡ true

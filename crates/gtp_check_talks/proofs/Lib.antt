@@ -2,6 +2,8 @@ mod Asked
 mod Conversations
 mod Fruitless
 mod Illegal
+mod Kept
+mod Noted
 mod Pieces
 mod Rules
 mod Sent

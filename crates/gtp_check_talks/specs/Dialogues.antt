@@ -30,6 +30,7 @@ use Rattle.gtp_check_judge.specs.declared.unanswered.Asked.{Asked}
 use Rattle.gtp_check_judge.specs.Asking.{written_check}
 use Rattle.gtp_check_judge.specs.Judging.{oldest, refused_by}
 use Rattle.gtp_check_judge.specs.Check.{Check, after_loss, started, with_exam}
+use Rattle.gtp_check_questions.specs.declared.lessons.Lesson.{Lesson}
 use Rattle.gtp_check_questions.specs.declared.lessons.Lesson.TheVariants as lesson
 use Rattle.gtp_check_questions.specs.Lessons.{is_in_pieces}
 use Rattle.gtp_check_judge.specs.Exam.{Asks, HasRoomFor, Hears, HearsDown, hearing}
@@ -41,7 +42,7 @@ use Rattle.gtp_check_talks.specs.declared.notes.Notes.{Notes}
 use Rattle.gtp_check_shortening.specs.declared.talk.Purpose.{Purpose}
 use Rattle.gtp_check_shortening.specs.declared.talk.Said.{Said}
 use Rattle.gtp_check_talks.specs.declared.trial.Tried.{Tried}
-use Rattle.gtp_check_talks.specs.Notes.{counted, noted}
+use Rattle.gtp_check_talks.specs.Notes.{counted, noted, noted_in}
 use Rattle.gtp_check_shortening.specs.Shortening.{commands_of}
 
 -- ---- an engine that was started
@@ -137,27 +138,38 @@ pub record IsAsked {P : Type 0} (purpose : Purpose) (old : Exam) (before : Dialo
       end = length (before.sent ++ written_check new.sent command);
     } ∷ [];
     waiting = before.waiting ++ written_check new.sent command;
-    notes = counted purpose.lesson command before.notes;
+    notes = counted before.notes;
   }
 
 -- ---- what it wrote
 
--- who hears an engine: its exam, the beginning of what it wrote since its last whole reply, and what is noted
+-- what a command was asked for, if there is one
+abbrev pub purpose_of : Option Said → Purpose
+purpose_of None = record { lesson = lesson.Start; part = 0 }
+purpose_of (Some said) = said.purpose
+
+-- for what the oldest command that isn't answered was asked
+abbrev pub owed_purpose : List Said → Exam → Purpose
+owed_purpose talk exam = purpose_of (slice_get talk (length talk - length exam.unanswered))
+
+-- who hears an engine: its exam, what it was asked, the beginning of what it wrote since its last whole reply, and what
+-- is noted
 pub record Listener : Type 0 where
   pub exam : Exam
+  pub talk : List Said
   pub wrote : List ℕ
   pub notes : Notes
 
-abbrev pub listener : Exam → List ℕ → Notes → Listener
-listener exam wrote notes = record { exam = exam; wrote = wrote; notes = notes }
+abbrev pub listener : {P : Type 0} → Exam → Dialogue P → Listener
+listener exam engine = record { exam = exam; talk = engine.talk; wrote = engine.wrote; notes = engine.notes }
 
--- what is noted of what was read, where this is the oldest command, if any, and nothing was found
-abbrev pub noted_of_read : Notes → Option Asked → Option (Result Reply ReplyFault) → Skills → Notes
-noted_of_read notes (Some asked) (Some (Ok reply)) skills =
-    noted notes (Some asked) (refused_by asked.due reply.ok) reply skills
-noted_of_read notes (Some asked) (Some (Err shown)) skills = notes
-noted_of_read notes (Some asked) None skills = notes
-noted_of_read notes None read skills = notes
+-- what is noted of what was read, where this is the oldest command, if any, asked in this lesson, and nothing was found
+abbrev pub noted_of_read : Lesson → Notes → Option Asked → Option (Result Reply ReplyFault) → Skills → Notes
+noted_of_read lesson notes (Some asked) (Some (Ok reply)) skills =
+    noted_in lesson (Some asked) (noted notes (Some asked) (refused_by asked.due reply.ok) reply skills)
+noted_of_read lesson notes (Some asked) (Some (Err shown)) skills = notes
+noted_of_read lesson notes (Some asked) None skills = notes
+noted_of_read lesson notes None read skills = notes
 
 -- bytes are heard by the exam, be the engine up or not
 pub record IsHeard (old : Exam) (bytes : List ℕ) (used : ℕ) (read : Option (Result Reply ReplyFault))
@@ -176,7 +188,8 @@ pub record IsHeardQuietly (bytes : List ℕ) (first last : Listener) (left : Lis
   pub read : Option (Result Reply ReplyFault)
   pub heard : IsHeard first.exam bytes used read None last.exam
   pub wrote : last.wrote ≡ kept_after first.wrote (take used bytes) (is_some read)
-  pub notes : last.notes ≡ noted_of_read first.notes (oldest first.exam.unanswered) read last.exam.skills
+  pub notes : last.notes ≡ noted_of_read (owed_purpose first.talk first.exam).lesson first.notes
+      (oldest first.exam.unanswered) read last.exam.skills
   pub rest : left ≡ drop used bytes
 
 -- The bytes up to the end of the line in which the last of so many is, with its newline, as far as they are there. Where
@@ -198,10 +211,10 @@ pub record IsFoundIn (bytes : List ℕ) (first last : Listener) (fault : Fault) 
 -- the bytes were heard, and this is what is wrong with them, if anything; what is left is held
 abbrev pub AreHeard : {P : Type 0} → List ℕ → Exam → Dialogue P → Option Fault → Exam → Dialogue P → Type 0
 AreHeard bytes old before None new after =
-    IsHeardQuietly bytes (listener old before.wrote before.notes) (listener new after.wrote after.notes) after.held
+    IsHeardQuietly bytes (listener old before) (listener new after) after.held
     × (after ≡ record before { held = after.held; wrote = after.wrote; notes = after.notes })
 AreHeard bytes old before (Some fault) new after =
-    IsFoundIn bytes (listener old before.wrote before.notes) (listener new after.wrote after.notes) fault
+    IsFoundIn bytes (listener old before) (listener new after) fault
     × (after ≡ record before { wrote = after.wrote; notes = after.notes })
 
 -- ---- an exchange
@@ -351,11 +364,7 @@ wrong_with fault exam engine ending = record {
 abbrev pub wrong_talk : Wrong → List Said
 wrong_talk wrong = take (wrong.answered + 1) wrong.talk
 
--- what the command that was answered wrongly was asked for, if there is one
-abbrev pub purpose_of : Option Said → Purpose
-purpose_of None = record { lesson = lesson.Start; part = 0 }
-purpose_of (Some said) = said.purpose
-
+-- what the command that was answered wrongly was asked for
 abbrev pub wrong_purpose : Wrong → Purpose
 wrong_purpose wrong = purpose_of (slice_get wrong.talk wrong.answered)
 

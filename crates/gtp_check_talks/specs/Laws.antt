@@ -1,9 +1,12 @@
 -- What is complained of is wrong, what a right engine writes is never complained of. (Own.)
-use Rattle.std.specs.Prelude.{◌≡◌, ◌-◌, ◌≤◌, ◌<◌, ℕ, true, List, ◌++◌, length, take, slice_get}
+use Rattle.std.specs.Prelude.{◌≡◌, ◌⊎◌, ◌+◌, ◌-◌, ◌≤◌, ◌<◌, ℕ, true, List, [], ◌++◌, length, take, slice_get}
 use Rattle.std.specs.Prelude.{Option, None, Some, Result}
 use Rattle.std.specs.Option.{option_map_or}
 use Rattle.std.specs.Io.KnownBytes.{Appends}
+use Rattle.go_base.specs.declared.colours.Colour.{Colour}
+use Rattle.go_base.specs.declared.moves.Move.{Move}
 use Rattle.go_board.specs.declared.rules.KoRule.{KoRule}
+use Rattle.gtp_wire.specs.declared.commands.Command.TheVariants.{Play, Genmove}
 use Rattle.gtp_wire.specs.declared.replies.Reply.{Reply}
 use Rattle.gtp_wire.specs.declared.replies.ReplyFault.{ReplyFault}
 use Rattle.gtp_process.specs.declared.causes.PipeCause.{PipeCause}
@@ -13,16 +16,21 @@ use Rattle.gtp_process.specs.Pipes.{IsCutOff, OutputEnded}
 use Rattle.gtp_session.specs.Policy.{May}
 use Rattle.gtp_session.specs.Engine.{Engine, Engages, fresh_under}
 use Rattle.gtp_check_judge.specs.declared.asking.CheckCommand.{CheckCommand}
+use Rattle.gtp_check_judge.specs.declared.asking.CheckCommand.TheVariants.{Match, PlayInFull, GenmoveInFull}
 use Rattle.gtp_check_judge.specs.declared.exam.Exam.{Exam}
 use Rattle.gtp_check_judge.specs.declared.exam.Finding.{Finding}
 use Rattle.gtp_check_judge.specs.declared.judging.Kind.{Kind}
 use Rattle.gtp_check_judge.specs.Exam.{Hears, begun, hearing}
 use Rattle.gtp_check_judge.specs.Laws.{Exchange, IsJustified, IsRightSoFar, Talks}
+use Rattle.gtp_check_questions.specs.Lessons.{number_of}
+use Rattle.gtp_check_questions.specs.declared.lessons.Lesson.{Lesson}
 use Rattle.gtp_check_shortening.specs.declared.talk.Purpose.{Purpose}
 use Rattle.gtp_check_shortening.specs.declared.talk.Said.{Said}
 use Rattle.gtp_check_texts.specs.declared.fault.Fault.{Fault}
 use Rattle.gtp_check_texts.specs.declared.fault.Fault.TheVariants.{CutOff, Wrote}
+use Rattle.gtp_check_talks.specs.Among.{is_among}
 use Rattle.gtp_check_talks.specs.declared.notes.Notes.{Notes}
+use Rattle.gtp_check_talks.specs.Notes.{nothing_noted, started}
 use Rattle.gtp_check_talks.specs.Dialogues.{Converses, Dialogue, EndsSo, EndsWrong, IsAsked, IsExchanged, begun_with}
 use Rattle.gtp_check_talks.specs.Dialogues.{IsTakenInPart, went_out}
 
@@ -128,6 +136,39 @@ pub record RightAnswersEndStartsInVain {P : Type 0} (known : Ghosts P) : Type 0 
   pub talked : (rule : KoRule) (process : P) (first : Notes) (fault : Option Fault) (new : Exam) (after : Dialogue P)
       → EndsSo known (begun rule true) (begun_with process first) fault new after
       → after.notes.fruitless ≤ first.fruitless
+
+-- ---- moves that were answered
+
+-- a command that asks for a move
+pub data AsksForMove : CheckCommand → Type 0 where
+  plays : (move : Move) → AsksForMove (Match (Play move))
+  chooses : (colour : Colour) → AsksForMove (Match (Genmove colour))
+  plays_in_full : (move : Move) → AsksForMove (PlayInFull move)
+  chooses_in_full : (colour : Colour) → AsksForMove (GenmoveInFull colour)
+
+-- Of these commands that an engine was asked a `play` or a `genmove` of the lesson was answered: it was the oldest that
+-- wasn't, and then it was.
+pub record IsMoveAnswered (lesson : Lesson) (talk : List Said) (old new : Exam) : Type 0 where
+  pub said : Said
+  pub owed : slice_get talk (length talk - length old.unanswered) ≡ Some said
+  pub lesson_is : number_of said.purpose.lesson ≡ number_of lesson
+  pub asks : AsksForMove said.command
+  pub answered : length new.unanswered + 1 ≡ length old.unanswered
+
+-- A lesson is noted only where a `play` or a `genmove` that was asked in it was answered rightly: nothing was found then.
+-- At first none is noted. By a start, and by a command that is asked, no lesson is noted.
+pub record MovesAreNotedOnceAnswered {P : Type 0} (known : Ghosts P) : Type 0 where
+  pub at_first : nothing_noted.answered.items ≡ []
+  pub starts : (notes : Notes) → (started notes).answered ≡ notes.answered
+  pub asked : (purpose : Purpose) (old : Exam) (before : Dialogue P) (command : CheckCommand) (new : Exam)
+      (after : Dialogue P) → IsAsked purpose old before command new after
+      → after.notes.answered ≡ before.notes.answered
+  pub heard : (rule : KoRule) (process : P) (first : Notes) (old : Exam) (before : Dialogue P) (fault : Option Fault)
+      (new : Exam) (after : Dialogue P) (lesson : Lesson)
+      → Converses known (begun rule true) (begun_with process first) old before
+      → IsExchanged known old before fault new after → is_among after.notes.answered.items lesson ≡ true
+      → (is_among before.notes.answered.items lesson ≡ true)
+      ⊎ ((fault ≡ None) × IsMoveAnswered lesson before.talk old new)
 
 -- ---- what was sent
 

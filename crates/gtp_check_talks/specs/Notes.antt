@@ -39,7 +39,7 @@ nothing_noted = record {
   has_answered = false;
   fruitless = 0;
   commands = 0;
-  asked = record { items = [] };
+  answered = record { items = [] };
 }
 
 -- the engine was started
@@ -68,17 +68,20 @@ asks_for_move ListCommands = false
 asks_for_move (PlayInFull move) = true
 asks_for_move (GenmoveInFull colour) = true
 
--- a move was asked in the lesson, which is noted once
+-- a command was asked
+abbrev pub counted : Notes → Notes
+counted notes = record notes { commands = one_more notes.commands }
+
+-- a move of the lesson was answered rightly, which is noted once
 abbrev pub with_lesson : Lesson → Notes → Notes
 with_lesson lesson notes =
-    if is_among notes.asked.items lesson then notes
-    else record notes { asked = record { items = with_more (length all_lessons) notes.asked.items lesson } }
+    if is_among notes.answered.items lesson then notes
+    else record notes { answered = record { items = with_more (length all_lessons) notes.answered.items lesson } }
 
--- a command was asked in the lesson
-abbrev pub counted : Lesson → CheckCommand → Notes → Notes
-counted lesson command notes =
-    let more = record notes { commands = one_more notes.commands } in
-    if asks_for_move command then with_lesson lesson more else more
+-- This command of the lesson was answered rightly, if any: the lesson is noted where that asks for a move.
+abbrev pub noted_in : Lesson → Option Asked → Notes → Notes
+noted_in lesson None notes = notes
+noted_in lesson (Some asked) notes = if asks_for_move asked.command then with_lesson lesson notes else notes
 
 -- a right answer came
 abbrev pub with_answer : Notes → Notes

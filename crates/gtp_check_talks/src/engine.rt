@@ -1,17 +1,18 @@
 //! An engine that was started: what it is asked, and what it writes.
 ghost use Rattle.std.specs.Prelude.{◌≡◌, ◌↔◌, ◌⊎◌, ◌+◌, ◌-◌, ◌++◌, ◌≤◌, ◌<◌, true, [], ◌∷◌, length, drop, take};
-ghost use Rattle.std.specs.Prelude.{IsTrue, OnOk, false};
+ghost use Rattle.std.specs.Prelude.{IsTrue, IfNone, IfSome, OnOk, false, is_some, option_map};
 ghost use Rattle.arrayvec.specs.ArrayVec.{array_vec_len};
-ghost use Rattle.gtp_wire.specs.Replies.{most_shown};
+ghost use Rattle.gtp_wire.specs.Replies.{most_shown, with_reply};
 ghost use Rattle.gtp_check_judge.specs.Asking.{written_check};
 ghost use Rattle.gtp_check_judge.specs.Check.{with_exam};
 ghost use Rattle.gtp_check_judge.specs.Exam.{Asks, HasRoomFor};
+ghost use Rattle.gtp_check_judge.specs.Judging.{oldest};
 ghost use Rattle.gtp_check_talks.specs.declared.notes.Notes.{Notes};
-ghost use Rattle.gtp_check_talks.specs.Dialogues.{AreHeard, AreTaken, IsAsked, IsRead, IsExchanged, IsSent};
+ghost use Rattle.gtp_check_talks.specs.Dialogues.{AreHeard, AreTaken, IsAsked, IsHeard, IsRead, IsExchanged, IsSent};
 ghost use Rattle.gtp_check_talks.specs.Dialogues.{begun_with, dialogue, two_pieces};
 ghost use Rattle.gtp_check_talks.specs.Dialogues.{IsFull, IsIllegal, IsTaken, IsTakenInPart, MayFollow, ends_in_pieces};
-ghost use Rattle.gtp_check_talks.specs.Dialogues.{kept_after, last_move, listener, through_line};
-ghost use Rattle.gtp_check_talks.specs.private.Hearing.{IsHeardBy};
+ghost use Rattle.gtp_check_talks.specs.Dialogues.{kept_after, last_move, owed_purpose, purpose_of, through_line};
+ghost use Rattle.gtp_check_talks.specs.private.Hearing.{AreNotesOf};
 ghost use Rattle.gtp_check_talks.specs.private.Illegal.{is_bad_move};
 
 use crate::held::Held;
@@ -19,8 +20,9 @@ use crate::notes::{Beginning, Notes};
 use arrayvec::ArrayVec;
 use go_base::{Move, push};
 use go_board::Game;
-use gtp_check_judge::{Cause, CheckCommand, Due, Examiner};
-use gtp_check_shortening::talk::{Purpose, Said};
+use gtp_check_judge::{Cause, CheckCommand, Due, Examiner, Heard};
+use gtp_check_questions::Lesson;
+use gtp_check_shortening::talk::{Purpose, Said, said_at};
 use gtp_check_texts::fault::Fault;
 use gtp_check_texts::line_len;
 use gtp_process::{CutOff, Ending, PipeCause, Process, READ_ROOM, read_some, write_whole};
@@ -120,9 +122,9 @@ impl<P: Process> Engine<P> {
         let size = examiner.game().size();
         let moves = examiner.game().moves().len();
         let last = last_move(examiner.game());
-        let line = line_of(examiner, command);
+        let line = line_of(examiner, &command);
         self.sent.extend_from_slice(line.text.as_slice())?;
-        self.talk.extend_from_slice(&[Said {
+        let said = Said {
             command,
             purpose,
             is_illegal: line.is_illegal,
@@ -130,9 +132,10 @@ impl<P: Process> Engine<P> {
             moves,
             last,
             end: self.sent.len(),
-        }])?;
+        };
+        self.talk.extend_from_slice(&[said])?;
         push(&mut self.waiting, line.text.as_slice());
-        notes.count(purpose.lesson, &command);
+        notes.count();
         Ok(())
     }
 
@@ -203,11 +206,13 @@ impl<P: Process> Engine<P> {
             examiner.new.exam (dialogue self.new notes.new) }
         ensures check { examiner.new ≡ with_exam examiner.old examiner.new.exam }
     {
-        let hearing = hear(bytes, &mut self.wrote, examiner, reply, notes);
-        match hearing.fault {
-            Some(fault) => Some(fault),
+        let lesson = self.owed_purpose(examiner).lesson;
+        let heard = hear(bytes, &mut self.wrote, examiner, reply);
+        match heard.finding {
+            Some(finding) => Some(Fault::Wrote(finding.kind)),
             None => {
-                self.held.hold(&bytes[hearing.used..]);
+                notes.take(&heard, lesson, reply, examiner.skills());
+                self.held.hold(&bytes[heard.used..]);
                 None
             }
         }
@@ -225,14 +230,16 @@ impl<P: Process> Engine<P> {
             examiner.new.exam (dialogue self.new notes.new) }
         ensures check { examiner.new ≡ with_exam examiner.old examiner.new.exam }
     {
-        let hearing = hear(self.held.bytes(), &mut self.wrote, examiner, reply, notes);
-        match hearing.fault {
-            Some(fault) => {
+        let lesson = self.owed_purpose(examiner).lesson;
+        let heard = hear(self.held.bytes(), &mut self.wrote, examiner, reply);
+        match heard.finding {
+            Some(finding) => {
                 self.held.clear();
-                Some(fault)
+                Some(Fault::Wrote(finding.kind))
             }
             None => {
-                self.held.pass(hearing.used);
+                notes.take(&heard, lesson, reply, examiner.skills());
+                self.held.pass(heard.used);
                 None
             }
         }
@@ -243,6 +250,13 @@ impl<P: Process> Engine<P> {
         ensures { result ≡ length self.now.talk.items - length examiner.now.exam.unanswered }
     {
         self.talk.len().saturating_sub(examiner.unanswered())
+    }
+
+    /// For what the oldest command that isn't answered was asked.
+    pub fn owed_purpose(&self, examiner: &Examiner) -> Purpose
+        ensures { result ≡ owed_purpose self.now.talk.items examiner.now.exam }
+    {
+        purpose_of(said_at(self.talk.as_slice(), self.answered(examiner)))
     }
 
     /// Whether the engine was sent all that it was asked, and has answered it.
@@ -282,42 +296,27 @@ impl<P: Process> Engine<P> {
     }
 }
 
-/// What was heard of an engine.
-#[derive(Clone, Copy, Debug, PartialEq, Eq)]
-struct Hearing {
-    /// How many of the bytes were used.
-    used: usize,
-    /// What is wrong, if anything.
-    fault: Option<Fault>,
-}
-
 /// What an engine wrote is heard, up to the end of one reply, or to something wrong. The beginning of what it wrote
 /// since its last whole reply is kept, where something is wrong up to the end of its line.
-fn hear(
-    bytes: &[u8],
-    wrote: &mut Beginning,
-    examiner: &mut Examiner,
-    reply: &mut Reply,
-    notes: &mut Notes,
-) -> Hearing
+fn hear(bytes: &[u8], wrote: &mut Beginning, examiner: &mut Examiner, reply: &mut Reply) -> Heard
     ensures used { result.used ≤ length bytes.now }
-    ensures heard { IsHeardBy bytes.now (listener examiner.old.exam wrote.old.items notes.old)
-        result.fault (listener examiner.new.exam wrote.new.items notes.new)
-        (drop result.used bytes.now) }
+    ensures heard { IsHeard examiner.old.exam bytes.now result.used
+        (option_map (with_reply reply.new) result.read) result.finding examiner.new.exam }
+    ensures quiet { IfNone result.finding (wrote.new.items
+        ≡ kept_after wrote.old.items (take result.used bytes.now) (is_some result.read)) }
+    ensures found { IfSome result.finding (λ finding. wrote.new.items
+        ≡ take most_shown (wrote.old.items ++ through_line result.used bytes.now)) }
+    ensures noted { IfNone result.finding (AreNotesOf result reply.new
+        (oldest examiner.old.exam.unanswered) examiner.new.exam.skills) }
     ensures check { examiner.new ≡ with_exam examiner.old examiner.new.exam }
 {
     let heard = examiner.heard(bytes, reply);
-    let used = heard.used;
-    if let Some(finding) = heard.finding {
-        keep(wrote, through_line(bytes, used));
-        return Hearing {
-            used,
-            fault: Some(Fault::Wrote(finding.kind)),
-        };
+    if heard.finding.is_some() {
+        keep(wrote, through_line(bytes, heard.used));
+        return heard;
     }
-    keep_since(wrote, &bytes[..used], heard.read.is_some());
-    notes.take(&heard, reply, examiner);
-    Hearing { used, fault: None }
+    keep_since(wrote, &bytes[..heard.used], heard.read.is_some());
+    heard
 }
 
 /// The bytes up to the end of the line in which the last of so many is, with its newline, as far as they are there.
@@ -348,6 +347,19 @@ fn keep(wrote: &mut Beginning, bytes: &[u8])
 {
     let room = MOST_SHOWN - wrote.len();
     push(wrote, &bytes[..room.min(bytes.len())]);
+}
+
+/// What a command was asked for, if there is one.
+pub fn purpose_of(said: Option<Said>) -> Purpose
+    ensures { result ≡ purpose_of said }
+{
+    match said {
+        Some(said) => said.purpose,
+        None => Purpose {
+            lesson: Lesson::Start,
+            part: 0,
+        },
+    }
 }
 
 /// Whether the line of the command that was asked last is sent in two pieces.
@@ -415,14 +427,14 @@ struct Line {
 }
 
 /// The examiner asks a command. What is due to it says whether it is a `play` that isn't legal.
-fn line_of(examiner: &mut Examiner, command: CheckCommand) -> Line
-    requires may { HasRoomFor examiner.old.exam command }
-    ensures asks { Asks examiner.old.exam command examiner.new.exam }
+fn line_of(examiner: &mut Examiner, command: &CheckCommand) -> Line
+    requires may { HasRoomFor examiner.old.exam command.now }
+    ensures asks { Asks examiner.old.exam command.now examiner.new.exam }
     ensures check { examiner.new ≡ with_exam examiner.old examiner.new.exam }
-    ensures text { result.text.items ≡ written_check examiner.new.exam.sent command }
-    ensures illegal { IsTrue result.is_illegal ↔ IsIllegal examiner.old.exam.game command }
+    ensures text { result.text.items ≡ written_check examiner.new.exam.sent command.now }
+    ensures illegal { IsTrue result.is_illegal ↔ IsIllegal examiner.old.exam.game command.now }
 {
-    let asking = examiner.ask(command);
+    let asking = examiner.ask(*command);
     let is_illegal = is_bad_move(&asking.due);
     Line {
         text: asking.text,

@@ -1,7 +1,7 @@
 //! Laws of what is said with an engine. Each is the contract of a function that does nothing.
 ghost use Rattle.gtp_check_talks.specs.Laws.{ComplaintsAreJustified, NoRightEngineIsComplainedOf};
 ghost use Rattle.gtp_check_talks.specs.Laws.{KoRulesStay, LossesAreNoWrongAnswers, RightAnswersEndStartsInVain};
-ghost use Rattle.gtp_check_talks.specs.Laws.{SilenceSaysAllIsRight, WhatCountsAsSentWasHanded};
+ghost use Rattle.gtp_check_talks.specs.Laws.{MovesAreNotedOnceAnswered, SilenceSaysAllIsRight, WhatCountsAsSentWasHanded};
 
 use gtp_check_judge::laws::{
     findings_are_justified, no_right_engine_is_blamed, silence_says_all_is_right,
@@ -55,4 +55,9 @@ pub fn right_answers_end_starts_in_vain<P: Process>()
 /// Its process was handed them.
 pub fn what_counts_as_sent_was_handed<P: Process>()
     ensures { WhatCountsAsSentWasHanded P.Process }
+{}
+
+/// A lesson is noted only where a `play` or a `genmove` that was asked in it was answered rightly.
+pub fn moves_are_noted_once_answered<P: Process>()
+    ensures { MovesAreNotedOnceAnswered P.Process }
 {}

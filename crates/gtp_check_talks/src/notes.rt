@@ -1,14 +1,14 @@
 //! What is noted of right answers.
 ghost use Rattle.std.specs.Prelude.{◌≡◌};
 ghost use Rattle.gtp_check_talks.specs.Notes.{asks_for_move, beginning_of, counted, is_move, is_refused, lacks};
-ghost use Rattle.gtp_check_talks.specs.Notes.{noted, noted_of, nothing_noted, started, with_answer, with_lacks};
+ghost use Rattle.gtp_check_talks.specs.Notes.{noted, noted_in, noted_of, nothing_noted, started, with_answer, with_lacks};
 ghost use Rattle.gtp_check_talks.specs.Notes.{is_taken, taken_by, undos_after, with_lesson, with_match, with_most_undos};
 ghost use Rattle.gtp_check_talks.specs.Notes.{with_refusal, with_size, with_taken};
 
 use crate::among::is_among;
 use arrayvec::ArrayVec;
 use go_base::{Size, push};
-use gtp_check_judge::{CheckCommand, Examiner, Heard, Refusal, Skill, Skills};
+use gtp_check_judge::{CheckCommand, Heard, Refusal, Skill, Skills};
 use gtp_check_questions::{Lesson, Lessons};
 use gtp_wire::{Command, MOST_SHOWN, Reply};
 
@@ -42,8 +42,8 @@ pub struct Notes {
     pub fruitless: u32,
     /// How many commands were asked.
     pub commands: u32,
-    /// The lessons in which a `play` or a `genmove` was asked, each once.
-    pub asked: Lessons,
+    /// The lessons in which a `play` or a `genmove` was answered rightly, each once.
+    pub answered: Lessons,
 }
 
 impl Notes {
@@ -64,7 +64,7 @@ impl Notes {
             has_answered: false,
             fruitless: 0,
             commands: 0,
-            asked: Lessons::new(),
+            answered: Lessons::new(),
         }
     }
 
@@ -77,36 +77,37 @@ impl Notes {
         self.in_a_row = 0;
     }
 
-    /// A command was asked in a lesson.
-    pub fn count(&mut self, lesson: Lesson, command: &CheckCommand)
-        ensures { self.new ≡ counted lesson command.now self.old }
+    /// A command was asked.
+    pub fn count(&mut self)
+        ensures { self.new ≡ counted self.old }
     {
         self.commands = self.commands.saturating_add(1);
-        if asks_for_move(command) {
-            self.ask(lesson);
-        }
     }
 
-    /// A move was asked in a lesson.
-    fn ask(&mut self, lesson: Lesson)
-        ensures { self.new ≡ with_lesson lesson self.old }
-    {
-        if !is_among(&self.asked, lesson) {
-            // All lessons fit.
-            let _ = self.asked.try_push(lesson);
-        }
-    }
-
-    /// What was heard without a finding. The reply is read only where a command was answered.
-    pub fn take(&mut self, heard: &Heard, reply: &Reply, examiner: &Examiner)
-        ensures { self.new ≡ noted self.old
-            heard.now.answered heard.now.refused reply.now examiner.now.exam.skills }
+    /// What was heard without a finding, where the oldest command was asked in this lesson. The reply is read only where
+    /// that was answered.
+    pub fn take(&mut self, heard: &Heard, lesson: Lesson, reply: &Reply, skills: Skills)
+        ensures { self.new ≡ noted_in lesson heard.now.answered
+            (noted self.old heard.now.answered heard.now.refused reply.now skills) }
     {
         let Some(asked) = heard.answered else {
             return;
         };
-        self.answer(&asked.command, reply, examiner.skills());
+        self.answer(&asked.command, reply, skills);
         self.take_refusal(&heard.refused);
+        if asks_for_move(&asked.command) {
+            self.take_lesson(lesson);
+        }
+    }
+
+    /// A move of a lesson was answered rightly.
+    fn take_lesson(&mut self, lesson: Lesson)
+        ensures { self.new ≡ with_lesson lesson self.old }
+    {
+        if !is_among(&self.answered, lesson) {
+            // All lessons fit.
+            let _ = self.answered.try_push(lesson);
+        }
     }
 
     /// What it refused rightly, if anything.

@@ -217,6 +217,18 @@ class AllowsSuicideOfChains(AllowsSuicide):
         return board == self.board or super().is_ko(board, colour, point)
 
 
+class FillsOnePoint(AllowsSuicide):
+    """The board of one point is the only one, and the engine fills it."""
+
+    def do_boardsize(self, arguments):
+        if self.argument(arguments, 0, self.read_int) != 1:
+            raise Failure("unacceptable size")
+        super().do_boardsize(arguments)
+
+    def choose(self, colour):
+        return 0
+
+
 # ---- all of it
 
 

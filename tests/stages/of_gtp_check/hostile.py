@@ -184,7 +184,7 @@ def refusing(kind):
     parts = dict(start=4, sizes=25, ko=6 * 16, captures=8 * 16, suicide=5 * 16, joining=4 * 16, handicaps=25 * 12, komi=16, drawn=11,
                  record=3, genmoves=9, games=5, restarts=5)  # fmt: skip
     commands = 3 * 5 + sum(count if lesson in ("sizes", "handicaps") else 22 * count for lesson, count in parts.items())
-    unasked = "".join(f"check: {lesson}: no play and no genmove was asked on any board of it\n" for lesson in parts)
+    unasked = "".join(f"check: {lesson}: no play and no genmove was answered rightly on any board of it\n" for lesson in parts)
     sizes = " ".join(map(str, [*range(5, 26), *range(1, 5)]))
     wanted = f"{unasked}check: it refuses the sizes {sizes}\ncheck: {commands} commands, 3 starts, 1 complaint\n"
     with tempfile.TemporaryDirectory() as folder:

@@ -135,6 +135,23 @@ def free(row):
     return None
 
 
+def unanswered():
+    """What is odd about the check of an engine that takes the board of one point alone, and fills it, where suicide isn't asked. Of the lesson
+    `genmoves` one part is on that size: its first move is a suicide, which isn't judged. So a move is asked, and none is answered rightly:
+    nothing is found, and the pass isn't earned."""
+    result = checked((*UNASKED, "--only", "genmoves"), FREE.format("fills_one_point", 1, "simple"))
+    report = read(result.output)
+    if isinstance(report, str):
+        return f"{report}: {result}"
+    said = [it for it in report.notes if not it.startswith("check: not asked, as the options say: ")]
+    # the sizes from 5 on until one is taken, and then each that a part is on
+    sizes = " ".join(map(str, [*range(5, 26), 2, 3]))
+    wanted = ["check: genmoves: no play and no genmove was answered rightly on any board of it", f"check: it refuses the sizes {sizes}",
+              "check: 1 suicide by genmove, not judged, as the options say"]  # fmt: skip
+    same = (result.status, result.errors, report.count, report.starts, said) == (4, "", 0, 2, wanted)
+    return None if same else result
+
+
 def suicidal(name):
     """What is odd about the check of a right engine whose rules allow suicide, where gtp_check isn't told: what it blames is suicide alone, a
     play that has to be refused or a move that the engine chose."""

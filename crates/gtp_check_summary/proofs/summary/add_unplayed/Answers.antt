@@ -9,11 +9,11 @@ pub loop-lesson-preserved : goal.loop-lesson-preserved
 loop-lesson-preserved c =
     let lessons = c.args.lessons.now in
     let missed = c.args.missed.now in
-    let asked = c.args.asked.now in
+    let answered = c.args.answered.now in
     (c.in_ok-add_if_unplayed.ensures
     ∙ ap (λ (is_one : Bool). c.loop-lesson.text.items
     ++ unplayed_line is_one (slice_index_or all_lessons c.loop-lesson.lesson-index _)) c.is_unplayed.ensures)
-    ∙ appended-step (λ lesson. unplayed_line (is_unplayed lessons missed asked lesson) lesson) all_lessons
+    ∙ appended-step (λ lesson. unplayed_line (is_unplayed lessons missed answered lesson) lesson) all_lessons
     c.loop-lesson.lesson-index _ c.args.text.now.items c.loop-lesson.text.items c.loop-lesson-test.true
     c.loop-lesson.invariant
 
@@ -24,5 +24,5 @@ returns c =
     c.loop-lesson.invariant
     ∙ ap (λ number. c.args.text.now.items
     ++ concat (map (λ lesson.
-    unplayed_line (is_unplayed c.args.lessons.now c.args.missed.now c.args.asked.now lesson) lesson)
+    unplayed_line (is_unplayed c.args.lessons.now c.args.missed.now c.args.answered.now lesson) lesson)
     (take number all_lessons))) whole

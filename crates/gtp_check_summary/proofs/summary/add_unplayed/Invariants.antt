@@ -8,5 +8,5 @@ use Rattle.gtp_check_summary.proofs.summary.add_unplayed.Given as goal
 abbrev pub invariant-loop-lesson : goal.invariant-loop-lesson
 invariant-loop-lesson l =
     l.text.items ≡ l.initial.text.items
-    ++ concat (map (λ lesson. unplayed_line (is_unplayed l.lessons l.missed l.asked lesson) lesson)
+    ++ concat (map (λ lesson. unplayed_line (is_unplayed l.lessons l.missed l.answered lesson) lesson)
     (take l.lesson-index all_lessons))

@@ -24,7 +24,7 @@ returns c =
     ++ lessons_line (codes "not asked, as the options say:") l) c.deref.ensures.0) in
     let three = one_more [] _ _ missed (hidden ∷ left_out ∷ []) two c.in_ok-add_missed.ensures in
     let lessons = c.args.plan.now.lessons.items in
-    let unplayed = unplayed_lines lessons ending.missed.now notes.asked.items in
+    let unplayed = unplayed_lines lessons ending.missed.now notes.answered.items in
     let played = one_more [] _ _ unplayed (hidden ∷ left_out ∷ missed ∷ []) three
     (c.in_ok-add_unplayed.ensures
     ∙ ap (λ (l : List Lesson). c.add_missed.new.text.items

@@ -7,7 +7,7 @@ use Rattle.gtp_check_talks.proofs.engine.line_of.Goals as goal
 
 pub returns-clause-illegal : goal.returns-clause-illegal
 returns-clause-illegal c =
-    subst (λ (b : Bool). IsTrue b ↔ IsIllegal c.args.examiner.now.exam.game c.args.command)
+    subst (λ (b : Bool). IsTrue b ↔ IsIllegal c.args.examiner.now.exam.game c.args.command.now)
     (sym c.is_bad_move-is_illegal.ensures)
-    (illegal_by (engine_of c.args.examiner.now.exam) c.args.command c.ask-asking.result.due c.requires.may.may
+    (illegal_by (engine_of c.args.examiner.now.exam) c.args.command.now c.ask-asking.result.due c.requires.may.may
     c.ask-asking.ensures.is_due)

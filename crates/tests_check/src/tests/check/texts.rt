@@ -48,8 +48,8 @@ fn a_check_has_a_first_line_and_last_lines_and_a_lesson_has_a_line(
     let expected = "check: ko: more complaints, of kinds that were shown three times: 4
 check: not asked, as the options say: komi
 check: not asked, or not to their end, since no start was left: games restarts
-check: suicide: no play and no genmove was asked on any board of it
-check: genmoves: no play and no genmove was asked on any board of it
+check: suicide: no play and no genmove was answered rightly on any board of it
+check: genmoves: no play and no genmove was answered rightly on any board of it
 check: it lacks undo; nothing was asked that needs it
 check: it first refused an undo after 400 undos in a row
 check: it refuses the sizes 1 25

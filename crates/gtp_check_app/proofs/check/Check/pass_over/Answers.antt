@@ -8,7 +8,6 @@ returns-clause-passes g c = record {
   ending = c.end.result.ending;
   ended = c.end.ensures.ended;
   course = c.leave_part.new.course;
-  left = rw (c.purpose_of-purpose.ensures, c.said_at.ensures, c.as_slice.ensures.value, c.answered-answered.ensures)
-      at c.leave_part.ensures;
+  left = rw c.owed_purpose-purpose.ensures at c.leave_part.ensures;
   leads = rw (c.lost.ensures, c.take.ensures.after, c.count_suicide.ensures) refl;
 }

@@ -1,0 +1,383 @@
+-- A lesson is noted only where a move that was asked in it was answered rightly.
+use Rattle.std.proofs.Common.{◌≡◌, ◌⊎◌, ◌∙◌, ◌==◌, ◌+◌, ◌-◌, ◌++◌, ◌∷◌, [], ℕ, Bool, true, false, List, refl, inl, inr, nat_lt}
+use Rattle.std.proofs.Common.{Option, None, Some, Result, Ok, Err, append_assoc, arith, ap, subst, sym, length, slice_get, drop, map}
+use Rattle.std.proofs.Common.{if◌then◌else◌}
+use Rattle.std.proofs.lemmas.Bool.{eqb-true, or_cases, or_left, or_right}
+use Rattle.std.proofs.lemmas.List.{length-append, length-map, map-append}
+use Rattle.go_board.specs.declared.rules.KoRule.{KoRule}
+use Rattle.gtp_wire.specs.declared.commands.Command.TheVariants.{Boardsize, Komi, ClearBoard, FixedHandicap, Play}
+use Rattle.gtp_wire.specs.declared.commands.Command.TheVariants.{Genmove, Undo, Quit}
+use Rattle.gtp_wire.specs.declared.replies.Reply.{Reply}
+use Rattle.gtp_wire.specs.declared.replies.ReplyFault.{ReplyFault}
+use Rattle.gtp_process.specs.declared.starter.Process.{Ghosts}
+use Rattle.gtp_check_judge.specs.declared.asking.CheckCommand.{CheckCommand}
+use Rattle.gtp_check_judge.specs.declared.asking.CheckCommand.TheVariants.{Match, FinalScore, Name, Version}
+use Rattle.gtp_check_judge.specs.declared.asking.CheckCommand.TheVariants.{KnownCommand, ListCommands, PlayInFull, GenmoveInFull}
+use Rattle.gtp_check_judge.specs.declared.exam.Exam.{Exam}
+use Rattle.gtp_check_judge.specs.declared.judging.Judgement.{Judgement}
+use Rattle.gtp_check_judge.specs.declared.judging.Judgement.TheVariants.{Right, Plays, Resized, Undone, Opines, Wrong}
+use Rattle.gtp_check_judge.specs.declared.skills.Skills.{Skills}
+use Rattle.gtp_check_judge.specs.declared.unanswered.Asked.{Asked}
+use Rattle.gtp_check_judge.specs.Asking.{written_check}
+use Rattle.gtp_check_judge.specs.Exam.{IdLeaves, Leaves, ReplyLeaves, after_judged, begun, finding_of, with_learned}
+use Rattle.gtp_check_judge.specs.Exam.{with_rest}
+use Rattle.gtp_check_judge.specs.Judging.{has_id, oldest, refused_by}
+use Rattle.gtp_check_questions.specs.Lessons.{all_lessons, number_of}
+use Rattle.gtp_check_questions.specs.declared.lessons.Lesson.{Lesson}
+use Rattle.gtp_check_shortening.specs.declared.talk.Said.{Said}
+use Rattle.gtp_check_shortening.specs.Shortening.{commands_of}
+use Rattle.gtp_check_texts.specs.declared.fault.Fault.{Fault}
+use Rattle.gtp_check_talks.specs.Among.{is_among}
+use Rattle.gtp_check_talks.specs.Counts.{with_more}
+use Rattle.gtp_check_talks.specs.declared.notes.Notes.{Notes}
+use Rattle.gtp_check_talks.specs.Dialogues.{AreHeard, Converses, Dialogue, IsExchanged, IsRead, begun_with}
+use Rattle.gtp_check_talks.specs.Dialogues.{last_move, noted_of_read, owed_purpose, purpose_of}
+use Rattle.gtp_check_talks.specs.Laws.{AsksForMove, IsMoveAnswered, MovesAreNotedOnceAnswered}
+use Rattle.gtp_check_talks.specs.Notes.{asks_for_move, noted, noted_in, with_lesson}
+use Rattle.gtp_check_talks.proofs.Kept.{noted_keeps}
+use Rattle.gtp_check_talks.proofs.Talks.{converses_talk}
+use Rattle.gtp_check_talks.proofs.Trials.{at_back, exchanged_talk}
+
+-- ---- a lesson is noted
+
+among_more : (list : List Lesson) (last other : Lesson) → is_among (list ++ last ∷ []) other ≡ true
+    → (is_among list other ≡ true) ⊎ (number_of last ≡ number_of other)
+among_more [] last other is =
+    elim (or_cases (number_of last == number_of other) false is) [
+      | inl same ↦ inr (eqb-true _ _ same)
+      | inr never ↦ absurd (cc never)
+    ]
+among_more (one ∷ list) last other is =
+    elim (or_cases (number_of one == number_of other) (is_among (list ++ last ∷ []) other) is) [
+      | inl same ↦ inl (or_left (number_of one == number_of other) (is_among list other) same)
+      | inr later ↦ elim (among_more list last other later) [
+        | inl among ↦ inl (or_right (number_of one == number_of other) (is_among list other) among)
+        | inr same ↦ inr same
+      ]
+    ]
+
+among_with_more : (room : ℕ) (list : List Lesson) (last other : Lesson)
+    → is_among (with_more room list last) other ≡ true
+    → (is_among list other ≡ true) ⊎ (number_of last ≡ number_of other)
+among_with_more room list last other is = by (nat_lt (length list) room) refl is
+  where
+    by : (b : Bool) → nat_lt (length list) room ≡ b
+        → is_among (if b then list ++ last ∷ [] else list) other ≡ true
+        → (is_among list other ≡ true) ⊎ (number_of last ≡ number_of other)
+    by true test among = among_more list last other among
+    by false test among = inl among
+
+among_with : (lesson other : Lesson) (notes : Notes)
+    → is_among (with_lesson lesson notes).answered.items other ≡ true
+    → (is_among notes.answered.items other ≡ true) ⊎ (number_of lesson ≡ number_of other)
+among_with lesson other notes is = by (is_among notes.answered.items lesson) refl is
+  where
+    by : (b : Bool) → is_among notes.answered.items lesson ≡ b
+        → is_among (if b then notes else record notes {
+          answered = record { items = with_more (length all_lessons) notes.answered.items lesson };
+        }).answered.items other ≡ true
+        → (is_among notes.answered.items other ≡ true) ⊎ (number_of lesson ≡ number_of other)
+    by true test among = inl among
+    by false test among = among_with_more (length all_lessons) notes.answered.items lesson other among
+
+-- a command that asks for a move is a `play` or a `genmove`
+moves : (command : CheckCommand) → asks_for_move command ≡ true → AsksForMove command
+moves (Match (Play move)) is = AsksForMove.plays move
+moves (Match (Genmove colour)) is = AsksForMove.chooses colour
+moves (Match (Boardsize size)) is = absurd (cc is)
+moves (Match (Komi komi)) is = absurd (cc is)
+moves (Match ClearBoard) is = absurd (cc is)
+moves (Match (FixedHandicap stones)) is = absurd (cc is)
+moves (Match Undo) is = absurd (cc is)
+moves (Match Quit) is = absurd (cc is)
+moves FinalScore is = absurd (cc is)
+moves Name is = absurd (cc is)
+moves Version is = absurd (cc is)
+moves (KnownCommand known) is = absurd (cc is)
+moves ListCommands is = absurd (cc is)
+moves (PlayInFull move) is = AsksForMove.plays_in_full move
+moves (GenmoveInFull colour) is = AsksForMove.chooses_in_full colour
+
+-- a lesson that is noted was noted before, or is that of the move that was answered
+among_in : (lesson other : Lesson) (entry : Asked) (notes : Notes)
+    → is_among (noted_in lesson (Some entry) notes).answered.items other ≡ true
+    → (is_among notes.answered.items other ≡ true)
+    ⊎ ((number_of lesson ≡ number_of other) × AsksForMove entry.command)
+among_in lesson other entry notes is = by (asks_for_move entry.command) refl is
+  where
+    by : (b : Bool) → asks_for_move entry.command ≡ b
+        → is_among (if b then with_lesson lesson notes else notes).answered.items other ≡ true
+        → (is_among notes.answered.items other ≡ true)
+        ⊎ ((number_of lesson ≡ number_of other) × AsksForMove entry.command)
+    by true asks among =
+        elim (among_with lesson other notes among) [
+          | inl before ↦ inl before
+          | inr same ↦ inr (same, moves entry.command asks)
+        ]
+    by false asks among = inl among
+
+-- ---- what was taken off
+
+-- no reply was read, and nothing was answered; or the oldest command was
+data Takes (read : Option (Result Reply ReplyFault)) (old new : List Asked) : Type 0 where
+  nothing : read ≡ None → new ≡ old → Takes read old new
+  oldest_one : (entry : Asked) → old ≡ entry ∷ new → Takes read old new
+
+judged_takes : (exam : Exam) (entry : Asked) (later : List Asked) (got : Judgement) → exam.unanswered ≡ entry ∷ later
+    → None ≡ finding_of entry got → (after_judged exam got).unanswered ≡ later
+judged_takes exam entry later Right is none = ap (drop 1) is
+judged_takes exam entry later (Plays colour v) is none = ap (drop 1) is
+judged_takes exam entry later (Resized size) is none = ap (drop 1) is
+judged_takes exam entry later Undone is none = ap (drop 1) is
+judged_takes exam entry later (Opines opinion) is none = ap (drop 1) is
+judged_takes exam entry later (Wrong kind) is none = absurd (cc none)
+
+id_takes : (exam : Exam) (entry : Asked) (later : List Asked) (reply : Reply) (same : Bool) (new : Exam)
+    → exam.unanswered ≡ entry ∷ later → IdLeaves exam entry reply same None new → new.unanswered ≡ later
+id_takes exam entry later reply false new is h = absurd (cc (h.0))
+id_takes exam entry later reply true new is h =
+    ap (λ (e : Exam). e.unanswered) h.3
+    ∙ judged_takes (with_learned exam entry.command reply) entry later h.0 is h.2
+
+reply_takes : (exam : Exam) (list : List Asked) (reply : Reply) (new : Exam) → exam.unanswered ≡ list
+    → ReplyLeaves exam (oldest list) reply None new → Takes (Some (Ok reply)) list new.unanswered
+reply_takes exam [] reply new is h = absurd (cc (h.0))
+reply_takes exam (entry ∷ later) reply new is h =
+    Takes.oldest_one entry
+    (ap (λ (rest : List Asked). entry ∷ rest) (sym (id_takes exam entry later reply (has_id reply.id entry.id) new is h)))
+
+leaves_takes : (old : Exam) (rest : List ℕ) (read : Option (Result Reply ReplyFault)) (new : Exam)
+    → Leaves (with_rest old rest) read None new → Takes read old.unanswered new.unanswered
+leaves_takes old rest None new h = Takes.nothing refl (ap (λ (e : Exam). e.unanswered) h.1)
+leaves_takes old rest (Some (Err shown)) new h = absurd (cc (h.0))
+leaves_takes old rest (Some (Ok reply)) new h = reply_takes (with_rest old rest) old.unanswered reply new refl h
+
+-- ---- what is owed
+
+-- The last of what was asked isn't answered.
+record Owes (talk : List Said) (unanswered : List Asked) : Type 0 where
+  front : List Said
+  back : List Said
+  all : talk ≡ front ++ back
+  same : commands_of back ≡ map (λ (one : Asked). one.command) unanswered
+
+owes_more : (talk : List Said) (unanswered : List Asked) (said : Said) (entry : Asked) → said.command ≡ entry.command
+    → Owes talk unanswered → Owes (talk ++ said ∷ []) (unanswered ++ entry ∷ [])
+owes_more talk unanswered said entry is owes = record {
+  front = owes.front;
+  back = owes.back ++ said ∷ [];
+  all = ap (λ (list : List Said). list ++ said ∷ []) owes.all ∙ append_assoc owes.front owes.back (said ∷ []);
+  same = map-append (λ (one : Said). one.command) owes.back (said ∷ [])
+      ∙ ap (λ (list : List CheckCommand). list ++ said.command ∷ []) owes.same
+      ∙ ap (λ (last : CheckCommand). map (λ (one : Asked). one.command) unanswered ++ last ∷ []) is
+      ∙ sym (map-append (λ (one : Asked). one.command) unanswered (entry ∷ []));
+}
+
+-- the oldest of it
+record IsOldest (talk : List Said) (entry : Asked) (later : List Asked) : Type 0 where
+  said : Said
+  owed : slice_get talk (length talk - length (entry ∷ later)) ≡ Some said
+  command : said.command ≡ entry.command
+  rest : Owes talk later
+
+oldest_in : (talk front back : List Said) (entry : Asked) (later : List Asked) → talk ≡ front ++ back
+    → commands_of back ≡ map (λ (one : Asked). one.command) (entry ∷ later) → IsOldest talk entry later
+oldest_in talk front [] entry later all same = absurd (cc same)
+oldest_in talk front (said ∷ back) entry later all same =
+    let tail : commands_of back ≡ map (λ (one : Asked). one.command) later = ap (drop 1) same in
+    let few : length back ≡ length later =
+    sym (length-map back (λ (one : Said). one.command))
+    ∙ ap (λ (list : List CheckCommand). length list) tail ∙ length-map later (λ (one : Asked). one.command) in
+    let at : length talk - length (entry ∷ later) ≡ length front + 0 =
+    omega (arith, few, ap (λ (list : List Said). length list) all, length-append front (said ∷ back)) in
+    record {
+      said = said;
+      owed = ap (λ (n : ℕ). slice_get talk n) at
+          ∙ ap (λ (list : List Said). slice_get list (length front + 0)) all ∙ at_back front (said ∷ back) 0;
+      command = cc same;
+      rest = record {
+        front = front ++ said ∷ [];
+        back = back;
+        all = all ∙ sym (append_assoc front (said ∷ []) back);
+        same = tail;
+      };
+    }
+
+oldest_of : (talk : List Said) (old : List Asked) (entry : Asked) (new : List Asked) → old ≡ entry ∷ new
+    → Owes talk old → IsOldest talk entry new
+oldest_of talk old entry new is owes =
+    oldest_in talk owes.front owes.back entry new owes.all
+    (owes.same ∙ ap (λ (list : List Asked). map (λ (one : Asked). one.command) list) is)
+
+owes_less : (talk : List Said) (read : Option (Result Reply ReplyFault)) (old new : List Asked) → Takes read old new
+    → Owes talk old → Owes talk new
+owes_less talk read old new (Takes.nothing none is) owes = subst (Owes talk) (sym is) owes
+owes_less talk read old new (Takes.oldest_one entry is) owes = (oldest_of talk old entry new is owes).rest
+
+-- ---- what is noted of what was heard
+
+-- a move was answered rightly, where these commands weren't answered
+record IsNotedNow (lesson other : Lesson) (list : List Asked) (read : Option (Result Reply ReplyFault)) : Type 0 where
+  entry : Asked
+  later : List Asked
+  reply : Reply
+  are : list ≡ entry ∷ later
+  is : read ≡ Some (Ok reply)
+  same : number_of lesson ≡ number_of other
+  asks : AsksForMove entry.command
+
+noted_among : (lesson other : Lesson) (notes : Notes) (list : List Asked) (read : Option (Result Reply ReplyFault))
+    (skills : Skills) → is_among (noted_of_read lesson notes (oldest list) read skills).answered.items other ≡ true
+    → (is_among notes.answered.items other ≡ true) ⊎ IsNotedNow lesson other list read
+noted_among lesson other notes [] read skills is = inl is
+noted_among lesson other notes (entry ∷ later) None skills is = inl is
+noted_among lesson other notes (entry ∷ later) (Some (Err shown)) skills is = inl is
+noted_among lesson other notes (entry ∷ later) (Some (Ok reply)) skills is =
+    let mid = noted notes (Some entry) (refused_by entry.due reply.ok) reply skills in
+    let kept = (noted_keeps notes entry (refused_by entry.due reply.ok) reply skills).answered in
+    elim (among_in lesson other entry mid is) [
+      | inl before ↦ inl (ap (λ (list : List Lesson). is_among list other) (sym kept) ∙ before)
+      | inr now ↦ inr (record {
+        entry = entry;
+        later = later;
+        reply = reply;
+        are = refl;
+        is = refl;
+        same = now.0;
+        asks = now.1;
+      })
+    ]
+
+-- the move of the lesson that was answered is the oldest that was owed
+now_answered : (talk : List Said) (old new : Exam) (other : Lesson) (read : Option (Result Reply ReplyFault))
+    → Owes talk old.unanswered → Takes read old.unanswered new.unanswered
+    → IsNotedNow (owed_purpose talk old).lesson other old.unanswered read → IsMoveAnswered other talk old new
+now_answered talk old new other read owes (Takes.nothing none same) now = absurd (cc (none, now.is))
+now_answered talk old new other read owes (Takes.oldest_one entry is) now =
+    let count : length old.unanswered ≡ length (entry ∷ new.unanswered) = ap (λ (list : List Asked). length list) is in
+    let first = oldest_of talk old.unanswered entry new.unanswered is owes in
+    let owed : slice_get talk (length talk - length old.unanswered) ≡ Some first.said =
+    ap (λ (n : ℕ). slice_get talk (length talk - n)) count ∙ first.owed in
+    let one : now.entry ≡ entry = cc (now.are, is) in
+    record {
+      said = first.said;
+      owed = owed;
+      lesson_is = ap (λ (said : Option Said). number_of (purpose_of said).lesson) (sym owed) ∙ now.same;
+      asks = subst AsksForMove (ap (λ (e : Asked). e.command) one ∙ sym first.command) now.asks;
+      answered = omega (arith, count);
+    }
+
+module _ {P : Type 0} (known : Ghosts P) where
+  -- ---- bytes were heard
+
+  quiet_noted : (bytes : List ℕ) (old : Exam) (before : Dialogue P) (new : Exam) (after : Dialogue P) (other : Lesson)
+      → old.up ≡ true → Owes before.talk old.unanswered → AreHeard bytes old before None new after
+      → is_among after.notes.answered.items other ≡ true
+      → (is_among before.notes.answered.items other ≡ true) ⊎ IsMoveAnswered other before.talk old new
+  quiet_noted bytes old before new after other up owes heard among =
+      let quiet = heard.0 in
+      let hears = quiet.heard.up up in
+      let takes = leaves_takes old hears.0 quiet.read new hears.2 in
+      elim (noted_among (owed_purpose before.talk old).lesson other before.notes old.unanswered quiet.read new.skills
+      (ap (λ (n : Notes). is_among n.answered.items other) (sym quiet.notes) ∙ among)) [
+        | inl was ↦ inl was
+        | inr now ↦ inr (now_answered before.talk old new other quiet.read owes takes now)
+      ]
+
+  bytes_noted : (bytes : List ℕ) (old : Exam) (before : Dialogue P) (fault : Option Fault) (new : Exam)
+      (after : Dialogue P) (other : Lesson) → old.up ≡ true → Owes before.talk old.unanswered
+      → AreHeard bytes old before fault new after → is_among after.notes.answered.items other ≡ true
+      → (is_among before.notes.answered.items other ≡ true)
+      ⊎ ((fault ≡ None) × IsMoveAnswered other before.talk old new)
+  bytes_noted bytes old before None new after other up owes heard among =
+      elim (quiet_noted bytes old before new after other up owes heard among) [
+        | inl was ↦ inl was
+        | inr now ↦ inr (refl, now)
+      ]
+  bytes_noted bytes old before (Some fault) new after other up owes heard among =
+      inl (ap (λ (n : Notes). is_among n.answered.items other) (sym heard.0.notes) ∙ among)
+
+  read_noted : (old : Exam) (before : Dialogue P) {fault : Option Fault} {new : Exam} {after : Dialogue P}
+      (other : Lesson) → old.up ≡ true → Owes before.talk old.unanswered → IsRead known old before fault new after
+      → is_among after.notes.answered.items other ≡ true
+      → (is_among before.notes.answered.items other ≡ true)
+      ⊎ ((fault ≡ None) × IsMoveAnswered other before.talk old new)
+  read_noted old before other up owes
+      (IsRead.gives {fault = fault} {new = new} {after = after} bytes next some gave unbroken taken heard) among =
+      bytes_noted bytes old (record before { process = next }) fault new after other up owes heard among
+  read_noted old before other up owes (IsRead.ends next ended given taken) among = inl among
+  read_noted old before other up owes (IsRead.breaks next cut given taken) among = inl among
+
+  exchanged_noted : (old : Exam) (before : Dialogue P) {fault : Option Fault} {new : Exam} {after : Dialogue P}
+      (other : Lesson) → old.up ≡ true → Owes before.talk old.unanswered → IsExchanged known old before fault new after
+      → is_among after.notes.answered.items other ≡ true
+      → (is_among before.notes.answered.items other ≡ true)
+      ⊎ ((fault ≡ None) × IsMoveAnswered other before.talk old new)
+  exchanged_noted old before other up owes (IsExchanged.owes_nothing next none sent) among = inl among
+  exchanged_noted old before other up owes
+      (IsExchanged.held {fault = fault} {new = new} {after = after} some more heard) among =
+      bytes_noted before.held old (record before { held = [] }) fault new after other up owes heard among
+  exchanged_noted old before other up owes (IsExchanged.reads next some none sent read) among =
+      read_noted old (record before { process = next; waiting = [] }) other up owes read among
+
+  -- ---- what a conversation owes
+
+  quiet_owes : (bytes : List ℕ) (old : Exam) (before : Dialogue P) (new : Exam) (after : Dialogue P) → old.up ≡ true
+      → Owes before.talk old.unanswered → AreHeard bytes old before None new after → Owes before.talk new.unanswered
+  quiet_owes bytes old before new after up owes heard =
+      let hears = heard.0.heard.up up in
+      owes_less before.talk heard.0.read old.unanswered new.unanswered
+      (leaves_takes old hears.0 heard.0.read new hears.2) owes
+
+  read_owes : (old : Exam) (before : Dialogue P) (new : Exam) (after : Dialogue P) → old.up ≡ true
+      → Owes before.talk old.unanswered → IsRead known old before None new after → Owes before.talk new.unanswered
+  read_owes old before new after up owes (IsRead.gives bytes next some gave unbroken taken heard) =
+      quiet_owes bytes old (record before { process = next }) new after up owes heard
+
+  exchanged_owes : (old : Exam) (before : Dialogue P) (new : Exam) (after : Dialogue P) → old.up ≡ true
+      → Owes before.talk old.unanswered → IsExchanged known old before None new after
+      → Owes before.talk new.unanswered
+  exchanged_owes old before new after up owes (IsExchanged.owes_nothing next none sent) = owes
+  exchanged_owes old before new after up owes (IsExchanged.held some more heard) =
+      quiet_owes before.held old (record before { held = [] }) new after up owes heard
+  exchanged_owes old before new after up owes (IsExchanged.reads next some none sent read) =
+      read_owes old (record before { process = next; waiting = [] }) new after up owes read
+
+  module _ (rule : KoRule) (process : P) (first : Notes) where
+    is_up : {exam : Exam} {now : Dialogue P} → Converses known (begun rule true) (begun_with process first) exam now
+        → exam.up ≡ true
+    is_up converses = (converses_talk known rule process first converses).goes.up
+
+    converses_owes : {exam : Exam} {now : Dialogue P}
+        → Converses known (begun rule true) (begun_with process first) exam now → Owes now.talk exam.unanswered
+    converses_owes Converses.begins = record { front = []; back = []; all = refl; same = refl }
+    converses_owes
+        (Converses.asks {old = old} {new = new} {before = before} {after = after} purpose command more asked) =
+        let line = written_check new.sent command in
+        let said : Said = record {
+          command = command;
+          purpose = purpose;
+          is_illegal = asked.is_illegal;
+          size = old.game.size;
+          moves = length old.game.moves;
+          last = last_move old.game;
+          end = length (before.sent ++ line);
+        } in
+        let entry : Asked = record { id = old.sent + 1; command = command; due = asked.asks.due } in
+        subst (λ (d : Dialogue P). Owes d.talk new.unanswered) (sym asked.joins)
+        (subst (λ (e : Exam). Owes (before.talk ++ said ∷ []) e.unanswered) (sym asked.asks.new_is)
+        (owes_more before.talk old.unanswered said entry refl (converses_owes more)))
+    converses_owes
+        (Converses.exchanges {old = old} {new = new} {before = before} {after = after} more exchanged) =
+        subst (λ (talk : List Said). Owes talk new.unanswered) (sym (exchanged_talk known old before exchanged))
+        (exchanged_owes old before new after (is_up more) (converses_owes more) exchanged)
+
+  pub are_noted : MovesAreNotedOnceAnswered known
+  are_noted = record {
+    at_first = refl;
+    starts = λ notes. refl;
+    asked = λ purpose old before command new after asked. ap (λ (d : Dialogue P). d.notes.answered) asked.joins;
+    heard = λ rule process first old before fault new after other converses exchanged among.
+        exchanged_noted old before other (is_up rule process first converses)
+        (converses_owes rule process first converses) exchanged among;
+  }
