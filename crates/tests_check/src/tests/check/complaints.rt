@@ -29,7 +29,7 @@ struct Row {
     text: &'static str,
 }
 
-static ROWS: [Row; 14] = [
+static ROWS: [Row; 15] = [
     // It can be pasted into an engine.
     Row {
         head: (
@@ -261,6 +261,26 @@ static ROWS: [Row; 14] = [
 3 genmove white
 # it wrote: \"?3 no\\n\\n\"
 # right: a colour may be written in full: black for b, and white for w
+
+",
+    },
+    // A reply is longer than what is read of one: a limit of ours.
+    Row {
+        head: (
+            5,
+            Lesson::Start,
+            Fault::Wrote(Kind::Overlong),
+            Ending::Running,
+        ),
+        commands: &[("list_commands", 16)],
+        answered: 0,
+        sent: b"1 list_commands\n",
+        wrote: b"=1 play\n",
+        is_positional: false,
+        text: "# 5 start: \"1 list_commands\": no end of a reply in 8192 bytes
+1 list_commands
+# it wrote: \"=1 play\\n\"
+# right: two newlines end a reply, within 8,192 bytes: twogtp and this check read no more, though the standard sets no limit
 
 ",
     },
