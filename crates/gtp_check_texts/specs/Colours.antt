@@ -24,7 +24,7 @@ with_letter (PlayInFull move) = Match (Play move)
 with_letter (GenmoveInFull colour) = Match (Genmove colour)
 with_letter command = command
 
--- The command for which it is said what is right, where these were answered rightly before: with the colour's letter, if
--- one of them shows that the engine reads the colour in full.
+-- The command for which it is said what is right, where these were answered rightly before: with the colour's letter,
+-- if one of them shows that the engine reads the colour in full.
 abbrev pub told_after : List Said → CheckCommand → CheckCommand
 told_after before command = if list_any (shows_spelling command) before then with_letter command else command
