@@ -17,7 +17,8 @@ if [ $# -ne 2 ] || [ -z "${SLURM_ARRAY_TASK_ID:-}" ]; then
     exit 2
 fi
 words=(--task "$SLURM_ARRAY_TASK_ID/$2" --jobs "${SLURM_CPUS_PER_TASK:-1}")
-if left=$(squeue --noheader --jobs "${SLURM_JOB_ID:-}" --Format TimeLeft) && [ -n "$left" ]; then
+# The number of the array's last task is the array's own, of which squeue lists all tasks. So the task is asked for by its name.
+if read -r left < <(squeue --noheader --jobs "${SLURM_ARRAY_JOB_ID:-}_$SLURM_ARRAY_TASK_ID" --Format TimeLeft) && [ -n "$left" ]; then
     words+=(--time-left "$left")
 else
     echo "tournament.sbatch: squeue doesn't say how much time is left" >&2

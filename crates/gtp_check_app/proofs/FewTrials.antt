@@ -82,8 +82,8 @@ module _ {P : Type 0} (known : Ghosts P) where
         omega (arith, earlier, one, some)
 
     -- what is left for it
-    limits_few : (wrong : Wrong) (tried : ℕ) → (limits_of plan wrong tried).trials ≤ plan.trials - tried
-    limits_few wrong tried = by (nat_lt few_commands (length (wrong_talk wrong)))
+    limits_few : (longer : Wrong) (tried : ℕ) → (limits_of plan found longer tried).trials ≤ plan.trials - tried
+    limits_few longer tried = by (nat_lt few_commands (length (wrong_talk longer)))
       where
         by : (long : Bool) → (if long then plan.trials - tried else 0) ≤ plan.trials - tried
         by true = omega arith

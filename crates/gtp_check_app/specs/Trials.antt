@@ -21,13 +21,14 @@ least_tried = 20000
 abbrev pub lesson_commands : Wrong → ℕ
 lesson_commands wrong = count_by (λ said. is_same_lesson (wrong_purpose wrong) said.purpose) (wrong_talk wrong)
 
--- How much may be tried of a conversation, where so many shorter ones were tried before: as many trials as the plan has,
--- less these, where there are more commands than are few; and in all of them together as many commands as this
--- conversation has in the lesson, or twenty thousand.
-abbrev pub limits_of : Plan → Wrong → ℕ → Limits
-limits_of plan wrong tried = record {
-  trials = if nat_lt few_commands (length (wrong_talk wrong)) then plan.trials - tried else 0;
-  commands = max least_tried (lesson_commands wrong);
+-- How much may be tried, where the conversation that was found is this one, so many shorter ones were tried before, and
+-- parts of the last of them are left out now: as many trials as the plan has, less these, where that has more commands
+-- than are few; and in all of them together as many commands as the one that was found had in its lesson, or twenty
+-- thousand.
+abbrev pub limits_of : Plan → Wrong → Wrong → ℕ → Limits
+limits_of plan found longer tried = record {
+  trials = if nat_lt few_commands (length (wrong_talk longer)) then plan.trials - tried else 0;
+  commands = max least_tried (lesson_commands found);
 }
 
 -- A conversation is shortened so where it has more commands than are few, and more games than this is for, and what is

@@ -350,7 +350,7 @@ module _ {P : Type 0} (known : Ghosts P) (plan : Plan) where
     both_ways : {games : LastGames} {best : Option Wrong} {mid after : Moment P}
         → Shortens found (shortenings_of plan.trials (wrong_talk found)) before games mid
         → IsReduced found (begun_reduction (commands_of (wrong_talk (unwrap_or games.ended found)))
-        (limits_of plan (unwrap_or games.ended found) games.tried)) mid best after
+        (limits_of plan found (unwrap_or games.ended found) games.tried)) mid best after
         → IsShortened found before (or_else best games.ended) after
 
   -- ---- a complaint

@@ -235,7 +235,7 @@ impl<S: Starter> Check<S> {
             let longer = unwrap_or (games_of games.now).ended (wrong_of found.now) in
             IsReduced S.Process.Process plan.now (wrong_of found.now)
             (begun_reduction (commands_of (wrong_talk longer))
-            (limits_of plan.now longer games.now.tried))
+            (limits_of plan.now (wrong_of found.now) longer games.now.tried))
             (moment (state_of self.old) (S.asked starter.old))
             (option_map wrong_of best) (moment (state_of self.new) (S.asked starter.new))) }
         ensures refused { IfErr result (λ why. (why ≡ failure.OutOfMemory)
@@ -245,7 +245,7 @@ impl<S: Starter> Check<S> {
     {
         let longer = games.ended.as_ref().unwrap_or(found);
         let commands = commands_of(self.alloc, longer.conversation())?;
-        let limits = limits_of(plan, longer, games.tried);
+        let limits = limits_of(plan, found, longer, games.tried);
         let mut reduction = Reduction::new(self.alloc, commands.as_slice(), limits)?;
         let mut best = None;
         while let Some(commands) = reduction.next(self.alloc)? {
@@ -352,20 +352,20 @@ fn is_for(alloc: Global, talk: &[Said], shortening: Shortening) -> Result<bool, 
     Ok(commands.len() < talk.len())
 }
 
-/// How much may be tried of a conversation, where so many shorter ones were tried before.
-fn limits_of(plan: &Plan<'_>, longer: &Tried, tried: u32) -> Limits
-    ensures { result ≡ limits_of plan.now (wrong_of longer.now) tried }
+/// How much may be tried, where the conversation that was found is this one, so many shorter ones were tried before,
+/// and parts of the last of them are left out now.
+fn limits_of(plan: &Plan<'_>, found: &Tried, longer: &Tried, tried: u32) -> Limits
+    ensures { result ≡ limits_of plan.now (wrong_of found.now) (wrong_of longer.now) tried }
 {
-    let talk = longer.conversation();
-    let purpose = longer.purpose();
-    let trials = if talk.len() > FEW_COMMANDS {
+    let trials = if longer.conversation().len() > FEW_COMMANDS {
         plan.trials.saturating_sub(tried)
     } else {
         0
     };
+    let asked = lesson_commands(found.conversation(), found.purpose());
     Limits {
         trials,
-        commands: lesson_commands(talk, purpose).max(LEAST_TRIED),
+        commands: asked.max(LEAST_TRIED),
     }
 }
 

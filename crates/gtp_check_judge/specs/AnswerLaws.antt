@@ -17,7 +17,7 @@ use Rattle.gtp_check_judge.specs.declared.scores.SaidScore.{SaidScore}
 use Rattle.gtp_check_judge.specs.declared.scores.SaidScore.TheVariants.{Number, Long}
 use Rattle.gtp_check_judge.specs.Scores.{negative, are_only_zeros, score_of_text}
 use Rattle.gtp_check_judge.specs.Judging.{oldest}
-use Rattle.gtp_check_judge.specs.Exam.{Hears, refused_what}
+use Rattle.gtp_check_judge.specs.Exam.{Hears, refused_what, hearing}
 use Rattle.gtp_check_judge.specs.declared.dues.Due.{Due}
 use Rattle.gtp_check_judge.specs.declared.dues.Due.TheVariants.{Succeeds, MayUndo}
 use Rattle.gtp_check_judge.specs.declared.judging.Kind.TheVariants.{Unlisted}
@@ -131,12 +131,12 @@ pub record IsListing (exam : Exam) (reply : Reply) (entry : Asked) : Type 0 wher
 pub record ListsNameEachCommand : Type 0 where
   pub lacking : (rule : KoRule) (sent came : List ℕ) (said : List Exchange) (old new : Exam) (bytes : List ℕ)
       (used : ℕ) (reply : Reply) (finding : Option Finding) (entry : Asked) (name : List ℕ)
-      → Talks rule sent came said old → Hears old bytes used (Some (Ok reply)) finding new
+      → Talks rule sent came said old → Hears old bytes (hearing used (Some (Ok reply)) finding) new
       → IsListing old reply entry → IsRequired name → ¬ Contains (reply_words reply.text.items) name
       → finding ≡ Some (record { asked = Some entry; kind = Unlisted })
   pub complete : (rule : KoRule) (sent came : List ℕ) (said : List Exchange) (old new : Exam) (bytes : List ℕ)
       (used : ℕ) (reply : Reply) (finding : Option Finding) (entry : Asked)
-      → Talks rule sent came said old → Hears old bytes used (Some (Ok reply)) finding new
+      → Talks rule sent came said old → Hears old bytes (hearing used (Some (Ok reply)) finding) new
       → IsListing old reply entry
       → ((name : List ℕ) → IsRequired name → Contains (reply_words reply.text.items) name)
       → finding ≡ None

@@ -8,7 +8,7 @@ use Rattle.gtp_wire.specs.Replies.{GivesNoAnswer}
 use Rattle.gtp_check_judge.specs.declared.asking.CheckCommand.{CheckCommand}
 use Rattle.gtp_check_judge.specs.declared.exam.Exam.{Exam}
 use Rattle.gtp_check_judge.specs.declared.exam.Finding.{Finding}
-use Rattle.gtp_check_judge.specs.Exam.{begun, downed, Asks, Hears, HasRoomFor, IsOrderly}
+use Rattle.gtp_check_judge.specs.Exam.{begun, downed, Asks, Hears, HasRoomFor, IsOrderly, hearing}
 
 -- The exam of the engine that was started last, how many starts there were, and how many there may be.
 pub record Check : Type 0 where
@@ -51,7 +51,7 @@ pub data Calls (rule : KoRule) (most : ℕ) : ℕ → Check → Type 0 where
       → HasRoomFor old.exam command → Asks old.exam command new → Calls rule most count (with_exam old new)
   hear : {count : ℕ} {old : Check} {new : Exam} (bytes : List ℕ) (used : ℕ)
       (read : Option (Result Reply ReplyFault)) (finding : Option Finding) → Calls rule most count old
-      → Hears old.exam bytes used read finding new → Calls rule most count (with_exam old new)
+      → Hears old.exam bytes (hearing used read finding) new → Calls rule most count (with_exam old new)
   lost : {count : ℕ} {old : Check} → Calls rule most count old
       → Calls rule most count (after_loss old)
 
@@ -78,8 +78,8 @@ pub record UpIsBetween : Type 0 where
   pub ends : (check : Check) → (after_loss check).exam.up ≡ false
   pub keeps : (check : Check) → after_loss check ≡ record check { exam = record check.exam { up = false } }
   pub found : (old new : Exam) (bytes : List ℕ) (used : ℕ) (read : Option (Result Reply ReplyFault))
-      (finding : Finding) → Hears old bytes used read (Some finding) new → new.up ≡ false
+      (finding : Finding) → Hears old bytes (hearing used read (Some finding)) new → new.up ≡ false
   pub asked : (exam : Exam) (command : CheckCommand) → HasRoomFor exam command → exam.up ≡ true
   pub asks : (old new : Exam) (command : CheckCommand) → Asks old command new → new.up ≡ old.up
   pub stays : (old new : Exam) (bytes : List ℕ) (used : ℕ) (read : Option (Result Reply ReplyFault))
-      → Hears old bytes used read None new → new.up ≡ old.up
+      → Hears old bytes (hearing used read None) new → new.up ≡ old.up

@@ -13,7 +13,7 @@ use Rattle.gtp_check_judge.specs.declared.exam.Finding.{Finding}
 use Rattle.gtp_check_judge.specs.Asking.{written_check}
 use Rattle.gtp_check_judge.specs.RightEngine.{fresh_engine}
 use Rattle.gtp_check_judge.specs.Judging.{oldest}
-use Rattle.gtp_check_judge.specs.Exam.{Asks, Hears, HasRoomFor}
+use Rattle.gtp_check_judge.specs.Exam.{Asks, Hears, HasRoomFor, hearing}
 use Rattle.gtp_check_judge.specs.Check.{Check, opening, started, with_exam, after_loss}
 use Rattle.gtp_check_judge.specs.Laws.{Exchange, exchanged, Talks, AnswersRightly, commands_of, line_of_asked}
 use Rattle.gtp_check_judge.specs.Laws.{IsJustified}
@@ -30,12 +30,12 @@ pub data Histories (rule : KoRule) (most : ℕ) : List ℕ → List ℕ → List
       → Histories rule most (sent ++ written_check new.sent command) came said (with_exam old new)
   hear : {sent came : List ℕ} {said : List Exchange} {old : Check} {new : Exam} (bytes : List ℕ) (used : ℕ)
       (read : Option (Result Reply ReplyFault)) → Histories rule most sent came said old → old.exam.up ≡ true
-      → Hears old.exam bytes used read None new
+      → Hears old.exam bytes (hearing used read None) new
       → Histories rule most sent (came ++ take used bytes) (said ++ exchanged (oldest old.exam.unanswered) read)
       (with_exam old new)
   find : {sent came : List ℕ} {said : List Exchange} {old : Check} {new : Exam} (bytes : List ℕ) (used : ℕ)
       (read : Option (Result Reply ReplyFault)) (finding : Finding) → Histories rule most sent came said old
-      → old.exam.up ≡ true → Hears old.exam bytes used read (Some finding) new
+      → old.exam.up ≡ true → Hears old.exam bytes (hearing used read (Some finding)) new
       → Histories rule most sent (came ++ take used bytes) said (with_exam old new)
   lost : {sent came : List ℕ} {said : List Exchange} {old : Check} → Histories rule most sent came said old
       → Histories rule most sent came said (after_loss old)
@@ -62,24 +62,34 @@ pub record IsHeard (said : List Exchange) (came : List ℕ) (read : Option (Resu
   pub read_is : read ≡ Some answer
   pub gives : GivesAnswer last answer
 
+-- what was said: the bytes that were asked, those that were heard, and what was exchanged
+pub record Spoken : Type 0 where
+  pub sent : List ℕ
+  pub came : List ℕ
+  pub said : List Exchange
+
+abbrev pub spoken : List ℕ → List ℕ → List Exchange → Spoken
+spoken sent came said = record { sent = sent; came = came; said = said }
+
 -- What a conversation with a finding shows, by the bytes that were asked, those that were heard up to the finding, and
 -- what was exchanged before. What was asked is one line for each command, answered or not. What was heard is the
 -- replies to the answered ones, and what was found. The finding is justified. And whoever was asked these commands and
 -- answers rightly writes something else.
-pub record IsShown (rule : KoRule) (sent came : List ℕ) (said : List Exchange) (exam : Exam)
-    (read : Option (Result Reply ReplyFault)) (finding : Finding) : Type 0 where
-  pub asked : lines sent ≡ map line_of_asked (commands_of said ++ exam.unanswered)
-  pub heard : IsHeard said came read
-  pub justified : IsJustified rule said exam read finding
+pub record IsShown (rule : KoRule) (talk : Spoken) (exam : Exam) (read : Option (Result Reply ReplyFault))
+    (finding : Finding) : Type 0 where
+  pub asked : lines talk.sent ≡ map line_of_asked (commands_of talk.said ++ exam.unanswered)
+  pub heard : IsHeard talk.said talk.came read
+  pub justified : IsJustified rule talk.said exam read finding
   pub others : (out later : List ℕ)
-      → AnswersRightly (fresh_engine rule) (commands_of said ++ exam.unanswered) out → out ≢ came ++ later
+      → AnswersRightly (fresh_engine rule) (commands_of talk.said ++ exam.unanswered) out
+      → out ≢ talk.came ++ later
 
 abbrev pub ConversationsShowFindings : Type 0
 ConversationsShowFindings = (rule : KoRule) (most : ℕ) (sent came : List ℕ) (said : List Exchange) (check : Check)
     (new : Exam) (bytes : List ℕ) (used : ℕ) (read : Option (Result Reply ReplyFault)) (finding : Finding)
     → Histories rule most sent came said check → check.exam.up ≡ true
-    → Hears check.exam bytes used read (Some finding) new
-    → IsShown rule sent (came ++ take used bytes) said check.exam read finding
+    → Hears check.exam bytes (hearing used read (Some finding)) new
+    → IsShown rule (spoken sent (came ++ take used bytes) said) check.exam read finding
 
 -- No engine under this ko rule that is given just the bytes that were asked writes what was heard up to the finding,
 -- whatever it chooses among what its policy may. So a conversation that is held again with such an engine ends without
@@ -89,5 +99,5 @@ NoRightEngineWroteIt {P} may = (rule : KoRule) (most : ℕ) (policy : P) (engine
     (sent came : List ℕ) (said : List Exchange) (check : Check) (new : Exam) (bytes : List ℕ) (used : ℕ)
     (read : Option (Result Reply ReplyFault)) (finding : Finding)
     → Histories rule most sent came said check → check.exam.up ≡ true
-    → Hears check.exam bytes used read (Some finding) new
+    → Hears check.exam bytes (hearing used read (Some finding)) new
     → Engages may (fresh_under rule policy) sent engine out → out ≢ (came ++ take used bytes) ++ later

@@ -112,20 +112,29 @@ after_judged exam (Wrong kind) = downed exam
 abbrev pub with_learned : Exam → CheckCommand → Reply → Exam
 with_learned exam command reply = record exam { skills = learned exam.skills command reply }
 
+-- a reply, and the command that it is heard for
+pub record ReplyTo : Type 0 where
+  pub asked : Asked
+  pub reply : Reply
+
+abbrev pub reply_to : Asked → Reply → ReplyTo
+reply_to asked reply = record { asked = asked; reply = reply }
+
 -- a reply with the id of the oldest command, or with another or none
-abbrev pub IdLeaves : Exam → Asked → Reply → Bool → Option Finding → Exam → Type 0
-IdLeaves exam asked reply false finding new =
-    (finding ≡ Some (record { asked = Some asked; kind = WrongId })) × (new ≡ downed exam)
-IdLeaves exam asked reply true finding new =
-    (got : Judgement) × Judged exam.game exam.opinion asked.due reply got × (finding ≡ finding_of asked got)
-    × (new ≡ after_judged (with_learned exam asked.command reply) got)
+abbrev pub IdLeaves : Exam → ReplyTo → Bool → Option Finding → Exam → Type 0
+IdLeaves exam to false finding new =
+    (finding ≡ Some (record { asked = Some to.asked; kind = WrongId })) × (new ≡ downed exam)
+IdLeaves exam to true finding new =
+    (got : Judgement) × Judged exam.game exam.opinion to.asked.due to.reply got
+    × (finding ≡ finding_of to.asked got)
+    × (new ≡ after_judged (with_learned exam to.asked.command to.reply) got)
 
 -- a reply, where this is the oldest command, if any
 abbrev pub ReplyLeaves : Exam → Option Asked → Reply → Option Finding → Exam → Type 0
 ReplyLeaves exam None reply finding new =
     (finding ≡ Some (record { asked = None; kind = Unasked })) × (new ≡ downed exam)
 ReplyLeaves exam (Some asked) reply finding new =
-    IdLeaves exam asked reply (has_id reply.id asked.id) finding new
+    IdLeaves exam (reply_to asked reply) (has_id reply.id asked.id) finding new
 
 -- what the reader read
 abbrev pub Leaves : Exam → Option (Result Reply ReplyFault) → Option Finding → Exam → Type 0
@@ -138,10 +147,20 @@ Leaves exam (Some (Ok reply)) finding new = ReplyLeaves exam (oldest exam.unansw
 abbrev pub with_rest : Exam → List ℕ → Exam
 with_rest exam rest = record exam { reader = rest }
 
--- Bytes of an engine that is up are heard: so many of them are used, this is read by them, and this is found.
-abbrev pub Hears : Exam → List ℕ → ℕ → Option (Result Reply ReplyFault) → Option Finding → Exam → Type 0
-Hears old bytes used read finding new =
-    (rest : List ℕ) × ReadsFirst old.reader bytes used read rest × Leaves (with_rest old rest) read finding new
+-- what comes of bytes that are heard: how many of them are used, what is read by them, and what is found
+pub record Hearing : Type 0 where
+  pub used : ℕ
+  pub read : Option (Result Reply ReplyFault)
+  pub finding : Option Finding
+
+abbrev pub hearing : ℕ → Option (Result Reply ReplyFault) → Option Finding → Hearing
+hearing used read finding = record { used = used; read = read; finding = finding }
+
+-- bytes of an engine that is up are heard, with this that comes of them
+abbrev pub Hears : Exam → List ℕ → Hearing → Exam → Type 0
+Hears old bytes heard new =
+    (rest : List ℕ) × ReadsFirst old.reader bytes heard.used heard.read rest
+    × Leaves (with_rest old rest) heard.read heard.finding new
 
 -- of an engine that is down all bytes are used, and nothing changes
 abbrev pub HearsDown : Exam → List ℕ → ℕ → Option Finding → Exam → Type 0

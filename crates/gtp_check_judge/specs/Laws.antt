@@ -53,7 +53,7 @@ use Rattle.gtp_check_judge.specs.Komis.{is_exact_komi}
 use Rattle.gtp_check_judge.specs.RightEngine.{RightEngine, fresh_engine, undone_after, view_in, opinion_after}
 use Rattle.gtp_check_judge.specs.Dues.{IsDue, engine_after}
 use Rattle.gtp_check_judge.specs.Judging.{oldest}
-use Rattle.gtp_check_judge.specs.Exam.{begun, engine_of, Asks, Hears, HasRoomFor, IsOrderly}
+use Rattle.gtp_check_judge.specs.Exam.{begun, engine_of, Asks, Hears, HasRoomFor, IsOrderly, hearing}
 
 -- ---- right answers, by the table of the engine's commands
 
@@ -201,7 +201,7 @@ pub data Talks (rule : KoRule) : List ℕ → List ℕ → List Exchange → Exa
       → Talks rule (sent ++ written_check new.sent command) came said new
   hear : {sent came : List ℕ} {said : List Exchange} {old new : Exam} (bytes : List ℕ) (used : ℕ)
       (read : Option (Result Reply ReplyFault))
-      → Talks rule sent came said old → Hears old bytes used read None new
+      → Talks rule sent came said old → Hears old bytes (hearing used read None) new
       → Talks rule sent (came ++ take used bytes) (said ++ exchanged (oldest old.unanswered) read) new
 
 -- a command that was asked of this engine
@@ -321,7 +321,7 @@ pub record IsJustified (rule : KoRule) (said : List Exchange) (exam : Exam) (rea
 abbrev pub FindingsAreJustified : Type 0
 FindingsAreJustified = (rule : KoRule) (sent came : List ℕ) (said : List Exchange) (old new : Exam) (bytes : List ℕ)
     (used : ℕ) (read : Option (Result Reply ReplyFault)) (finding : Finding)
-    → Talks rule sent came said old → Hears old bytes used read (Some finding) new
+    → Talks rule sent came said old → Hears old bytes (hearing used read (Some finding)) new
     → IsJustified rule said old read finding
 
 -- ---- the engine that right answers leave
@@ -373,7 +373,7 @@ PlaysAreLegalOrProbes = (old new : Exam) (command : CheckCommand) (move : Move)
 abbrev pub RightAnswersHaveNoFinding : Type 0
 RightAnswersHaveNoFinding = (rule : KoRule) (sent came : List ℕ) (said : List Exchange) (old new : Exam)
     (bytes : List ℕ) (used : ℕ) (reply : Reply) (finding : Option Finding) (entry : Asked) (before after : RightEngine)
-    → Talks rule sent came said old → Hears old bytes used (Some (Ok reply)) finding new
+    → Talks rule sent came said old → Hears old bytes (hearing used (Some (Ok reply)) finding) new
     → oldest old.unanswered ≡ Some entry
     → AllRight (fresh_engine rule) said before → IsRight before entry reply after
     → finding ≡ None
@@ -398,7 +398,7 @@ commands_of (exchange ∷ later) = exchange.entry ∷ commands_of later
 abbrev pub WhoAnswersRightlyIsNotBlamed : Type 0
 WhoAnswersRightlyIsNotBlamed = (rule : KoRule) (out sent came : List ℕ) (said : List Exchange) (old new : Exam)
     (bytes later : List ℕ) (used : ℕ) (read : Option (Result Reply ReplyFault)) (finding : Option Finding)
-    → Talks rule sent came said old → Hears old bytes used read finding new
+    → Talks rule sent came said old → Hears old bytes (hearing used read finding) new
     → AnswersRightly (fresh_engine rule) (commands_of said ++ old.unanswered) out
     → out ≡ came ++ (bytes ++ later)
     → finding ≡ None
@@ -409,7 +409,7 @@ abbrev pub NoRightEngineIsBlamed : {P : Type 0} → May P → Type 0
 NoRightEngineIsBlamed {P} may = (rule : KoRule) (policy : P) (engine : Engine P) (out : List ℕ)
     (sent came : List ℕ) (said : List Exchange) (old new : Exam) (bytes later : List ℕ)
     (used : ℕ) (read : Option (Result Reply ReplyFault)) (finding : Option Finding)
-    → Talks rule sent came said old → Hears old bytes used read finding new
+    → Talks rule sent came said old → Hears old bytes (hearing used read finding) new
     → Engages may (fresh_under rule policy) sent engine out → out ≡ came ++ (bytes ++ later)
     → finding ≡ None
 
@@ -419,5 +419,5 @@ NoRightEngineIsBlamed {P} may = (rule : KoRule) (policy : P) (engine : Engine P)
 -- SilenceSaysAllIsRight). So no fault in the form of replies is passed over, nor a reply where nothing was unanswered.
 abbrev pub WhatIsReadIsAnswerOrFound : Type 0
 WhatIsReadIsAnswerOrFound = (old new : Exam) (bytes : List ℕ) (used : ℕ) (read : Result Reply ReplyFault)
-    → Hears old bytes used (Some read) None new
+    → Hears old bytes (hearing used (Some read) None) new
     → (entry : Asked) × (reply : Reply) × (oldest old.unanswered ≡ Some entry) × (read ≡ Ok reply)

@@ -20,7 +20,7 @@ use Rattle.gtp_check_judge.specs.Scores.{score_of_text}
 use Rattle.gtp_check_judge.specs.Opinions.{distance}
 use Rattle.gtp_check_judge.specs.Dues.{IsDue}
 use Rattle.gtp_check_judge.specs.Judging.{oldest}
-use Rattle.gtp_check_judge.specs.Exam.{Hears, HasRoomFor}
+use Rattle.gtp_check_judge.specs.Exam.{Hears, HasRoomFor, hearing}
 use Rattle.gtp_check_judge.specs.Laws.{Exchange, Talks}
 
 -- A score is asked only of a board without a stone: no move was made, and no handicap was placed. What is due is a
@@ -107,22 +107,22 @@ pub record HearsUncompared (exam : Exam) (reply : Reply) (entry : Asked) : Type 
 pub record ScoresDifferAsKomis : Type 0 where
   pub far : (rule : KoRule) (sent came : List ℕ) (said : List Exchange) (old new : Exam) (bytes : List ℕ) (used : ℕ)
       (reply : Reply) (finding : Option Finding) (entry : Asked) (one other : View)
-      → Talks rule sent came said old → Hears old bytes used (Some (Ok reply)) finding new
+      → Talks rule sent came said old → Hears old bytes (hearing used (Some (Ok reply)) finding) new
       → HearsOfBoard old reply entry other → old.opinion ≡ Twice one → other.size ≡ one.size
       → max one.unit other.unit < distance one.lead other.lead → finding ≢ None
   pub near : (rule : KoRule) (sent came : List ℕ) (said : List Exchange) (old new : Exam) (bytes : List ℕ) (used : ℕ)
       (reply : Reply) (finding : Option Finding) (entry : Asked) (one other : View)
-      → Talks rule sent came said old → Hears old bytes used (Some (Ok reply)) finding new
+      → Talks rule sent came said old → Hears old bytes (hearing used (Some (Ok reply)) finding) new
       → HearsOfBoard old reply entry other → old.opinion ≡ Twice one
       → distance one.lead other.lead ≤ max one.unit other.unit → finding ≡ None
   pub free : (rule : KoRule) (sent came : List ℕ) (said : List Exchange) (old new : Exam) (bytes : List ℕ) (used : ℕ)
       (reply : Reply) (finding : Option Finding) (entry : Asked) (other : View)
-      → Talks rule sent came said old → Hears old bytes used (Some (Ok reply)) finding new
+      → Talks rule sent came said old → Hears old bytes (hearing used (Some (Ok reply)) finding) new
       → HearsOfBoard old reply entry other → ((one : View) → old.opinion ≡ Twice one → other.size ≢ one.size)
       → finding ≡ None
   pub uncompared : (rule : KoRule) (sent came : List ℕ) (said : List Exchange) (old new : Exam) (bytes : List ℕ)
       (used : ℕ) (reply : Reply) (finding : Option Finding) (entry : Asked)
-      → Talks rule sent came said old → Hears old bytes used (Some (Ok reply)) finding new
+      → Talks rule sent came said old → Hears old bytes (hearing used (Some (Ok reply)) finding) new
       → HearsUncompared old reply entry → (finding ≡ None) × (new.opinion ≡ old.opinion)
   pub twice : (rule : KoRule) (sent came : List ℕ) (said : List Exchange) (exam : Exam) (one : View)
       → Talks rule sent came said exam → exam.opinion ≡ Twice one → StillStands said one

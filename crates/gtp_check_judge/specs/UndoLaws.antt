@@ -16,7 +16,7 @@ use Rattle.gtp_check_judge.specs.declared.exam.Finding.{Finding}
 use Rattle.gtp_check_judge.specs.Asking.{IsPlayOf, IsGenmoveOf}
 use Rattle.gtp_check_judge.specs.RightEngine.{RightEngine, fresh_engine}
 use Rattle.gtp_check_judge.specs.Judging.{oldest}
-use Rattle.gtp_check_judge.specs.Exam.{Hears}
+use Rattle.gtp_check_judge.specs.Exam.{Hears, hearing}
 use Rattle.gtp_check_judge.specs.Laws.{Exchange, AllRight, Talks}
 
 -- ---- what was taken back
@@ -67,10 +67,10 @@ pub record RefusesUndo (rule : KoRule) (said : List Exchange) (exam : Exam) (rep
 pub record FirstUndosHaveToSucceed : Type 0 where
   pub first : (rule : KoRule) (sent came : List ℕ) (said : List Exchange) (old new : Exam) (bytes : List ℕ) (used : ℕ)
       (reply : Reply) (finding : Option Finding) (entry : Asked)
-      → Talks rule sent came said old → Hears old bytes used (Some (Ok reply)) finding new
+      → Talks rule sent came said old → Hears old bytes (hearing used (Some (Ok reply)) finding) new
       → RefusesUndo rule said old reply entry → ¬ IsUndone said
       → finding ≡ Some (record { asked = Some entry; kind = Refused })
   pub later : (rule : KoRule) (sent came : List ℕ) (said : List Exchange) (old new : Exam) (bytes : List ℕ) (used : ℕ)
       (reply : Reply) (finding : Option Finding) (entry : Asked)
-      → Talks rule sent came said old → Hears old bytes used (Some (Ok reply)) finding new
+      → Talks rule sent came said old → Hears old bytes (hearing used (Some (Ok reply)) finding) new
       → RefusesUndo rule said old reply entry → IsUndone said → finding ≡ None

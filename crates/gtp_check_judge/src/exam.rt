@@ -10,7 +10,7 @@ ghost use Rattle.gtp_check_judge.specs.declared.setups.Board.TheVariants.{Cleare
 ghost use Rattle.gtp_check_judge.specs.Setups.{needs_board, is_final_score};
 ghost use Rattle.gtp_check_judge.specs.Dues.{MayBeAsked, MayBeSaid, IsDue};
 ghost use Rattle.gtp_check_judge.specs.Judging.{most_unanswered, oldest, awaits, is_awaited};
-ghost use Rattle.gtp_check_judge.specs.Exam.{begun, engine_of, downed, kind_of, Asks, Hears, ReplyLeaves};
+ghost use Rattle.gtp_check_judge.specs.Exam.{begun, engine_of, downed, kind_of, Asks, Hears, ReplyLeaves, hearing};
 ghost use Rattle.gtp_check_judge.specs.Exam.{after_judged};
 ghost use Rattle.gtp_check_judge.specs.Exam.{with_learned, finding_of, MayReply, MayApply, HasRoomFor, answered_by};
 ghost use Rattle.gtp_check_judge.specs.Exam.{refused_what};
@@ -182,8 +182,8 @@ impl Exam {
     pub fn hear(&mut self, bytes: &[u8], reply: &mut Reply) -> Heard
         requires { MayReply self.old }
         ensures within { result.used ≤ length bytes.now }
-        ensures hears { Hears self.old bytes.now result.used
-            (option_map (with_reply reply.new) result.read) result.finding self.new }
+        ensures hears { Hears self.old bytes.now (hearing result.used
+            (option_map (with_reply reply.new) result.read) result.finding) self.new }
         ensures answered { result.answered ≡ answered_by (oldest self.old.unanswered)
             (option_map (with_reply reply.new) result.read) result.finding }
         ensures refused { result.refused ≡ refused_what (oldest self.old.unanswered)

@@ -36,7 +36,7 @@ impl Model for Examiner {
 impl Examiner {
     ghost use Rattle.gtp_check_judge.specs.Check.{opening, started, with_exam, after_loss};
     ghost use Rattle.gtp_check_judge.specs.Dues.{IsDue};
-    ghost use Rattle.gtp_check_judge.specs.Exam.{engine_of, Asks, Hears, HearsDown, HasRoomFor, IsOrderly};
+    ghost use Rattle.gtp_check_judge.specs.Exam.{engine_of, Asks, Hears, HearsDown, HasRoomFor, IsOrderly, hearing};
     ghost use Rattle.gtp_check_judge.specs.Exam.{answered_by, refused_what};
     ghost use Rattle.gtp_check_judge.specs.Judging.{oldest};
 
@@ -109,8 +109,8 @@ impl Examiner {
         ensures within { result.used ≤ length bytes.now }
         // of a piece that isn't empty one byte at least is used
         ensures progress { 0 < length bytes.now → 0 < result.used }
-        ensures up { self.old.exam.up ≡ true → Hears self.old.exam bytes.now result.used
-            (option_map (with_reply reply.new) result.read) result.finding self.new.exam }
+        ensures up { self.old.exam.up ≡ true → Hears self.old.exam bytes.now (hearing result.used
+            (option_map (with_reply reply.new) result.read) result.finding) self.new.exam }
         ensures down { self.old.exam.up ≡ false
             → HearsDown self.old.exam bytes.now result.used result.finding self.new.exam }
         ensures still { self.old.exam.up ≡ false

@@ -32,7 +32,7 @@ within (first ∷ acts) zero act is = omega arith
 within (first ∷ acts) (suc number) act is = let less = within acts number act is in omega arith
 
 module _ (board : Board) (short : length board.scene.now ≤ 12) where
-  plays : PlaysEachMove stretch.Moves board
+  pub plays : PlaysEachMove stretch.Moves board
   plays number act is = record {
     within = let less = within board.scene.now number act is in omega arith;
     is = λ draws game. ap (act_asked board) (sym is);

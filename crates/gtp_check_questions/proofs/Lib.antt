@@ -9,4 +9,5 @@ pub mod NoSuicide
 pub mod SoughtSizes
 pub mod AnsweredKos
 pub mod SentPieces
+pub mod PartedScores
 pub mod WrittenInFull

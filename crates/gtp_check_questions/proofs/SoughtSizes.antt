@@ -53,4 +53,9 @@ each_size = record {
   suicide = seeks lesson.Suicide (λ part. refl);
   joining = seeks lesson.Joining (λ part. refl);
   komi = seeks lesson.Komi (λ part. refl);
+  drawn = seeks lesson.Drawn (λ part. refl);
+  record_of_moves = seeks lesson.Record (λ part. refl);
+  genmoves = seeks lesson.Genmoves (λ part. refl);
+  games = seeks lesson.Games (λ part. refl);
+  restarts = seeks lesson.Restarts (λ part. refl);
 }

@@ -78,6 +78,12 @@ stones_of Genmoves part = 2 + part % 3
 stones_of Games part = 2 + part % 3
 stones_of Restarts part = 2 + part % 3
 
+-- In which of the ways a part is turned. Those of the start are not: so what they ask in pieces, or with colours in
+-- full, was asked before in the usual form.
+abbrev pub turning_of : Lesson → ℕ → ℕ
+turning_of Start part = 0
+turning_of _ part = part % ways
+
 -- the size of the boards of scenes: the one that is known, or the smallest
 abbrev pub scene_size_or_least : Option ℕ → ℕ
 scene_size_or_least None = 5
@@ -94,4 +100,4 @@ pub record IsBoard (lesson : Lesson) (part : ℕ) (known : Option ℕ) (board : 
   pub stones : board.stones ≡ stones_of lesson part
   pub scene : board.scene.now ≡ scene_of lesson part
   pub gaps : board.gaps ≡ gaps_of part
-  pub way : board.way ≡ way_of (part % ways)
+  pub way : board.way ≡ way_of (turning_of lesson part)

@@ -1,9 +1,10 @@
 -- What holds of every course.
 use Rattle.std.specs.Prelude.{Bool, true, ◌≡◌, ℕ, ◌+◌, ◌*◌, ◌^◌, ◌%◌, ◌<◌, ◌≤◌, ℤ, pos, negsuc, neg_ℤ, ◌≤ℤ◌}
-use Rattle.std.specs.Prelude.{List, length, slice_get, Option, Some}
+use Rattle.std.specs.Prelude.{List, [], ◌∷◌, length, slice_get, Option, Some}
 use Rattle.go_base.specs.Colour.{other}
 use Rattle.go_base.specs.Size.{most_size}
 use Rattle.go_base.specs.declared.colours.Colour.{Colour}
+use Rattle.go_base.specs.declared.colours.Colour.TheVariants.{Black, White}
 use Rattle.go_base.specs.declared.moves.Move.{Move}
 use Rattle.go_board.specs.Game.{GameRecord}
 use Rattle.go_board.specs.Refusals.{RefusesVertex}
@@ -18,7 +19,7 @@ use Rattle.gtp_check_judge.specs.declared.exam.Exam.{Exam}
 use Rattle.gtp_check_questions.specs.declared.actions.Action.{Action}
 use Rattle.gtp_check_questions.specs.declared.actions.Action.TheVariants.{Start, Restart, Kill, Ask, Wait, Skip, Done}
 use Rattle.gtp_check_questions.specs.declared.actions.Question.{Question}
-use Rattle.gtp_check_questions.specs.declared.actions.Question.TheVariants.{Found}
+use Rattle.gtp_check_questions.specs.declared.actions.Question.TheVariants.{Found, Nothing, Size}
 use Rattle.gtp_check_questions.specs.declared.actions.Question.TheVariants.{Ask as Asks}
 use Rattle.gtp_check_questions.specs.declared.actions.Question.TheVariants.{Restart as NewStart}
 use Rattle.gtp_check_questions.specs.declared.boards.Board.{Board}
@@ -117,10 +118,21 @@ pub record AsksAt (stretch : Stretch) (board : Board) (step : ℕ) (question : Q
   pub is : (draws : Draws) (game : GameRecord)
       → IsQuestion stretch (record { number = step; draws = draws }) board game question
 
--- The stretch asks the moves of the board's scene, in their order.
+-- The stretch asks the moves of the board's scene, in their order, each so.
+abbrev pub AsksEachMove : (Move → Question) → Stretch → Board → Type 0
+AsksEachMove asked stretch board = (number : ℕ) (act : Colour × ℕ × ℕ) → slice_get board.scene.now number ≡ Some act
+    → AsksAt stretch board number (asked (turned_act board.way act board.size))
+
 abbrev pub PlaysEachMove : Stretch → Board → Type 0
-PlaysEachMove stretch board = (number : ℕ) (act : Colour × ℕ × ℕ) → slice_get board.scene.now number ≡ Some act
-    → AsksAt stretch board number (asks (command.Play (turned_act board.way act board.size)))
+PlaysEachMove stretch board = AsksEachMove (λ move. asks (command.Play move)) stretch board
+
+-- Stretches of the part come one right after the other, from this number on. The first step of each asks this, in this
+-- order.
+pub data AsksInTurn (lesson : Lesson) (part : ℕ) (board : Board) : ℕ → List Question → Type 0 where
+  none : {number : ℕ} → AsksInTurn lesson part board number []
+  next : {number : ℕ} {question : Question} {later : List Question} (stretch : Stretch)
+      → slice_get (stretches_of lesson part) number ≡ Some stretch → AsksAt stretch board 0 question
+      → AsksInTurn lesson part board (number + 1) later → AsksInTurn lesson part board number (question ∷ later)
 
 -- The stretch probes the point of each move of the board's scene, in each colour.
 abbrev pub ProbesEachPoint : Stretch → Board → Type 0
@@ -168,7 +180,9 @@ SeeksEachSize lesson =
     (part : ℕ) (board : Board) (size : ℕ) → board.is_sought ≡ true → 5 ≤ size → size ≤ most_size
     → SeeksSize lesson part board size
 
--- Each part of a lesson whose boards have the size of scenes asks for each from 5 to 25 first, while none is known.
+-- Each part of a lesson with boards of the size of scenes asks for each from 5 to 25 first, while none is known. (In
+-- the lessons of drawn games, of the record, of genmoves, of games and of restarts the last part has such a board. Those
+-- of sizes and of handicaps have none.)
 pub record EachSizeIsSought : Type 0 where
   pub start : SeeksEachSize lesson.Start
   pub ko : SeeksEachSize lesson.Ko
@@ -176,70 +190,112 @@ pub record EachSizeIsSought : Type 0 where
   pub suicide : SeeksEachSize lesson.Suicide
   pub joining : SeeksEachSize lesson.Joining
   pub komi : SeeksEachSize lesson.Komi
+  pub drawn : SeeksEachSize lesson.Drawn
+  pub record_of_moves : SeeksEachSize lesson.Record
+  pub genmoves : SeeksEachSize lesson.Genmoves
+  pub games : SeeksEachSize lesson.Games
+  pub restarts : SeeksEachSize lesson.Restarts
 
 -- ---- each ko is answered
 
--- A stretch of the part asks this act alone, and the next one asks for a move of the other colour.
+-- The crossing stays empty, where the colour of this act has the rest of the board: it is that of the act, one of the
+-- two gaps, or the far corner.
+pub data StaysEmpty (board : Board) (act : Colour × ℕ × ℕ) : ℕ → ℕ → Type 0 where
+  acts : StaysEmpty board act act.1 act.2
+  first : StaysEmpty board act board.gaps.first.0 board.gaps.first.1
+  second : StaysEmpty board act board.gaps.second.0 board.gaps.second.1
+  corner : StaysEmpty board act board.size board.size
+
+-- the move of the act's colour on a crossing
+abbrev pub fills : Board → Colour × ℕ × ℕ → ℕ → ℕ → Question
+fills board act column row = asks (command.Play (turned_act board.way (act.0, column, row) board.size))
+
+-- A step of the stretch asks nothing, or fills a crossing that doesn't stay empty.
+pub data Fills (stretch : Stretch) (board : Board) (act : Colour × ℕ × ℕ) (step : ℕ) : Type 0 where
+  nothing : AsksAt stretch board step Nothing → Fills stretch board act step
+  plays : (column row : ℕ) → ¬ StaysEmpty board act column row → AsksAt stretch board step (fills board act column row)
+      → Fills stretch board act step
+
+-- The stretch has the act's colour play on all crossings of the board but those that stay empty, and on no other.
+pub record Seals (stretch : Stretch) (board : Board) (act : Colour × ℕ × ℕ) : Type 0 where
+  pub all : (column row : ℕ) → 1 ≤ column → column ≤ board.size → 1 ≤ row → row ≤ board.size
+      → ¬ StaysEmpty board act column row
+      → (step : ℕ) × AsksAt stretch board step (fills board act column row)
+  pub only : (step : ℕ) → step < steps_of stretch → Fills stretch board act step
+
+-- Six stretches of the part come one right after the other. The board is cleared; the moves of the scene are asked, and
+-- the last of them, the act, is taken back; the act's colour fills the board; it acts, and nothing else is asked; and
+-- the engine is asked for a move of the other colour.
 pub record AsksForAnswer (lesson : Lesson) (part : ℕ) (board : Board) (act : Colour × ℕ × ℕ) : Type 0 where
   pub number : ℕ
+  pub clears : AsksInTurn lesson part board number (asks command.ClearBoard ∷ [])
+  pub moves : Stretch
+  pub has_moves : slice_get (stretches_of lesson part) (number + 1) ≡ Some moves
+  pub plays_each : PlaysEachMove moves board
+  pub takes_back : AsksInTurn lesson part board (number + 2) (asks command.Undo ∷ [])
+  pub seal : Stretch
+  pub has_seal : slice_get (stretches_of lesson part) (number + 3) ≡ Some seal
+  pub seals : Seals seal board act
   pub acts : Stretch
-  pub has_acts : slice_get (stretches_of lesson part) number ≡ Some acts
+  pub has_acts : slice_get (stretches_of lesson part) (number + 4) ≡ Some acts
   pub alone : steps_of acts ≡ 1
   pub plays : AsksAt acts board 0 (asks (command.Play (turned_act board.way act board.size)))
-  pub chooses : Stretch
-  pub has_chooses : slice_get (stretches_of lesson part) (number + 1) ≡ Some chooses
-  pub answers : AsksAt chooses board 0 (asks (command.Genmove (other (turned_colour board.way act.0))))
+  pub answers : AsksInTurn lesson part board (number + 5)
+      (asks (command.Genmove (other (turned_colour board.way act.0))) ∷ [])
 
 -- In each part of the lesson of kos a move of the other colour is asked for right after the act, which is the last
--- move of the scene.
+-- move of the scene, on a board where hardly a point is empty.
 abbrev pub EachKoIsAnswered : Type 0
-EachKoIsAnswered = (part : ℕ) (board : Board) (act : Colour × ℕ × ℕ) → last_of board.scene.now ≡ Some act
+EachKoIsAnswered = (part : ℕ) (board : Board) (act : Colour × ℕ × ℕ) → board.scene.now ≡ scene_of lesson.Ko part
+    → 1 ≤ board.size → board.size ≤ most_size → last_of board.scene.now ≡ Some act
     → AsksForAnswer lesson.Ko part board act
 
 -- ---- commands in pieces
 
--- A step of a stretch of the part asks this, whatever is drawn, and whatever the game is.
-pub record AsksIn (lesson : Lesson) (part : ℕ) (board : Board) (question : Question) : Type 0 where
-  pub number : ℕ
-  pub stretch : Stretch
-  pub has : slice_get (stretches_of lesson part) number ≡ Some stretch
-  pub step : ℕ
-  pub asks : AsksAt stretch board step question
-
 -- The lines of one part of the lesson of the start are sent in pieces, and of no other part of a lesson. In it the
--- engine is started anew, and then a `boardsize`, a `komi`, a `clear_board`, the first move of a scene and an `undo` are
--- asked.
+-- engine is started anew. Then come a `boardsize` and a look whether that was taken, a `komi` and a `clear_board`, the
+-- moves of the scene in their order, and an `undo`: one right after the other.
 pub record PiecesAreSent : Type 0 where
   pub part : ℕ
   pub few : part < parts_of lesson.Start
   pub in_pieces : is_in_pieces lesson.Start part ≡ true
   pub alone : (now : Lesson) (number : ℕ) → is_in_pieces now number ≡ true → (now ≡ lesson.Start) × (number ≡ part)
-  pub starts : (board : Board) → AsksIn lesson.Start part board NewStart
-  pub size : (board : Board) → AsksIn lesson.Start part board (asks (command.Boardsize board.size))
-  pub komi : (board : Board) → AsksIn lesson.Start part board (asks (command.Komi board.komi))
-  pub clear : (board : Board) → AsksIn lesson.Start part board (asks command.ClearBoard)
-  pub play : (board : Board) (act : Colour × ℕ × ℕ) → slice_get board.scene.now 0 ≡ Some act
-      → AsksIn lesson.Start part board (asks (command.Play (turned_act board.way act board.size)))
-  pub undo : (board : Board) → AsksIn lesson.Start part board (asks command.Undo)
+  pub first : ℕ
+  pub begins : (board : Board) → AsksInTurn lesson.Start part board first
+      (NewStart ∷ asks (command.Boardsize board.size) ∷ Size board.size ∷ asks (command.Komi board.komi)
+      ∷ asks command.ClearBoard ∷ [])
+  pub moves : Stretch
+  pub has_moves : slice_get (stretches_of lesson.Start part) (first + 5) ≡ Some moves
+  pub plays : (board : Board) → board.scene.now ≡ scene_of lesson.Start part → PlaysEachMove moves board
+  pub ends : (board : Board) → AsksInTurn lesson.Start part board (first + 6) (asks command.Undo ∷ [])
 
 -- ---- colours that are written in full, and a list of commands
 
--- In one part of the lesson of the start each move of its scene is asked with its colour written in full, and then a
--- move of the engine's own of each colour, written so too.
+-- In one part of the lesson of the start the board is cleared, and then each move of its scene is asked with its colour
+-- written in full, in their order. Later come two moves of the engine's own, one right after the other, written so too:
+-- of the colour that plays White's moves of the scene, and of that which plays Black's.
 pub record ColoursAreInFull : Type 0 where
   pub part : ℕ
   pub few : part < parts_of lesson.Start
-  pub plays : (board : Board) (number : ℕ) (act : Colour × ℕ × ℕ) → board.scene.now ≡ scene_of lesson.Start part
-      → slice_get board.scene.now number ≡ Some act
-      → AsksIn lesson.Start part board (Asks (PlayInFull (turned_act board.way act board.size)))
-  pub chooses : (board : Board) (colour : Colour)
-      → AsksIn lesson.Start part board (Asks (GenmoveInFull (turned_colour board.way colour)))
+  pub first : ℕ
+  pub begins : (board : Board) → AsksInTurn lesson.Start part board first
+      (asks (command.Boardsize board.size) ∷ Size board.size ∷ asks (command.Komi board.komi)
+      ∷ asks command.ClearBoard ∷ [])
+  pub moves : Stretch
+  pub has_moves : slice_get (stretches_of lesson.Start part) (first + 4) ≡ Some moves
+  pub plays : (board : Board) → board.scene.now ≡ scene_of lesson.Start part
+      → AsksEachMove (λ move. Asks (PlayInFull move)) moves board
+  pub choice : ℕ
+  pub later : first + 4 < choice
+  pub chooses : (board : Board) → AsksInTurn lesson.Start part board choice
+      (Asks (GenmoveInFull (turned_colour board.way White)) ∷ Asks (GenmoveInFull (turned_colour board.way Black)) ∷ [])
 
 -- In one part of the lesson of the start the engine is asked to list its commands.
 pub record ListIsAskedFor : Type 0 where
   pub part : ℕ
   pub few : part < parts_of lesson.Start
-  pub asks : (board : Board) → AsksIn lesson.Start part board (Asks ListCommands)
+  pub number : ℕ
+  pub asks : (board : Board) → AsksInTurn lesson.Start part board number (Asks ListCommands ∷ [])
 
 -- ---- each command that an engine may lack is asked for
 

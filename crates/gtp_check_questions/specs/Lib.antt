@@ -8,4 +8,5 @@ pub mod Draws
 pub mod Questions
 pub mod Course
 pub mod Asking
+pub mod Parting
 pub mod Laws

@@ -3,7 +3,7 @@ ghost use Rattle.std.specs.Prelude.{◌≡◌, ◌+◌, ◌<◌, slice_index_or}
 ghost use Rattle.go_base.specs.Komi.{IsKomi};
 ghost use Rattle.gtp_check_questions.specs.Places.{most_parts};
 ghost use Rattle.gtp_check_questions.specs.Boards.{IsBoard, lines_of, size_or, komi_of, stones_of};
-ghost use Rattle.gtp_check_questions.specs.Boards.{inexact_komi_of, scene_size_or_least};
+ghost use Rattle.gtp_check_questions.specs.Boards.{inexact_komi_of, scene_size_or_least, turning_of};
 ghost use Rattle.gtp_check_questions.specs.Scenes.{gaps_of, scene_of};
 
 use crate::lessons::Lesson;
@@ -62,7 +62,29 @@ pub fn board_of(lesson: Lesson, part: u32, known: Option<Size>) -> Board
         stones: stones_of(lesson, part),
         scene: scene_of(lesson, part),
         gaps: gaps_of(part),
-        way: Way::of(part % WAYS),
+        way: Way::of(turning_of(lesson, part)),
+    }
+}
+
+/// In which of the ways a part is turned. Those of the start are not, so what they ask in pieces, or with colours in full,
+/// was asked before in the usual form.
+fn turning_of(lesson: Lesson, part: u32) -> u32
+    ensures { result ≡ turning_of lesson part }
+{
+    match lesson {
+        Lesson::Start => 0,
+        Lesson::Sizes
+        | Lesson::Ko
+        | Lesson::Captures
+        | Lesson::Suicide
+        | Lesson::Joining
+        | Lesson::Handicaps
+        | Lesson::Komi
+        | Lesson::Drawn
+        | Lesson::Record
+        | Lesson::Genmoves
+        | Lesson::Games
+        | Lesson::Restarts => part % WAYS,
     }
 }
 

@@ -3,6 +3,7 @@ ghost use Rattle.gtp_check_questions.specs.Laws.{EveryCourseIsBounded, EachScene
 ghost use Rattle.gtp_check_questions.specs.Laws.{ColoursAreInFull, ListIsAskedFor};
 ghost use Rattle.gtp_check_questions.specs.Laws.{EachClearedBoardIsProbed, EachLackIsAskedFor, EachKomiIsExact};
 ghost use Rattle.gtp_check_questions.specs.Laws.{EachKoIsAnswered, EachSizeIsSought, NoSuicideIsAsked, PiecesAreSent};
+ghost use Rattle.gtp_check_questions.specs.Parting.{ScoresAreParted};
 
 /// Whatever is answered, and whenever a part is left: commands that are asked, steps that are passed over and engines
 /// that are ended are together at most 67,200,000 for each lesson and once more, and five after each start.
@@ -38,8 +39,8 @@ pub fn each_komi_is_exact()
     ensures { EachKomiIsExact }
 {}
 
-/// In one part of the lesson of the start each move of its scene is asked with its colour written in full, and then a
-/// move of the engine's own of each colour.
+/// In one part of the lesson of the start the board is cleared, and then each move of its scene is asked with its
+/// colour written in full, in their order. Later come two moves of the engine's own, one of each colour.
 pub fn colours_are_in_full()
     ensures { ColoursAreInFull }
 {}
@@ -54,19 +55,28 @@ pub fn no_suicide_is_asked()
     ensures { NoSuicideIsAsked }
 {}
 
-/// Each part of a lesson whose boards have the size of scenes asks for each size from 5 to 25 first, while none is
-/// known.
+/// Each part of a lesson with boards of the size of scenes asks for each size from 5 to 25 first, while none is known:
+/// of all lessons but those of sizes and of handicaps.
 pub fn each_size_is_sought()
     ensures { EachSizeIsSought }
 {}
 
-/// In each part of the lesson of kos a move of the other colour is asked for right after the act.
+/// In each part of the lesson of kos the board is cleared, the moves of the scene are asked, and the last of them, the
+/// act, is taken back. Then its colour fills the board but for the act's point, two gaps and the far corner, and acts.
+/// Right after that a move of the other colour is asked for.
 pub fn each_ko_is_answered()
     ensures { EachKoIsAnswered }
 {}
 
 /// The lines of one part of the lesson of the start are sent in pieces, and of no other part of a lesson. In it the
-/// engine is started anew, and then a `boardsize`, a `komi`, a `clear_board`, a `play` and an `undo` are asked.
+/// engine is started anew. Then come, in this order, a `boardsize`, a `komi`, a `clear_board`, the moves of the scene
+/// and an `undo`.
 pub fn pieces_are_sent()
     ensures { PiecesAreSent }
+{}
+
+/// Between two scores of one start the engine is asked to make a move, or to take another komi than that of the first.
+/// So an estimate that it keeps until the board or komi changes isn't heard twice.
+pub fn scores_are_parted()
+    ensures { ScoresAreParted }
 {}

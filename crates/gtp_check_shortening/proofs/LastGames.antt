@@ -14,6 +14,7 @@ use Rattle.gtp_check_shortening.specs.Lists.{IsLeftOf}
 use Rattle.gtp_check_shortening.specs.Shortening.{commands_of, games_in, start_of}
 use Rattle.gtp_check_shortening.specs.declared.last_game.LastGame.{LastGame}
 use Rattle.gtp_check_shortening.specs.declared.talk.Said.{Said}
+use Rattle.gtp_check_shortening.proofs.InForce.{in_force_shown, shown_in_force}
 
 -- ---- commands in their order
 
@@ -202,4 +203,6 @@ whole_game talk =
       counted = ap (λ (n : ℕ). length before + count_by (λ place. not (shows (last_game talk) place)) (range_with_len 0 n))
           (sym count)
           ∙ counted_from (last_game talk) 0 (take (start_of 1 talk) talk) ∙ count;
+      in_force = shown_in_force talk;
+      only = in_force_shown talk;
     }

@@ -1,6 +1,7 @@
 mod Counting
 mod Ending
 mod Games
+mod InForce
 mod LastGames
 mod Latest
 mod Leaving

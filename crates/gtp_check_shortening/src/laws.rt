@@ -25,8 +25,9 @@ pub fn no_command_is_too_many()
     ensures { NoCommandIsTooMany }
 {}
 
-/// Where the last game of a conversation is shown alone, it is shown whole, up to the last command. Before it come at
-/// most two commands from before it, in their order, and those that are left out are counted.
+/// Where the last game of a conversation is shown alone, it is shown whole, up to the last command. Before it come, in
+/// their order, at most two commands from before it: the last `boardsize` of the size that its board has when it
+/// begins, and the last `komi`. Those that are left out are counted.
 pub fn the_last_game_is_whole()
     ensures { TheLastGameIsWhole }
 {}

@@ -22,7 +22,7 @@ use Rattle.gtp_check_judge.specs.declared.judging.Judgement.TheVariants.{Right, 
 use Rattle.gtp_check_judge.specs.declared.skills.Skills.{Skills}
 use Rattle.gtp_check_judge.specs.declared.unanswered.Asked.{Asked}
 use Rattle.gtp_check_judge.specs.Asking.{written_check}
-use Rattle.gtp_check_judge.specs.Exam.{IdLeaves, Leaves, ReplyLeaves, after_judged, begun, finding_of, with_learned}
+use Rattle.gtp_check_judge.specs.Exam.{IdLeaves, Leaves, ReplyLeaves, after_judged, begun, finding_of, with_learned, reply_to}
 use Rattle.gtp_check_judge.specs.Exam.{with_rest}
 use Rattle.gtp_check_judge.specs.Judging.{has_id, oldest, refused_by}
 use Rattle.gtp_check_questions.specs.Lessons.{all_lessons, number_of}
@@ -136,7 +136,7 @@ judged_takes exam entry later (Opines opinion) is none = ap (drop 1) is
 judged_takes exam entry later (Wrong kind) is none = absurd (cc none)
 
 id_takes : (exam : Exam) (entry : Asked) (later : List Asked) (reply : Reply) (same : Bool) (new : Exam)
-    → exam.unanswered ≡ entry ∷ later → IdLeaves exam entry reply same None new → new.unanswered ≡ later
+    → exam.unanswered ≡ entry ∷ later → IdLeaves exam (reply_to entry reply) same None new → new.unanswered ≡ later
 id_takes exam entry later reply false new is h = absurd (cc (h.0))
 id_takes exam entry later reply true new is h =
     ap (λ (e : Exam). e.unanswered) h.3

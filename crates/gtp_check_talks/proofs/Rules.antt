@@ -22,7 +22,7 @@ use Rattle.gtp_check_judge.specs.declared.exam.Exam.{Exam}
 use Rattle.gtp_check_judge.specs.declared.exam.Finding.{Finding}
 use Rattle.gtp_check_judge.specs.Dues.{after_check, after_due}
 use Rattle.gtp_check_judge.specs.Judging.{oldest, has_id}
-use Rattle.gtp_check_judge.specs.Exam.{Asks, Hears, Leaves, ReplyLeaves, IdLeaves, after_judged, with_learned}
+use Rattle.gtp_check_judge.specs.Exam.{Asks, Hears, Leaves, ReplyLeaves, IdLeaves, after_judged, with_learned, hearing, reply_to}
 use Rattle.gtp_check_judge.specs.Exam.{with_rest}
 use Rattle.gtp_check_texts.specs.declared.fault.Fault.{Fault}
 use Rattle.gtp_check_talks.specs.Dialogues.{AreHeard, Converses, Dialogue, EndsSo, IsExchanged}
@@ -77,7 +77,7 @@ judged_rule exam (Opines opinion) = refl
 judged_rule exam (Wrong kind) = refl
 
 id_rule : (exam : Exam) (entry : Asked) (reply : Reply) (same : Bool) (finding : Option Finding) (new : Exam)
-    → IdLeaves exam entry reply same finding new → new.game.rule ≡ exam.game.rule
+    → IdLeaves exam (reply_to entry reply) same finding new → new.game.rule ≡ exam.game.rule
 id_rule exam entry reply false finding new h = ap (λ (e : Exam). e.game.rule) h.1
 id_rule exam entry reply true finding new h =
     ap (λ (e : Exam). e.game.rule) h.3 ∙ judged_rule (with_learned exam entry.command reply) h.0
@@ -95,7 +95,7 @@ leaves_rule exam (Some (Err shown)) finding new h = ap (λ (e : Exam). e.game.ru
 leaves_rule exam (Some (Ok reply)) finding new h = reply_rule exam (oldest exam.unanswered) reply finding new h
 
 hears_rule : (old : Exam) (bytes : List ℕ) (used : ℕ) (read : Option (Result Reply ReplyFault))
-    (finding : Option Finding) (new : Exam) → Hears old bytes used read finding new
+    (finding : Option Finding) (new : Exam) → Hears old bytes (hearing used read finding) new
     → new.game.rule ≡ old.game.rule
 hears_rule old bytes used read finding new h = leaves_rule (with_rest old h.0) read finding new h.2
 

@@ -14,7 +14,7 @@ use Rattle.gtp_check_judge.specs.declared.judging.Kind.{Kind}
 use Rattle.gtp_check_judge.specs.declared.unanswered.Asked.{Asked}
 use Rattle.gtp_check_judge.specs.declared.exam.Exam.{Exam}
 use Rattle.gtp_check_judge.specs.Judging.{oldest, has_id}
-use Rattle.gtp_check_judge.specs.Exam.{begun, Hears, Leaves, ReplyLeaves, IdLeaves, after_judged, finding_of}
+use Rattle.gtp_check_judge.specs.Exam.{begun, Hears, Leaves, ReplyLeaves, IdLeaves, after_judged, finding_of, hearing, reply_to}
 use Rattle.gtp_check_judge.specs.Exam.{with_learned, with_rest}
 use Rattle.gtp_check_judge.specs.Laws.{Exchange, FindingsAreJustified, Talks, exchanged}
 use Rattle.gtp_check_texts.specs.declared.fault.Fault.{Fault}
@@ -40,7 +40,7 @@ judged_up exam entry (Opines opinion) none = refl
 judged_up exam entry (Wrong kind) none = absurd (cc none)
 
 id_up : (exam : Exam) (entry : Asked) (reply : Reply) (same : Bool) (new : Exam)
-    → IdLeaves exam entry reply same None new → new.up ≡ exam.up
+    → IdLeaves exam (reply_to entry reply) same None new → new.up ≡ exam.up
 id_up exam entry reply false new h = absurd (cc (h.0))
 id_up exam entry reply true new h =
     ap (λ (e : Exam). e.up) h.3 ∙ judged_up (with_learned exam entry.command reply) entry h.0 h.2
@@ -57,7 +57,7 @@ leaves_up exam (Some (Err shown)) new h = absurd (cc (h.0))
 leaves_up exam (Some (Ok reply)) new h = reply_up exam (oldest exam.unanswered) reply new h
 
 heard_up : (old : Exam) (bytes : List ℕ) (used : ℕ) (read : Option (Result Reply ReplyFault)) (new : Exam)
-    → Hears old bytes used read None new → new.up ≡ old.up
+    → Hears old bytes (hearing used read None) new → new.up ≡ old.up
 heard_up old bytes used read new h = leaves_up (with_rest old h.0) read new h.2
 
 -- ---- bytes that are heard

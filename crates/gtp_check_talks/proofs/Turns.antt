@@ -15,7 +15,7 @@ use Rattle.gtp_check_judge.specs.declared.judging.Judgement.{Judgement}
 use Rattle.gtp_check_judge.specs.declared.judging.Judgement.TheVariants.{Right, Plays, Resized, Undone, Opines, Wrong}
 use Rattle.gtp_check_judge.specs.declared.unanswered.Asked.{Asked}
 use Rattle.gtp_check_judge.specs.Judging.{oldest, has_id}
-use Rattle.gtp_check_judge.specs.Exam.{IdLeaves, Leaves, ReplyLeaves, after_judged, finding_of, with_learned, with_rest}
+use Rattle.gtp_check_judge.specs.Exam.{IdLeaves, Leaves, ReplyLeaves, after_judged, finding_of, with_learned, with_rest, reply_to}
 use Rattle.gtp_check_shortening.specs.declared.talk.Purpose.{Purpose}
 use Rattle.gtp_check_talks.specs.Dialogues.{AreHeard, Dialogue, IsExchanged, IsRead}
 use Rattle.gtp_check_talks.specs.private.Asking.{AreAsked}
@@ -49,7 +49,7 @@ judged exam entry (Opines opinion) up some none = record { up = up; less = one_l
 judged exam entry (Wrong kind) up some none = absurd (cc none)
 
 by_id : (exam : Exam) (entry : Asked) (reply : Reply) (same : Bool) (new : Exam) → exam.up ≡ true
-    → 0 < length exam.unanswered → IdLeaves exam entry reply same None new → IsAnswered exam new
+    → 0 < length exam.unanswered → IdLeaves exam (reply_to entry reply) same None new → IsAnswered exam new
 by_id exam entry reply false new up some h = absurd (cc (h.0))
 by_id exam entry reply true new up some h =
     let is = judged (with_learned exam entry.command reply) entry h.0 up some (sym h.2) in

@@ -33,7 +33,7 @@ use Rattle.gtp_check_judge.specs.Check.{Check, after_loss, started, with_exam}
 use Rattle.gtp_check_questions.specs.declared.lessons.Lesson.{Lesson}
 use Rattle.gtp_check_questions.specs.declared.lessons.Lesson.TheVariants as lesson
 use Rattle.gtp_check_questions.specs.Lessons.{is_in_pieces}
-use Rattle.gtp_check_judge.specs.Exam.{Asks, HasRoomFor, Hears, HearsDown}
+use Rattle.gtp_check_judge.specs.Exam.{Asks, HasRoomFor, Hears, HearsDown, hearing}
 use Rattle.gtp_check_talks.specs.declared.engine.Engine.{Engine}
 use Rattle.gtp_check_texts.specs.declared.fault.Fault.{Fault}
 use Rattle.gtp_check_texts.specs.declared.fault.Fault.TheVariants.{CutOff, Wrote}
@@ -168,7 +168,7 @@ noted_of_read lesson notes None read skills = notes
 -- bytes are heard by the exam, be the engine up or not
 pub record IsHeard (old : Exam) (bytes : List ℕ) (used : ℕ) (read : Option (Result Reply ReplyFault))
     (finding : Option Finding) (new : Exam) : Type 0 where
-  pub up : old.up ≡ true → Hears old bytes used read finding new
+  pub up : old.up ≡ true → Hears old bytes (hearing used read finding) new
   pub down : old.up ≡ false → HearsDown old bytes used finding new
 
 -- what is kept of what the engine wrote, these bytes too: nothing after a whole reply

@@ -20,7 +20,7 @@ use Rattle.gtp_check_judge.specs.declared.asking.CheckCommand.TheVariants.{Match
 use Rattle.gtp_check_judge.specs.declared.exam.Exam.{Exam}
 use Rattle.gtp_check_judge.specs.declared.exam.Finding.{Finding}
 use Rattle.gtp_check_judge.specs.declared.judging.Kind.{Kind}
-use Rattle.gtp_check_judge.specs.Exam.{Hears, begun}
+use Rattle.gtp_check_judge.specs.Exam.{Hears, begun, hearing}
 use Rattle.gtp_check_judge.specs.Laws.{Exchange, IsJustified, IsRightSoFar, Talks}
 use Rattle.gtp_check_questions.specs.Lessons.{number_of}
 use Rattle.gtp_check_questions.specs.declared.lessons.Lesson.{Lesson}
@@ -48,7 +48,7 @@ pub record IsWronglyWritten {P : Type 0} (known : Ghosts P) (rule : KoRule) (pro
   pub read : Option (Result Reply ReplyFault)
   pub finding : Finding
   pub talks : Talks rule after.sent came said old
-  pub hears : Hears old bytes used read (Some finding) new
+  pub hears : Hears old bytes (hearing used read (Some finding)) new
   pub is : kind ≡ finding.kind
   pub justified : IsJustified rule said old read finding
   pub gave : Appends (known.given process) (known.given after.process) (came ++ bytes)

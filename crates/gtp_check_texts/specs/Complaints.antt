@@ -11,7 +11,9 @@ use Rattle.gtp_process.specs.Shown.{ending_text, quoted}
 use Rattle.gtp_process.specs.declared.starter.Ending.{Ending}
 use Rattle.gtp_wire.specs.Replies.{most_shown}
 use Rattle.gtp_check_texts.specs.Kinds.{fault_text}
+use Rattle.gtp_check_judge.specs.declared.asking.CheckCommand.{CheckCommand}
 use Rattle.gtp_check_texts.specs.Answers.{before_rule, right_answer}
+use Rattle.gtp_check_texts.specs.Colours.{told_after}
 use Rattle.gtp_check_texts.specs.Rules.{rule_text}
 use Rattle.gtp_check_texts.specs.Board.{drawn_board}
 use Rattle.gtp_check_texts.specs.Reasons.{reason}
@@ -56,20 +58,26 @@ head_line complaint = concat (
 abbrev pub wrote_line : List ℕ → List ℕ
 wrote_line bytes = concat (codes "# it wrote: " ∷ quoted (take most_shown bytes) ∷ codes "\n" ∷ [])
 
--- What is right: of a reply without an end how it ends, and else what decides on the board before the command, where
--- that is known and something was written, or the rule.
-abbrev pub decided : Option (Bor GameRecord) → Fault → Option Said → Option (List ℕ)
-decided (Some game) (Wrote kind) (Some said) = Some (reason game.now said.command kind None)
-decided _ _ _ = None
-
 abbrev pub faulty_said : Complaint → Option Said
 faulty_said complaint = slice_get complaint.talk.now complaint.answered
+
+-- The command for which it is said what is right, if there is one: the faulty one, or the same with the colour's letter
+-- where the engine took the colour in full before.
+abbrev pub told : Complaint → Option CheckCommand
+told complaint =
+    option_map (λ said. told_after (take complaint.answered complaint.talk.now) said.command) (faulty_said complaint)
+
+-- What is right: of a reply without an end how it ends, and else what decides on the board before the command, where
+-- that is known and something was written, or the rule.
+abbrev pub decided : Option (Bor GameRecord) → Fault → Option CheckCommand → Option (List ℕ)
+decided (Some game) (Wrote kind) (Some command) = Some (reason game.now command kind None)
+decided _ _ _ = None
 
 abbrev pub rule_of : Complaint → Bool → List ℕ
 rule_of complaint true = codes "an answer ends with an empty line: two newlines"
 rule_of complaint false =
-    unwrap_or (decided complaint.game complaint.fault (faulty_said complaint))
-    (rule_text complaint.fault complaint.ending (option_map (λ said. said.command) (faulty_said complaint)))
+    unwrap_or (decided complaint.game complaint.fault (told complaint))
+    (rule_text complaint.fault complaint.ending (told complaint))
 
 -- what a right engine answers, where that is shown
 abbrev pub answer_of : Complaint → List ℕ

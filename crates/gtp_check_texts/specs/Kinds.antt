@@ -9,7 +9,7 @@ use Rattle.gtp_check_texts.specs.declared.fault.Fault.TheVariants.{Wrote, CutOff
 -- what was wrong with what it wrote
 abbrev pub kind_text : Kind → List ℕ
 kind_text kind.Refused = codes "it was refused"
-kind_text (kind.Took cause) = codes "it was taken"
+kind_text (kind.Took cause) = codes "it was accepted"
 kind_text kind.OtherPoints = codes "other points than those of the handicap"
 kind_text kind.NoMove = codes "no move: the genmove failed"
 kind_text kind.NoVertex = codes "neither a vertex nor resign"

@@ -1,5 +1,6 @@
 pub mod Answers
 pub mod Board
+pub mod Colours
 pub mod Complaints
 pub mod Conversation
 pub mod Illegal

@@ -54,7 +54,8 @@ kind_sentence kind.OtherScore =
 kind_sentence kind.WrongId = codes "a reply has the id of the oldest unanswered command"
 kind_sentence kind.Unasked = codes "each command has one reply"
 kind_sentence kind.NoStatus = codes "a reply begins with = or ?, and ends with two newlines"
-kind_sentence kind.Overlong = codes "a reply ends with two newlines"
+kind_sentence kind.Overlong =
+    codes "two newlines end a reply, within 8,192 bytes: twogtp and this check read no more, though the standard sets no limit"
 
 -- why a right engine answers a `genmove` by a success: it reads the colour, and has always a move or resigns
 abbrev pub no_move_sentence : CheckCommand → List ℕ

@@ -1,5 +1,5 @@
 //! The block of a complaint.
-ghost use Rattle.std.specs.Prelude.{◌≡◌, ◌≤◌, ◌+◌, ◌++◌, length, nat_lt, take, IfOk, OnOk, option_map};
+ghost use Rattle.std.specs.Prelude.{◌≡◌, ◌≤◌, ◌+◌, ◌++◌, length, nat_lt, take, IfOk, OnOk};
 ghost use Rattle.std.specs.List.{list_any};
 ghost use Rattle.go_base.specs.Bytes.{newline, space};
 ghost use Rattle.std.specs.Io.BufRead.{strip_last};
@@ -8,7 +8,7 @@ ghost use Rattle.gtp_wire.specs.Replies.{most_shown};
 ghost use Rattle.gtp_check_texts.specs.Answers.{before_rule};
 ghost use Rattle.gtp_check_texts.specs.Complaints.{ahead_lines, ahead_text, answer_of, asked_lines, board_lines};
 ghost use Rattle.gtp_check_texts.specs.Complaints.{complaint_lines, ended_text, faulty_said, head_line, is_within};
-ghost use Rattle.gtp_check_texts.specs.Complaints.{ko_line, pieces_line, pieces_text, rule_line, rule_of, shown_before};
+ghost use Rattle.gtp_check_texts.specs.Complaints.{ko_line, pieces_line, pieces_text, rule_line, rule_of, shown_before, told};
 ghost use Rattle.gtp_check_texts.specs.Complaints.{within_text, wrote_line};
 ghost use Rattle.gtp_check_texts.specs.Conversation.{after_lines, asked_line, before_lines, faulty_line, line_end};
 ghost use Rattle.gtp_check_texts.specs.Conversation.{line_of, line_start, lines_to};
@@ -16,6 +16,7 @@ ghost use Rattle.gtp_check_texts.specs.Rules.{rule_text};
 
 use crate::answers::{ANSWER_ROOM, right_answer};
 use crate::board::add_board;
+use crate::colours::told_after;
 use crate::fault::Fault;
 use crate::kinds::fault_text;
 use crate::last_game::{Shown, add_last_game};
@@ -25,6 +26,7 @@ use crate::texts::add_all;
 use arrayvec::ArrayVec;
 use go_base::write_int;
 use go_board::Game;
+use gtp_check_judge::CheckCommand;
 use gtp_check_questions::Lesson;
 use gtp_check_shortening::talk::{Said, said_at};
 use gtp_process::{Ending, PipeCause, push_ending, push_quoted};
@@ -177,11 +179,18 @@ impl<'t> Complaint<'t> {
 
     /// The rule that says what is right, in whatever game.
     fn rule(&self) -> &'static [u8]
-        ensures { result.now ≡ rule_text self.now.fault self.now.ending
-            (option_map (λ said. said.command) (faulty_said self.now)) }
+        ensures { result.now ≡ rule_text self.now.fault self.now.ending (told self.now) }
     {
-        let command = self.talk.get(self.answered).map(|said| said.command);
-        rule_text(self.fault, self.ending, command)
+        rule_text(self.fault, self.ending, self.told())
+    }
+
+    /// The command for which it is said what is right, if there is one.
+    fn told(&self) -> Option<CheckCommand>
+        ensures { result ≡ told self.now }
+    {
+        let said = self.talk.get(self.answered)?;
+        let before = &self.talk[..self.answered.min(self.talk.len())];
+        Some(told_after(before, said.command))
     }
 
     /// What a right engine answers, where that is shown.
@@ -350,10 +359,9 @@ fn add_decided(text: &mut Vec<u8>, complaint: &Complaint<'_>) -> Result<(), Allo
     if complaint.is_within() {
         return text.extend_from_slice(b"an answer ends with an empty line: two newlines");
     }
-    let said = said_at(complaint.talk, complaint.answered);
-    match (complaint.game, complaint.fault, said) {
-        (Some(game), Fault::Wrote(kind), Some(said)) => {
-            add_reason(text, game, &said.command, kind, None)
+    match (complaint.game, complaint.fault, complaint.told()) {
+        (Some(game), Fault::Wrote(kind), Some(command)) => {
+            add_reason(text, game, &command, kind, None)
         }
         _ => text.extend_from_slice(complaint.rule()),
     }

@@ -22,7 +22,7 @@ fn kind_text(kind: Kind) -> &'static [u8]
 {
     match kind {
         Kind::Refused => b"it was refused",
-        Kind::Took(_) => b"it was taken",
+        Kind::Took(_) => b"it was accepted",
         Kind::OtherPoints => b"other points than those of the handicap",
         Kind::NoMove => b"no move: the genmove failed",
         Kind::NoVertex => b"neither a vertex nor resign",

@@ -3,6 +3,7 @@
 
 mod answers;
 mod board;
+mod colours;
 pub mod complaint;
 pub mod fault;
 mod illegal;

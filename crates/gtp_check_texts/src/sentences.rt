@@ -85,6 +85,8 @@ pub(crate) fn kind_sentence(kind: Kind) -> &'static [u8]
         Kind::WrongId => b"a reply has the id of the oldest unanswered command",
         Kind::Unasked => b"each command has one reply",
         Kind::NoStatus => b"a reply begins with = or ?, and ends with two newlines",
-        Kind::Overlong => b"a reply ends with two newlines",
+        Kind::Overlong => {
+            b"two newlines end a reply, within 8,192 bytes: twogtp and this check read no more, though the standard sets no limit"
+        }
     }
 }

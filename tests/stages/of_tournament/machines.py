@@ -136,7 +136,14 @@ class Leaving(Case):
             self.check("machine --help", (0, ""), here.run("machine", "--help")[::2])
 
 
-SQUEUE = '#!/bin/bash\necho "$*" >> {at}/asked\n[ "{left}" != none ] || exit 1\necho "{left}"\n'
+# It stands in for squeue. Of an array's own number it lists all tasks, and of a task's name that one, each in a column of its width.
+SQUEUE = """\
+#!/bin/bash
+echo "$*" >> {at}/asked
+[ "{left}" != none ] || exit 1
+printf '%-20s\\n' {left}
+[[ $3 == *_* ]] || printf '%-20s\\n' {left}
+"""
 
 
 def task_of(here, number, words, left="UNLIMITED", **more):
@@ -144,7 +151,7 @@ def task_of(here, number, words, left="UNLIMITED", **more):
     (here.at / "tools").mkdir(exist_ok=True)
     here.script("tools/squeue", SQUEUE.replace("{at}", str(here.at)).replace("{left}", left))
     path = f"{here.at}/tools:{here.environment['PATH']}"
-    here.environment |= {"SLURM_ARRAY_TASK_ID": str(number), "SLURM_JOB_ID": "77", **more}
+    here.environment |= {"SLURM_ARRAY_TASK_ID": str(number), "SLURM_ARRAY_JOB_ID": "77", "SLURM_JOB_ID": "77", **more}
     return here.run("env", f"PATH={path}", str(SCRIPTS / "tournament.sbatch"), *words)
 
 
@@ -161,7 +168,7 @@ class Arrays(Case):
                 self.check(f"task {task} of 3", (0, "", last), (*came[::2], came.output.splitlines()[-1]))
             self.check("the tasks of an array: the same results", results(), here.games("array"))
             asked = (here.at / "asked").read_text().splitlines()
-            self.check("each asks once how much time is left", ["--noheader --jobs 77 --Format TimeLeft"] * 3, asked)
+            self.check("each asks once how much time is left", [f"--noheader --jobs 77_{it} --Format TimeLeft" for it in (1, 2, 3)], asked)
             came = task_of(here, 2, ["array", "3"])
             self.check("a task again plays nothing", (0, "3 of 3 games of task 2/3 have a result\n", ""), came)
             (here.at / "array/games/1_two_one").unlink()

@@ -12,7 +12,7 @@ use Rattle.gtp_check_judge.specs.declared.unanswered.Asked.{Asked}
 use Rattle.gtp_check_judge.specs.declared.exam.Exam.{Exam}
 use Rattle.gtp_check_judge.specs.declared.exam.Finding.{Finding}
 use Rattle.gtp_check_judge.specs.Judging.{oldest, has_id}
-use Rattle.gtp_check_judge.specs.Exam.{Asks, Hears, Leaves, ReplyLeaves, IdLeaves, after_judged, with_learned}
+use Rattle.gtp_check_judge.specs.Exam.{Asks, Hears, Leaves, ReplyLeaves, IdLeaves, after_judged, with_learned, hearing, reply_to}
 use Rattle.gtp_check_judge.specs.Exam.{with_rest}
 use Rattle.gtp_check_judge.proofs.engines.Rightly.{nothing_given, none_taken}
 
@@ -30,7 +30,7 @@ judged_reader exam (Opines opinion) = refl
 judged_reader exam (Wrong kind) = refl
 
 id_reader : (exam : Exam) (entry : Asked) (reply : Reply) (b : Bool) (finding : Option Finding) (new : Exam)
-    → IdLeaves exam entry reply b finding new → new.reader ≡ exam.reader
+    → IdLeaves exam (reply_to entry reply) b finding new → new.reader ≡ exam.reader
 id_reader exam entry reply false finding new h = ap (λ (e : Exam). e.reader) h.1
 id_reader exam entry reply true finding new h =
     ap (λ (e : Exam). e.reader) h.3 ∙ judged_reader (with_learned exam entry.command reply) h.0
@@ -59,7 +59,7 @@ leaves_quiet old bytes used (Some (Ok reply)) rest finding new reads h up =
     (sym (reply_reader (with_rest old rest) (oldest old.unanswered) reply finding new h ∙ reads.rest)) nothing_held
 
 pub heard_quiet : (old : Exam) (bytes : List ℕ) (used : ℕ) (read : Option (Result Reply ReplyFault))
-    (finding : Option Finding) (new : Exam) → Hears old bytes used read finding new → new.up ≡ true
+    (finding : Option Finding) (new : Exam) → Hears old bytes (hearing used read finding) new → new.up ≡ true
     → GivesNoAnswer new.reader
 heard_quiet old bytes used read finding new h up = leaves_quiet old bytes used read h.0 finding new h.1 h.2 up
 

@@ -27,7 +27,7 @@ use Rattle.gtp_check_judge.specs.declared.exam.Exam.{Exam}
 use Rattle.gtp_check_judge.specs.declared.exam.Finding.{Finding}
 use Rattle.gtp_check_judge.specs.Judging.{oldest}
 use Rattle.gtp_check_judge.specs.RightEngine.{RightEngine, fresh_engine, undone_after, opinion_after}
-use Rattle.gtp_check_judge.specs.Exam.{engine_of, Hears}
+use Rattle.gtp_check_judge.specs.Exam.{engine_of, Hears, hearing}
 use Rattle.gtp_check_judge.specs.Laws.{line_of_asked, IsRight}
 use Rattle.gtp_check_judge.specs.Laws.{Exchange, Talks, IsAsked}
 use Rattle.gtp_check_judge.specs.Laws.{IsRightSoFar}
@@ -209,7 +209,7 @@ module _ {P : Type 0} (may : May P) (lawful : AllowsLawful may) where
   pub never_blamed : (rule : KoRule) (policy : P) (engine : Engine P) (out sent came : List ℕ) (said : List Exchange)
       (old new : Exam) (bytes later : List ℕ) (used : ℕ) (read : Option (Result Reply ReplyFault))
       (finding : Option Finding)
-      → Talks rule sent came said old → Hears old bytes used read finding new
+      → Talks rule sent came said old → Hears old bytes (hearing used read finding) new
       → Engages may (fresh_under rule policy) sent engine out → out ≡ came ++ (bytes ++ later)
       → finding ≡ None
   never_blamed rule policy engine out sent came said old new bytes later used None finding talk h engages front = h.2.0
@@ -238,7 +238,8 @@ module _ {P : Type 0} (may : May P) (lawful : AllowsLawful may) where
       unblamed rule sent came said old new bytes used
       (reply_of_answer (Some next.entry.id) (answer f.state.game (line_of_asked next.entry) next.choice)) finding
       next.entry talk
-      (subst (λ (r : Result Reply ReplyFault). Hears old bytes used (Some r) finding new) next.read h) next.oldest_is
+      (subst (λ (r : Result Reply ReplyFault). Hears old bytes (hearing used (Some r) finding) new) next.read h)
+      next.oldest_is
       (λ before all.
       subst (λ (e : RightEngine). (after : RightEngine) × IsRight e next.entry
       (reply_of_answer (Some next.entry.id) (answer f.state.game (line_of_asked next.entry) next.choice)) after)

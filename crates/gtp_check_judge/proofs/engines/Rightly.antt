@@ -16,7 +16,7 @@ use Rattle.gtp_check_judge.specs.declared.exam.Exam.{Exam}
 use Rattle.gtp_check_judge.specs.declared.exam.Finding.{Finding}
 use Rattle.gtp_check_judge.specs.RightEngine.{RightEngine, fresh_engine}
 use Rattle.gtp_check_judge.specs.Judging.{oldest}
-use Rattle.gtp_check_judge.specs.Exam.{Hears}
+use Rattle.gtp_check_judge.specs.Exam.{Hears, hearing}
 use Rattle.gtp_check_judge.specs.Laws.{IsRight}
 use Rattle.gtp_check_judge.specs.Laws.{AnswersRightly, commands_of, Exchange, AllRight, Talks}
 use Rattle.gtp_check_judge.proofs.engines.OneGame.{RightsFrom, one_right, rights_from}
@@ -126,7 +126,7 @@ next_right engine unanswered out text n read
 
 pub rightly_unblamed : (rule : KoRule) (out sent came : List ℕ) (said : List Exchange) (old new : Exam)
     (bytes later : List ℕ) (used : ℕ) (read : Option (Result Reply ReplyFault)) (finding : Option Finding)
-    → Talks rule sent came said old → Hears old bytes used read finding new
+    → Talks rule sent came said old → Hears old bytes (hearing used read finding) new
     → AnswersRightly (fresh_engine rule) (commands_of said ++ old.unanswered) out
     → out ≡ came ++ (bytes ++ later)
     → finding ≡ None
@@ -144,7 +144,8 @@ rightly_unblamed rule out sent came said old new bytes later used (Some read) fi
     let next : NextRight b.here old.unanswered read =
     next_right b.here old.unanswered rest rest (length old.reader + used) read b.rightly refl first in
     unblamed rule sent came said old new bytes used next.reply finding next.entry talk
-    (subst (λ (r : Result Reply ReplyFault). Hears old bytes used (Some r) finding new) next.read h) next.oldest_is
+    (subst (λ (r : Result Reply ReplyFault). Hears old bytes (hearing used (Some r) finding) new) next.read h)
+    next.oldest_is
     (λ before all. (
       next.after,
       subst (λ (g : RightEngine). IsRight g next.entry next.reply next.after)
@@ -174,7 +175,7 @@ one_left rule sent came said exam one other talk a b =
 
 pub right_unblamed : (rule : KoRule) (sent came : List ℕ) (said : List Exchange) (old new : Exam)
     (bytes : List ℕ) (used : ℕ) (reply : Reply) (finding : Option Finding) (entry : Asked) (before after : RightEngine)
-    → Talks rule sent came said old → Hears old bytes used (Some (Ok reply)) finding new
+    → Talks rule sent came said old → Hears old bytes (hearing used (Some (Ok reply)) finding) new
     → oldest old.unanswered ≡ Some entry
     → AllRight (fresh_engine rule) said before → IsRight before entry reply after
     → finding ≡ None

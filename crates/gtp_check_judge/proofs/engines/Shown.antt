@@ -15,7 +15,7 @@ use Rattle.gtp_session.proofs.choosing.Policies.{AllowsLawful}
 use Rattle.gtp_check_judge.specs.declared.unanswered.Asked.{Asked}
 use Rattle.gtp_check_judge.specs.declared.exam.Exam.{Exam}
 use Rattle.gtp_check_judge.specs.declared.exam.Finding.{Finding}
-use Rattle.gtp_check_judge.specs.Exam.{Hears}
+use Rattle.gtp_check_judge.specs.Exam.{Hears, hearing}
 use Rattle.gtp_check_judge.specs.Check.{Check}
 use Rattle.gtp_check_judge.specs.Laws.{Exchange, Talks, commands_of, line_of_asked}
 use Rattle.gtp_check_judge.specs.ConversationLaws.{Histories, AreReplies, IsHeard, ConversationsShowFindings}
@@ -54,7 +54,8 @@ reads_cut held bytes used read rest reads = record {
 }
 
 hears_cut : (old new : Exam) (bytes : List ℕ) (used : ℕ) (read : Option (Result Reply ReplyFault)) (finding : Finding)
-    → Hears old bytes used read (Some finding) new → Hears old (take used bytes) used read (Some finding) new
+    → Hears old bytes (hearing used read (Some finding)) new
+    → Hears old (take used bytes) (hearing used read (Some finding)) new
 hears_cut old new bytes used None finding h = absurd (cc (h.2.0))
 hears_cut old new bytes used (Some read) finding h = (h.0, reads_cut old.reader bytes used read h.0 h.1, h.2)
 
@@ -77,7 +78,7 @@ are_replies (x ∷ xs) raw h =
 
 heard_is : (rule : KoRule) (sent came : List ℕ) (said : List Exchange) (old new : Exam) (bytes : List ℕ) (used : ℕ)
     (read : Option (Result Reply ReplyFault)) (finding : Finding) → Talks rule sent came said old
-    → Hears old bytes used read (Some finding) new → IsHeard said (came ++ take used bytes) read
+    → Hears old bytes (hearing used read (Some finding)) new → IsHeard said (came ++ take used bytes) read
 heard_is rule sent came said old new bytes used None finding talk h = absurd (cc (h.2.0))
 heard_is rule sent came said old new bytes used (Some read) finding talk h =
     let w : Wire sent came said old = wire rule sent came said old talk in
@@ -111,7 +112,7 @@ pub none_wrote_it : {P : Type 0} (may : May P) (lawful : AllowsLawful may) (rule
     (engine : Engine P) (out later sent came : List ℕ) (said : List Exchange) (check : Check) (new : Exam)
     (bytes : List ℕ) (used : ℕ) (read : Option (Result Reply ReplyFault)) (finding : Finding)
     → Histories rule most sent came said check → check.exam.up ≡ true
-    → Hears check.exam bytes used read (Some finding) new
+    → Hears check.exam bytes (hearing used read (Some finding)) new
     → Engages may (fresh_under rule policy) sent engine out → out ≢ (came ++ take used bytes) ++ later
 none_wrote_it may lawful rule most policy engine out later sent came said check new bytes used read finding history up
     h engages is =

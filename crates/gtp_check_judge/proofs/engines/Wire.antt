@@ -26,7 +26,7 @@ use Rattle.gtp_check_judge.specs.declared.unanswered.Asked.{Asked}
 use Rattle.gtp_check_judge.specs.declared.exam.Exam.{Exam}
 use Rattle.gtp_check_judge.specs.Dues.{MayBeAsked}
 use Rattle.gtp_check_judge.specs.Judging.{oldest, has_id}
-use Rattle.gtp_check_judge.specs.Exam.{Asks, Leaves, ReplyLeaves, IdLeaves, after_judged, finding_of}
+use Rattle.gtp_check_judge.specs.Exam.{Asks, Leaves, ReplyLeaves, IdLeaves, after_judged, finding_of, reply_to}
 use Rattle.gtp_check_judge.specs.Exam.{with_learned, with_rest, HasRoomFor}
 use Rattle.gtp_check_judge.specs.Laws.{line_of_asked}
 use Rattle.gtp_check_judge.specs.Laws.{Exchange, exchanged, Talks}
@@ -166,7 +166,8 @@ judged_left exam entry later (Opines opinion) new list none is = record {
 judged_left exam entry later (Wrong kind) new list none is = absurd (cc none)
 
 id_left : (exam : Exam) (entry : Asked) (later : List Asked) (reply : Reply) (b : Bool) (new : Exam)
-    → exam.unanswered ≡ entry ∷ later → IdLeaves exam entry reply b None new → Left later exam.reader new
+    → exam.unanswered ≡ entry ∷ later
+    → IdLeaves exam (reply_to entry reply) b None new → Left later exam.reader new
 id_left exam entry later reply false new list h = absurd (cc (h.0))
 id_left exam entry later reply true new list h =
     judged_left (with_learned exam entry.command reply) entry later h.0 new list h.2 h.3

@@ -23,7 +23,7 @@ use Rattle.gtp_check_judge.specs.declared.exam.Exam.{Exam}
 use Rattle.gtp_check_judge.specs.declared.exam.Finding.{Finding}
 use Rattle.gtp_check_judge.specs.Dues.{after_check, after_due}
 use Rattle.gtp_check_judge.specs.Judging.{oldest, has_id}
-use Rattle.gtp_check_judge.specs.Exam.{begun, Leaves, ReplyLeaves, IdLeaves, after_judged, with_learned, with_rest}
+use Rattle.gtp_check_judge.specs.Exam.{begun, Leaves, ReplyLeaves, IdLeaves, after_judged, with_learned, with_rest, reply_to}
 use Rattle.gtp_check_judge.specs.Check.{Check}
 use Rattle.gtp_check_judge.specs.Laws.{Exchange, Talks}
 use Rattle.gtp_check_judge.specs.ConversationLaws.{Histories, EachStartBeginsAnew}
@@ -71,7 +71,7 @@ judged_rule exam (Opines opinion) = refl
 judged_rule exam (Wrong kind) = refl
 
 id_rule : (exam : Exam) (entry : Asked) (reply : Reply) (b : Bool) (finding : Option Finding) (new : Exam)
-    → IdLeaves exam entry reply b finding new → new.game.rule ≡ exam.game.rule
+    → IdLeaves exam (reply_to entry reply) b finding new → new.game.rule ≡ exam.game.rule
 id_rule exam entry reply false finding new h = ap (λ (e : Exam). e.game.rule) h.1
 id_rule exam entry reply true finding new h =
     ap (λ (e : Exam). e.game.rule) h.3 ∙ judged_rule (with_learned exam entry.command reply) h.0

@@ -9,7 +9,7 @@ use Rattle.gtp_check_judge.specs.declared.judging.Judgement.{Judgement}
 use Rattle.gtp_check_judge.specs.declared.unanswered.Asked.{Asked}
 use Rattle.gtp_check_judge.specs.declared.exam.Exam.{Exam}
 use Rattle.gtp_check_judge.specs.Judging.{oldest, has_id, Judged}
-use Rattle.gtp_check_judge.specs.Exam.{Hears, Leaves, ReplyLeaves, IdLeaves, after_judged, finding_of}
+use Rattle.gtp_check_judge.specs.Exam.{Hears, Leaves, ReplyLeaves, IdLeaves, after_judged, finding_of, hearing, reply_to}
 use Rattle.gtp_check_judge.specs.Exam.{with_learned, with_rest}
 use Rattle.gtp_check_judge.specs.Laws.{Exchange, exchanged}
 use Rattle.gtp_check_judge.proofs.talks.Silence.{nothing_exchanged}
@@ -49,7 +49,8 @@ unsaid old said new more none k =
     (subst (λ (all : List Exchange). Leaving old said new all) (sym (append-nil said)) (Leaving.nothing k))
 
 id_leaving : (old : Exam) (rest : List ℕ) (entry : Asked) (later : List Asked) (reply : Reply) (b : Bool) (new : Exam)
-    (said : List Exchange) → old.unanswered ≡ entry ∷ later → IdLeaves (with_rest old rest) entry reply b None new
+    (said : List Exchange) → old.unanswered ≡ entry ∷ later
+    → IdLeaves (with_rest old rest) (reply_to entry reply) b None new
     → Leaving old said new (said ++ record { entry = entry; reply = reply } ∷ [])
 id_leaving old rest entry later reply false new said is h = absurd (cc (h.0))
 id_leaving old rest entry later reply true new said is h =
@@ -72,6 +73,6 @@ leaving old rest (Some (Err shown)) new said h = absurd (cc (h.0))
 leaving old rest (Some (Ok reply)) new said h = reply_leaving old rest old.unanswered reply new said refl h
 
 pub heard_leaving : (old : Exam) (bytes : List ℕ) (used : ℕ) (read : Option (Result Reply ReplyFault)) (new : Exam)
-    (said : List Exchange) → Hears old bytes used read None new
+    (said : List Exchange) → Hears old bytes (hearing used read None) new
     → Leaving old said new (said ++ exchanged (oldest old.unanswered) read)
 heard_leaving old bytes used read new said h = leaving old h.0 read new said h.2

@@ -18,7 +18,7 @@ use Rattle.gtp_check_judge.specs.declared.exam.Finding.{Finding}
 use Rattle.gtp_check_judge.specs.declared.judging.Kind.TheVariants.{Unlisted}
 use Rattle.gtp_check_judge.specs.declared.unanswered.Asked.{Asked}
 use Rattle.gtp_check_judge.specs.Dues.{IsDue}
-use Rattle.gtp_check_judge.specs.Exam.{engine_of, Hears, ReplyLeaves, IdLeaves, finding_of, with_rest}
+use Rattle.gtp_check_judge.specs.Exam.{engine_of, Hears, ReplyLeaves, IdLeaves, finding_of, with_rest, hearing, reply_to}
 use Rattle.gtp_check_judge.specs.Judging.{Judged, list_judged}
 use Rattle.gtp_check_judge.specs.Laws.{Exchange, IsAsked, IsRightSoFar, Talks}
 use Rattle.gtp_check_judge.specs.Listings.{is_listed, lists_required, required_commands}
@@ -105,8 +105,8 @@ list_found : (exam : Exam) (entry : Asked) (reply : Reply) (finding : Option Fin
     → lists_required (reply_words reply.text.items) ≡ has_all
     → ReplyLeaves exam (Some entry) reply finding new → finding ≡ finding_of entry (list_judged has_all true)
 list_found exam entry reply finding new has_all due id ok lists h =
-    let l : IdLeaves exam entry reply true finding new =
-    subst (λ (b : Bool). IdLeaves exam entry reply b finding new) (id_has reply.id entry.id id) h in
+    let l : IdLeaves exam (reply_to entry reply) true finding new =
+    subst (λ (b : Bool). IdLeaves exam (reply_to entry reply) b finding new) (id_has reply.id entry.id id) h in
     let j : Judged exam.game exam.opinion Lists reply l.0 =
     subst (λ (d : Due). Judged exam.game exam.opinion d reply l.0) due l.1 in
     l.2 ∙ ap (finding_of entry)
@@ -114,7 +114,7 @@ list_found exam entry reply finding new has_all due id ok lists h =
 
 list_heard : (rule : KoRule) (sent came : List ℕ) (said : List Exchange) (old new : Exam) (bytes : List ℕ) (used : ℕ)
     (reply : Reply) (finding : Option Finding) (entry : Asked) (has_all : Bool)
-    → Talks rule sent came said old → Hears old bytes used (Some (Ok reply)) finding new
+    → Talks rule sent came said old → Hears old bytes (hearing used (Some (Ok reply)) finding) new
     → IsListing old reply entry → lists_required (reply_words reply.text.items) ≡ has_all
     → finding ≡ finding_of entry (list_judged has_all true)
 list_heard rule sent came said old new bytes used reply finding entry has_all talk h l lists =

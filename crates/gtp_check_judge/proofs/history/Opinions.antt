@@ -26,7 +26,7 @@ use Rattle.gtp_check_judge.specs.Komis.{is_near_komi}
 use Rattle.gtp_check_judge.specs.Scores.{score_of_text}
 use Rattle.gtp_check_judge.specs.Opinions.{agrees, differ_as_komis, distance, is_same, opinion_with, view_of}
 use Rattle.gtp_check_judge.specs.Judging.{Judged, said_score_judged, score_judged, view_judged}
-use Rattle.gtp_check_judge.specs.Exam.{Hears, IdLeaves, ReplyLeaves, after_judged, finding_of}
+use Rattle.gtp_check_judge.specs.Exam.{Hears, IdLeaves, ReplyLeaves, after_judged, finding_of, hearing, reply_to}
 use Rattle.gtp_check_judge.specs.Exam.{with_rest}
 use Rattle.gtp_check_judge.specs.Laws.{Exchange}
 use Rattle.gtp_check_judge.specs.ScoreLaws.{EachIsOfSize, HearsOfBoard, NoneSays, SaysOfBoard, ScoresAreOfEmptyBoards}
@@ -84,13 +84,14 @@ judged_said game opinion entry reply got view s j =
     ∙ ap (view_judged opinion) (view_said view (record { entry = entry; reply = reply }) s)
 
 pub heard_so : (old new : Exam) (bytes : List ℕ) (used : ℕ) (reply : Reply) (finding : Option Finding) (entry : Asked)
-    (view : View) → Hears old bytes used (Some (Ok reply)) finding new → HearsOfBoard old reply entry view
+    (view : View) → Hears old bytes (hearing used (Some (Ok reply)) finding) new → HearsOfBoard old reply entry view
     → finding ≡ finding_of entry (view_judged old.opinion (Some view))
 heard_so old new bytes used reply finding entry view h o =
     let one : ReplyLeaves (with_rest old h.0) (Some entry) reply finding new =
     subst (λ (a : Option Asked). ReplyLeaves (with_rest old h.0) a reply finding new) o.oldest_is h.2 in
-    let l : IdLeaves (with_rest old h.0) entry reply true finding new =
-    subst (λ (b : Bool). IdLeaves (with_rest old h.0) entry reply b finding new) (id_has reply.id entry.id o.id) one in
+    let l : IdLeaves (with_rest old h.0) (reply_to entry reply) true finding new =
+    subst (λ (b : Bool). IdLeaves (with_rest old h.0) (reply_to entry reply) b finding new)
+    (id_has reply.id entry.id o.id) one in
     l.2 ∙ ap (finding_of entry) (judged_said old.game old.opinion entry reply l.0 view o.says l.1)
 
 -- ---- what agrees

@@ -23,7 +23,7 @@ use Rattle.gtp_check_judge.specs.Komis.{is_near_komi}
 use Rattle.gtp_check_judge.specs.Scores.{score_of_text}
 use Rattle.gtp_check_judge.specs.Opinions.{agrees, distance, is_same, opinion_with, view_of}
 use Rattle.gtp_check_judge.specs.Judging.{Judged, said_score_judged, score_judged, view_judged}
-use Rattle.gtp_check_judge.specs.Exam.{Hears, IdLeaves, ReplyLeaves, finding_of, with_learned, with_rest}
+use Rattle.gtp_check_judge.specs.Exam.{Hears, IdLeaves, ReplyLeaves, finding_of, with_learned, with_rest, hearing, reply_to}
 use Rattle.gtp_check_judge.specs.Laws.{Exchange, Talks}
 use Rattle.gtp_check_judge.specs.ScoreLaws.{EachIsOfSize, HearsUncompared, IsHeardTwice, NoneSays, NoneStood}
 use Rattle.gtp_check_judge.specs.ScoreLaws.{SaysOfBoard, ScoresDifferAsKomis, StillStands}
@@ -219,7 +219,7 @@ no_view size komi (Number score) (inr far) =
     })) None (far_komi komi far)
 
 uncompared_so : (old new : Exam) (bytes : List ℕ) (used : ℕ) (reply : Reply) (finding : Option Finding) (entry : Asked)
-    → Hears old bytes used (Some (Ok reply)) finding new → HearsUncompared old reply entry
+    → Hears old bytes (hearing used (Some (Ok reply)) finding) new → HearsUncompared old reply entry
     → (finding ≡ None) × (new.opinion ≡ old.opinion)
 uncompared_so old new bytes used reply finding entry h o = (
   l.2 ∙ ap (finding_of entry) right,
@@ -230,9 +230,10 @@ uncompared_so old new bytes used reply finding entry h o = (
     one : ReplyLeaves (with_rest old h.0) (Some entry) reply finding new
     one = subst (λ (a : Option Asked). ReplyLeaves (with_rest old h.0) a reply finding new) o.oldest_is h.2
 
-    l : IdLeaves (with_rest old h.0) entry reply true finding new
+    l : IdLeaves (with_rest old h.0) (reply_to entry reply) true finding new
     l =
-        subst (λ (b : Bool). IdLeaves (with_rest old h.0) entry reply b finding new) (id_has reply.id entry.id o.id) one
+        subst (λ (b : Bool). IdLeaves (with_rest old h.0) (reply_to entry reply) b finding new)
+        (id_has reply.id entry.id o.id) one
 
     right : l.0 ≡ Right
     right =

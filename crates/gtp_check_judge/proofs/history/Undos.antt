@@ -28,7 +28,7 @@ use Rattle.gtp_check_judge.specs.Asking.{IsPlayOf, IsGenmoveOf}
 use Rattle.gtp_check_judge.specs.RightEngine.{RightEngine, fresh_engine, undone_after, undone_by}
 use Rattle.gtp_check_judge.specs.Dues.{IsDue, UndoDue}
 use Rattle.gtp_check_judge.specs.Judging.{Judged, success_judged}
-use Rattle.gtp_check_judge.specs.Exam.{engine_of, Hears, ReplyLeaves, IdLeaves, finding_of, with_rest}
+use Rattle.gtp_check_judge.specs.Exam.{engine_of, Hears, ReplyLeaves, IdLeaves, finding_of, with_rest, hearing, reply_to}
 use Rattle.gtp_check_judge.specs.Laws.{MayFailToUndo, MayRefuse, IsRight, Exchange, AllRight, Talks, IsAsked, Expects}
 use Rattle.gtp_check_judge.specs.Laws.{after_refusal}
 use Rattle.gtp_check_judge.specs.Laws.{IsRightSoFar}
@@ -274,15 +274,15 @@ refused_found : (exam : Exam) (entry : Asked) (reply : Reply) (finding : Option 
     → ReplyLeaves exam (Some entry) reply finding new
     → finding ≡ Some (record { asked = Some entry; kind = Refused })
 refused_found exam entry reply finding new due id fails h =
-    let l : IdLeaves exam entry reply true finding new =
-    subst (λ (b : Bool). IdLeaves exam entry reply b finding new) (id_has reply.id entry.id id) h in
+    let l : IdLeaves exam (reply_to entry reply) true finding new =
+    subst (λ (b : Bool). IdLeaves exam (reply_to entry reply) b finding new) (id_has reply.id entry.id id) h in
     let j : Judged exam.game exam.opinion Succeeds reply l.0 =
     subst (λ (d : Due). Judged exam.game exam.opinion d reply l.0) due l.1 in
     l.2 ∙ ap (finding_of entry) (j ∙ ap success_judged fails)
 
 first_judged : (rule : KoRule) (sent came : List ℕ) (said : List Exchange) (old new : Exam) (bytes : List ℕ) (used : ℕ)
     (reply : Reply) (finding : Option Finding) (entry : Asked)
-    → Talks rule sent came said old → Hears old bytes used (Some (Ok reply)) finding new
+    → Talks rule sent came said old → Hears old bytes (hearing used (Some (Ok reply)) finding) new
     → RefusesUndo rule said old reply entry → (IsUndone said → ⊥)
     → finding ≡ Some (record { asked = Some entry; kind = Refused })
 first_judged rule sent came said old new bytes used reply finding entry talk h r first =
@@ -300,7 +300,7 @@ first_judged rule sent came said old new bytes used reply finding entry talk h r
 
 later_judged : (rule : KoRule) (sent came : List ℕ) (said : List Exchange) (old new : Exam) (bytes : List ℕ) (used : ℕ)
     (reply : Reply) (finding : Option Finding) (entry : Asked)
-    → Talks rule sent came said old → Hears old bytes used (Some (Ok reply)) finding new
+    → Talks rule sent came said old → Hears old bytes (hearing used (Some (Ok reply)) finding) new
     → RefusesUndo rule said old reply entry → IsUndone said → finding ≡ None
 later_judged rule sent came said old new bytes used reply finding entry talk h r undone =
     let may : MayFailToUndo r.before =

@@ -28,7 +28,7 @@ use Rattle.gtp_check_judge.specs.declared.exam.Finding.{Finding}
 use Rattle.gtp_check_judge.specs.Judging.{oldest, awaits, is_open, has_id, Judged, success_judged, failure_judged}
 use Rattle.gtp_check_judge.specs.Judging.{size_judged, undo_judged, points_judged, ChoiceJudged, view_judged}
 use Rattle.gtp_check_judge.specs.Judging.{score_judged, list_judged}
-use Rattle.gtp_check_judge.specs.Exam.{Hears, Leaves, ReplyLeaves, IdLeaves, after_judged, with_learned, with_rest}
+use Rattle.gtp_check_judge.specs.Exam.{Hears, Leaves, ReplyLeaves, IdLeaves, after_judged, with_learned, with_rest, hearing, reply_to}
 use Rattle.gtp_check_judge.specs.Exam.{MayApply, MayBeTaken, MayReply, MayAllBeTaken, AreOrderly, IsOrderly}
 use Rattle.go_base.specs.declared.choices.Choice.TheVariants as choice
 use Rattle.gtp_check_judge.proofs.order.Asked.{or_true}
@@ -331,7 +331,7 @@ judged_orderly exam asked later reply (Wrong kind) is o j =
 
 id_orderly : (exam : Exam) (asked : Asked) (later : List Asked) (reply : Reply) (b : Bool) (finding : Option Finding)
     (new : Exam) → exam.unanswered ≡ asked ∷ later → AreOrderly exam.game exam.sent (asked ∷ later)
-    → IdLeaves exam asked reply b finding new → IsOrderly new
+    → IdLeaves exam (reply_to asked reply) b finding new → IsOrderly new
 id_orderly exam asked later reply false finding new is o h =
     subst IsOrderly (sym h.1) (subst (λ (l : List Asked). AreOrderly exam.game exam.sent l) (sym is) o)
 id_orderly exam asked later reply true finding new is o h =
@@ -351,5 +351,6 @@ leaves_orderly exam (Some (Err shown)) finding new o h = subst IsOrderly (sym h.
 leaves_orderly exam (Some (Ok reply)) finding new o h = reply_orderly exam exam.unanswered reply finding new refl o h
 
 pub heard_orderly : (old : Exam) (bytes : List ℕ) (used : ℕ) (read : Option (Result Reply ReplyFault))
-    (finding : Option Finding) (new : Exam) → IsOrderly old → Hears old bytes used read finding new → IsOrderly new
+    (finding : Option Finding) (new : Exam) → IsOrderly old
+    → Hears old bytes (hearing used read finding) new → IsOrderly new
 heard_orderly old bytes used read finding new o h = leaves_orderly (with_rest old h.0) read finding new o h.2

@@ -15,7 +15,7 @@ use Rattle.gtp_check_judge.specs.declared.exam.Exam.{Exam}
 use Rattle.gtp_check_judge.specs.declared.exam.Finding.{Finding}
 use Rattle.gtp_check_judge.specs.RightEngine.{RightEngine, fresh_engine}
 use Rattle.gtp_check_judge.specs.Judging.{oldest, has_id}
-use Rattle.gtp_check_judge.specs.Exam.{Hears, Leaves, ReplyLeaves, IdLeaves, finding_of}
+use Rattle.gtp_check_judge.specs.Exam.{Hears, Leaves, ReplyLeaves, IdLeaves, finding_of, hearing, reply_to}
 use Rattle.gtp_check_judge.specs.Exam.{engine_of, kind_of, with_rest, AreOrderly}
 use Rattle.gtp_check_judge.specs.Laws.{IsRight, Exchange, AllRight, Talks, IsAsked, Expects}
 use Rattle.gtp_check_judge.specs.Laws.{IsRightSoFar, NoRightAnswer, FaultIsNamed, GivesKind, IsJustified}
@@ -75,7 +75,7 @@ right_id before entry reply after (IsRight.by_refusal right) = right.id
 id_justified : (rule : KoRule) (said : List Exchange) (exam : Exam) (entry : Asked) (later : List Asked) (reply : Reply)
     (b : Bool) (finding : Finding) (new : Exam) → IsRightSoFar rule said exam
     → exam.unanswered ≡ entry ∷ later → has_id reply.id entry.id ≡ b
-    → IdLeaves exam entry reply b (Some finding) new
+    → IdLeaves exam (reply_to entry reply) b (Some finding) new
     → IsJustified rule said exam (Some (Ok reply)) finding
 id_justified rule said exam entry later reply false finding new s list id h =
     justified_of rule said exam (Some (Ok reply)) finding (Some entry) WrongId s h.0 (sym (ap oldest list))
@@ -114,7 +114,7 @@ leaves_justified rule said exam (Some (Ok reply)) finding new s h =
 
 pub justified : (rule : KoRule) (sent came : List ℕ) (said : List Exchange) (old new : Exam) (bytes : List ℕ)
     (used : ℕ) (read : Option (Result Reply ReplyFault)) (finding : Finding)
-    → Talks rule sent came said old → Hears old bytes used read (Some finding) new
+    → Talks rule sent came said old → Hears old bytes (hearing used read (Some finding)) new
     → IsJustified rule said old read finding
 justified rule sent came said old new bytes used read finding talk h =
     let s : IsRightSoFar rule said old = right_so_far rule sent came said old talk in
@@ -127,7 +127,7 @@ justified rule sent came said old new bytes used read finding talk h =
 
 pub unblamed : (rule : KoRule) (sent came : List ℕ) (said : List Exchange) (old new : Exam)
     (bytes : List ℕ) (used : ℕ) (reply : Reply) (finding : Option Finding) (entry : Asked)
-    → Talks rule sent came said old → Hears old bytes used (Some (Ok reply)) finding new
+    → Talks rule sent came said old → Hears old bytes (hearing used (Some (Ok reply)) finding) new
     → oldest old.unanswered ≡ Some entry
     → ((before : RightEngine) → AllRight (fresh_engine rule) said before
     → (after : RightEngine) × IsRight before entry reply after)

@@ -9,7 +9,7 @@ use Rattle.gtp_check_judge.specs.declared.unanswered.Asked.{Asked}
 use Rattle.gtp_check_judge.specs.declared.exam.Exam.{Exam}
 use Rattle.gtp_check_judge.specs.declared.exam.Finding.{Finding}
 use Rattle.gtp_check_judge.specs.Judging.{oldest, has_id}
-use Rattle.gtp_check_judge.specs.Exam.{Hears, Leaves, ReplyLeaves, IdLeaves, after_judged, finding_of}
+use Rattle.gtp_check_judge.specs.Exam.{Hears, Leaves, ReplyLeaves, IdLeaves, after_judged, finding_of, hearing, reply_to}
 use Rattle.gtp_check_judge.specs.Exam.{with_learned, with_rest}
 use Rattle.gtp_check_judge.specs.Check.{UpIsBetween}
 
@@ -21,7 +21,7 @@ reply_answers exam None reply new h = absurd (cc (h.0))
 reply_answers exam (Some entry) reply new h = (entry, refl)
 
 pub answer_or_found : (old new : Exam) (bytes : List ℕ) (used : ℕ) (read : Result Reply ReplyFault)
-    → Hears old bytes used (Some read) None new
+    → Hears old bytes (hearing used (Some read) None) new
     → (entry : Asked) × (reply : Reply) × (oldest old.unanswered ≡ Some entry) × (read ≡ Ok reply)
 answer_or_found old new bytes used (Err shown) h = absurd (cc (h.2.0))
 answer_or_found old new bytes used (Ok reply) h =
@@ -39,7 +39,7 @@ judged_down exam entry (Opines opinion) finding new e is = absurd (cc e)
 judged_down exam entry (Wrong kind) finding new e is = ap (λ (x : Exam). x.up) is
 
 id_down : (exam : Exam) (entry : Asked) (reply : Reply) (b : Bool) (finding : Finding) (new : Exam)
-    → IdLeaves exam entry reply b (Some finding) new → new.up ≡ false
+    → IdLeaves exam (reply_to entry reply) b (Some finding) new → new.up ≡ false
 id_down exam entry reply false finding new h = ap (λ (x : Exam). x.up) h.1
 id_down exam entry reply true finding new h =
     judged_down (with_learned exam entry.command reply) entry h.0 finding new h.2 h.3
@@ -67,7 +67,7 @@ judged_up exam entry (Opines opinion) new none is = ap (λ (x : Exam). x.up) is
 judged_up exam entry (Wrong kind) new none is = absurd (cc none)
 
 id_up : (exam : Exam) (entry : Asked) (reply : Reply) (b : Bool) (new : Exam)
-    → IdLeaves exam entry reply b None new → new.up ≡ exam.up
+    → IdLeaves exam (reply_to entry reply) b None new → new.up ≡ exam.up
 id_up exam entry reply false new h = absurd (cc (h.0))
 id_up exam entry reply true new h = judged_up (with_learned exam entry.command reply) entry h.0 new h.2 h.3
 

@@ -24,7 +24,7 @@ use Rattle.gtp_check_judge.specs.declared.exam.Exam.{Exam}
 use Rattle.gtp_check_judge.specs.RightEngine.{RightEngine, fresh_engine}
 use Rattle.gtp_check_judge.specs.Dues.{engine_after}
 use Rattle.gtp_check_judge.specs.Judging.{oldest, awaits, is_open, has_id, Judged}
-use Rattle.gtp_check_judge.specs.Exam.{engine_of, begun, Asks, Hears, Leaves, ReplyLeaves, IdLeaves, after_judged}
+use Rattle.gtp_check_judge.specs.Exam.{engine_of, begun, Asks, Hears, Leaves, ReplyLeaves, IdLeaves, after_judged, hearing, reply_to}
 use Rattle.gtp_check_judge.specs.Exam.{finding_of}
 use Rattle.gtp_check_judge.specs.Exam.{with_learned, with_rest, AreOrderly, IsOrderly, HasRoomFor}
 use Rattle.gtp_check_judge.specs.Laws.{line_of_asked, IsRight, Exchange, AllRight, exchanged, Talks, IsAsked, Expects}
@@ -227,7 +227,7 @@ id_so_far : (rule : KoRule) (said : List Exchange) (exam : Exam) (entry : Asked)
     (b : Bool) (new : Exam)
     → IsRightBefore rule said (entry ∷ later) (engine_of exam) → AreOrderly exam.game exam.sent (entry ∷ later)
     → exam.unanswered ≡ entry ∷ later → has_id reply.id entry.id ≡ b
-    → IdLeaves exam entry reply b None new
+    → IdLeaves exam (reply_to entry reply) b None new
     → IsRightBefore rule (said ++ record { entry = entry; reply = reply } ∷ []) new.unanswered (engine_of new)
 id_so_far rule said exam entry later reply false new s o list id h = absurd (cc (h.0))
 id_so_far rule said exam entry later reply true new s o list id h =
@@ -289,7 +289,7 @@ asked_so_far rule said old command new s room a =
 
 heard_so_far : (rule : KoRule) (said : List Exchange) (old : Exam) (bytes : List ℕ) (used : ℕ)
     (read : Option (Result Reply ReplyFault)) (new : Exam) → IsRightSoFar rule said old
-    → Hears old bytes used read None new
+    → Hears old bytes (hearing used read None) new
     → IsRightSoFar rule (said ++ exchanged (oldest old.unanswered) read) new
 heard_so_far rule said old bytes used read new s h =
     let after : IsRightBefore rule (said ++ exchanged (oldest old.unanswered) read) new.unanswered (engine_of new) =

@@ -29,7 +29,7 @@ struct Row {
     text: &'static str,
 }
 
-static ROWS: [Row; 11] = [
+static ROWS: [Row; 15] = [
     // It can be pasted into an engine.
     Row {
         head: (
@@ -43,7 +43,7 @@ static ROWS: [Row; 11] = [
         sent: b"1 clear_board\n2 undo\n3 undo\n",
         wrote: b"=2\n\n",
         is_positional: false,
-        text: "# 3 captures: \"2 undo\": it was taken
+        text: "# 3 captures: \"2 undo\": it was accepted
 1 clear_board
 2 undo
 # it wrote: \"=2\\n\\n\"
@@ -179,6 +179,108 @@ static ROWS: [Row; 11] = [
 2 genmove white
 # it wrote: \"?2 syntax error\\n\\n\"
 # right: a colour may be written in full: black for b, and white for w
+
+",
+    },
+    // The same colour was read before: another thing decides.
+    Row {
+        head: (
+            1,
+            Lesson::Start,
+            Fault::Wrote(Kind::Refused),
+            Ending::Running,
+        ),
+        commands: &[
+            ("boardsize 9", 14),
+            ("play black C3", 30),
+            ("play black D3", 46),
+        ],
+        answered: 2,
+        sent: b"1 boardsize 9\n2 play black C3\n3 play black D3\n",
+        wrote: b"?3 no\n\n",
+        is_positional: false,
+        text: "# 1 start: \"3 play black D3\": it was refused
+1 boardsize 9
+2 play black C3
+# . . . . . . . . . 9
+# . . . . . . . . . 8
+# . . . . . . . . . 7
+# . . . . . . . . . 6
+# . . . . . . . . . 5
+# . . . . . . . . . 4
+# . . X . . . . . . 3
+# . . . . . . . . . 2
+# . . . . . . . . . 1
+# A B C D E F G H J
+3 play black D3
+# it wrote: \"?3 no\\n\\n\"
+# right: legal: the point is empty, the stone's chain has a liberty then, and no ko forbids it
+
+",
+    },
+    Row {
+        head: (
+            1,
+            Lesson::Start,
+            Fault::Wrote(Kind::NoMove),
+            Ending::Running,
+        ),
+        commands: &[("genmove white", 16), ("genmove white", 32)],
+        answered: 1,
+        sent: b"1 genmove white\n2 genmove white\n",
+        wrote: b"?2 no\n\n",
+        is_positional: false,
+        text: "# 1 start: \"2 genmove white\": no move: the genmove failed
+1 genmove white
+2 genmove white
+# it wrote: \"?2 no\\n\\n\"
+# right: a genmove succeeds; a player who has no move passes or resigns
+
+",
+    },
+    // The other colour doesn't show that this one is read, nor does another command.
+    Row {
+        head: (
+            1,
+            Lesson::Start,
+            Fault::Wrote(Kind::NoMove),
+            Ending::Running,
+        ),
+        commands: &[
+            ("genmove black", 16),
+            ("play white C3", 32),
+            ("genmove white", 48),
+        ],
+        answered: 2,
+        sent: b"1 genmove black\n2 play white C3\n3 genmove white\n",
+        wrote: b"?3 no\n\n",
+        is_positional: false,
+        text: "# 1 start: \"3 genmove white\": no move: the genmove failed
+1 genmove black
+2 play white C3
+3 genmove white
+# it wrote: \"?3 no\\n\\n\"
+# right: a colour may be written in full: black for b, and white for w
+
+",
+    },
+    // A reply is longer than what is read of one: a limit of ours.
+    Row {
+        head: (
+            5,
+            Lesson::Start,
+            Fault::Wrote(Kind::Overlong),
+            Ending::Running,
+        ),
+        commands: &[("list_commands", 16)],
+        answered: 0,
+        sent: b"1 list_commands\n",
+        wrote: b"=1 play\n",
+        is_positional: false,
+        text: "# 5 start: \"1 list_commands\": no end of a reply in 8192 bytes
+1 list_commands
+# it wrote: \"=1 play\\n\"
+# right: two newlines end a reply, within 8,192 bytes: twogtp and this check read no more, though the standard sets no limit
 
 ",
     },

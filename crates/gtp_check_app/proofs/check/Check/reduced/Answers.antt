@@ -47,7 +47,8 @@ loop-best-init g c =
     ∙ ap (λ (all : List CheckCommand). begun all c.limits_of-limits.result) commands
     ∙ ap (λ (limits : Limits). begun (commands_of (wrong_talk (wrong_of longer))) limits)
     c.limits_of-limits.ensures
-    ∙ ap (λ (wrong : Wrong). begun (commands_of (wrong_talk wrong)) (limits_of plan wrong tried)) is in
+    ∙ ap (λ (wrong : Wrong). begun (commands_of (wrong_talk wrong))
+    (limits_of plan (wrong_of c.args.found.now) wrong tried)) is in
     record { reduces = rw begins Reduces.begins; engine = refl }
 
 pub returns-in_err-commands-2-clause-refused : goal.returns-in_err-commands-2-clause-refused

@@ -17,7 +17,8 @@ abbrev pub invariant-loop-best : goal.invariant-loop-best
 invariant-loop-best g l = record {
   reduces : Reduces g.S.Process.Process l.fn.plan (wrong_of l.fn.found)
       (begun (commands_of (wrong_talk (unwrap_or (games_of l.fn.games).ended (wrong_of l.fn.found))))
-      (limits_of l.fn.plan (unwrap_or (games_of l.fn.games).ended (wrong_of l.fn.found)) l.fn.games.tried))
+      (limits_of l.fn.plan (wrong_of l.fn.found) (unwrap_or (games_of l.fn.games).ended (wrong_of l.fn.found))
+      l.fn.games.tried))
       (moment (state_of l.fn.self) (g.S.Starter.asked l.fn.starter)) l.reduction (option_map wrong_of l.best)
       (moment (state_of l.self) (g.S.Starter.asked l.starter));
   engine : l.self.engine ≡ l.fn.self.engine;

@@ -1,0 +1,66 @@
+-- What parts two scores of one start. (An engine may draw an estimate by chance, and keep it until komi or the board
+-- changes. Two scores that come out the same are compared with later ones, so hardly an estimate that was kept may come
+-- out twice.)
+use Rattle.std.specs.Prelude.{◌≡◌, ◌≢◌, ℕ, zero, suc, ◌<◌, ℤ, List, [], ◌∷◌, slice_get, Option, None, Some}
+use Rattle.go_base.specs.declared.moves.Move.{Move}
+use Rattle.go_board.specs.Game.{GameRecord}
+use Rattle.gtp_wire.specs.declared.commands.Command.TheVariants as command
+use Rattle.gtp_check_questions.specs.declared.actions.Question.{Question}
+use Rattle.gtp_check_questions.specs.declared.actions.Question.TheVariants as asked
+use Rattle.gtp_check_questions.specs.declared.boards.Board.{Board}
+use Rattle.gtp_check_questions.specs.declared.draws.Draws.{Draws}
+use Rattle.gtp_check_questions.specs.declared.lessons.Lesson.{Lesson}
+use Rattle.gtp_check_questions.specs.declared.stretches.Stretch.{Stretch}
+use Rattle.gtp_check_questions.specs.declared.stretches.Stretch.TheVariants as stretch
+use Rattle.gtp_check_questions.specs.Boards.{IsBoard}
+use Rattle.gtp_check_questions.specs.Lessons.{parts_of, stretches_of}
+use Rattle.gtp_check_questions.specs.Questions.{IsQuestion, asks}
+use Rattle.gtp_check_questions.specs.Stretches.{steps_of}
+
+-- the komi that is asked for after a stretch, where it was this one before
+abbrev pub komi_after : Board → Option ℤ → Stretch → Option ℤ
+komi_after board now stretch.Komi = Some board.komi
+komi_after board now stretch.OtherKomi = Some board.other_komi
+komi_after board now stretch.Inexact = Some board.inexact_komi
+komi_after board now other = now
+
+-- the komi that was asked for last where the stretch of this number comes, if one was, and where this one was before
+abbrev pub komi_at : Board → Option ℤ → List Stretch → ℕ → Option ℤ
+komi_at board now stretches zero = now
+komi_at board now [] (suc number) = now
+komi_at board now (first ∷ later) (suc number) = komi_at board (komi_after board now first) later number
+
+-- whatever is drawn, and whatever the game is: the first step of the stretch asks for a move to be made
+pub record AsksForPlay (now : Stretch) (board : Board) : Type 0 where
+  pub some : 0 < steps_of now
+  pub plays : (draws : Draws) (game : GameRecord) (question : Question)
+      → IsQuestion now (record { number = 0; draws = draws }) board game question
+      → (move : Move) × (question ≡ asks (command.Play move))
+
+-- The stretch parts a score with this komi from later ones: the engine is started anew; or it is asked to make a move;
+-- or it is asked to take another komi.
+pub data Parts (board : Board) (komi : Option ℤ) : Stretch → Type 0 where
+  restarts : Parts board komi stretch.Restart
+  kills : Parts board komi stretch.Kill
+  plays : {now : Stretch} → AsksForPlay now board → Parts board komi now
+  takes : {now : Stretch} {old other : ℤ} → komi ≡ Some old → old ≢ other
+      → ((draws : Draws) (game : GameRecord)
+      → IsQuestion now (record { number = 0; draws = draws }) board game (asks (command.Komi other)))
+      → Parts board komi now
+
+-- between these two stretches comes one that parts the score of the first from that of the later one
+pub record AreParted (board : Board) (komi : Option ℤ) (stretches : List Stretch) (first later : ℕ) : Type 0 where
+  pub place : ℕ
+  pub after : first < place
+  pub before : place < later
+  pub parting : Stretch
+  pub has : slice_get stretches place ≡ Some parting
+  pub parts : Parts board (komi_at board komi stretches first) parting
+
+-- Any two stretches of a part that ask for a score are parted.
+abbrev pub ScoresAreParted : Type 0
+ScoresAreParted = (lesson : Lesson) (part : ℕ) (known : Option ℕ) (board : Board) → part < parts_of lesson
+    → IsBoard lesson part known board → (first later : ℕ) → first < later
+    → slice_get (stretches_of lesson part) first ≡ Some stretch.Score
+    → slice_get (stretches_of lesson part) later ≡ Some stretch.Score
+    → AreParted board None (stretches_of lesson part) first later
