@@ -1,5 +1,5 @@
 -- Where nothing was found, each lesson that is noted had a turn in which a move of it was answered rightly.
-use Rattle.std.proofs.Common.{◌≡◌, ◌∙◌, ◌⊎◌, ◌+◌, refl, ap, sym, arith, Bool, true, List, ℕ, inl, inr, Option, None, Some}
+use Rattle.std.proofs.Common.{◌≡◌, ◌∙◌, ◌⊎◌, ◌+◌, refl, ap, sym, Bool, true, List, ℕ, inl, inr, Option, None}
 use Rattle.gtp_process.specs.declared.starter.Process.{Ghosts}
 use Rattle.gtp_process.specs.Starts.{Attempts}
 use Rattle.gtp_check_questions.specs.declared.lessons.Lesson.{Lesson}
@@ -32,8 +32,8 @@ module _ {P : Type 0} (known : Ghosts P) (laws : Laws known) (noted : MovesAreNo
     asked_noted first (Asks.passes course more next) = asked_noted first more
     asked_noted first (Asks.asks {mid = mid} command course more next free asked) =
         ap (λ (s : State P). s.notes.answered) asked.leads
-        ∙ noted.asked _ mid.check.exam (dialogue asked.engine mid.notes) command asked.exam
-        (dialogue asked.now asked.notes) asked.asked
+        ∙ noted.asked _ (dialogue asked.engine mid.check.exam mid.notes) command
+        (dialogue asked.now asked.exam asked.notes) asked.asked
         ∙ asked_noted first more
 
     heard_noted : (before : State P) (has : Attempts P) (fault : Option Fault) (after : State P) (lesson : Lesson)
@@ -43,8 +43,8 @@ module _ {P : Type 0} (known : Ghosts P) (laws : Laws known) (noted : MovesAreNo
         ⊎ ((fault ≡ None) × IsMoveAnswered lesson heard.engine.talk.items before.check.exam heard.exam)
     heard_noted before has fault after lesson sound heard among =
         let held = sound.engine heard.engine heard.had in
-        noted.heard plan.rule held.process held.first before.check.exam (dialogue heard.engine before.notes) fault
-        heard.exam (dialogue heard.heard heard.notes) lesson held.ends heard.exchanged
+        noted.heard plan.rule held.process held.first (dialogue heard.engine before.check.exam before.notes) fault
+        (dialogue heard.heard heard.exam heard.notes) lesson held.ends heard.exchanged
         (same_noted after.notes heard.notes lesson (ap (λ (s : State P). s.notes.answered) heard.leads) among)
 
     first_noted : (before : State P) (is_wrong : Bool) {after : State P} {line : List (List ℕ)}
@@ -73,7 +73,8 @@ module _ {P : Type 0} (known : Ghosts P) (laws : Laws known) (noted : MovesAreNo
         → IsSound known laws plan None before → (turn : Turn known plan before after texts shows)
         → after.state.tally.complaints ≡ 0 → is_among after.state.notes.answered.items lesson ≡ true
         → (is_among before.state.notes.answered.items lesson ≡ true) ⊎ IsAnsweredIn lesson turn
-    turn_noted before lesson sound (Turn.starts {mid = mid} process steps next fruitful may tries quits fresh) none among =
+    turn_noted before lesson sound (Turn.starts {mid = mid} process steps next fruitful may tries quits fresh) none
+        among =
         inl (same_noted mid.notes before.state.notes lesson (asked_noted before.state steps) among)
     turn_noted before lesson sound (Turn.restarts {mid = mid} steps next quits) none among =
         inl (same_noted mid.notes before.state.notes lesson (asked_noted before.state steps) among)
@@ -87,7 +88,8 @@ module _ {P : Type 0} (known : Ghosts P) (laws : Laws known) (noted : MovesAreNo
         (first_noted mid (is_blamed plan.suicide fault) first) at_next in
         elim (heard_noted heard.mid before.asked fault mid lesson
         (asked_sound known laws plan before.state before.asked sound heard.asks) heard.heard at_mid) [
-          | inl was ↦ inl (same_noted heard.mid.notes before.state.notes lesson (asked_noted before.state heard.asks) was)
+          | inl was ↦ inl (same_noted heard.mid.notes before.state.notes lesson (asked_noted before.state heard.asks)
+              was)
           | inr now ↦ inr now
         ]
 

@@ -1,42 +1,38 @@
 -- For one complaint few engines are started.
 use Rattle.std.proofs.Common.{◌≡◌, ◌+◌, ◌-◌, ◌≤◌, ◌<◌, ◌&&◌, ap, arith, refl, ℕ, Bool, true, false}
-use Rattle.std.proofs.Common.{List, [], ◌∷◌, length, Option, None, Some, not}
+use Rattle.std.proofs.Common.{List, length, Option, None, Some, not}
 use Rattle.std.specs.Prelude.{if◌then◌else◌, nat_le, nat_lt, unwrap_or}
 use Rattle.std.proofs.lemmas.Bool.{ltb-true}
 use Rattle.std.proofs.lemmas.List.{length-take}
 use Rattle.gtp_process.specs.declared.starter.Process.{Ghosts}
-use Rattle.gtp_process.specs.Starts.{Attempts, Text}
 use Rattle.gtp_check_judge.specs.declared.asking.CheckCommand.{CheckCommand}
-use Rattle.gtp_check_judge.specs.Check.{Check}
 use Rattle.gtp_check_shortening.specs.declared.flat.Shortening.{Shortening}
-use Rattle.gtp_check_shortening.specs.declared.talk.Purpose.{Purpose}
 use Rattle.gtp_check_shortening.specs.Reduction.{Reduction, candidate, is_minimal, next}
 use Rattle.gtp_check_shortening.specs.Shortening.{shortenings}
-use Rattle.gtp_check_talks.specs.declared.notes.Notes.{Notes}
 use Rattle.gtp_check_talks.specs.Dialogues.{IsTrial, Wrong, wrong_talk}
 use Rattle.gtp_check_texts.specs.declared.fault.Fault.{Fault}
 use Rattle.gtp_check_plan.specs.declared.plan.Plan.{Plan}
 use Rattle.gtp_check_app.specs.Trials.{LastGames, few_commands, limits_of, those_for}
+use Rattle.gtp_check_talks.specs.Dialogues.{Standing, Trial}
+use Rattle.gtp_check_app.specs.Turns.{standing_in}
 use Rattle.gtp_check_app.specs.Turns.{Complains, IsReduced, IsShortened, IsTried, Moment, Reduces, Shortens, State}
 use Rattle.gtp_check_app.specs.Turns.{TriesOne}
 
 module _ {P : Type 0} (known : Ghosts P) where
   -- a trial is one start at most
-  trial_starts : (line : List Text) (purpose : Purpose) (commands : List CheckCommand) (old : Check)
-      (had : Attempts P) (first : Notes) {result : Option Wrong} {new : Check} {has : Attempts P} {notes : Notes}
-      → IsTrial known line purpose commands old had first result new has notes → new.starts ≤ old.starts + 1
-  trial_starts line purpose commands old had first (IsTrial.unstarted reason tries) = omega arith
-  trial_starts line purpose commands old had first (IsTrial.right process ending tries converses asks left) =
+  trial_starts : (tries : Trial) (before : Standing P) {result : Option Wrong} {after : Standing P}
+      → IsTrial known tries before result after → after.check.starts ≤ before.check.starts + 1
+  trial_starts tries before (IsTrial.unstarted reason never) = omega arith
+  trial_starts tries before (IsTrial.right process ending started converses asks left) =
       omega arith
-  trial_starts line purpose commands old had first (IsTrial.wrong process ending fault tries ends asks left) =
+  trial_starts tries before (IsTrial.wrong process ending fault started ends asks left) =
       omega arith
 
   module _ (plan : Plan) (found : Wrong) where
     tried_starts : (commands : List CheckCommand) (before : Moment P) {result : Option Wrong} {after : Moment P}
         → IsTried known plan found commands before result after
         → after.state.check.starts ≤ before.state.check.starts + 1
-    tried_starts commands before (IsTried.by_trial trial) =
-        trial_starts _ _ commands before.state.check before.asked before.state.notes trial
+    tried_starts commands before (IsTried.by_trial held) = trial_starts _ (standing_in before) held
 
     one_starts : (commands : List CheckCommand) (before : Moment P) {result : Option Wrong} {after : Moment P}
         → TriesOne known plan found commands before result after

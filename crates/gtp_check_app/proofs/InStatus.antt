@@ -18,7 +18,8 @@ use Rattle.gtp_check_app.specs.declared.tally.Tally.{Tally}
 use Rattle.gtp_check_app.specs.Checks.{AsksForList, HasRun, IsHeld}
 use Rattle.gtp_check_app.specs.Laws.{APassIsEarned, IsPass}
 use Rattle.gtp_check_plan.specs.Options.{AsksForText}
-use Rattle.gtp_check_app.specs.RunLaws.{AsksForCheck, HasAnswered, HasComplained, HasNotPassed, HasPassed, HasTurn, IsOverAt}
+use Rattle.gtp_check_app.specs.RunLaws.{AsksForCheck, HasAnswered, HasComplained, HasNotPassed, HasPassed, HasTurn}
+use Rattle.gtp_check_app.specs.RunLaws.{IsOverAt}
 use Rattle.gtp_check_app.specs.RunLaws.{StatusesSay, complaints_in, fault_in}
 use Rattle.gtp_check_app.specs.Sequence.{Beginning, Known, Point, Turns, TurnsAreOver, beginning, first_point}
 use Rattle.gtp_check_app.specs.Status.{not_earned, something_found}

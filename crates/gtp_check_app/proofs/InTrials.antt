@@ -3,13 +3,10 @@ use Rattle.std.proofs.Common.{◌≡◌, ◌∙◌, ◌≤◌, arith, refl, subs
 use Rattle.go_board.specs.declared.rules.KoRule.{KoRule}
 use Rattle.gtp_process.specs.declared.starter.Ending.{Ending}
 use Rattle.gtp_process.specs.declared.starter.Process.{Ghosts}
-use Rattle.gtp_process.specs.Starts.{Attempts, Text}
 use Rattle.gtp_check_judge.specs.declared.asking.CheckCommand.{CheckCommand}
-use Rattle.gtp_check_judge.specs.declared.exam.Exam.{Exam}
-use Rattle.gtp_check_judge.specs.Check.{Check, started}
+use Rattle.gtp_check_judge.specs.Check.{started}
 use Rattle.gtp_check_judge.specs.Exam.{begun}
 use Rattle.gtp_check_shortening.specs.declared.flat.Shortening.{Shortening}
-use Rattle.gtp_check_shortening.specs.declared.talk.Purpose.{Purpose}
 use Rattle.gtp_check_shortening.specs.Reduction.{Reduction}
 use Rattle.gtp_check_texts.specs.declared.fault.Fault.{Fault}
 use Rattle.gtp_check_texts.specs.declared.fault.Fault.TheVariants.{CutOff, Wrote}
@@ -19,6 +16,8 @@ use Rattle.gtp_check_talks.specs.Laws.{ComplaintsAreJustified, KoRulesStay, Loss
 use Rattle.gtp_check_talks.specs.Laws.{RightAnswersEndStartsInVain, SilenceSaysAllIsRight}
 use Rattle.gtp_check_plan.specs.declared.plan.Plan.{Plan}
 use Rattle.gtp_check_app.specs.RunLaws.{IsGrounded, IsShownBy}
+use Rattle.gtp_check_talks.specs.Dialogues.{Standing, Trial}
+use Rattle.gtp_check_app.specs.Turns.{standing_in}
 use Rattle.gtp_check_app.specs.Turns.{IsReduced, IsShortened, IsTried, Moment, Reduces, Shortens, State, TriesOne}
 use Rattle.gtp_check_app.specs.Trials.{LastGames, or_else}
 
@@ -71,79 +70,73 @@ module _ {P : Type 0} (known : Ghosts P) where
 module _ {P : Type 0} (known : Ghosts P) (laws : Laws known) where
   -- ---- what a conversation shows that ended with something wrong
 
-  shown_by : (rule : KoRule) (process : P) (first : Notes) (fault : Fault) (exam : Exam) (end : Dialogue P)
-      → EndsWrong known (begun rule true) (begun_with process first) fault exam end
-      → IsShownBy known rule process fault exam end
-  shown_by rule process first (Wrote kind) exam end ends =
-      IsShownBy.wrongly (laws.just rule process first kind exam end ends)
-  shown_by rule process first (CutOff cause) exam end ends =
-      IsShownBy.lost (laws.lost rule process first cause exam end ends)
+  shown_by : (rule : KoRule) (process : P) (first : Notes) (fault : Fault) (end : Dialogue P)
+      → EndsWrong known (begun_with (begun rule true) process first) fault end
+      → IsShownBy known rule process fault end
+  shown_by rule process first (Wrote kind) end ends =
+      IsShownBy.wrongly (laws.just rule process first kind end ends)
+  shown_by rule process first (CutOff cause) end ends =
+      IsShownBy.lost (laws.lost rule process first cause end ends)
 
-  pub grounded_by : (rule : KoRule) (process : P) (first : Notes) (fault : Fault) (exam : Exam) (end : Dialogue P)
-      (ending : Ending) → EndsWrong known (begun rule true) (begun_with process first) fault exam end
-      → known.leaves end.process ending → IsGrounded known rule (wrong_with fault exam end ending)
-  grounded_by rule process first fault exam end ending ends left = record {
+  pub grounded_by : (rule : KoRule) (process : P) (first : Notes) (fault : Fault) (end : Dialogue P)
+      (ending : Ending) → EndsWrong known (begun_with (begun rule true) process first) fault end
+      → known.leaves end.process ending → IsGrounded known rule (wrong_with fault end ending)
+  grounded_by rule process first fault end ending ends left = record {
     process = process;
-    exam = exam;
     end = end;
     ending = ending;
     is = refl;
     left = left;
-    shown = shown_by rule process first fault exam end ends;
+    shown = shown_by rule process first fault end ends;
   }
 
   -- ---- one trial
 
-  trial_rule : (line : List Text) (purpose : Purpose) (commands : List CheckCommand) (old : Check)
-      (had : Attempts P) (first : Notes) {result : Option Wrong} {new : Check} {has : Attempts P} {notes : Notes}
-      → IsTrial known line purpose commands old had first result new has notes
-      → new.exam.game.rule ≡ old.exam.game.rule
-  trial_rule line purpose commands old had first (IsTrial.unstarted reason tries) = refl
-  trial_rule line purpose commands old had first
-      (IsTrial.right {exam = exam} {engine = engine} process ending tries converses asks left) =
-      laws.stays (started old).exam exam (begun_with process first) engine None converses
-  trial_rule line purpose commands old had first
-      (IsTrial.wrong {exam = exam} {engine = engine} process ending fault tries ends asks left) =
-      laws.stays (started old).exam exam (begun_with process first) engine (Some fault) ends
+  trial_rule : (tries : Trial) (before : Standing P) {result : Option Wrong} {after : Standing P}
+      → IsTrial known tries before result after → after.check.exam.game.rule ≡ before.check.exam.game.rule
+  trial_rule tries before (IsTrial.unstarted reason never) = refl
+  trial_rule tries before
+      (IsTrial.right {engine = engine} process ending started_so converses asks left) =
+      laws.stays (begun_with (started before.check).exam process before.notes) engine None converses
+  trial_rule tries before
+      (IsTrial.wrong {engine = engine} process ending fault started_so ends asks left) =
+      laws.stays (begun_with (started before.check).exam process before.notes) engine (Some fault) ends
 
-  trial_less : (line : List Text) (purpose : Purpose) (commands : List CheckCommand) (old : Check)
-      (had : Attempts P) (first : Notes) {result : Option Wrong} {new : Check} {has : Attempts P} {notes : Notes}
-      → IsTrial known line purpose commands old had first result new has notes → notes.fruitless ≤ first.fruitless
-  trial_less line purpose commands old had first (IsTrial.unstarted reason tries) = omega arith
-  trial_less line purpose commands old had first
-      (IsTrial.right {exam = exam} {engine = engine} process ending tries converses asks left) =
-      laws.vain.talked old.exam.game.rule process first None exam engine converses
-  trial_less line purpose commands old had first
-      (IsTrial.wrong {exam = exam} {engine = engine} process ending fault tries ends asks left) =
-      laws.vain.talked old.exam.game.rule process first (Some fault) exam engine ends
+  trial_less : (tries : Trial) (before : Standing P) {result : Option Wrong} {after : Standing P}
+      → IsTrial known tries before result after → after.notes.fruitless ≤ before.notes.fruitless
+  trial_less tries before (IsTrial.unstarted reason never) = omega arith
+  trial_less tries before
+      (IsTrial.right {engine = engine} process ending started_so converses asks left) =
+      laws.vain.talked before.check.exam.game.rule process before.notes None engine converses
+  trial_less tries before
+      (IsTrial.wrong {engine = engine} process ending fault started_so ends asks left) =
+      laws.vain.talked before.check.exam.game.rule process before.notes (Some fault) engine ends
 
-  trial_grounded : (rule : KoRule) (line : List Text) (purpose : Purpose) (commands : List CheckCommand)
-      (old : Check) (had : Attempts P) (first : Notes) {result : Option Wrong} {new : Check} {has : Attempts P}
-      {notes : Notes} → old.exam.game.rule ≡ rule
-      → IsTrial known line purpose commands old had first result new has notes
+  trial_grounded : (rule : KoRule) (tries : Trial) (before : Standing P) {result : Option Wrong} {after : Standing P}
+      → before.check.exam.game.rule ≡ rule → IsTrial known tries before result after
       → (tried : Wrong) → result ≡ Some tried → IsGrounded known rule tried
-  trial_grounded rule line purpose commands old had first same (IsTrial.unstarted reason tries) tried is =
+  trial_grounded rule tries before same (IsTrial.unstarted reason never) tried is =
       absurd (cc is)
-  trial_grounded rule line purpose commands old had first same
-      (IsTrial.right process ending tries converses asks left) tried is = absurd (cc is)
-  trial_grounded rule line purpose commands old had first same
-      (IsTrial.wrong {exam = exam} {engine = engine} process ending fault tries ends asks left) tried is =
+  trial_grounded rule tries before same
+      (IsTrial.right process ending started_so converses asks left) tried is = absurd (cc is)
+  trial_grounded rule tries before same
+      (IsTrial.wrong {engine = engine} process ending fault started_so ends asks left) tried is =
       subst (IsGrounded known rule) (one_there is)
-      (subst (λ (r : KoRule). IsGrounded known r (wrong_with fault exam engine ending)) same
-      (grounded_by old.exam.game.rule process first fault exam engine ending ends left))
+      (subst (λ (r : KoRule). IsGrounded known r (wrong_with fault engine ending)) same
+      (grounded_by before.check.exam.game.rule process before.notes fault engine ending ends left))
 
   module _ (plan : Plan) (found : Wrong) (rule : KoRule) where
     tried_comes : (commands : List CheckCommand) (before : Moment P) (result : Option Wrong) (after : Moment P)
         → before.state.check.exam.game.rule ≡ rule → IsTried known plan found commands before result after
         → Comes known rule before.state result after.state
-    tried_comes commands before result after same (IsTried.by_trial trial) = record {
+    tried_comes commands before result after same (IsTried.by_trial held) = record {
       stays = record {
         tally = refl;
         engine = refl;
-        rule = trial_rule _ _ commands before.state.check before.asked before.state.notes trial;
-        fruitless = trial_less _ _ commands before.state.check before.asked before.state.notes trial;
+        rule = trial_rule _ (standing_in before) held;
+        fruitless = trial_less _ (standing_in before) held;
       };
-      grounded = trial_grounded rule _ _ commands before.state.check before.asked before.state.notes same trial;
+      grounded = trial_grounded rule _ (standing_in before) same held;
     }
 
     one_comes : (commands : List CheckCommand) (before : Moment P) → before.state.check.exam.game.rule ≡ rule

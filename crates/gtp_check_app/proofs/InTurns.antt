@@ -56,14 +56,14 @@ module _ {P : Type 0} (known : Ghosts P) (laws : Laws known) (plan : Plan) where
   -- an engine is held with, and something came of it
   engine_after : (before : State P) (has : Attempts P) (fault : Option Fault) (old : Engine P) (exam : Exam)
       (now : Engine P) (notes : Notes) (held : IsHeldWith known plan None (moment before has) old)
-      → EndsSo known (begun plan.rule true) (begun_with held.process held.first) fault exam (dialogue now notes)
+      → EndsSo known (begun_with (begun plan.rule true) held.process held.first) fault (dialogue now exam notes)
       → (after : State P)
       → after ≡ record before { check = with_exam before.check exam; engine = Some now; notes = notes }
       → IsSound fault (moment after has)
   engine_after before has fault old exam now notes held ends after leads =
       subst (λ (s : State P). IsSound fault (moment s has)) (sym leads)
       (record {
-        rule = laws.stays (begun plan.rule true) exam (begun_with held.process held.first) (dialogue now notes) fault
+        rule = laws.stays (begun_with (begun plan.rule true) held.process held.first) (dialogue now exam notes) fault
             ends;
         engine = λ one is.
             subst
@@ -93,21 +93,22 @@ module _ {P : Type 0} (known : Ghosts P) (laws : Laws known) (plan : Plan) where
 
   -- ---- an exchange
 
-  exchange_ends : (first exam : Exam) (start before after : Dialogue P) (fault : Option Fault) (new : Exam)
-      → Converses known first start exam before → IsExchanged known exam before fault new after
-      → EndsSo known first start fault new after
-  exchange_ends first exam start before after None new converses exchanged =
+  exchange_ends : (start before after : Dialogue P) (fault : Option Fault)
+      → Converses known start before → IsExchanged known before fault after
+      → EndsSo known start fault after
+  exchange_ends start before after None converses exchanged =
       Converses.exchanges converses exchanged
-  exchange_ends first exam start before after (Some fault) new converses exchanged =
-      record { old = exam; before = before; converses = converses; exchanged = exchanged }
+  exchange_ends start before after (Some fault) converses exchanged =
+      record { before = before; converses = converses; exchanged = exchanged }
 
   heard_sound : (before : State P) (has : Attempts P) (fault : Option Fault) (after : State P)
       → IsSound None (moment before has) → IsHeardOut known before fault after → IsSound fault (moment after has)
   heard_sound before has fault after sound heard =
       let held = sound.engine heard.engine heard.had in
       engine_after before has fault heard.engine heard.exam heard.heard heard.notes held
-      (exchange_ends (begun plan.rule true) before.check.exam (begun_with held.process held.first)
-      (dialogue heard.engine before.notes) (dialogue heard.heard heard.notes) fault heard.exam held.ends
+      (exchange_ends (begun_with (begun plan.rule true) held.process held.first)
+      (dialogue heard.engine before.check.exam before.notes) (dialogue heard.heard heard.exam heard.notes) fault
+      held.ends
       heard.exchanged)
       after heard.leads
 
@@ -148,8 +149,8 @@ module _ {P : Type 0} (known : Ghosts P) (laws : Laws known) (plan : Plan) where
   closed_grounded fault before wrong mid sound closes =
       let held = sound.engine closes.engine closes.had in
       subst (IsGrounded known plan.rule) (sym closes.is)
-      (grounded_by known laws plan.rule held.process held.first fault before.state.check.exam
-      (dialogue closes.engine before.state.notes) closes.ending held.ends closes.ended)
+      (grounded_by known laws plan.rule held.process held.first fault
+      (dialogue closes.engine before.state.check.exam before.state.notes) closes.ending held.ends closes.ended)
 
   -- the one that is shown has its ground
   of_shown : (wrong : Wrong) (shorter : Option Wrong) → IsGrounded known plan.rule wrong
@@ -203,18 +204,18 @@ module _ {P : Type 0} (known : Ghosts P) (laws : Laws known) (plan : Plan) where
 
   -- a conversation that begins under this ko rule
   fresh_converses : (rule other : KoRule) → other ≡ rule → (process : P) (notes : Notes) (now : Dialogue P)
-      → now ≡ begun_with process notes
-      → Converses known (begun rule true) (begun_with process notes) (begun other true) now
+      → now ≡ begun_with (begun other true) process notes
+      → Converses known (begun_with (begun rule true) process notes) now
   fresh_converses rule other same process notes now is =
       subst
-      (λ (d : Dialogue P). Converses known (begun rule true) (begun_with process notes) (begun other true) d) (sym is)
+      (Converses known (begun_with (begun rule true) process notes)) (sym is)
       (subst (λ (r : KoRule).
-      Converses known (begun rule true) (begun_with process notes) (begun r true) (begun_with process notes))
+      Converses known (begun_with (begun rule true) process notes) (begun_with (begun r true) process notes))
       (sym same) Converses.begins)
 
   begun_sound : (mid : State P) (had has : Attempts P) (course : Course) (engine : Engine P) (process : P)
       → IsSound None (moment mid had) → Tries had has (program_line plan.words.items) (Ok process)
-      → ((notes : Notes) → dialogue engine notes ≡ begun_with process notes)
+      → ((exam : Exam) (notes : Notes) → dialogue engine exam notes ≡ begun_with exam process notes)
       → IsSound None (moment
       (state (started mid.check) course (Some engine) (started_again mid.tally) (noted_start mid.notes)) has)
   begun_sound mid had has course engine process sound tries fresh = record {
@@ -230,7 +231,8 @@ module _ {P : Type 0} (known : Ghosts P) (laws : Laws known) (plan : Plan) where
           started = tries;
           first = noted_start mid.notes;
           ends = fresh_converses plan.rule mid.check.exam.game.rule sound.rule process (noted_start mid.notes)
-              (dialogue engine (noted_start mid.notes)) (fresh (noted_start mid.notes));
+              (dialogue engine (started mid.check).exam (noted_start mid.notes))
+              (fresh (started mid.check).exam (noted_start mid.notes));
         });
   }
 
@@ -279,7 +281,7 @@ module _ {P : Type 0} (known : Ghosts P) (laws : Laws known) (plan : Plan) where
       → now.state.check.exam.up ≡ true
   is_up now engine sound there =
       let held = sound.engine engine there in
-      (laws.silent plan.rule held.process held.first now.state.check.exam (dialogue engine now.state.notes)
+      (laws.silent plan.rule held.process held.first (dialogue engine now.state.check.exam now.state.notes)
       held.ends).up
 
   pub turn_ends : (before : Moment P) {after : Moment P} {texts shows : List (List ℕ)} → IsSound None before

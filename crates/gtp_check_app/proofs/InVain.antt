@@ -29,8 +29,8 @@ module _ {P : Type 0} (known : Ghosts P) (laws : Laws known) (plan : Plan) where
   asked_keeps first (Asks.passes course more next) = asked_keeps first more
   asked_keeps first (Asks.asks {mid = mid} command course more next free asked) =
       ap (λ (s : State P). s.notes.fruitless) asked.leads
-      ∙ laws.vain.asked _ mid.check.exam (dialogue asked.engine mid.notes) command asked.exam
-      (dialogue asked.now asked.notes) asked.asked
+      ∙ laws.vain.asked _ (dialogue asked.engine mid.check.exam mid.notes) command
+      (dialogue asked.now asked.exam asked.notes) asked.asked
       ∙ asked_keeps first more
 
   -- ---- an exchange
@@ -40,8 +40,9 @@ module _ {P : Type 0} (known : Ghosts P) (laws : Laws known) (plan : Plan) where
       → after.notes.fruitless ≤ before.notes.fruitless
   heard_less before has fault after sound heard =
       let up = is_up known laws plan (moment before has) heard.engine sound heard.had in
-      let less : heard.notes.fruitless ≤ before.notes.fruitless = laws.vain.heard before.check.exam
-      (dialogue heard.engine before.notes) fault heard.exam (dialogue heard.heard heard.notes) up heard.exchanged in
+      let less : heard.notes.fruitless ≤ before.notes.fruitless = laws.vain.heard
+      (dialogue heard.engine before.check.exam before.notes) fault (dialogue heard.heard heard.exam heard.notes) up
+      heard.exchanged in
       let is : after.notes.fruitless ≡ heard.notes.fruitless = ap (λ (s : State P). s.notes.fruitless) heard.leads in
       omega (arith, less, is)
 
@@ -53,8 +54,8 @@ module _ {P : Type 0} (known : Ghosts P) (laws : Laws known) (plan : Plan) where
       let count : length after.check.exam.unanswered ≡ length heard.exam.unanswered =
       ap (λ (s : State P). length s.check.exam.unanswered) heard.leads in
       ap (λ (s : State P). s.notes.fruitless) heard.leads
-      ∙ laws.vain.answered before.check.exam (dialogue heard.engine before.notes) heard.exam
-      (dialogue heard.heard heard.notes) up heard.exchanged (omega (arith, fewer, count))
+      ∙ laws.vain.answered (dialogue heard.engine before.check.exam before.notes)
+      (dialogue heard.heard heard.exam heard.notes) up heard.exchanged (omega (arith, fewer, count))
 
   heard_vain : (before : State P) (has : Attempts P) (fault : Option Fault) (after : State P) (count : ℕ)
       → IsSound known laws plan None (moment before has) → IsHeardOut known before fault after

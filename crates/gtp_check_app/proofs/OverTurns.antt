@@ -44,8 +44,8 @@ module _ {P O E : Type 0} (known : Known P O E) (laws : Laws known.processes) wh
         let held = (sound_at begins now comes).engine engine there in
         record {
           held = held;
-          right = laws.silent begins.plan.rule held.process held.first now.now.state.check.exam
-              (dialogue engine now.now.state.notes) held.ends;
+          right = laws.silent begins.plan.rule held.process held.first
+              (dialogue engine now.now.state.check.exam now.now.state.notes) held.ends;
         };
   }
 

@@ -3,7 +3,6 @@ use Rattle.std.proofs.Common.{◌≡◌, ◌++◌, ◌∷◌, ◌-◌, ℕ, zero
 use Rattle.std.proofs.Common.{length, slice_get, take}
 use Rattle.std.specs.Prelude.{codes}
 use Rattle.byte_streams.specs.declared.calls.WriteOnce.{Ghosts as WriterGhosts}
-use Rattle.gtp_check_judge.specs.Check.{Check}
 use Rattle.gtp_check_questions.specs.declared.lessons.Lesson.{Lesson}
 use Rattle.gtp_check_shortening.specs.declared.talk.Said.{Said}
 use Rattle.gtp_check_talks.specs.Dialogues.{Dialogue}
@@ -42,17 +41,17 @@ cut_twice (suc n) (x ∷ text) = ap (λ (t : List ℕ). x ∷ t) (cut_twice n te
 pub placed_cut : (text : List ℕ) → in_place (take most_columns text) ≡ in_place text
 placed_cut text = ap (λ (t : List ℕ). 13 ∷ t ++ 27 ∷ codes "[K") (cut_twice 79 text)
 
-module _ {P : Type 0} (lessons : List Lesson) (check : Check) (engine : Dialogue P) where
-  pub waits_not : is_read_next engine check.exam ≡ false → before_read lessons check engine ≡ []
+module _ {P : Type 0} (lessons : List Lesson) (starts : ℕ) (engine : Dialogue P) where
+  pub waits_not : is_read_next engine ≡ false → before_read lessons starts engine ≡ []
   waits_not is = rw is refl
 
-  pub waits_for_none : is_read_next engine check.exam ≡ true
-      → slice_get engine.talk (length engine.talk - length check.exam.unanswered) ≡ None
-      → before_read lessons check engine ≡ []
+  pub waits_for_none : is_read_next engine ≡ true
+      → slice_get engine.talk (length engine.talk - length engine.exam.unanswered) ≡ None
+      → before_read lessons starts engine ≡ []
   waits_for_none is lacks = rw (is, lacks) refl
 
-  pub waits_for : (said : Said) → is_read_next engine check.exam ≡ true
-      → slice_get engine.talk (length engine.talk - length check.exam.unanswered) ≡ Some said
-      → before_read lessons check engine
-      ≡ waiting_for lessons engine (length engine.talk - length check.exam.unanswered) check.starts (Some said)
+  pub waits_for : (said : Said) → is_read_next engine ≡ true
+      → slice_get engine.talk (length engine.talk - length engine.exam.unanswered) ≡ Some said
+      → before_read lessons starts engine
+      ≡ waiting_for lessons engine (length engine.talk - length engine.exam.unanswered) starts (Some said)
   waits_for said is has = rw (is, has) refl

@@ -4,14 +4,12 @@ use Rattle.std.specs.Prelude.{not, unwrap_or}
 use Rattle.byte_streams.specs.declared.calls.WriteOnce.{Ghosts as WriterGhosts}
 use Rattle.byte_streams.specs.Writing.{LinesGoOut, line_out, no_line}
 use Rattle.gtp_process.specs.declared.starter.Process.{Ghosts}
-use Rattle.gtp_process.specs.Starts.{Attempts, Text, program_line}
-use Rattle.gtp_check_judge.specs.Check.{Check}
+use Rattle.gtp_process.specs.Starts.{Attempts}
 use Rattle.gtp_check_texts.specs.declared.complaint.Complaint.{Complaint}
 use Rattle.gtp_check_texts.specs.declared.fault.Fault.{Fault}
 use Rattle.cli.specs.declared.failure.Failure.{Failure}
 use Rattle.gtp_check_shortening.specs.declared.flat.Shortening.{Shortening}
 use Rattle.gtp_check_judge.specs.declared.asking.CheckCommand.{CheckCommand}
-use Rattle.gtp_check_talks.specs.declared.notes.Notes.{Notes}
 use Rattle.gtp_check_plan.specs.declared.plan.Plan.{Plan}
 use Rattle.gtp_check_shortening.specs.declared.talk.Purpose.{Purpose}
 use Rattle.gtp_check_app.specs.declared.tally.Tally.{Tally}
@@ -24,6 +22,8 @@ use Rattle.gtp_check_app.specs.Tally.{found, is_shown}
 use Rattle.gtp_check_app.specs.declared.streams.Streams.{Streams}
 use Rattle.gtp_check_app.specs.Sequence.{Known, Point, StopsIn, first_line_broke, no_memory_for_first_line}
 use Rattle.gtp_check_app.specs.Sequence.{complaint_broke as turn_complaint_broke, no_memory_to_complain, point}
+use Rattle.gtp_check_talks.specs.Dialogues.{Standing, Trial}
+use Rattle.gtp_check_app.specs.Turns.{standing_in}
 use Rattle.gtp_check_app.specs.Turns.{Closes, Complains, Exchanges, IsComplaint, IsReduced, IsShortened, IsTried}
 use Rattle.gtp_check_app.specs.Turns.{Moment, Reduces, Shortens, State, TriesOne, caption_of, found_in}
 use Rattle.gtp_check_app.specs.Turns.{hidden, missed, moment, none_left, process_of, shortened_so, shown, shown_of}
@@ -185,21 +185,19 @@ module _ {P O E : Type 0} (known : Known P O E) (plan : Plan) where
 
 -- ---- after a complaint the engine is down
 
-trial_down : {P : Type 0} (known : Ghosts P) (line : List Text) (purpose : Purpose) (commands : List CheckCommand)
-    (old : Check) (had : Attempts P) (first : Notes)
-    → {result : Option Wrong} {new : Check} {has : Attempts P} {notes : Notes}
-    → IsTrial known line purpose commands old had first result new has notes → old.exam.up ≡ false → new.exam.up ≡ false
-trial_down known line purpose commands old had first (unstarted reason tries) down = down
-trial_down known line purpose commands old had first (right process ending tries converses asks left) down = refl
-trial_down known line purpose commands old had first (wrong process ending fault tries ends asks left) down = refl
+trial_down : {P : Type 0} (known : Ghosts P) (tries : Trial) (before : Standing P)
+    → {result : Option Wrong} {after : Standing P} → IsTrial known tries before result after
+    → before.check.exam.up ≡ false → after.check.exam.up ≡ false
+trial_down known tries before (unstarted reason never) down = down
+trial_down known tries before (right process ending started converses asks left) down = refl
+trial_down known tries before (wrong process ending fault started ends asks left) down = refl
 
 tried_down : {P : Type 0} (known : Ghosts P) (plan : Plan) (about : Wrong) (commands : List CheckCommand)
     (before : Moment P) → {result : Option Wrong} {after : Moment P}
     → IsTried known plan about commands before result after
     → before.state.check.exam.up ≡ false → after.state.check.exam.up ≡ false
-tried_down known plan about commands before (IsTried.by_trial trial) down =
-    trial_down known (program_line plan.words.items) (wrong_purpose about) commands before.state.check before.asked
-    before.state.notes trial down
+tried_down known plan about commands before (IsTried.by_trial held) down =
+    trial_down known _ (standing_in before) held down
 
 one_down : {P : Type 0} (known : Ghosts P) (plan : Plan) (about : Wrong) (commands : List CheckCommand)
     (before : Moment P) → {result : Option Wrong} {after : Moment P}

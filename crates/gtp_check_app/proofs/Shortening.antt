@@ -1,5 +1,6 @@
 -- The starts that are asked for while shorter conversations are tried.
-use Rattle.std.proofs.Common.{◌≡◌, ◌∙◌, add-zero, ap, arith, refl, sym, subst, Option, None, Some, Err, Ok, [], ◌∷◌, ◌++◌, append_assoc}
+use Rattle.std.proofs.Common.{◌≡◌, ◌∙◌, add-zero, ap, arith, sym, subst, Option, None, Some, Err, Ok, [], ◌∷◌}
+use Rattle.std.proofs.Common.{◌++◌, append_assoc}
 use Rattle.std.proofs.Common.{ℕ, ◌+◌, ◌<◌, ◌≤◌, length, take, drop, get_or}
 use Rattle.std.proofs.lemmas.List.{append-nil, at_drop_more, length-append, length-take, take-append-drop, take_all}
 use Rattle.std.proofs.lemmas.List.{take_more}
@@ -7,17 +8,16 @@ use Rattle.std.specs.Prelude.{List}
 use Rattle.gtp_process.specs.declared.starter.Process.{Ghosts}
 use Rattle.gtp_process.specs.declared.starter.StartFault.TheVariants as start_fault
 use Rattle.gtp_process.specs.Starts.{Attempts, Text, program_line}
-use Rattle.gtp_check_judge.specs.Check.{Check}
 use Rattle.gtp_check_judge.specs.declared.asking.CheckCommand.{CheckCommand}
 use Rattle.gtp_check_shortening.specs.declared.flat.Shortening.{Shortening}
-use Rattle.gtp_check_talks.specs.declared.notes.Notes.{Notes}
 use Rattle.gtp_check_plan.specs.declared.plan.Plan.{Plan}
 use Rattle.gtp_check_talks.specs.Dialogues.{AsksForMore, IsTrial, Wrong, none, one_more, right, unstarted, wrong}
-use Rattle.gtp_check_talks.specs.Dialogues.{wrong_purpose, wrong_talk}
-use Rattle.gtp_check_shortening.specs.declared.talk.Purpose.{Purpose}
+use Rattle.gtp_check_talks.specs.Dialogues.{wrong_talk}
 use Rattle.gtp_check_shortening.specs.declared.talk.Said.{Said}
 use Rattle.gtp_check_shortening.specs.Shortening.{shortened}
 use Rattle.gtp_check_app.specs.Trials.{LastGames, shortenings_of}
+use Rattle.gtp_check_talks.specs.Dialogues.{Standing, Trial}
+use Rattle.gtp_check_app.specs.Turns.{standing_in}
 use Rattle.gtp_check_app.specs.Turns.{IsReduced, IsShortened, IsTried, Moment, Reduces, Shortens, TriesOne}
 use Rattle.gtp_check_app.specs.Turns.{missed, none_left}
 use Rattle.gtp_check_shortening.specs.Reduction.{Reduction}
@@ -31,24 +31,22 @@ then_more line had between one (one_more answer more tries) =
     one_more answer (then_more line had between one more) tries
 
 -- a trial asks for one
-trial_asks : {P : Type 0} (known : Ghosts P) (line : List Text) (purpose : Purpose) (commands : List CheckCommand)
-    (old : Check) (had : Attempts P) (first : Notes)
-    → {result : Option Wrong} {new : Check} {has : Attempts P} {notes : Notes}
-    → IsTrial known line purpose commands old had first result new has notes → AsksForMore line had has
-trial_asks known line purpose commands old had first (unstarted reason tries) =
-    one_more (Err (start_fault.NotStarted reason)) none tries
-trial_asks known line purpose commands old had first (right process ending tries converses asks left) =
-    one_more (Ok process) none tries
-trial_asks known line purpose commands old had first (wrong process ending fault tries ends asks left) =
-    one_more (Ok process) none tries
+trial_asks : {P : Type 0} (known : Ghosts P) (tries : Trial) (before : Standing P)
+    → {result : Option Wrong} {after : Standing P} → IsTrial known tries before result after
+    → AsksForMore tries.line before.asked after.asked
+trial_asks known tries before (unstarted reason never) =
+    one_more (Err (start_fault.NotStarted reason)) none never
+trial_asks known tries before (right process ending started converses asks left) =
+    one_more (Ok process) none started
+trial_asks known tries before (wrong process ending fault started ends asks left) =
+    one_more (Ok process) none started
 
 tried_asks : {P : Type 0} (known : Ghosts P) (plan : Plan) (found : Wrong) (commands : List CheckCommand)
     (before : Moment P) → {result : Option Wrong} {after : Moment P}
     → IsTried known plan found commands before result after
     → AsksForMore (program_line plan.words.items) before.asked after.asked
-tried_asks known plan found commands before (IsTried.by_trial trial) =
-    trial_asks known (program_line plan.words.items) (wrong_purpose found) commands before.state.check before.asked
-    before.state.notes trial
+tried_asks known plan found commands before (IsTried.by_trial held) =
+    trial_asks known _ (standing_in before) held
 
 pub one_asks : {P : Type 0} (known : Ghosts P) (plan : Plan) (found : Wrong) (commands : List CheckCommand)
     (before : Moment P) → {result : Option Wrong} {after : Moment P}

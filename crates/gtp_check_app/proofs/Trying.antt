@@ -1,6 +1,7 @@
 -- The shortenings that are tried are found one after the other.
-use Rattle.std.proofs.Common.{◌≡◌, ◌∙◌, ◌+◌, ◌<◌, ◌≤◌, ap, arith, refl, sym, cond, ℕ, Bool, true, false, List, [], ◌∷◌, ◌++◌}
-use Rattle.std.proofs.Common.{length, take, filter, get_or}
+use Rattle.std.proofs.Common.{◌≡◌, ◌∙◌, ◌+◌, ◌<◌, ◌≤◌, ap, arith, sym, cond, ℕ, Bool, true, false, List, [], ◌∷◌}
+use Rattle.std.proofs.Common.{◌++◌}
+use Rattle.std.proofs.Common.{length, take, get_or}
 use Rattle.std.proofs.lemmas.List.{append-nil, length-append, length-take, take-append-le, take_all}
 use Rattle.std.proofs.lemmas.List.Elements.{filter_more}
 use Rattle.gtp_check_shortening.specs.declared.flat.Shortening.{Shortening}
@@ -28,7 +29,8 @@ module _ (trials : ℕ) (talk : List Said) (all : List Shortening) (index : ℕ)
   full within is most =
       let count : length tried ≡ length (take trials before) = ap length is in
       let few : trials ≤ length before = omega (arith, count, length-take trials before) in
-      is ∙ sym (take-append-le trials before (of_one (is_for talk (get_or all index other)) (get_or all index other)) few)
+      is ∙ sym (take-append-le trials before (of_one (is_for talk (get_or all index other)) (get_or all index other))
+      few)
       ∙ ap (take trials) (sym (with_one within))
 
   -- one is passed over

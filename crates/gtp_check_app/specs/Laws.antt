@@ -1,19 +1,8 @@
 -- A pass is earned, and suicide isn't judged where it isn't asked. (Own.)
-use Rattle.std.specs.Prelude.{◌≡◌, ◌+◌, ◌≤◌, ◌<◌, ◌↔◌, ◌⊎◌, ℕ, true, All, List, [], ◌++◌, length, Option, Some, Result}
-use Rattle.std.specs.Io.KnownBytes.{Appends}
+use Rattle.std.specs.Prelude.{◌≡◌, ◌+◌, ◌≤◌, ◌<◌, ◌↔◌, ℕ, true, All, List, [], length, Option, Some}
 use Rattle.go_board.specs.declared.faults.PlayFault.TheVariants.{Suicide}
-use Rattle.go_board.specs.declared.rules.KoRule.{KoRule}
-use Rattle.gtp_wire.specs.declared.replies.Reply.{Reply}
-use Rattle.gtp_wire.specs.declared.replies.ReplyFault.{ReplyFault}
 use Rattle.gtp_process.specs.declared.starter.Process.{Ghosts}
-use Rattle.gtp_session.specs.Policy.{May}
-use Rattle.gtp_session.specs.Engine.{Engine, Engages, fresh_under}
-use Rattle.gtp_check_judge.specs.declared.exam.Exam.{Exam}
-use Rattle.gtp_check_judge.specs.declared.exam.Finding.{Finding}
-use Rattle.gtp_check_judge.specs.declared.judging.Kind.{Kind}
 use Rattle.gtp_check_judge.specs.declared.judging.Kind.TheVariants.{Unlawful}
-use Rattle.gtp_check_judge.specs.Exam.{Hears, begun}
-use Rattle.gtp_check_judge.specs.Laws.{Exchange, IsJustified, Talks}
 use Rattle.gtp_check_questions.specs.declared.suicides.Suicide.TheVariants.{Unasked}
 use Rattle.cli.specs.Status.{done}
 use Rattle.gtp_check_texts.specs.Complaints.{complaint_lines}
@@ -22,7 +11,6 @@ use Rattle.gtp_check_texts.specs.declared.fault.Fault.{Fault}
 use Rattle.gtp_check_texts.specs.declared.fault.Fault.TheVariants.{Wrote}
 use Rattle.gtp_check_plan.specs.declared.plan.Plan.{Plan}
 use Rattle.gtp_check_app.specs.Checks.{status_in}
-use Rattle.gtp_check_talks.specs.Dialogues.{Dialogue, EndsWrong, begun_with}
 use Rattle.gtp_check_talks.specs.Among.{is_among}
 use Rattle.gtp_check_talks.specs.Laws.{MovesAreNotedOnceAnswered}
 use Rattle.gtp_check_app.specs.Status.{not_earned, something_found}

@@ -8,8 +8,6 @@ use Rattle.std.specs.Option.{option_map_or}
 use Rattle.byte_streams.specs.declared.calls.WriteOnce.{Ghosts as WriterGhosts}
 use Rattle.byte_streams.specs.Writing.{IsWritten}
 use Rattle.go_base.specs.Bytes.{newline}
-use Rattle.gtp_check_judge.specs.declared.exam.Exam.{Exam}
-use Rattle.gtp_check_judge.specs.Check.{Check}
 use Rattle.gtp_check_questions.specs.Lessons.{name_of, number_of}
 use Rattle.gtp_check_questions.specs.declared.lessons.Lesson.{Lesson}
 use Rattle.gtp_check_shortening.specs.declared.talk.Said.{Said}
@@ -37,8 +35,8 @@ looking_line = in_place (codes "looking for a shorter conversation")
 -- ---- what is waited for
 
 -- whether an engine is read next: it owes an answer, and nothing that it wrote is held
-abbrev pub is_read_next : {P : Type 0} → Dialogue P → Exam → Bool
-is_read_next engine exam = nat_lt 0 (length exam.unanswered) && (length engine.held == 0)
+abbrev pub is_read_next : {P : Type 0} → Dialogue P → Bool
+is_read_next engine = nat_lt 0 (length engine.exam.unanswered) && (length engine.held == 0)
 
 -- where the line of the command with this number, counted from 0, begins in all that was asked
 abbrev pub line_start : List Said → ℕ → ℕ
@@ -68,12 +66,11 @@ waiting_for lessons engine number starts (Some said) =
     in_place (waiting_text lessons (line_at engine.sent engine.talk number said) said.purpose.lesson
     engine.notes.commands starts) ∷ []
 
--- before an engine is read: what is waited for
-abbrev pub before_read : {P : Type 0} → List Lesson → Check → Dialogue P → List (List ℕ)
-before_read lessons check engine =
-    let number = length engine.talk - length check.exam.unanswered in
-    if is_read_next engine check.exam then waiting_for lessons engine number check.starts (slice_get engine.talk number)
-    else []
+-- before an engine is read, after so many starts: what is waited for
+abbrev pub before_read : {P : Type 0} → List Lesson → ℕ → Dialogue P → List (List ℕ)
+before_read lessons starts engine =
+    let number = length engine.talk - length engine.exam.unanswered in
+    if is_read_next engine then waiting_for lessons engine number starts (slice_get engine.talk number) else []
 
 -- ---- before something else is written
 

@@ -9,7 +9,6 @@ use Rattle.gtp_process.specs.declared.starter.Process.{Ghosts}
 use Rattle.gtp_process.specs.Endings.{IsEnded}
 use Rattle.gtp_process.specs.Quitting.{QuitsIfAny}
 use Rattle.gtp_process.specs.Starts.{Attempts, Tries, program_line}
-use Rattle.gtp_check_judge.specs.declared.exam.Exam.{Exam}
 use Rattle.gtp_check_judge.specs.declared.judging.Kind.{Kind}
 use Rattle.gtp_check_judge.specs.Exam.{begun}
 use Rattle.gtp_check_questions.specs.declared.lessons.Lesson.{Lesson}
@@ -88,14 +87,14 @@ pub record IsHeldWith {P : Type 0} (known : Ghosts P) (plan : Plan) (fault : Opt
   pub earlier : Attempts P
   pub started : Tries earlier now.asked (program_line plan.words.items) (Ok process)
   pub first : Notes
-  pub ends : EndsSo known (begun plan.rule true) (begun_with process first) fault now.state.check.exam
-      (dialogue engine now.state.notes)
+  pub ends : EndsSo known (begun_with (begun plan.rule true) process first) fault
+      (dialogue engine now.state.check.exam now.state.notes)
 
 -- Where a check has an engine, that was started by this check, and each answer that was heard of it is a right one.
 pub record AnswersRightly {P : Type 0} (known : Ghosts P) (plan : Plan) (now : Moment P) (engine : Engine P)
     : Type 0 where
   pub held : IsHeldWith known plan None now engine
-  pub right : IsRightlyAnswered known plan.rule held.process now.state.check.exam (dialogue engine now.state.notes)
+  pub right : IsRightlyAnswered known plan.rule held.process (dialogue engine now.state.check.exam now.state.notes)
 
 -- ---- silence
 
@@ -112,21 +111,20 @@ pub record SilentChecksAreRight {P O E : Type 0} (known : Known P O E) : Type 0 
 -- What a fault is that was found in all that an engine wrote: a wrong answer, which no right engine gives, and before
 -- which all were right; or a loss, which shows no wrong answer.
 pub data IsShownBy {P : Type 0} (known : Ghosts P) (rule : KoRule) (process : P)
-    : Fault → Exam → Dialogue P → Type 0 where
-  wrongly : {kind : Kind} {exam : Exam} {end : Dialogue P} → IsWronglyWritten known rule process kind end
-      → IsShownBy known rule process (Wrote kind) exam end
-  lost : {cause : PipeCause} {exam : Exam} {end : Dialogue P} → IsLost known rule process cause exam end
-      → IsShownBy known rule process (CutOff cause) exam end
+    : Fault → Dialogue P → Type 0 where
+  wrongly : {kind : Kind} {end : Dialogue P} → IsWronglyWritten known rule process kind end
+      → IsShownBy known rule process (Wrote kind) end
+  lost : {cause : PipeCause} {end : Dialogue P} → IsLost known rule process cause end
+      → IsShownBy known rule process (CutOff cause) end
 
 -- This ended a conversation with an engine that was started under this ko rule, and then its process ended.
 pub record IsGrounded {P : Type 0} (known : Ghosts P) (rule : KoRule) (wrong : Wrong) : Type 0 where
   pub process : P
-  pub exam : Exam
   pub end : Dialogue P
   pub ending : Ending
-  pub is : wrong ≡ wrong_with wrong.fault exam end ending
+  pub is : wrong ≡ wrong_with wrong.fault end ending
   pub left : known.leaves end.process ending
-  pub shown : IsShownBy known rule process wrong.fault exam end
+  pub shown : IsShownBy known rule process wrong.fault end
 
 -- A text is that of a complaint of such a conversation.
 pub record IsJustComplaint {P : Type 0} (known : Ghosts P) (rule : KoRule) (text : List ℕ) : Type 0 where

@@ -1,7 +1,7 @@
 -- What was found so far, and what of it is shown. (Own.)
-use Rattle.std.specs.Prelude.{ℕ, ◌+◌, ◌-◌, ◌^◌, ◌==◌, Bool, true, false, nat_lt, if◌then◌else◌, min, count_by}
+use Rattle.std.specs.Prelude.{ℕ, ◌-◌, ◌==◌, Bool, true, false, nat_lt, if◌then◌else◌, count_by}
 use Rattle.std.specs.Prelude.{replicate}
-use Rattle.std.specs.Prelude.{List, [], ◌∷◌, ◌++◌, length, Option, None, Some, slice_index, slice_set}
+use Rattle.std.specs.Prelude.{List, [], Option, None, Some, slice_index, slice_set}
 use Rattle.gtp_check_questions.specs.Lessons.{number_of}
 use Rattle.gtp_check_questions.specs.declared.lessons.Lesson.{Lesson}
 use Rattle.gtp_check_texts.specs.contracts.fault.FaultPartialEq.TheImpl as equality

@@ -41,8 +41,8 @@ use Rattle.gtp_check_summary.specs.declared.summary.Over.TheVariants as over
 use Rattle.gtp_check_shortening.specs.declared.talk.Purpose.{Purpose}
 use Rattle.gtp_check_app.specs.declared.tally.Tally.{Tally}
 use Rattle.gtp_check_texts.specs.Complaints.{complaint_lines}
-use Rattle.gtp_check_talks.specs.Dialogues.{EndsLike, IsAsked, IsExchanged, IsTrial, Wrong, begun_with}
-use Rattle.gtp_check_talks.specs.Dialogues.{dialogue, owed_purpose, wrong_purpose, wrong_talk}
+use Rattle.gtp_check_talks.specs.Dialogues.{EndsLike, IsAsked, IsExchanged, IsTrial, Standing, Wrong, begun_with}
+use Rattle.gtp_check_talks.specs.Dialogues.{dialogue, owed_purpose, standing, trial, wrong_purpose, wrong_talk}
 use Rattle.gtp_check_shortening.specs.Purposes.{is_same_lesson, is_same_purpose}
 use Rattle.gtp_check_talks.specs.Dialogues.{wrong_with}
 use Rattle.gtp_check_talks.specs.Notes.{nothing_noted}
@@ -56,7 +56,7 @@ use Rattle.gtp_check_shortening.specs.Played.{played}
 use Rattle.gtp_check_shortening.specs.Superko.{IsPositional, game_before}
 use Rattle.gtp_check_app.specs.Unjudged.{HasPassedOver, is_blamed, is_unjudged}
 use Rattle.gtp_check_app.specs.Trials.{LastGames, limits_of, or_else, shortenings_of}
-use Rattle.gtp_check_app.specs.Tally.{found, is_shown, nothing_found, started_again, with_suicide, without_start}
+use Rattle.gtp_check_app.specs.Tally.{found, is_shown, nothing_found, started_again, with_suicide}
 
 -- how many turns a check has at most; no check within the limits has this number
 abbrev pub most_turns : ℕ
@@ -116,6 +116,10 @@ pub record Moment (P : Type 0) : Type 0 where
 abbrev pub moment : {P : Type 0} → State P → Attempts P → Moment P
 moment now asked = record { state = now; asked = asked }
 
+-- what it has of this between two trials
+abbrev pub standing_in : {P : Type 0} → Moment P → Standing P
+standing_in now = standing now.state.check now.asked now.state.notes
+
 -- the process of an engine, if there is one
 abbrev pub process_of : {P : Type 0} → Option (Engine P) → Option P
 process_of engine = option_map (λ one. one.process) engine
@@ -165,7 +169,7 @@ pub record AsksEngine {P : Type 0} (purpose : Purpose) (before : State P) (comma
   pub exam : Exam
   pub now : Engine P
   pub notes : Notes
-  pub asked : IsAsked purpose before.check.exam (dialogue engine before.notes) command exam (dialogue now notes)
+  pub asked : IsAsked purpose (dialogue engine before.check.exam before.notes) command (dialogue now exam notes)
   pub leads : after ≡ record before { check = with_exam before.check exam; engine = Some now; notes = notes }
 
 -- Steps of the course were taken: each passed over one of its steps, or asked the engine a command, which isn't sent
@@ -196,7 +200,8 @@ is_first_due tally notes is_wrong = not tally.has_first_line && (is_wrong || is_
 -- before this engine, if one is there, is heard: what is waited for
 abbrev pub waiting_for : {P : Type 0} → Plan → State P → Option (Engine P) → List (List ℕ)
 waiting_for plan now None = []
-waiting_for plan now (Some engine) = before_read plan.lessons.items now.check (dialogue engine now.notes)
+waiting_for plan now (Some engine) =
+    before_read plan.lessons.items now.check.starts (dialogue engine now.check.exam now.notes)
 
 abbrev pub waiting : {P : Type 0} → Plan → State P → List (List ℕ)
 waiting plan now = waiting_for plan now now.engine
@@ -248,7 +253,7 @@ module _ {P : Type 0} (known : Ghosts P) where
     pub exam : Exam
     pub heard : Engine P
     pub notes : Notes
-    pub exchanged : IsExchanged known before.check.exam (dialogue engine before.notes) fault exam (dialogue heard notes)
+    pub exchanged : IsExchanged known (dialogue engine before.check.exam before.notes) fault (dialogue heard exam notes)
     pub leads : after ≡ record before { check = with_exam before.check exam; engine = Some heard; notes = notes }
 
   -- The engine, in which this is wrong, was ended. The part is left in which the command was asked that it answered
@@ -258,7 +263,7 @@ module _ {P : Type 0} (known : Ghosts P) where
     pub had : before.engine ≡ Some engine
     pub ending : Ending
     pub ended : known.leaves engine.process ending
-    pub is : wrong ≡ wrong_with fault before.check.exam (dialogue engine before.notes) ending
+    pub is : wrong ≡ wrong_with fault (dialogue engine before.check.exam before.notes) ending
     pub course : Course
     pub notes : HasNoted (wrong_purpose wrong) (is_loss fault) before.course course
     pub leads : after ≡ record before { check = after_loss before.check; course = course; engine = None }
@@ -271,7 +276,8 @@ module _ {P : Type 0} (known : Ghosts P) where
     pub ending : Ending
     pub ended : known.leaves engine.process ending
     pub course : Course
-    pub left : HasPassedOver (is_same_purpose (owed_purpose engine.talk.items before.check.exam) (purpose_in before.course))
+    pub left : HasPassedOver (is_same_purpose (owed_purpose engine.talk.items before.check.exam)
+        (purpose_in before.course))
         before.course course
     pub leads : after ≡ record before {
       check = after_loss before.check;
@@ -286,10 +292,11 @@ module _ {P : Type 0} (known : Ghosts P) (plan : Plan) where
   -- These commands were asked of another engine, for what the command was asked that was answered wrongly.
   pub data IsTried (found : Wrong) (commands : List CheckCommand) (before : Moment P)
       : Option Wrong → Moment P → Type 0 where
-    by_trial : {result : Option Wrong} {check : Check} {has : Attempts P} {notes : Notes}
-        → IsTrial known (program_line plan.words.items) (wrong_purpose found) commands
-        before.state.check before.asked before.state.notes result check has notes
-        → IsTried found commands before result (moment (record before.state { check = check; notes = notes }) has)
+    by_trial : {result : Option Wrong} {after : Standing P}
+        → IsTrial known (trial (program_line plan.words.items) (wrong_purpose found) commands) (standing_in before)
+        result after
+        → IsTried found commands before result
+        (moment (record before.state { check = after.check; notes = after.notes }) after.asked)
 
   -- They were tried in place of the conversation that was found: no start was left; or they ended otherwise, or like
   -- it.
@@ -390,7 +397,7 @@ module _ {P : Type 0} (known : Ghosts P) (plan : Plan) where
         → mid.notes.fruitless < most_fruitless → MayStart mid.check mid.tally
         → Tries before.asked has (program_line plan.words.items) (Ok process)
         → QuitsIfAny known (process_of mid.engine)
-        → ((notes : Notes) → dialogue engine notes ≡ begun_with process notes)
+        → ((exam : Exam) (notes : Notes) → dialogue engine exam notes ≡ begun_with exam process notes)
         → Turn before (moment
         (state (started mid.check) course (Some engine) (started_again mid.tally) (noted_start mid.notes)) has) [] []
     restarts : {mid : State P} {course : Course} → Asks plan.singly before.state mid

@@ -36,7 +36,7 @@ use gtp_check_shortening::played::played;
 use gtp_check_shortening::superko::{game_before, is_positional};
 use gtp_check_shortening::talk::{Purpose, Said};
 use gtp_check_shortening::{Limits, Reduction};
-use gtp_check_talks::trial::{Tried, try_commands};
+use gtp_check_talks::trial::{Trial, Tried, try_commands};
 use gtp_check_texts::complaint::{Complaint, complaint_text};
 use gtp_check_texts::fault::Fault;
 use gtp_check_texts::last_game::Shown;
@@ -152,7 +152,8 @@ impl<S: Starter> Check<S> {
             × IsShown E.WriteOnce plan.now.shows_progress (cleared ∷ [])
             streams.old.errors streams.new.errors) }
         ensures broke { IfErr result (λ why. why ≡ failure.Write
-            → (complaint : Complaint) × IsComplaint plan.now.rule caption (wrong_of found.now) complaint
+            → (complaint : Complaint) × IsComplaint plan.now.rule caption (wrong_of found.now)
+            complaint
             × BreaksAt O.WriteOnce (complaint_lines complaint) streams.old.output streams.new.output
             × IsShown E.WriteOnce plan.now.shows_progress (cleared ∷ [])
             streams.old.errors streams.new.errors) }
@@ -280,13 +281,16 @@ impl<S: Starter> Check<S> {
         if !self.examiner.may_start() {
             return Ok(None);
         }
-        let tried = try_commands(
-            self.alloc,
-            starter,
-            plan.words.as_slice(),
-            &mut self.examiner,
+        let trial = Trial {
+            alloc: self.alloc,
+            words: plan.words.as_slice(),
             commands,
-            found.purpose(),
+            purpose: found.purpose(),
+        };
+        let tried = try_commands(
+            &trial,
+            starter,
+            &mut self.examiner,
             &mut self.room,
             &mut self.notes,
         )?;

@@ -106,7 +106,7 @@ impl<S: Starter> Check<S> {
 
 /// Whether the engine is read next: it owes an answer, and nothing that it wrote is held.
 fn is_read_next<P: Process>(engine: &Engine<P>, examiner: &Examiner) -> bool
-    ensures { result ≡ is_read_next (dialogue engine.now nothing_noted) examiner.now.exam }
+    ensures { result ≡ is_read_next (dialogue engine.now examiner.now.exam nothing_noted) }
 {
     examiner.unanswered() > 0 && engine.held.is_empty()
 }

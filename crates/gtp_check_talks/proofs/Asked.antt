@@ -6,8 +6,8 @@ use Rattle.gtp_check_judge.specs.declared.asking.CheckCommand.{CheckCommand}
 use Rattle.gtp_check_judge.specs.declared.exam.Exam.{Exam}
 use Rattle.gtp_check_shortening.specs.declared.talk.Purpose.{Purpose}
 use Rattle.gtp_check_shortening.specs.Shortening.{commands_of}
-use Rattle.gtp_check_talks.specs.Dialogues.{AreFor, Converses, asks, begins}
-use Rattle.gtp_check_talks.specs.private.Asking.{AreAsked, Standing, none, one_more}
+use Rattle.gtp_check_talks.specs.Dialogues.{AreFor, Converses, Dialogue, asks, begins}
+use Rattle.gtp_check_talks.specs.private.Asking.{AreAsked, none, one_more}
 use Rattle.gtp_check_talks.proofs.Trials.{asked_for, asked_more}
 
 -- what becomes of an exam to which so many commands were put: each is unanswered, and nothing was heard
@@ -16,31 +16,31 @@ pub record IsAskedMore (count : ℕ) (old new : Exam) : Type 0 where
   pub reader : new.reader ≡ old.reader
   pub more : length new.unanswered ≡ length old.unanswered + count
 
-module _ {P : Type 0} (purpose : Purpose) (first : Standing P) where
+module _ {P : Type 0} (purpose : Purpose) (first : Dialogue P) where
   -- the conversation goes on
-  pub asked_on : (known : Ghosts P) {commands : List CheckCommand} (last : Standing P)
-      → AreAsked purpose first commands last → Converses known first.exam first.engine last.exam last.engine
+  pub asked_on : (known : Ghosts P) {commands : List CheckCommand} (last : Dialogue P)
+      → AreAsked purpose first commands last → Converses known first last
   asked_on known last none = begins
   asked_on known last (one_more {mid = mid} command more asked) =
       asks purpose command (asked_on known mid more) asked
 
   -- these are its commands
-  pub asked_talk : {commands : List CheckCommand} (last : Standing P) → AreAsked purpose first commands last
-      → commands_of last.engine.talk ≡ commands_of first.engine.talk ++ commands
-  asked_talk last none = sym (append-nil (commands_of first.engine.talk))
+  pub asked_talk : {commands : List CheckCommand} (last : Dialogue P) → AreAsked purpose first commands last
+      → commands_of last.talk ≡ commands_of first.talk ++ commands
+  asked_talk last none = sym (append-nil (commands_of first.talk))
   asked_talk last (one_more {commands = commands} {mid = mid} command more asked) =
-      asked_more purpose mid.exam mid.engine command last.exam last.engine asked
+      asked_more purpose mid command last asked
       ∙ ap (λ (talk : List CheckCommand). talk ++ command ∷ []) (asked_talk mid more)
-      ∙ append_assoc (commands_of first.engine.talk) commands (command ∷ [])
+      ∙ append_assoc (commands_of first.talk) commands (command ∷ [])
 
   -- each for the purpose of those before
-  pub asked_purposes : {commands : List CheckCommand} (last : Standing P) → AreAsked purpose first commands last
-      → AreFor purpose first.engine.talk → AreFor purpose last.engine.talk
+  pub asked_purposes : {commands : List CheckCommand} (last : Dialogue P) → AreAsked purpose first commands last
+      → AreFor purpose first.talk → AreFor purpose last.talk
   asked_purposes last none all = all
   asked_purposes last (one_more {mid = mid} command more asked) all =
-      asked_for purpose mid.exam mid.engine command last.exam last.engine asked (asked_purposes mid more all)
+      asked_for purpose mid command last asked (asked_purposes mid more all)
 
-  pub asked_exam : {commands : List CheckCommand} (last : Standing P) → AreAsked purpose first commands last
+  pub asked_exam : {commands : List CheckCommand} (last : Dialogue P) → AreAsked purpose first commands last
       → IsAskedMore (length commands) first.exam last.exam
   asked_exam last none = record { up = refl; reader = refl; more = omega arith }
   asked_exam last (one_more {commands = commands} {mid = mid} command more asked) =
@@ -55,8 +55,8 @@ module _ {P : Type 0} (purpose : Purpose) (first : Standing P) where
       }
 
   -- where none was asked, what waits is the same
-  pub asked_none : {commands : List CheckCommand} (last : Standing P) → AreAsked purpose first commands last
-      → length commands ≡ 0 → last.engine.waiting ≡ first.engine.waiting
+  pub asked_none : {commands : List CheckCommand} (last : Dialogue P) → AreAsked purpose first commands last
+      → length commands ≡ 0 → last.waiting ≡ first.waiting
   asked_none last none is = refl
   asked_none last (one_more {commands = commands} command more asked) is =
       absurd (omega (arith, length-append commands (command ∷ [])))

@@ -90,92 +90,92 @@ leaves_comes lesson old rest (Some (Ok reply)) new before after h is =
     record { less = omega (arith, none); none = λ fewer. none }
 
 module _ {P : Type 0} (known : Ghosts P) where
-  quiet_comes : (bytes : List ℕ) (old : Exam) (before : Dialogue P) (new : Exam) (after : Dialogue P) → old.up ≡ true
-      → AreHeard bytes old before None new after → Comes old new before.notes after.notes
-  quiet_comes bytes old before new after up heard =
-      let quiet = heard.0 in
-      let hears = quiet.heard.up up in
-      leaves_comes (owed_purpose before.talk old).lesson old hears.0 quiet.read new before.notes after.notes hears.2
-      quiet.notes
+  quiet_comes : (bytes : List ℕ) (before : Dialogue P) (after : Dialogue P) → before.exam.up ≡ true
+      → AreHeard bytes before None after → Comes before.exam after.exam before.notes after.notes
+  quiet_comes bytes before after up heard =
+      let hears = heard.heard.up up in
+      leaves_comes (owed_purpose before.talk before.exam).lesson before.exam hears.0 heard.read after.exam before.notes
+      after.notes hears.2
+      heard.notes
 
-  read_comes : (old : Exam) (before : Dialogue P) (new : Exam) (after : Dialogue P) → old.up ≡ true
-      → IsRead known old before None new after → Comes old new before.notes after.notes
-  read_comes old before new after up (IsRead.gives bytes next some gave unbroken taken heard) =
-      quiet_comes bytes old (record before { process = next }) new after up heard
+  read_comes : (before : Dialogue P) (after : Dialogue P) → before.exam.up ≡ true
+      → IsRead known before None after → Comes before.exam after.exam before.notes after.notes
+  read_comes before after up (IsRead.gives bytes next some gave unbroken taken heard) =
+      quiet_comes bytes (record before { process = next }) after up heard
 
-  exchanged_comes : (old : Exam) (before : Dialogue P) (new : Exam) (after : Dialogue P) → old.up ≡ true
-      → IsExchanged known old before None new after → Comes old new before.notes after.notes
-  exchanged_comes old before new after up (IsExchanged.owes_nothing next none sent) =
-      same_comes old old before.notes before.notes refl refl
-  exchanged_comes old before new after up (IsExchanged.held owes some heard) =
-      quiet_comes before.held old (record before { held = [] }) new after up heard
-  exchanged_comes old before new after up (IsExchanged.reads next owes none sent read) =
-      read_comes old (record before { process = next; waiting = [] }) new after up read
+  exchanged_comes : (before : Dialogue P) (after : Dialogue P) → before.exam.up ≡ true
+      → IsExchanged known before None after → Comes before.exam after.exam before.notes after.notes
+  exchanged_comes before after up (IsExchanged.owes_nothing next none sent) =
+      same_comes before.exam before.exam before.notes before.notes refl refl
+  exchanged_comes before after up (IsExchanged.held owes some heard) =
+      quiet_comes before.held (record before { held = [] }) after up heard
+  exchanged_comes before after up (IsExchanged.reads next owes none sent read) =
+      read_comes (record before { process = next; waiting = [] }) after up read
 
   -- ---- with something wrong
 
-  bytes_less : (bytes : List ℕ) (old : Exam) (before : Dialogue P) (fault : Option Fault) (new : Exam)
-      (after : Dialogue P) → old.up ≡ true → AreHeard bytes old before fault new after
+  bytes_less : (bytes : List ℕ) (before : Dialogue P) (fault : Option Fault) (after : Dialogue P)
+      → before.exam.up ≡ true → AreHeard bytes before fault after
       → after.notes.fruitless ≤ before.notes.fruitless
-  bytes_less bytes old before None new after up heard = (quiet_comes bytes old before new after up heard).less
-  bytes_less bytes old before (Some fault) new after up heard =
-      omega (arith, ap (λ (n : Notes). n.fruitless) heard.0.notes)
+  bytes_less bytes before None after up heard = (quiet_comes bytes before after up heard).less
+  bytes_less bytes before (Some fault) after up heard =
+      omega (arith, ap (λ (d : Dialogue P). d.notes.fruitless) heard.leads)
 
-  read_less : (old : Exam) (before : Dialogue P) {fault : Option Fault} {new : Exam} {after : Dialogue P}
-      → old.up ≡ true → IsRead known old before fault new after → after.notes.fruitless ≤ before.notes.fruitless
-  read_less old before up
-      (IsRead.gives {fault = fault} {new = new} {after = after} bytes next some gave unbroken taken heard) =
-      bytes_less bytes old (record before { process = next }) fault new after up heard
-  read_less old before up (IsRead.ends next ended given taken) = omega arith
-  read_less old before up (IsRead.breaks next cut given taken) = omega arith
+  read_less : (before : Dialogue P) {fault : Option Fault} {after : Dialogue P}
+      → before.exam.up ≡ true → IsRead known before fault after → after.notes.fruitless ≤ before.notes.fruitless
+  read_less before up
+      (IsRead.gives {fault = fault} {after = after} bytes next some gave unbroken taken heard) =
+      bytes_less bytes (record before { process = next }) fault after up heard
+  read_less before up (IsRead.ends next ended given taken) = omega arith
+  read_less before up (IsRead.breaks next cut given taken) = omega arith
 
-  exchanged_less : (old : Exam) (before : Dialogue P) {fault : Option Fault} {new : Exam} {after : Dialogue P}
-      → old.up ≡ true → IsExchanged known old before fault new after
+  exchanged_less : (before : Dialogue P) {fault : Option Fault} {after : Dialogue P}
+      → before.exam.up ≡ true → IsExchanged known before fault after
       → after.notes.fruitless ≤ before.notes.fruitless
-  exchanged_less old before up (IsExchanged.owes_nothing next none sent) = omega arith
-  exchanged_less old before up (IsExchanged.held {fault = fault} {new = new} {after = after} owes some heard) =
-      bytes_less before.held old (record before { held = [] }) fault new after up heard
-  exchanged_less old before up (IsExchanged.reads next owes none sent read) =
-      read_less old (record before { process = next; waiting = [] }) up read
+  exchanged_less before up (IsExchanged.owes_nothing next none sent) = omega arith
+  exchanged_less before up (IsExchanged.held {fault = fault} {after = after} owes some heard) =
+      bytes_less before.held (record before { held = [] }) fault after up heard
+  exchanged_less before up (IsExchanged.reads next owes none sent read) =
+      read_less (record before { process = next; waiting = [] }) up read
 
   -- ---- a conversation
 
-  asked_keeps : (purpose : Purpose) (old : Exam) (before : Dialogue P) (command : CheckCommand) (new : Exam)
-      (after : Dialogue P) → IsAsked purpose old before command new after
+  asked_keeps : (purpose : Purpose) (before : Dialogue P) (command : CheckCommand) (after : Dialogue P)
+      → IsAsked purpose before command after
       → after.notes.fruitless ≡ before.notes.fruitless
-  asked_keeps purpose old before command new after asked =
+  asked_keeps purpose before command after asked =
       ap (λ (d : Dialogue P). d.notes.fruitless) asked.joins
 
-  converses_up : (rule : KoRule) (process : P) (first : Notes) (exam : Exam) (now : Dialogue P)
-      → Converses known (begun rule true) (begun_with process first) exam now → exam.up ≡ true
-  converses_up rule process first exam now converses = (converses_talk known rule process first converses).goes.up
+  converses_up : (rule : KoRule) (process : P) (first : Notes) (now : Dialogue P)
+      → Converses known (begun_with (begun rule true) process first) now → now.exam.up ≡ true
+  converses_up rule process first now converses = (converses_talk known rule process first converses).goes.up
 
-  converses_less : (rule : KoRule) (process : P) (first : Notes) {exam : Exam} {now : Dialogue P}
-      → Converses known (begun rule true) (begun_with process first) exam now → now.notes.fruitless ≤ first.fruitless
+  converses_less : (rule : KoRule) (process : P) (first : Notes) {now : Dialogue P}
+      → Converses known (begun_with (begun rule true) process first) now → now.notes.fruitless ≤ first.fruitless
   converses_less rule process first Converses.begins = omega arith
   converses_less rule process first
-      (Converses.asks {old = old} {new = new} {before = before} {after = after} purpose command more asked) =
+      (Converses.asks {before = before} {after = after} purpose command more asked) =
       let less = converses_less rule process first more in
-      omega (arith, less, asked_keeps purpose old before command new after asked)
-  converses_less rule process first (Converses.exchanges {old = old} {before = before} {after = after} more exchanged) =
+      omega (arith, less, asked_keeps purpose before command after asked)
+  converses_less rule process first (Converses.exchanges {before = before} {after = after} more exchanged) =
       let less = converses_less rule process first more in
-      let now = exchanged_less old before (converses_up rule process first old before more) exchanged in
+      let now = exchanged_less before (converses_up rule process first before more) exchanged in
       omega (arith, less, now)
 
-  ends_less : (rule : KoRule) (process : P) (first : Notes) (fault : Option Fault) (new : Exam) (after : Dialogue P)
-      → EndsSo known (begun rule true) (begun_with process first) fault new after
+  ends_less : (rule : KoRule) (process : P) (first : Notes) (fault : Option Fault) (after : Dialogue P)
+      → EndsSo known (begun_with (begun rule true) process first) fault after
       → after.notes.fruitless ≤ first.fruitless
-  ends_less rule process first None new after converses = converses_less rule process first converses
-  ends_less rule process first (Some fault) new after ends =
+  ends_less rule process first None after converses = converses_less rule process first converses
+  ends_less rule process first (Some fault) after ends =
       let less = converses_less rule process first ends.converses in
-      let now = exchanged_less ends.old ends.before
-      (converses_up rule process first ends.old ends.before ends.converses) ends.exchanged in
+      let now = exchanged_less ends.before
+      (converses_up rule process first ends.before ends.converses) ends.exchanged in
       omega (arith, less, now)
 
   pub ends_in_vain : RightAnswersEndStartsInVain known
   ends_in_vain = record {
     asked = asked_keeps;
-    heard = λ old before fault new after up exchanged. exchanged_less old before up exchanged;
-    answered = λ old before new after up exchanged. (exchanged_comes old before new after up exchanged).none;
+    heard = λ before fault after up exchanged. exchanged_less before up exchanged;
+    answered = λ before after up exchanged. (exchanged_comes before after up exchanged).none;
     talked = ends_less;
   }

@@ -1,6 +1,8 @@
 -- A lesson is noted only where a move that was asked in it was answered rightly.
-use Rattle.std.proofs.Common.{◌≡◌, ◌⊎◌, ◌∙◌, ◌==◌, ◌+◌, ◌-◌, ◌++◌, ◌∷◌, [], ℕ, Bool, true, false, List, refl, inl, inr, nat_lt}
-use Rattle.std.proofs.Common.{Option, None, Some, Result, Ok, Err, append_assoc, arith, ap, subst, sym, length, slice_get, drop, map}
+use Rattle.std.proofs.Common.{◌≡◌, ◌⊎◌, ◌∙◌, ◌==◌, ◌+◌, ◌-◌, ◌++◌, ◌∷◌, [], ℕ, Bool, true, false, List, refl, inl, inr}
+use Rattle.std.proofs.Common.{nat_lt}
+use Rattle.std.proofs.Common.{Option, None, Some, Result, Ok, Err, append_assoc, arith, ap, subst, sym, length}
+use Rattle.std.proofs.Common.{slice_get, drop, map}
 use Rattle.std.proofs.Common.{if◌then◌else◌}
 use Rattle.std.proofs.lemmas.Bool.{eqb-true, or_cases, or_left, or_right}
 use Rattle.std.proofs.lemmas.List.{length-append, length-map, map-append}
@@ -12,7 +14,8 @@ use Rattle.gtp_wire.specs.declared.replies.ReplyFault.{ReplyFault}
 use Rattle.gtp_process.specs.declared.starter.Process.{Ghosts}
 use Rattle.gtp_check_judge.specs.declared.asking.CheckCommand.{CheckCommand}
 use Rattle.gtp_check_judge.specs.declared.asking.CheckCommand.TheVariants.{Match, FinalScore, Name, Version}
-use Rattle.gtp_check_judge.specs.declared.asking.CheckCommand.TheVariants.{KnownCommand, ListCommands, PlayInFull, GenmoveInFull}
+use Rattle.gtp_check_judge.specs.declared.asking.CheckCommand.TheVariants.{KnownCommand, ListCommands, PlayInFull}
+use Rattle.gtp_check_judge.specs.declared.asking.CheckCommand.TheVariants.{GenmoveInFull}
 use Rattle.gtp_check_judge.specs.declared.exam.Exam.{Exam}
 use Rattle.gtp_check_judge.specs.declared.judging.Judgement.{Judgement}
 use Rattle.gtp_check_judge.specs.declared.judging.Judgement.TheVariants.{Right, Plays, Resized, Undone, Opines, Wrong}
@@ -144,7 +147,8 @@ reply_takes : (exam : Exam) (list : List Asked) (reply : Reply) (new : Exam) →
 reply_takes exam [] reply new is h = absurd (cc (h.0))
 reply_takes exam (entry ∷ later) reply new is h =
     Takes.oldest_one entry
-    (ap (λ (rest : List Asked). entry ∷ rest) (sym (id_takes exam entry later reply (has_id reply.id entry.id) new is h)))
+    (ap (λ (rest : List Asked). entry ∷ rest) (sym (id_takes exam entry later reply (has_id reply.id entry.id) new is
+    h)))
 
 leaves_takes : (old : Exam) (rest : List ℕ) (read : Option (Result Reply ReplyFault)) (new : Exam)
     → Leaves (with_rest old rest) read None new → Takes read old.unanswered new.unanswered
@@ -270,114 +274,118 @@ now_answered talk old new other read owes (Takes.oldest_one entry is) now =
 module _ {P : Type 0} (known : Ghosts P) where
   -- ---- bytes were heard
 
-  quiet_noted : (bytes : List ℕ) (old : Exam) (before : Dialogue P) (new : Exam) (after : Dialogue P) (other : Lesson)
-      → old.up ≡ true → Owes before.talk old.unanswered → AreHeard bytes old before None new after
+  quiet_noted : (bytes : List ℕ) (before : Dialogue P) (after : Dialogue P) (other : Lesson)
+      → before.exam.up ≡ true → Owes before.talk before.exam.unanswered → AreHeard bytes before None after
       → is_among after.notes.answered.items other ≡ true
-      → (is_among before.notes.answered.items other ≡ true) ⊎ IsMoveAnswered other before.talk old new
-  quiet_noted bytes old before new after other up owes heard among =
-      let quiet = heard.0 in
-      let hears = quiet.heard.up up in
-      let takes = leaves_takes old hears.0 quiet.read new hears.2 in
-      elim (noted_among (owed_purpose before.talk old).lesson other before.notes old.unanswered quiet.read new.skills
-      (ap (λ (n : Notes). is_among n.answered.items other) (sym quiet.notes) ∙ among)) [
+      → (is_among before.notes.answered.items other ≡ true) ⊎ IsMoveAnswered other before.talk before.exam after.exam
+  quiet_noted bytes before after other up owes heard among =
+      let hears = heard.heard.up up in
+      let takes = leaves_takes before.exam hears.0 heard.read after.exam hears.2 in
+      elim (noted_among (owed_purpose before.talk before.exam).lesson other before.notes before.exam.unanswered
+      heard.read after.exam.skills
+      (ap (λ (n : Notes). is_among n.answered.items other) (sym heard.notes) ∙ among)) [
         | inl was ↦ inl was
-        | inr now ↦ inr (now_answered before.talk old new other quiet.read owes takes now)
+        | inr now ↦ inr (now_answered before.talk before.exam after.exam other heard.read owes takes now)
       ]
 
-  bytes_noted : (bytes : List ℕ) (old : Exam) (before : Dialogue P) (fault : Option Fault) (new : Exam)
-      (after : Dialogue P) (other : Lesson) → old.up ≡ true → Owes before.talk old.unanswered
-      → AreHeard bytes old before fault new after → is_among after.notes.answered.items other ≡ true
+  bytes_noted : (bytes : List ℕ) (before : Dialogue P) (fault : Option Fault) (after : Dialogue P) (other : Lesson)
+      → before.exam.up ≡ true → Owes before.talk before.exam.unanswered
+      → AreHeard bytes before fault after → is_among after.notes.answered.items other ≡ true
       → (is_among before.notes.answered.items other ≡ true)
-      ⊎ ((fault ≡ None) × IsMoveAnswered other before.talk old new)
-  bytes_noted bytes old before None new after other up owes heard among =
-      elim (quiet_noted bytes old before new after other up owes heard among) [
+      ⊎ ((fault ≡ None) × IsMoveAnswered other before.talk before.exam after.exam)
+  bytes_noted bytes before None after other up owes heard among =
+      elim (quiet_noted bytes before after other up owes heard among) [
         | inl was ↦ inl was
         | inr now ↦ inr (refl, now)
       ]
-  bytes_noted bytes old before (Some fault) new after other up owes heard among =
-      inl (ap (λ (n : Notes). is_among n.answered.items other) (sym heard.0.notes) ∙ among)
+  bytes_noted bytes before (Some fault) after other up owes heard among =
+      inl (ap (λ (d : Dialogue P). is_among d.notes.answered.items other) (sym heard.leads) ∙ among)
 
-  read_noted : (old : Exam) (before : Dialogue P) {fault : Option Fault} {new : Exam} {after : Dialogue P}
-      (other : Lesson) → old.up ≡ true → Owes before.talk old.unanswered → IsRead known old before fault new after
+  read_noted : (before : Dialogue P) {fault : Option Fault} {after : Dialogue P}
+      (other : Lesson) → before.exam.up ≡ true → Owes before.talk before.exam.unanswered
+      → IsRead known before fault after
       → is_among after.notes.answered.items other ≡ true
       → (is_among before.notes.answered.items other ≡ true)
-      ⊎ ((fault ≡ None) × IsMoveAnswered other before.talk old new)
-  read_noted old before other up owes
-      (IsRead.gives {fault = fault} {new = new} {after = after} bytes next some gave unbroken taken heard) among =
-      bytes_noted bytes old (record before { process = next }) fault new after other up owes heard among
-  read_noted old before other up owes (IsRead.ends next ended given taken) among = inl among
-  read_noted old before other up owes (IsRead.breaks next cut given taken) among = inl among
+      ⊎ ((fault ≡ None) × IsMoveAnswered other before.talk before.exam after.exam)
+  read_noted before other up owes
+      (IsRead.gives {fault = fault} {after = after} bytes next some gave unbroken taken heard) among =
+      bytes_noted bytes (record before { process = next }) fault after other up owes heard among
+  read_noted before other up owes (IsRead.ends next ended given taken) among = inl among
+  read_noted before other up owes (IsRead.breaks next cut given taken) among = inl among
 
-  exchanged_noted : (old : Exam) (before : Dialogue P) {fault : Option Fault} {new : Exam} {after : Dialogue P}
-      (other : Lesson) → old.up ≡ true → Owes before.talk old.unanswered → IsExchanged known old before fault new after
+  exchanged_noted : (before : Dialogue P) {fault : Option Fault} {after : Dialogue P}
+      (other : Lesson) → before.exam.up ≡ true → Owes before.talk before.exam.unanswered
+      → IsExchanged known before fault after
       → is_among after.notes.answered.items other ≡ true
       → (is_among before.notes.answered.items other ≡ true)
-      ⊎ ((fault ≡ None) × IsMoveAnswered other before.talk old new)
-  exchanged_noted old before other up owes (IsExchanged.owes_nothing next none sent) among = inl among
-  exchanged_noted old before other up owes
-      (IsExchanged.held {fault = fault} {new = new} {after = after} some more heard) among =
-      bytes_noted before.held old (record before { held = [] }) fault new after other up owes heard among
-  exchanged_noted old before other up owes (IsExchanged.reads next some none sent read) among =
-      read_noted old (record before { process = next; waiting = [] }) other up owes read among
+      ⊎ ((fault ≡ None) × IsMoveAnswered other before.talk before.exam after.exam)
+  exchanged_noted before other up owes (IsExchanged.owes_nothing next none sent) among = inl among
+  exchanged_noted before other up owes
+      (IsExchanged.held {fault = fault} {after = after} some more heard) among =
+      bytes_noted before.held (record before { held = [] }) fault after other up owes heard among
+  exchanged_noted before other up owes (IsExchanged.reads next some none sent read) among =
+      read_noted (record before { process = next; waiting = [] }) other up owes read among
 
   -- ---- what a conversation owes
 
-  quiet_owes : (bytes : List ℕ) (old : Exam) (before : Dialogue P) (new : Exam) (after : Dialogue P) → old.up ≡ true
-      → Owes before.talk old.unanswered → AreHeard bytes old before None new after → Owes before.talk new.unanswered
-  quiet_owes bytes old before new after up owes heard =
-      let hears = heard.0.heard.up up in
-      owes_less before.talk heard.0.read old.unanswered new.unanswered
-      (leaves_takes old hears.0 heard.0.read new hears.2) owes
+  quiet_owes : (bytes : List ℕ) (before : Dialogue P) (after : Dialogue P) → before.exam.up ≡ true
+      → Owes before.talk before.exam.unanswered → AreHeard bytes before None after
+      → Owes before.talk after.exam.unanswered
+  quiet_owes bytes before after up owes heard =
+      let hears = heard.heard.up up in
+      owes_less before.talk heard.read before.exam.unanswered after.exam.unanswered
+      (leaves_takes before.exam hears.0 heard.read after.exam hears.2) owes
 
-  read_owes : (old : Exam) (before : Dialogue P) (new : Exam) (after : Dialogue P) → old.up ≡ true
-      → Owes before.talk old.unanswered → IsRead known old before None new after → Owes before.talk new.unanswered
-  read_owes old before new after up owes (IsRead.gives bytes next some gave unbroken taken heard) =
-      quiet_owes bytes old (record before { process = next }) new after up owes heard
+  read_owes : (before : Dialogue P) (after : Dialogue P) → before.exam.up ≡ true
+      → Owes before.talk before.exam.unanswered → IsRead known before None after
+      → Owes before.talk after.exam.unanswered
+  read_owes before after up owes (IsRead.gives bytes next some gave unbroken taken heard) =
+      quiet_owes bytes (record before { process = next }) after up owes heard
 
-  exchanged_owes : (old : Exam) (before : Dialogue P) (new : Exam) (after : Dialogue P) → old.up ≡ true
-      → Owes before.talk old.unanswered → IsExchanged known old before None new after
-      → Owes before.talk new.unanswered
-  exchanged_owes old before new after up owes (IsExchanged.owes_nothing next none sent) = owes
-  exchanged_owes old before new after up owes (IsExchanged.held some more heard) =
-      quiet_owes before.held old (record before { held = [] }) new after up owes heard
-  exchanged_owes old before new after up owes (IsExchanged.reads next some none sent read) =
-      read_owes old (record before { process = next; waiting = [] }) new after up owes read
+  exchanged_owes : (before : Dialogue P) (after : Dialogue P) → before.exam.up ≡ true
+      → Owes before.talk before.exam.unanswered → IsExchanged known before None after
+      → Owes before.talk after.exam.unanswered
+  exchanged_owes before after up owes (IsExchanged.owes_nothing next none sent) = owes
+  exchanged_owes before after up owes (IsExchanged.held some more heard) =
+      quiet_owes before.held (record before { held = [] }) after up owes heard
+  exchanged_owes before after up owes (IsExchanged.reads next some none sent read) =
+      read_owes (record before { process = next; waiting = [] }) after up owes read
 
   module _ (rule : KoRule) (process : P) (first : Notes) where
-    is_up : {exam : Exam} {now : Dialogue P} → Converses known (begun rule true) (begun_with process first) exam now
-        → exam.up ≡ true
+    is_up : {now : Dialogue P} → Converses known (begun_with (begun rule true) process first) now
+        → now.exam.up ≡ true
     is_up converses = (converses_talk known rule process first converses).goes.up
 
-    converses_owes : {exam : Exam} {now : Dialogue P}
-        → Converses known (begun rule true) (begun_with process first) exam now → Owes now.talk exam.unanswered
+    converses_owes : {now : Dialogue P}
+        → Converses known (begun_with (begun rule true) process first) now → Owes now.talk now.exam.unanswered
     converses_owes Converses.begins = record { front = []; back = []; all = refl; same = refl }
     converses_owes
-        (Converses.asks {old = old} {new = new} {before = before} {after = after} purpose command more asked) =
-        let line = written_check new.sent command in
+        (Converses.asks {before = before} {after = after} purpose command more asked) =
+        let line = written_check after.exam.sent command in
         let said : Said = record {
           command = command;
           purpose = purpose;
           is_illegal = asked.is_illegal;
-          size = old.game.size;
-          moves = length old.game.moves;
-          last = last_move old.game;
+          size = before.exam.game.size;
+          moves = length before.exam.game.moves;
+          last = last_move before.exam.game;
           end = length (before.sent ++ line);
         } in
-        let entry : Asked = record { id = old.sent + 1; command = command; due = asked.asks.due } in
-        subst (λ (d : Dialogue P). Owes d.talk new.unanswered) (sym asked.joins)
+        let entry : Asked = record { id = before.exam.sent + 1; command = command; due = asked.asks.due } in
+        subst (λ (d : Dialogue P). Owes d.talk after.exam.unanswered) (sym asked.joins)
         (subst (λ (e : Exam). Owes (before.talk ++ said ∷ []) e.unanswered) (sym asked.asks.new_is)
-        (owes_more before.talk old.unanswered said entry refl (converses_owes more)))
+        (owes_more before.talk before.exam.unanswered said entry refl (converses_owes more)))
     converses_owes
-        (Converses.exchanges {old = old} {new = new} {before = before} {after = after} more exchanged) =
-        subst (λ (talk : List Said). Owes talk new.unanswered) (sym (exchanged_talk known old before exchanged))
-        (exchanged_owes old before new after (is_up more) (converses_owes more) exchanged)
+        (Converses.exchanges {before = before} {after = after} more exchanged) =
+        subst (λ (talk : List Said). Owes talk after.exam.unanswered) (sym (exchanged_talk known before exchanged))
+        (exchanged_owes before after (is_up more) (converses_owes more) exchanged)
 
   pub are_noted : MovesAreNotedOnceAnswered known
   are_noted = record {
     at_first = refl;
     starts = λ notes. refl;
-    asked = λ purpose old before command new after asked. ap (λ (d : Dialogue P). d.notes.answered) asked.joins;
-    heard = λ rule process first old before fault new after other converses exchanged among.
-        exchanged_noted old before other (is_up rule process first converses)
+    asked = λ purpose before command after asked. ap (λ (d : Dialogue P). d.notes.answered) asked.joins;
+    heard = λ rule process first before fault after other converses exchanged among.
+        exchanged_noted before other (is_up rule process first converses)
         (converses_owes rule process first converses) exchanged among;
   }

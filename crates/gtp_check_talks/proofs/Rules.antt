@@ -10,7 +10,8 @@ use Rattle.gtp_process.specs.declared.starter.Process.{Ghosts}
 use Rattle.gtp_session.specs.CommandAnswers.{after_command}
 use Rattle.gtp_check_judge.specs.declared.asking.CheckCommand.{CheckCommand}
 use Rattle.gtp_check_judge.specs.declared.asking.CheckCommand.TheVariants.{Match, FinalScore, Name, Version}
-use Rattle.gtp_check_judge.specs.declared.asking.CheckCommand.TheVariants.{KnownCommand, ListCommands, PlayInFull, GenmoveInFull}
+use Rattle.gtp_check_judge.specs.declared.asking.CheckCommand.TheVariants.{KnownCommand, ListCommands, PlayInFull}
+use Rattle.gtp_check_judge.specs.declared.asking.CheckCommand.TheVariants.{GenmoveInFull}
 use Rattle.gtp_check_judge.specs.declared.dues.Due.{Due}
 use Rattle.gtp_check_judge.specs.declared.dues.Due.TheVariants.{Succeeds, Fails, Places, Resizes, Scores, AnyReply}
 use Rattle.gtp_check_judge.specs.declared.dues.Due.TheVariants.{Chooses, MayUndo, Lists}
@@ -99,7 +100,7 @@ hears_rule : (old : Exam) (bytes : List ℕ) (used : ℕ) (read : Option (Result
 hears_rule old bytes used read finding new h = leaves_rule (with_rest old h.0) read finding new h.2
 
 heard_rule : (old : Exam) (bytes : List ℕ) (used : ℕ) (read : Option (Result Reply ReplyFault))
-    (finding : Option Finding) (new : Exam) → IsHeard old bytes used read finding new
+    (finding : Option Finding) (new : Exam) → IsHeard old bytes (hearing used read finding) new
     → new.game.rule ≡ old.game.rule
 heard_rule old bytes used read finding new heard = by old.up refl
   where
@@ -110,41 +111,39 @@ heard_rule old bytes used read finding new heard = by old.up refl
 -- ---- a conversation
 
 module _ {P : Type 0} (known : Ghosts P) where
-  bytes_rule : (bytes : List ℕ) (old : Exam) (before : Dialogue P) (fault : Option Fault) (new : Exam)
-      (after : Dialogue P) → AreHeard bytes old before fault new after → new.game.rule ≡ old.game.rule
-  bytes_rule bytes old before None new after heard =
-      let quiet = heard.0 in
-      heard_rule old bytes quiet.used quiet.read None new quiet.heard
-  bytes_rule bytes old before (Some fault) new after heard =
-      let found = heard.0 in
-      heard_rule old bytes found.used found.read (Some found.finding) new found.found
+  bytes_rule : (bytes : List ℕ) (before : Dialogue P) (fault : Option Fault) (after : Dialogue P)
+      → AreHeard bytes before fault after → after.exam.game.rule ≡ before.exam.game.rule
+  bytes_rule bytes before None after heard =
+      heard_rule before.exam bytes heard.used heard.read None after.exam heard.heard
+  bytes_rule bytes before (Some fault) after heard =
+      heard_rule before.exam bytes heard.used heard.read (Some heard.finding) after.exam heard.found
 
-  read_rule : (old : Exam) (before : Dialogue P) {fault : Option Fault} {new : Exam} {after : Dialogue P}
-      → IsRead known old before fault new after → new.game.rule ≡ old.game.rule
-  read_rule old before
-      (IsRead.gives {fault = fault} {new = new} {after = after} bytes next some gave unbroken taken heard) =
-      bytes_rule bytes old (record before { process = next }) fault new after heard
-  read_rule old before (IsRead.ends next ended given taken) = refl
-  read_rule old before (IsRead.breaks next cut given taken) = refl
+  read_rule : (before : Dialogue P) {fault : Option Fault} {after : Dialogue P}
+      → IsRead known before fault after → after.exam.game.rule ≡ before.exam.game.rule
+  read_rule before
+      (IsRead.gives {fault = fault} {after = after} bytes next some gave unbroken taken heard) =
+      bytes_rule bytes (record before { process = next }) fault after heard
+  read_rule before (IsRead.ends next ended given taken) = refl
+  read_rule before (IsRead.breaks next cut given taken) = refl
 
-  exchanged_rule : (old : Exam) (before : Dialogue P) {fault : Option Fault} {new : Exam} {after : Dialogue P}
-      → IsExchanged known old before fault new after → new.game.rule ≡ old.game.rule
-  exchanged_rule old before (IsExchanged.owes_nothing next none sent) = refl
-  exchanged_rule old before (IsExchanged.held {fault = fault} {new = new} {after = after} owes some heard) =
-      bytes_rule before.held old (record before { held = [] }) fault new after heard
-  exchanged_rule old before (IsExchanged.reads next owes none sent read) =
-      read_rule old (record before { process = next; waiting = [] }) read
+  exchanged_rule : (before : Dialogue P) {fault : Option Fault} {after : Dialogue P}
+      → IsExchanged known before fault after → after.exam.game.rule ≡ before.exam.game.rule
+  exchanged_rule before (IsExchanged.owes_nothing next none sent) = refl
+  exchanged_rule before (IsExchanged.held {fault = fault} {after = after} owes some heard) =
+      bytes_rule before.held (record before { held = [] }) fault after heard
+  exchanged_rule before (IsExchanged.reads next owes none sent read) =
+      read_rule (record before { process = next; waiting = [] }) read
 
-  converses_rule : (first : Exam) (start : Dialogue P) {exam : Exam} {now : Dialogue P}
-      → Converses known first start exam now → exam.game.rule ≡ first.game.rule
-  converses_rule first start Converses.begins = refl
-  converses_rule first start (Converses.asks {old = old} {new = new} purpose command more asked) =
-      asked_rule old command new asked.asks ∙ converses_rule first start more
-  converses_rule first start (Converses.exchanges {old = old} {before = before} more exchanged) =
-      exchanged_rule old before exchanged ∙ converses_rule first start more
+  converses_rule : (start : Dialogue P) {now : Dialogue P}
+      → Converses known start now → now.exam.game.rule ≡ start.exam.game.rule
+  converses_rule start Converses.begins = refl
+  converses_rule start (Converses.asks {before = before} {after = after} purpose command more asked) =
+      asked_rule before.exam command after.exam asked.asks ∙ converses_rule start more
+  converses_rule start (Converses.exchanges {before = before} more exchanged) =
+      exchanged_rule before exchanged ∙ converses_rule start more
 
-  pub rule_stays : (first new : Exam) (start after : Dialogue P) (fault : Option Fault)
-      → EndsSo known first start fault new after → new.game.rule ≡ first.game.rule
-  rule_stays first new start after None converses = converses_rule first start converses
-  rule_stays first new start after (Some fault) ends =
-      exchanged_rule ends.old ends.before ends.exchanged ∙ converses_rule first start ends.converses
+  pub rule_stays : (start after : Dialogue P) (fault : Option Fault)
+      → EndsSo known start fault after → after.exam.game.rule ≡ start.exam.game.rule
+  rule_stays start after None converses = converses_rule start converses
+  rule_stays start after (Some fault) ends =
+      exchanged_rule ends.before ends.exchanged ∙ converses_rule start ends.converses

@@ -16,7 +16,8 @@ use Rattle.gtp_check_shortening.specs.declared.talk.Purpose.{Purpose}
 use Rattle.gtp_check_shortening.specs.declared.talk.Said.{Said}
 use Rattle.gtp_check_texts.specs.declared.fault.Fault.{Fault}
 use Rattle.gtp_check_talks.specs.declared.notes.Notes.{Notes}
-use Rattle.gtp_check_talks.specs.Dialogues.{AreHeard, AreTaken, Converses, Dialogue, EndsSo, IsAsked, IsExchanged, IsRead}
+use Rattle.gtp_check_talks.specs.Dialogues.{AreHeard, AreTaken, Converses, Dialogue, EndsSo, IsAsked, IsExchanged}
+use Rattle.gtp_check_talks.specs.Dialogues.{IsRead}
 use Rattle.gtp_check_talks.specs.Dialogues.{IsSent, begun_with, ends_in_pieces, last_move, pieces_of, went_out}
 use Rattle.gtp_check_talks.specs.Laws.{IsHanded, IsSentSoFar, lines_end}
 use Rattle.gtp_check_talks.proofs.Trials.{at_back}
@@ -99,18 +100,18 @@ module _ {P : Type 0} (known : Ghosts P) (process : P) (first : Notes) (exam : E
   abbrev Sent : Dialogue P → Type 0
   Sent now = SentSoFar known process (lines_of now)
 
-  asked_sent : (purpose : Purpose) (old : Exam) (before : Dialogue P) (command : CheckCommand) (new : Exam)
-      (after : Dialogue P) → IsAsked purpose old before command new after → Sent before
+  asked_sent : (purpose : Purpose) (before : Dialogue P) (command : CheckCommand) (after : Dialogue P)
+      → IsAsked purpose before command after → Sent before
       → Sent after
-  asked_sent purpose old before command new after asked so =
-      let line = written_check new.sent command in
+  asked_sent purpose before command after asked so =
+      let line = written_check after.exam.sent command in
       let said : Said = record {
         command = command;
         purpose = purpose;
         is_illegal = asked.is_illegal;
-        size = old.game.size;
-        moves = length old.game.moves;
-        last = last_move old.game;
+        size = before.exam.game.size;
+        moves = length before.exam.game.moves;
+        last = last_move before.exam.game;
         end = length (before.sent ++ line);
       } in
       subst Sent (sym asked.joins)
@@ -143,10 +144,10 @@ module _ {P : Type 0} (known : Ghosts P) (process : P) (first : Notes) (exam : E
   }
 
   -- what was heard leaves the lines
-  heard_sent : (bytes : List ℕ) (old : Exam) (before : Dialogue P) (fault : Option Fault) (new : Exam)
-      (after : Dialogue P) → AreHeard bytes old before fault new after → Sent before → Sent after
-  heard_sent bytes old before None new after heard so = subst Sent (sym heard.1) so
-  heard_sent bytes old before (Some fault) new after heard so = subst Sent (sym heard.1) so
+  heard_sent : (bytes : List ℕ) (before : Dialogue P) (fault : Option Fault) (after : Dialogue P)
+      → AreHeard bytes before fault after → Sent before → Sent after
+  heard_sent bytes before None after heard so = subst Sent (sym heard.leads) so
+  heard_sent bytes before (Some fault) after heard so = subst Sent (sym heard.leads) so
 
   -- its process changed, and was handed nothing
   kept_sent : (before : Dialogue P) (next : P) → Keeps (known.taken before.process) (known.taken next)
@@ -161,27 +162,27 @@ module _ {P : Type 0} (known : Ghosts P) (process : P) (first : Notes) (exam : E
     handed = same_handed known process so.front before.process next kept so.handed;
   }
 
-  read_sent : (old : Exam) (before : Dialogue P) {fault : Option Fault} {new : Exam} {after : Dialogue P}
-      → Sent before → IsRead known old before fault new after → Sent after
-  read_sent old before so
-      (IsRead.gives {fault = fault} {new = new} {after = after} bytes next some gave unbroken taken heard) =
-      heard_sent bytes old (record before { process = next }) fault new after heard (kept_sent before next taken so)
-  read_sent old before so (IsRead.ends next ended given taken) = kept_sent before next taken so
-  read_sent old before so (IsRead.breaks next cut given taken) = kept_sent before next taken so
+  read_sent : (before : Dialogue P) {fault : Option Fault} {after : Dialogue P}
+      → Sent before → IsRead known before fault after → Sent after
+  read_sent before so
+      (IsRead.gives {fault = fault} {after = after} bytes next some gave unbroken taken heard) =
+      heard_sent bytes (record before { process = next }) fault after heard (kept_sent before next taken so)
+  read_sent before so (IsRead.ends next ended given taken) = kept_sent before next taken so
+  read_sent before so (IsRead.breaks next cut given taken) = kept_sent before next taken so
 
-  exchanged_sent : (old : Exam) (before : Dialogue P) {fault : Option Fault} {new : Exam} {after : Dialogue P}
-      → Sent before → IsExchanged known old before fault new after
+  exchanged_sent : (before : Dialogue P) {fault : Option Fault} {after : Dialogue P}
+      → Sent before → IsExchanged known before fault after
       → Sent after
-  exchanged_sent old before so (IsExchanged.owes_nothing next none sent) = all_sent before next so sent
-  exchanged_sent old before so
-      (IsExchanged.held {fault = fault} {new = new} {after = after} owes some heard) =
-      heard_sent before.held old (record before { held = [] }) fault new after heard
+  exchanged_sent before so (IsExchanged.owes_nothing next none sent) = all_sent before next so sent
+  exchanged_sent before so
+      (IsExchanged.held {fault = fault} {after = after} owes some heard) =
+      heard_sent before.held (record before { held = [] }) fault after heard
       so
-  exchanged_sent old before so (IsExchanged.reads next owes none sent read) =
-      read_sent old (record before { process = next; waiting = [] }) (all_sent before next so sent) read
+  exchanged_sent before so (IsExchanged.reads next owes none sent read) =
+      read_sent (record before { process = next; waiting = [] }) (all_sent before next so sent) read
 
-  converses_sent : {now : Exam} {after : Dialogue P}
-      → Converses known exam (begun_with process first) now after → Sent after
+  converses_sent : {after : Dialogue P}
+      → Converses known (begun_with exam process first) after → Sent after
   converses_sent Converses.begins = record {
     front = [];
     lines = refl;
@@ -192,15 +193,15 @@ module _ {P : Type 0} (known : Ghosts P) (process : P) (first : Notes) (exam : E
     handed = IsHanded.taken (Appends-nil (known.taken process));
   }
   converses_sent
-      (Converses.asks {old = old} {new = new} {before = before} {after = after} purpose command more asked) =
-      asked_sent purpose old before command new after asked (converses_sent more)
-  converses_sent (Converses.exchanges {old = old} {before = before} more exchanged) =
-      exchanged_sent old before (converses_sent more) exchanged
+      (Converses.asks {before = before} {after = after} purpose command more asked) =
+      asked_sent purpose before command after asked (converses_sent more)
+  converses_sent (Converses.exchanges {before = before} more exchanged) =
+      exchanged_sent before (converses_sent more) exchanged
 
-  ends : (new : Exam) (fault : Option Fault) (after : Dialogue P)
-      → EndsSo known exam (begun_with process first) fault new after → Sent after
-  ends new None after converses = converses_sent converses
-  ends new (Some fault) after wrong = exchanged_sent wrong.old wrong.before (converses_sent wrong.converses) wrong.exchanged
+  ends : (fault : Option Fault) (after : Dialogue P)
+      → EndsSo known (begun_with exam process first) fault after → Sent after
+  ends None after converses = converses_sent converses
+  ends (Some fault) after wrong = exchanged_sent wrong.before (converses_sent wrong.converses) wrong.exchanged
 
 -- the front is what counts as sent
 counted_so : {P : Type 0} (known : Ghosts P) (process : P) (now : Dialogue P) → SentSoFar known process (lines_of now)
@@ -219,8 +220,8 @@ counted_so known process now so =
       handed = subst (λ (all : List ℕ). IsHanded known process all now.process) front so.handed;
     }
 
-pub ends_sent : {P : Type 0} (known : Ghosts P) (exam new : Exam) (process : P) (first : Notes) (fault : Option Fault)
-    (after : Dialogue P) → EndsSo known exam (begun_with process first) fault new after
+pub ends_sent : {P : Type 0} (known : Ghosts P) (exam : Exam) (process : P) (first : Notes) (fault : Option Fault)
+    (after : Dialogue P) → EndsSo known (begun_with exam process first) fault after
     → IsSentSoFar known process after
-ends_sent known exam new process first fault after so =
-    counted_so known process after (ends known process first exam new fault after so)
+ends_sent known exam process first fault after so =
+    counted_so known process after (ends known process first exam fault after so)

@@ -71,7 +71,7 @@ pub record GoesOn (rule : KoRule) (sent came : List ℕ) (exam : Exam) : Type 0 
 -- it does where bytes are heard in which nothing is found
 heard_on : (rule : KoRule) (sent came bytes : List ℕ) (used : ℕ) (read : Option (Result Reply ReplyFault))
     (old new : Exam)
-    → GoesOn rule sent came old → IsHeard old bytes used read None new
+    → GoesOn rule sent came old → IsHeard old bytes (hearing used read None) new
     → GoesOn rule sent (came ++ take used bytes) new
 heard_on rule sent came bytes used read old new goes heard =
     let hears = heard.up goes.up in
@@ -84,10 +84,9 @@ heard_on rule sent came bytes used read old new goes heard =
 -- ---- a conversation
 
 -- a conversation is a talk, and what was heard and is held is what the process gave
-pub record IsTalk {P : Type 0} (known : Ghosts P) (rule : KoRule) (process : P) (exam : Exam) (now : Dialogue P)
-    : Type 0 where
+pub record IsTalk {P : Type 0} (known : Ghosts P) (rule : KoRule) (process : P) (now : Dialogue P) : Type 0 where
   pub came : List ℕ
-  pub goes : GoesOn rule now.sent came exam
+  pub goes : GoesOn rule now.sent came now.exam
   pub gave : Appends (known.given process) (known.given now.process) (came ++ now.held)
 
 module _ {P : Type 0} (known : Ghosts P) (rule : KoRule) (process : P) (first : Notes) where
@@ -100,20 +99,19 @@ module _ {P : Type 0} (known : Ghosts P) (rule : KoRule) (process : P) (first : 
   sent_gave (AreTaken.part piece cut) = cut.given
 
   -- bytes were heard without a finding
-  quiet_talk : (bytes : List ℕ) (old : Exam) (before : Dialogue P) (new : Exam) (after : Dialogue P) (came : List ℕ)
-      → GoesOn rule before.sent came old
+  quiet_talk : (bytes : List ℕ) (before : Dialogue P) (after : Dialogue P) (came : List ℕ)
+      → GoesOn rule before.sent came before.exam
       → Appends (known.given process) (known.given before.process) (came ++ bytes)
-      → AreHeard bytes old before None new after → IsTalk known rule process new after
-  quiet_talk bytes old before new after came goes gave heard =
-      let quiet = heard.0 in
-      subst (IsTalk known rule process new) (sym heard.1)
+      → AreHeard bytes before None after → IsTalk known rule process after
+  quiet_talk bytes before after came goes gave heard =
+      subst (IsTalk known rule process) (sym heard.leads)
       (record {
-        came = came ++ take quiet.used bytes;
-        goes = heard_on rule before.sent came bytes quiet.used quiet.read old new goes quiet.heard;
+        came = came ++ take heard.used bytes;
+        goes = heard_on rule before.sent came bytes heard.used heard.read before.exam after.exam goes heard.heard;
         gave = subst (λ (all : List ℕ). Appends (known.given process) (known.given before.process) all)
-            (ap (λ (all : List ℕ). came ++ all) (sym (take-append-drop quiet.used bytes))
-            ∙ sym (append_assoc came (take quiet.used bytes) (drop quiet.used bytes))
-            ∙ ap (λ (left : List ℕ). (came ++ take quiet.used bytes) ++ left) (sym quiet.rest))
+            (ap (λ (all : List ℕ). came ++ all) (sym (take-append-drop heard.used bytes))
+            ∙ sym (append_assoc came (take heard.used bytes) (drop heard.used bytes))
+            ∙ ap (λ (left : List ℕ). (came ++ take heard.used bytes) ++ left) (sym heard.rest))
             gave;
       })
 
@@ -129,35 +127,35 @@ module _ {P : Type 0} (known : Ghosts P) (rule : KoRule) (process : P) (first : 
       more
 
   -- the engine was read, and nothing was found
-  read_talk : (old : Exam) (before : Dialogue P) (new : Exam) (after : Dialogue P)
-      → IsTalk known rule process old before → length before.held ≡ 0 → IsRead known old before None new after
-      → IsTalk known rule process new after
-  read_talk old before new after talk none (IsRead.gives bytes next some gave unbroken taken heard) =
-      quiet_talk bytes old (record before { process = next }) new after talk.came talk.goes
+  read_talk : (before : Dialogue P) (after : Dialogue P)
+      → IsTalk known rule process before → length before.held ≡ 0 → IsRead known before None after
+      → IsTalk known rule process after
+  read_talk before after talk none (IsRead.gives bytes next some gave unbroken taken heard) =
+      quiet_talk bytes (record before { process = next }) after talk.came talk.goes
       (read_gave talk.came before.held bytes before.process next none talk.gave gave) heard
 
   -- what waits was sent
-  pub sent_talk : (old : Exam) (before : Dialogue P) (next : P) → IsTalk known rule process old before
+  pub sent_talk : (before : Dialogue P) (next : P) → IsTalk known rule process before
       → IsSent known (ends_in_pieces before.talk) before.waiting before.process next
-      → IsTalk known rule process old (record before { process = next; waiting = [] })
-  sent_talk old before next talk sent = record {
+      → IsTalk known rule process (record before { process = next; waiting = [] })
+  sent_talk before next talk sent = record {
     came = talk.came;
     goes = talk.goes;
     gave = Appends-kept (known.given process) (known.given before.process) (known.given next)
         (talk.came ++ before.held) talk.gave (sent_gave sent);
   }
 
-  pub converses_talk : {exam : Exam} {now : Dialogue P}
-      → Converses known (begun rule true) (begun_with process first) exam now
-      → IsTalk known rule process exam now
+  pub converses_talk : {now : Dialogue P}
+      → Converses known (begun_with (begun rule true) process first) now
+      → IsTalk known rule process now
   converses_talk Converses.begins = record {
     came = [];
     goes = record { said = []; talks = Talks.start; up = refl };
     gave = Appends-nil (known.given process);
   }
-  converses_talk (Converses.asks {old = old} {new = new} {before = before} {after = after} purpose command more asked) =
+  converses_talk (Converses.asks {before = before} {after = after} purpose command more asked) =
       let talk = converses_talk more in
-      subst (IsTalk known rule process new) (sym asked.joins)
+      subst (IsTalk known rule process) (sym asked.joins)
       (record {
         came = talk.came;
         goes = record {
@@ -167,78 +165,78 @@ module _ {P : Type 0} (known : Ghosts P) (rule : KoRule) (process : P) (first : 
         };
         gave = talk.gave;
       })
-  converses_talk (Converses.exchanges {old = old} {new = new} {before = before} {after = after} more exchanged) =
-      exchanged_talk old before new after (converses_talk more) exchanged
+  converses_talk (Converses.exchanges {before = before} {after = after} more exchanged) =
+      exchanged_talk before after (converses_talk more) exchanged
     where
-      exchanged_talk : (old : Exam) (before : Dialogue P) (new : Exam) (after : Dialogue P)
-          → IsTalk known rule process old before → IsExchanged known old before None new after
-          → IsTalk known rule process new after
-      exchanged_talk old before new after talk (IsExchanged.owes_nothing next none sent) =
-          sent_talk old before next talk sent
-      exchanged_talk old before new after talk (IsExchanged.held owes some heard) =
-          quiet_talk before.held old (record before { held = [] }) new after talk.came talk.goes talk.gave heard
-      exchanged_talk old before new after talk (IsExchanged.reads next owes none sent read) =
-          read_talk old (record before { process = next; waiting = [] }) new after
-          (sent_talk old before next talk sent) none read
+      exchanged_talk : (before : Dialogue P) (after : Dialogue P)
+          → IsTalk known rule process before → IsExchanged known before None after
+          → IsTalk known rule process after
+      exchanged_talk before after talk (IsExchanged.owes_nothing next none sent) =
+          sent_talk before next talk sent
+      exchanged_talk before after talk (IsExchanged.held owes some heard) =
+          quiet_talk before.held (record before { held = [] }) after talk.came talk.goes talk.gave heard
+      exchanged_talk before after talk (IsExchanged.reads next owes none sent read) =
+          read_talk (record before { process = next; waiting = [] }) after
+          (sent_talk before next talk sent) none read
 
   -- ---- a finding
 
   -- something was found in bytes
-  found_talk : FindingsAreJustified → (bytes : List ℕ) (old : Exam) (before : Dialogue P) (kind : Kind) (new : Exam)
-      (after : Dialogue P) (came : List ℕ) → GoesOn rule before.sent came old
+  found_talk : FindingsAreJustified → (bytes : List ℕ) (before : Dialogue P) (kind : Kind) (after : Dialogue P)
+      (came : List ℕ) → GoesOn rule before.sent came before.exam
       → Appends (known.given process) (known.given before.process) (came ++ bytes)
-      → AreHeard bytes old before (Some (Wrote kind)) new after
+      → AreHeard bytes before (Some (Wrote kind)) after
       → IsWronglyWritten known rule process kind after
-  found_talk justify bytes old before kind new after came goes gave heard =
-      let found = heard.0 in
-      let hears = found.found.up goes.up in
-      subst (IsWronglyWritten known rule process kind) (sym heard.1)
+  found_talk justify bytes before kind after came goes gave heard =
+      let hears = heard.found.up goes.up in
+      subst (IsWronglyWritten known rule process kind) (sym heard.leads)
       (record {
         came = came;
         said = goes.said;
-        old = old;
-        new = new;
+        old = before.exam;
+        new = after.exam;
         bytes = bytes;
-        used = found.used;
-        read = found.read;
-        finding = found.finding;
+        used = heard.used;
+        read = heard.read;
+        finding = heard.finding;
         talks = goes.talks;
         hears = hears;
-        is = wrote_kind found.kind;
-        justified = justify rule before.sent came goes.said old new bytes found.used found.read found.finding goes.talks
+        is = wrote_kind heard.kind;
+        justified = justify rule before.sent came goes.said before.exam after.exam bytes heard.used heard.read
+            heard.finding goes.talks
             hears;
         gave = gave;
       })
 
-  read_found : FindingsAreJustified → (old : Exam) (before : Dialogue P) (kind : Kind) (new : Exam)
-      (after : Dialogue P) → IsTalk known rule process old before → length before.held ≡ 0
-      → (fault : Option Fault) → fault ≡ Some (Wrote kind) → IsRead known old before fault new after
+  read_found : FindingsAreJustified → (before : Dialogue P) (kind : Kind) (after : Dialogue P)
+      → IsTalk known rule process before → length before.held ≡ 0
+      → (fault : Option Fault) → fault ≡ Some (Wrote kind) → IsRead known before fault after
       → IsWronglyWritten known rule process kind after
-  read_found justify old before kind new after talk none fault is
+  read_found justify before kind after talk none fault is
       (IsRead.gives bytes next some gave unbroken taken heard) =
-      found_talk justify bytes old (record before { process = next }) kind new after talk.came talk.goes
+      found_talk justify bytes (record before { process = next }) kind after talk.came talk.goes
       (read_gave talk.came before.held bytes before.process next none talk.gave gave)
-      (subst (λ (f : Option Fault). AreHeard bytes old (record before { process = next }) f new after) is heard)
-  read_found justify old before kind new after talk none fault is (IsRead.ends next ended given taken) = absurd (cc is)
-  read_found justify old before kind new after talk none fault is (IsRead.breaks next cut given taken) = absurd (cc is)
+      (subst (λ (f : Option Fault). AreHeard bytes (record before { process = next }) f after) is heard)
+  read_found justify before kind after talk none fault is (IsRead.ends next ended given taken) = absurd (cc is)
+  read_found justify before kind after talk none fault is (IsRead.breaks next cut given taken) = absurd (cc is)
 
-  exchanged_found : FindingsAreJustified → (old : Exam) (before : Dialogue P) (kind : Kind) (new : Exam)
-      (after : Dialogue P) → IsTalk known rule process old before
-      → (fault : Option Fault) → fault ≡ Some (Wrote kind) → IsExchanged known old before fault new after
+  exchanged_found : FindingsAreJustified → (before : Dialogue P) (kind : Kind) (after : Dialogue P)
+      → IsTalk known rule process before
+      → (fault : Option Fault) → fault ≡ Some (Wrote kind) → IsExchanged known before fault after
       → IsWronglyWritten known rule process kind after
-  exchanged_found justify old before kind new after talk fault is (IsExchanged.owes_nothing next none sent) =
+  exchanged_found justify before kind after talk fault is (IsExchanged.owes_nothing next none sent) =
       absurd (cc is)
-  exchanged_found justify old before kind new after talk fault is (IsExchanged.held owes some heard) =
-      found_talk justify before.held old (record before { held = [] }) kind new after talk.came talk.goes talk.gave
-      (subst (λ (f : Option Fault). AreHeard before.held old (record before { held = [] }) f new after) is heard)
-  exchanged_found justify old before kind new after talk fault is (IsExchanged.reads next owes none sent read) =
-      read_found justify old (record before { process = next; waiting = [] }) kind new after
-      (sent_talk old before next talk sent) none fault is read
+  exchanged_found justify before kind after talk fault is (IsExchanged.held owes some heard) =
+      found_talk justify before.held (record before { held = [] }) kind after talk.came talk.goes talk.gave
+      (subst (λ (f : Option Fault). AreHeard before.held (record before { held = [] }) f after) is heard)
+  exchanged_found justify before kind after talk fault is (IsExchanged.reads next owes none sent read) =
+      read_found justify (record before { process = next; waiting = [] }) kind after
+      (sent_talk before next talk sent) none fault is read
 
-  pub found_in : FindingsAreJustified → (kind : Kind) (new : Exam) (after : Dialogue P)
-      → EndsWrong known (begun rule true) (begun_with process first) (Wrote kind) new after
+  pub found_in : FindingsAreJustified → (kind : Kind) (after : Dialogue P)
+      → EndsWrong known (begun_with (begun rule true) process first) (Wrote kind) after
       → IsWronglyWritten known rule process kind after
-  found_in justify kind new after ends =
-      exchanged_found justify ends.old ends.before kind new after (converses_talk ends.converses)
+  found_in justify kind after ends =
+      exchanged_found justify ends.before kind after (converses_talk ends.converses)
       (Some (Wrote kind)) refl
       ends.exchanged

@@ -20,50 +20,49 @@ use Rattle.gtp_check_talks.specs.Dialogues.{IsFull, dialogue}
 use Rattle.gtp_check_shortening.specs.Shortening.{commands_of}
 
 -- an engine that was just started was asked nothing
-pub asked_nothing : {P : Type 0} (engine : Engine P) (notes : Notes) (process : P)
-    → dialogue engine notes ≡ begun_with process notes → engine.talk.items ≡ []
-asked_nothing {P} engine notes process is = ap {A = Dialogue P} (λ one. one.talk) is
+pub asked_nothing : {P : Type 0} (engine : Engine P) (exam : Exam) (notes : Notes) (process : P)
+    → dialogue engine exam notes ≡ begun_with exam process notes → engine.talk.items ≡ []
+asked_nothing {P} engine exam notes process is = ap {A = Dialogue P} (λ one. one.talk) is
 
 -- one command more was asked
-pub asked_more : {P : Type 0} (purpose : Purpose) (old : Exam) (before : Dialogue P) (command : CheckCommand)
-    (new : Exam) (after : Dialogue P) → IsAsked purpose old before command new after
+pub asked_more : {P : Type 0} (purpose : Purpose) (before : Dialogue P) (command : CheckCommand)
+    (after : Dialogue P) → IsAsked purpose before command after
     → commands_of after.talk ≡ commands_of before.talk ++ command ∷ []
-asked_more {P} purpose old before command new after asked =
+asked_more {P} purpose before command after asked =
     ap {A = Dialogue P} (λ one. commands_of one.talk) asked.joins
     ∙ map-append (λ (said : Said). said.command) before.talk _
 
 -- for the purpose of those before
-pub asked_for : {P : Type 0} (purpose : Purpose) (old : Exam) (before : Dialogue P) (command : CheckCommand)
-    (new : Exam) (after : Dialogue P) → IsAsked purpose old before command new after
+pub asked_for : {P : Type 0} (purpose : Purpose) (before : Dialogue P) (command : CheckCommand)
+    (after : Dialogue P) → IsAsked purpose before command after
     → AreFor purpose before.talk → AreFor purpose after.talk
-asked_for {P} purpose old before command new after asked all =
+asked_for {P} purpose before command after asked all =
     let joined = ap {A = Dialogue P} (λ one. one.talk) asked.joins in
     subst (AreFor purpose) (sym joined)
     (All-append (λ (said : Said). said.purpose ≡ purpose) before.talk _ all
     (All-cons (λ (said : Said). said.purpose ≡ purpose) _ [] refl (All-nil (λ (said : Said). said.purpose ≡ purpose))))
 
-heard_talk : {P : Type 0} (bytes : List ℕ) (old : Exam) (before : Dialogue P) (fault : Option Fault) (new : Exam)
-    (after : Dialogue P) → AreHeard bytes old before fault new after → after.talk ≡ before.talk
-heard_talk {P} bytes old before None new after heard = ap {A = Dialogue P} (λ one. one.talk) heard.1
-heard_talk {P} bytes old before (Some fault) new after heard = ap {A = Dialogue P} (λ one. one.talk) heard.1
+heard_talk : {P : Type 0} (bytes : List ℕ) (before : Dialogue P) (fault : Option Fault) (after : Dialogue P)
+    → AreHeard bytes before fault after → after.talk ≡ before.talk
+heard_talk {P} bytes before None after heard = ap {A = Dialogue P} (λ one. one.talk) heard.leads
+heard_talk {P} bytes before (Some fault) after heard = ap {A = Dialogue P} (λ one. one.talk) heard.leads
 
-read_talk : {P : Type 0} (known : Ghosts P) (old : Exam) (before : Dialogue P) → {fault : Option Fault} {new : Exam}
-    {after : Dialogue P} → IsRead known old before fault new after → after.talk ≡ before.talk
-read_talk known old before
-    (IsRead.gives {fault = fault} {new = new} {after = after} bytes process some gave whole kept heard) =
-    heard_talk bytes old (record before { process = process }) fault new after heard
-read_talk known old before (IsRead.ends process ended gave took) = refl
-read_talk known old before (IsRead.breaks process cut gave took) = refl
+read_talk : {P : Type 0} (known : Ghosts P) (before : Dialogue P) → {fault : Option Fault} {after : Dialogue P}
+    → IsRead known before fault after → after.talk ≡ before.talk
+read_talk known before
+    (IsRead.gives {fault = fault} {after = after} bytes process some gave whole kept heard) =
+    heard_talk bytes (record before { process = process }) fault after heard
+read_talk known before (IsRead.ends process ended gave took) = refl
+read_talk known before (IsRead.breaks process cut gave took) = refl
 
 -- in an exchange none is asked
-pub exchanged_talk : {P : Type 0} (known : Ghosts P) (old : Exam) (before : Dialogue P)
-    → {fault : Option Fault} {new : Exam}
-    {after : Dialogue P} → IsExchanged known old before fault new after → after.talk ≡ before.talk
-exchanged_talk known old before (IsExchanged.owes_nothing process none sent) = refl
-exchanged_talk known old before (IsExchanged.held {fault = fault} {new = new} {after = after} owes some heard) =
-    heard_talk before.held old (record before { held = [] }) fault new after heard
-exchanged_talk known old before (IsExchanged.reads process owes none sent read) =
-    read_talk known old (record before { process = process; waiting = [] }) read
+pub exchanged_talk : {P : Type 0} (known : Ghosts P) (before : Dialogue P)
+    → {fault : Option Fault} {after : Dialogue P} → IsExchanged known before fault after → after.talk ≡ before.talk
+exchanged_talk known before (IsExchanged.owes_nothing process none sent) = refl
+exchanged_talk known before (IsExchanged.held {fault = fault} {after = after} owes some heard) =
+    heard_talk before.held (record before { held = [] }) fault after heard
+exchanged_talk known before (IsExchanged.reads process owes none sent read) =
+    read_talk known (record before { process = process; waiting = [] }) read
 
 -- what was asked is a front of the commands
 pub asks_first : (commands rest : List CheckCommand) (talk : List Said) → commands_of talk ++ rest ≡ commands

@@ -1,5 +1,6 @@
 -- Each turn of a trial gets on, so it ends.
-use Rattle.std.proofs.Common.{◌≡◌, ◌∙◌, ◌+◌, ◌-◌, ◌*◌, ◌<◌, ◌≤◌, ◌⊎◌, ap, refl, subst, sym, arith, inl, inr, min, ℕ, Bool, true, false}
+use Rattle.std.proofs.Common.{◌≡◌, ◌∙◌, ◌+◌, ◌-◌, ◌*◌, ◌<◌, ◌≤◌, ◌⊎◌, ap, refl, subst, sym, arith, inl, inr, min, ℕ}
+use Rattle.std.proofs.Common.{Bool, true, false}
 use Rattle.std.proofs.Common.{List, [], ◌∷◌, ◌++◌, length, take, drop, leb, Option, None, Some, Result, Ok, Err}
 use Rattle.std.proofs.lemmas.Bool.{leb-false, leb-true}
 use Rattle.std.proofs.lemmas.List.{length-append, length-drop, length-take, length-take-le}
@@ -17,7 +18,7 @@ use Rattle.gtp_check_judge.specs.Judging.{oldest, has_id}
 use Rattle.gtp_check_judge.specs.Exam.{IdLeaves, Leaves, ReplyLeaves, after_judged, finding_of, with_learned, with_rest, reply_to}
 use Rattle.gtp_check_shortening.specs.declared.talk.Purpose.{Purpose}
 use Rattle.gtp_check_talks.specs.Dialogues.{AreHeard, Dialogue, IsExchanged, IsRead}
-use Rattle.gtp_check_talks.specs.private.Asking.{AreAsked, Standing}
+use Rattle.gtp_check_talks.specs.private.Asking.{AreAsked}
 use Rattle.gtp_check_talks.proofs.Asked.{IsAskedMore, asked_exam, asked_none}
 
 -- ---- what was heard
@@ -93,34 +94,34 @@ by_read bytes old used (Some (Ok reply)) rest new up some owes reads h =
     record { up = is.up; less = inl is.less }
 
 module _ {P : Type 0} (known : Ghosts P) where
-  quiet_on : (bytes : List ℕ) (old : Exam) (before : Dialogue P) (new : Exam) (after : Dialogue P) → old.up ≡ true
-      → 0 < length bytes → 0 < length old.unanswered → AreHeard bytes old before None new after → GetsOn old new
-  quiet_on bytes old before new after up some owes heard =
-      let quiet = heard.0 in
-      let hears = quiet.heard.up up in
-      by_read bytes old quiet.used quiet.read hears.0 new up some owes hears.1 hears.2
+  quiet_on : (bytes : List ℕ) (before : Dialogue P) (after : Dialogue P) → before.exam.up ≡ true
+      → 0 < length bytes → 0 < length before.exam.unanswered → AreHeard bytes before None after
+      → GetsOn before.exam after.exam
+  quiet_on bytes before after up some owes heard =
+      let hears = heard.heard.up up in
+      by_read bytes before.exam heard.used heard.read hears.0 after.exam up some owes hears.1 hears.2
 
-  read_on : (old : Exam) (before : Dialogue P) (new : Exam) (after : Dialogue P) → old.up ≡ true
-      → 0 < length old.unanswered → IsRead known old before None new after → GetsOn old new
-  read_on old before new after up owes (IsRead.gives bytes next some gave unbroken taken heard) =
-      quiet_on bytes old (record before { process = next }) new after up some owes heard
+  read_on : (before : Dialogue P) (after : Dialogue P) → before.exam.up ≡ true
+      → 0 < length before.exam.unanswered → IsRead known before None after → GetsOn before.exam after.exam
+  read_on before after up owes (IsRead.gives bytes next some gave unbroken taken heard) =
+      quiet_on bytes (record before { process = next }) after up some owes heard
 
   -- an engine that owes an answer was heard
-  exchanged_on : (old : Exam) (before : Dialogue P) (new : Exam) (after : Dialogue P) → old.up ≡ true
-      → 0 < length old.unanswered → IsExchanged known old before None new after → GetsOn old new
-  exchanged_on old before new after up owes (IsExchanged.owes_nothing next none sent) = absurd (omega arith)
-  exchanged_on old before new after up owes (IsExchanged.held some more heard) =
-      quiet_on before.held old (record before { held = [] }) new after up more owes heard
-  exchanged_on old before new after up owes (IsExchanged.reads next some none sent read) =
-      read_on old (record before { process = next; waiting = [] }) new after up owes read
+  exchanged_on : (before : Dialogue P) (after : Dialogue P) → before.exam.up ≡ true
+      → 0 < length before.exam.unanswered → IsExchanged known before None after → GetsOn before.exam after.exam
+  exchanged_on before after up owes (IsExchanged.owes_nothing next none sent) = absurd (omega arith)
+  exchanged_on before after up owes (IsExchanged.held some more heard) =
+      quiet_on before.held (record before { held = [] }) after up more owes heard
+  exchanged_on before after up owes (IsExchanged.reads next some none sent read) =
+      read_on (record before { process = next; waiting = [] }) after up owes read
 
   -- one that owes none was sent what waits
-  exchanged_out : (old : Exam) (before : Dialogue P) (new : Exam) (after : Dialogue P)
-      → length old.unanswered ≡ 0 → IsExchanged known old before None new after
-      → (new ≡ old) × (after.waiting ≡ [])
-  exchanged_out old before new after owes (IsExchanged.owes_nothing next none sent) = (refl, refl)
-  exchanged_out old before new after owes (IsExchanged.held some more heard) = absurd (omega arith)
-  exchanged_out old before new after owes (IsExchanged.reads next some none sent read) = absurd (omega arith)
+  exchanged_out : (before : Dialogue P) (after : Dialogue P)
+      → length before.exam.unanswered ≡ 0 → IsExchanged known before None after
+      → (after.exam ≡ before.exam) × (after.waiting ≡ [])
+  exchanged_out before after owes (IsExchanged.owes_nothing next none sent) = (refl, refl)
+  exchanged_out before after owes (IsExchanged.held some more heard) = absurd (omega arith)
+  exchanged_out before after owes (IsExchanged.reads next some none sent read) = absurd (omega arith)
 
 -- ---- what is left
 
@@ -157,45 +158,42 @@ module _ (rest count later : ℕ) (first old new : Exam) (waits had waiting : Li
 -- ---- a turn
 
 -- what becomes of a trial in a turn: the engine is up, and less is left
-pub record TurnsOn (rest later : ℕ) (first new : Exam) (waits waiting : List ℕ) : Type 0 where
-  pub up : new.up ≡ true
-  pub less : left later new waiting < left rest first waits
+pub record TurnsOn {P : Type 0} (rest later : ℕ) (first after : Dialogue P) : Type 0 where
+  pub up : after.exam.up ≡ true
+  pub less : left later after.exam after.waiting < left rest first.exam first.waiting
 
 -- Commands were asked, and the engine owed something: an answer, or it had not been sent all. Then it was heard, and
 -- nothing was wrong.
-pub turned : {P : Type 0} (known : Ghosts P) (purpose : Purpose) (first old : Standing P) (commands : List CheckCommand)
-    (rest later : ℕ) (new : Exam) (after : Dialogue P) → later + length commands ≡ rest → first.exam.up ≡ true
-    → AreAsked purpose first commands old
-    → (0 < length old.engine.waiting) ⊎ (0 < length old.exam.unanswered)
-    → IsExchanged known old.exam old.engine None new after
-    → TurnsOn rest later first.exam new first.engine.waiting after.waiting
-turned known purpose first old commands rest later new after is up asks owes exchanged =
+pub turned : {P : Type 0} (known : Ghosts P) (purpose : Purpose) (first old : Dialogue P) (commands : List CheckCommand)
+    (rest later : ℕ) (after : Dialogue P) → later + length commands ≡ rest → first.exam.up ≡ true
+    → AreAsked purpose first commands old → (0 < length old.waiting) ⊎ (0 < length old.exam.unanswered)
+    → IsExchanged known old None after → TurnsOn rest later first after
+turned known purpose first old commands rest later after is up asks owes exchanged =
     by old.exam.unanswered refl
   where
     asked : IsAskedMore (length commands) first.exam old.exam
     asked = asked_exam purpose first old asks
 
-    by : (list : List Asked) → old.exam.unanswered ≡ list
-        → TurnsOn rest later first.exam new first.engine.waiting after.waiting
+    by : (list : List Asked) → old.exam.unanswered ≡ list → TurnsOn rest later first after
     by [] none =
         let nothing : length old.exam.unanswered ≡ 0 = ap (λ (list : List Asked). length list) none in
-        let out = exchanged_out known old.exam old.engine new after nothing exchanged in
-        let some : 0 < length old.engine.waiting =
-        elim owes as (λ _. 0 < length old.engine.waiting) [
+        let out = exchanged_out known old after nothing exchanged in
+        let some : 0 < length old.waiting =
+        elim owes as (λ _. 0 < length old.waiting) [
           | inl waits ↦ waits
           | inr more ↦ absurd (omega (arith, more, nothing))
         ] in
         record {
           up = ap (λ (exam : Exam). exam.up) out.0 ∙ asked.up ∙ up;
-          less = less_sent rest (length commands) later first.exam old.exam new first.engine.waiting
-              old.engine.waiting after.waiting is asked nothing out.0 out.1 some (asked_none purpose first old asks);
+          less = less_sent rest (length commands) later first.exam old.exam after.exam first.waiting old.waiting
+              after.waiting is asked nothing out.0 out.1 some (asked_none purpose first old asks);
         }
     by (one ∷ more) are =
         let some : 0 < length old.exam.unanswered =
         omega (arith, ap (λ (list : List Asked). length list) are) in
-        let on = exchanged_on known old.exam old.engine new after (asked.up ∙ up) some exchanged in
+        let on = exchanged_on known old after (asked.up ∙ up) some exchanged in
         record {
           up = on.up;
-          less = less_left rest (length commands) later first.exam old.exam new first.engine.waiting
-              old.engine.waiting after.waiting is asked on;
+          less = less_left rest (length commands) later first.exam old.exam after.exam first.waiting old.waiting
+              after.waiting is asked on;
         }

@@ -19,7 +19,7 @@ use Rattle.gtp_process.specs.declared.starter.Ending.{Ending}
 use Rattle.gtp_process.specs.declared.starter.StartFault.{StartFault}
 use Rattle.gtp_process.specs.declared.starter.StartFault.TheVariants as start_fault
 use Rattle.gtp_process.specs.declared.starter.StartReason.{StartReason}
-use Rattle.gtp_process.specs.Starts.{Attempts, Text, Tries}
+use Rattle.gtp_process.specs.Starts.{Attempts, Text, Tries, program_line}
 use Rattle.gtp_process.specs.Pipes.{IsCutOff, IsUnbroken, OutputEnded}
 use Rattle.gtp_check_judge.specs.declared.asking.CheckCommand.{CheckCommand}
 use Rattle.gtp_check_judge.specs.declared.asking.CheckCommand.TheVariants.{Match, PlayInFull}
@@ -33,7 +33,7 @@ use Rattle.gtp_check_judge.specs.Check.{Check, after_loss, started, with_exam}
 use Rattle.gtp_check_questions.specs.declared.lessons.Lesson.{Lesson}
 use Rattle.gtp_check_questions.specs.declared.lessons.Lesson.TheVariants as lesson
 use Rattle.gtp_check_questions.specs.Lessons.{is_in_pieces}
-use Rattle.gtp_check_judge.specs.Exam.{Asks, HasRoomFor, Hears, HearsDown, hearing}
+use Rattle.gtp_check_judge.specs.Exam.{Asks, HasRoomFor, Hearing, Hears, HearsDown, hearing}
 use Rattle.gtp_check_talks.specs.declared.engine.Engine.{Engine}
 use Rattle.gtp_check_texts.specs.declared.fault.Fault.{Fault}
 use Rattle.gtp_check_texts.specs.declared.fault.Fault.TheVariants.{CutOff, Wrote}
@@ -41,16 +41,18 @@ use Rattle.gtp_check_texts.specs.Lines.{is_newline}
 use Rattle.gtp_check_talks.specs.declared.notes.Notes.{Notes}
 use Rattle.gtp_check_shortening.specs.declared.talk.Purpose.{Purpose}
 use Rattle.gtp_check_shortening.specs.declared.talk.Said.{Said}
+use Rattle.gtp_check_talks.specs.declared.trial.Trial.{Trial as TrialOfCommands}
 use Rattle.gtp_check_talks.specs.declared.trial.Tried.{Tried}
 use Rattle.gtp_check_talks.specs.Notes.{counted, noted, noted_in}
 use Rattle.gtp_check_shortening.specs.Shortening.{commands_of}
 
 -- ---- an engine that was started
 
--- An engine that was started: its process, the bytes of all lines that it was asked, the commands, those bytes that
--- aren't sent yet, what it wrote that wasn't heard yet, and the beginning of what it wrote since its last whole reply.
--- And what is noted of it so far.
+-- An engine that was started: its exam, its process, the bytes of all lines that it was asked, the commands, those bytes
+-- that aren't sent yet, what it wrote that wasn't heard yet, and the beginning of what it wrote since its last whole
+-- reply. And what is noted of it so far.
 pub record Dialogue (P : Type 0) : Type 0 where
+  pub exam : Exam
   pub process : P
   pub sent : List ℕ
   pub talk : List Said
@@ -59,8 +61,9 @@ pub record Dialogue (P : Type 0) : Type 0 where
   pub wrote : List ℕ
   pub notes : Notes
 
-abbrev pub dialogue : {P : Type 0} → Engine P → Notes → Dialogue P
-dialogue engine notes = record {
+abbrev pub dialogue : {P : Type 0} → Engine P → Exam → Notes → Dialogue P
+dialogue engine exam notes = record {
+  exam = exam;
   process = engine.process;
   sent = engine.sent.items;
   talk = engine.talk.items;
@@ -71,8 +74,9 @@ dialogue engine notes = record {
 }
 
 -- one that was asked nothing
-abbrev pub begun_with : {P : Type 0} → P → Notes → Dialogue P
-begun_with process notes = record {
+abbrev pub begun_with : {P : Type 0} → Exam → P → Notes → Dialogue P
+begun_with exam process notes = record {
+  exam = exam;
   process = process;
   sent = [];
   talk = [];
@@ -119,25 +123,26 @@ IsFull talk waiting =
 
 -- A command is asked, for this purpose: it may be asked, and its line is joined to what the engine was asked and to
 -- what is sent next, which it may follow. It is counted.
-pub record IsAsked {P : Type 0} (purpose : Purpose) (old : Exam) (before : Dialogue P) (command : CheckCommand)
-    (new : Exam) (after : Dialogue P) : Type 0 where
-  pub may : HasRoomFor old command
+pub record IsAsked {P : Type 0} (purpose : Purpose) (before : Dialogue P) (command : CheckCommand)
+    (after : Dialogue P) : Type 0 where
+  pub may : HasRoomFor before.exam command
   pub follows : MayFollow before.talk before.waiting
-  pub asks : Asks old command new
+  pub asks : Asks before.exam command after.exam
   pub is_illegal : Bool
-  pub illegal : IsTrue is_illegal ↔ IsIllegal old.game command
+  pub illegal : IsTrue is_illegal ↔ IsIllegal before.exam.game command
   pub joins : after ≡ record before {
-    sent = before.sent ++ written_check new.sent command;
+    exam = after.exam;
+    sent = before.sent ++ written_check after.exam.sent command;
     talk = before.talk ++ record {
       command = command;
       purpose = purpose;
       is_illegal = is_illegal;
-      size = old.game.size;
-      moves = length old.game.moves;
-      last = last_move old.game;
-      end = length (before.sent ++ written_check new.sent command);
+      size = before.exam.game.size;
+      moves = length before.exam.game.moves;
+      last = last_move before.exam.game;
+      end = length (before.sent ++ written_check after.exam.sent command);
     } ∷ [];
-    waiting = before.waiting ++ written_check new.sent command;
+    waiting = before.waiting ++ written_check after.exam.sent command;
     notes = counted before.notes;
   }
 
@@ -152,17 +157,6 @@ purpose_of (Some said) = said.purpose
 abbrev pub owed_purpose : List Said → Exam → Purpose
 owed_purpose talk exam = purpose_of (slice_get talk (length talk - length exam.unanswered))
 
--- who hears an engine: its exam, what it was asked, the beginning of what it wrote since its last whole reply, and what
--- is noted
-pub record Listener : Type 0 where
-  pub exam : Exam
-  pub talk : List Said
-  pub wrote : List ℕ
-  pub notes : Notes
-
-abbrev pub listener : {P : Type 0} → Exam → Dialogue P → Listener
-listener exam engine = record { exam = exam; talk = engine.talk; wrote = engine.wrote; notes = engine.notes }
-
 -- what is noted of what was read, where this is the oldest command, if any, asked in this lesson, and nothing was found
 abbrev pub noted_of_read : Lesson → Notes → Option Asked → Option (Result Reply ReplyFault) → Skills → Notes
 noted_of_read lesson notes (Some asked) (Some (Ok reply)) skills =
@@ -172,25 +166,30 @@ noted_of_read lesson notes (Some asked) None skills = notes
 noted_of_read lesson notes None read skills = notes
 
 -- bytes are heard by the exam, be the engine up or not
-pub record IsHeard (old : Exam) (bytes : List ℕ) (used : ℕ) (read : Option (Result Reply ReplyFault))
-    (finding : Option Finding) (new : Exam) : Type 0 where
-  pub up : old.up ≡ true → Hears old bytes (hearing used read finding) new
-  pub down : old.up ≡ false → HearsDown old bytes used finding new
+pub record IsHeard (old : Exam) (bytes : List ℕ) (heard : Hearing) (new : Exam) : Type 0 where
+  pub up : old.up ≡ true → Hears old bytes heard new
+  pub down : old.up ≡ false → HearsDown old bytes heard.used heard.finding new
 
 -- what is kept of what the engine wrote, these bytes too: nothing after a whole reply
 abbrev pub kept_after : List ℕ → List ℕ → Bool → List ℕ
 kept_after wrote bytes is_read = if is_read then [] else take most_shown (wrote ++ bytes)
 
--- The first reply in the bytes was heard, or all of them where none ends in them, and nothing was found. This end of
--- them is left.
-pub record IsHeardQuietly (bytes : List ℕ) (first last : Listener) (left : List ℕ) : Type 0 where
+-- The first reply in the bytes was heard, or all of them where none ends in them, and nothing was found. What is left of
+-- them is held.
+pub record IsHeardQuietly {P : Type 0} (bytes : List ℕ) (before after : Dialogue P) : Type 0 where
   pub used : ℕ
   pub read : Option (Result Reply ReplyFault)
-  pub heard : IsHeard first.exam bytes used read None last.exam
-  pub wrote : last.wrote ≡ kept_after first.wrote (take used bytes) (is_some read)
-  pub notes : last.notes ≡ noted_of_read (owed_purpose first.talk first.exam).lesson first.notes
-      (oldest first.exam.unanswered) read last.exam.skills
-  pub rest : left ≡ drop used bytes
+  pub heard : IsHeard before.exam bytes (hearing used read None) after.exam
+  pub wrote : after.wrote ≡ kept_after before.wrote (take used bytes) (is_some read)
+  pub notes : after.notes ≡ noted_of_read (owed_purpose before.talk before.exam).lesson before.notes
+      (oldest before.exam.unanswered) read after.exam.skills
+  pub rest : after.held ≡ drop used bytes
+  pub leads : after ≡ record before {
+    exam = after.exam;
+    held = after.held;
+    wrote = after.wrote;
+    notes = after.notes;
+  }
 
 -- The bytes up to the end of the line in which the last of so many is, with its newline, as far as they are there. Where
 -- that byte is the newline at the end of a reply, these are just so many; and where it shows that this is no reply, the
@@ -199,23 +198,20 @@ abbrev pub through_line : ℕ → List ℕ → List ℕ
 through_line used bytes = take (used - 1 + (position_or_len is_newline (drop (used - 1) bytes) + 1)) bytes
 
 -- In the bytes something wrong was found. What is kept of them goes to the end of the line in which it was.
-pub record IsFoundIn (bytes : List ℕ) (first last : Listener) (fault : Fault) : Type 0 where
+pub record IsFoundIn {P : Type 0} (bytes : List ℕ) (before : Dialogue P) (fault : Fault) (after : Dialogue P)
+    : Type 0 where
   pub used : ℕ
   pub read : Option (Result Reply ReplyFault)
   pub finding : Finding
-  pub found : IsHeard first.exam bytes used read (Some finding) last.exam
-  pub wrote : last.wrote ≡ take most_shown (first.wrote ++ through_line used bytes)
-  pub notes : last.notes ≡ first.notes
+  pub found : IsHeard before.exam bytes (hearing used read (Some finding)) after.exam
+  pub wrote : after.wrote ≡ take most_shown (before.wrote ++ through_line used bytes)
   pub kind : fault ≡ Wrote finding.kind
+  pub leads : after ≡ record before { exam = after.exam; wrote = after.wrote }
 
--- the bytes were heard, and this is what is wrong with them, if anything; what is left is held
-abbrev pub AreHeard : {P : Type 0} → List ℕ → Exam → Dialogue P → Option Fault → Exam → Dialogue P → Type 0
-AreHeard bytes old before None new after =
-    IsHeardQuietly bytes (listener old before) (listener new after) after.held
-    × (after ≡ record before { held = after.held; wrote = after.wrote; notes = after.notes })
-AreHeard bytes old before (Some fault) new after =
-    IsFoundIn bytes (listener old before) (listener new after) fault
-    × (after ≡ record before { wrote = after.wrote; notes = after.notes })
+-- the bytes were heard, and this is what is wrong with them, if anything
+abbrev pub AreHeard : {P : Type 0} → List ℕ → Dialogue P → Option Fault → Dialogue P → Type 0
+AreHeard bytes before None after = IsHeardQuietly bytes before after
+AreHeard bytes before (Some fault) after = IsFoundIn bytes before fault after
 
 -- ---- an exchange
 
@@ -261,68 +257,63 @@ IsSent known in_pieces lines before after = AreTaken known (pieces_of in_pieces 
 
 -- An engine was read. What its process gives, a byte at least, is heard. Or its output ended, or it was cut off, and it
 -- gave nothing. It was sent nothing.
-pub data IsRead {P : Type 0} (known : Ghosts P) (old : Exam) (before : Dialogue P)
-    : Option Fault → Exam → Dialogue P → Type 0 where
-  gives : {fault : Option Fault} {new : Exam} {after : Dialogue P} (bytes : List ℕ) (process : P)
+pub data IsRead {P : Type 0} (known : Ghosts P) (before : Dialogue P) : Option Fault → Dialogue P → Type 0 where
+  gives : {fault : Option Fault} {after : Dialogue P} (bytes : List ℕ) (process : P)
       → 0 < length bytes → Appends (known.given before.process) (known.given process) bytes
       → IsUnbroken known.fails known.succeeds before.process process
       → Keeps (known.taken before.process) (known.taken process)
-      → AreHeard bytes old (record before { process = process }) fault new after
-      → IsRead known old before fault new after
+      → AreHeard bytes (record before { process = process }) fault after
+      → IsRead known before fault after
   ends : (process : P)
       → OutputEnded known.fails known.succeeds known.runs_out before.process process
       → Keeps (known.given before.process) (known.given process)
       → Keeps (known.taken before.process) (known.taken process)
-      → IsRead known old before (Some (CutOff Ended)) old (record before { process = process })
+      → IsRead known before (Some (CutOff Ended)) (record before { process = process })
   breaks : (process : P)
       → IsCutOff known.fails known.succeeds before.process process
       → Keeps (known.given before.process) (known.given process)
       → Keeps (known.taken before.process) (known.taken process)
-      → IsRead known old before (Some (CutOff Reading)) old (record before { process = process })
+      → IsRead known before (Some (CutOff Reading)) (record before { process = process })
 
 -- What an engine owes is heard, and this is what is wrong with it, if anything. What is held is heard first. Else what
 -- waits is sent, and the engine is read. One that owes nothing isn't read.
-pub data IsExchanged {P : Type 0} (known : Ghosts P) (old : Exam) (before : Dialogue P)
-    : Option Fault → Exam → Dialogue P → Type 0 where
-  owes_nothing : (process : P) → length old.unanswered ≡ 0
+pub data IsExchanged {P : Type 0} (known : Ghosts P) (before : Dialogue P)
+    : Option Fault → Dialogue P → Type 0 where
+  owes_nothing : (process : P) → length before.exam.unanswered ≡ 0
       → IsSent known (ends_in_pieces before.talk) before.waiting before.process process
-      → IsExchanged known old before None old (record before { process = process; waiting = [] })
-  held : {fault : Option Fault} {new : Exam} {after : Dialogue P} → 0 < length old.unanswered
+      → IsExchanged known before None (record before { process = process; waiting = [] })
+  held : {fault : Option Fault} {after : Dialogue P} → 0 < length before.exam.unanswered
       → 0 < length before.held
-      → AreHeard before.held old (record before { held = [] }) fault new after
-      → IsExchanged known old before fault new after
-  reads : {fault : Option Fault} {new : Exam} {after : Dialogue P} (process : P) → 0 < length old.unanswered
+      → AreHeard before.held (record before { held = [] }) fault after
+      → IsExchanged known before fault after
+  reads : {fault : Option Fault} {after : Dialogue P} (process : P) → 0 < length before.exam.unanswered
       → length before.held ≡ 0
       → IsSent known (ends_in_pieces before.talk) before.waiting before.process process
-      → IsRead known old (record before { process = process; waiting = [] }) fault new after
-      → IsExchanged known old before fault new after
+      → IsRead known (record before { process = process; waiting = [] }) fault after
+      → IsExchanged known before fault after
 
 -- ---- a conversation
 
 -- A conversation with an engine, from this point on: commands were asked, whose lines are sent with the next exchange,
 -- and nothing was found.
-pub data Converses {P : Type 0} (known : Ghosts P) (first : Exam) (start : Dialogue P)
-    : Exam → Dialogue P → Type 0 where
-  begins : Converses known first start first start
-  asks : {old new : Exam} {before after : Dialogue P} (purpose : Purpose) (command : CheckCommand)
-      → Converses known first start old before → IsAsked purpose old before command new after
-      → Converses known first start new after
-  exchanges : {old new : Exam} {before after : Dialogue P}
-      → Converses known first start old before → IsExchanged known old before None new after
-      → Converses known first start new after
+pub data Converses {P : Type 0} (known : Ghosts P) (start : Dialogue P) : Dialogue P → Type 0 where
+  begins : Converses known start start
+  asks : {before after : Dialogue P} (purpose : Purpose) (command : CheckCommand)
+      → Converses known start before → IsAsked purpose before command after → Converses known start after
+  exchanges : {before after : Dialogue P}
+      → Converses known start before → IsExchanged known before None after → Converses known start after
 
 -- it ended with something wrong
-pub record EndsWrong {P : Type 0} (known : Ghosts P) (first : Exam) (start : Dialogue P) (fault : Fault) (new : Exam)
-    (after : Dialogue P) : Type 0 where
-  pub old : Exam
+pub record EndsWrong {P : Type 0} (known : Ghosts P) (start : Dialogue P) (fault : Fault) (after : Dialogue P)
+    : Type 0 where
   pub before : Dialogue P
-  pub converses : Converses known first start old before
-  pub exchanged : IsExchanged known old before (Some fault) new after
+  pub converses : Converses known start before
+  pub exchanged : IsExchanged known before (Some fault) after
 
 -- so a conversation ended: with something wrong, or without
-abbrev pub EndsSo : {P : Type 0} → Ghosts P → Exam → Dialogue P → Option Fault → Exam → Dialogue P → Type 0
-EndsSo known first start None new after = Converses known first start new after
-EndsSo known first start (Some fault) new after = EndsWrong known first start fault new after
+abbrev pub EndsSo : {P : Type 0} → Ghosts P → Dialogue P → Option Fault → Dialogue P → Type 0
+EndsSo known start None after = Converses known start after
+EndsSo known start (Some fault) after = EndsWrong known start fault after
 
 -- ---- a conversation that ended with something wrong
 
@@ -349,10 +340,10 @@ wrong_of tried = record {
 }
 
 -- what is wrong with this engine, whose process ended so
-abbrev pub wrong_with : {P : Type 0} → Fault → Exam → Dialogue P → Ending → Wrong
-wrong_with fault exam engine ending = record {
+abbrev pub wrong_with : {P : Type 0} → Fault → Dialogue P → Ending → Wrong
+wrong_with fault engine ending = record {
   fault = fault;
-  answered = length engine.talk - length exam.unanswered;
+  answered = length engine.talk - length engine.exam.unanswered;
   sent = engine.sent;
   went_out = went_out engine;
   talk = engine.talk;
@@ -396,30 +387,54 @@ pub record AsksFirst (purpose : Purpose) (commands : List CheckCommand) (talk : 
 
 -- An engine that is up was asked all of these commands. Or it was asked the first of them, and the next one may not be
 -- asked in this game. It was sent all that it was asked, and has answered it.
-pub record AsksAll {P : Type 0} (purpose : Purpose) (commands : List CheckCommand) (exam : Exam) (engine : Dialogue P)
+pub record AsksAll {P : Type 0} (purpose : Purpose) (commands : List CheckCommand) (engine : Dialogue P)
     : Type 0 where
   pub first : AsksFirst purpose commands engine.talk
-  pub next : IfSome (slice_get commands (length engine.talk)) (λ command. ¬ HasRoomFor exam command)
-  pub up : exam.up ≡ true
+  pub next : IfSome (slice_get commands (length engine.talk)) (λ command. ¬ HasRoomFor engine.exam command)
+  pub up : engine.exam.up ≡ true
   pub sent : engine.waiting ≡ []
-  pub answered : exam.unanswered ≡ []
+  pub answered : engine.exam.unanswered ≡ []
 
--- A conversation was tried, for this purpose, on an engine that was asked for by this command line. It wasn't started.
--- Or it was, and answered all of these commands rightly, as far as they may be asked. Or it was asked the first of them,
--- and then this was wrong. Its process was ended.
-pub data IsTrial {P : Type 0} (known : Ghosts P) (line : List Text) (purpose : Purpose) (commands : List CheckCommand)
-    (old : Check) (had : Attempts P) (first : Notes) : Option Wrong → Check → Attempts P → Notes → Type 0 where
-  unstarted : {has : Attempts P} (reason : StartReason) → Tries had has line (Err (start_fault.NotStarted reason))
-      → IsTrial known line purpose commands old had first None old has first
-  right : {has : Attempts P} {exam : Exam} {engine : Dialogue P} (process : P) (ending : Ending)
-      → Tries had has line (Ok process)
-      → Converses known (started old).exam (begun_with process first) exam engine
-      → AsksAll purpose commands exam engine → known.leaves engine.process ending
-      → IsTrial known line purpose commands old had first None (after_loss (with_exam (started old) exam)) has
-      engine.notes
-  wrong : {has : Attempts P} {exam : Exam} {engine : Dialogue P} (process : P) (ending : Ending) (fault : Fault)
-      → Tries had has line (Ok process)
-      → EndsWrong known (started old).exam (begun_with process first) fault exam engine
-      → AsksFirst purpose commands engine.talk → known.leaves engine.process ending
-      → IsTrial known line purpose commands old had first (Some (wrong_with fault exam engine ending))
-      (after_loss (with_exam (started old) exam)) has engine.notes
+-- what is tried: these commands, each for this purpose, on an engine that is asked for by this command line
+pub record Trial : Type 0 where
+  pub line : List Text
+  pub purpose : Purpose
+  pub commands : List CheckCommand
+
+abbrev pub trial : List Text → Purpose → List CheckCommand → Trial
+trial line purpose commands = record { line = line; purpose = purpose; commands = commands }
+
+abbrev pub trial_of : TrialOfCommands → Trial
+trial_of tries = trial (program_line tries.words.now) tries.purpose tries.commands.now
+
+-- between two trials: the check of all engines, the starts that were asked for, and what is noted
+pub record Standing (P : Type 0) : Type 0 where
+  pub check : Check
+  pub asked : Attempts P
+  pub notes : Notes
+
+abbrev pub standing : {P : Type 0} → Check → Attempts P → Notes → Standing P
+standing check asked notes = record { check = check; asked = asked; notes = notes }
+
+-- an engine was started, and was lost or ended with this exam
+abbrev pub ended_with : Check → Exam → Check
+ended_with check exam = after_loss (with_exam (started check) exam)
+
+-- A conversation was tried. The engine wasn't started. Or it was, and answered all of the commands rightly, as far as
+-- they may be asked. Or it was asked the first of them, and then this was wrong. Its process was ended.
+pub data IsTrial {P : Type 0} (known : Ghosts P) (tries : Trial) (before : Standing P)
+    : Option Wrong → Standing P → Type 0 where
+  unstarted : {has : Attempts P} (reason : StartReason)
+      → Tries before.asked has tries.line (Err (start_fault.NotStarted reason))
+      → IsTrial known tries before None (record before { asked = has })
+  right : {has : Attempts P} {engine : Dialogue P} (process : P) (ending : Ending)
+      → Tries before.asked has tries.line (Ok process)
+      → Converses known (begun_with (started before.check).exam process before.notes) engine
+      → AsksAll tries.purpose tries.commands engine → known.leaves engine.process ending
+      → IsTrial known tries before None (standing (ended_with before.check engine.exam) has engine.notes)
+  wrong : {has : Attempts P} {engine : Dialogue P} (process : P) (ending : Ending) (fault : Fault)
+      → Tries before.asked has tries.line (Ok process)
+      → EndsWrong known (begun_with (started before.check).exam process before.notes) fault engine
+      → AsksFirst tries.purpose tries.commands engine.talk → known.leaves engine.process ending
+      → IsTrial known tries before (Some (wrong_with fault engine ending))
+      (standing (ended_with before.check engine.exam) has engine.notes)

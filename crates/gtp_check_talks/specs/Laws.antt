@@ -55,8 +55,8 @@ pub record IsWronglyWritten {P : Type 0} (known : Ghosts P) (rule : KoRule) (pro
 
 -- Whatever the engine is, what is found in what it wrote is justified.
 abbrev pub ComplaintsAreJustified : {P : Type 0} → Ghosts P → Type 0
-ComplaintsAreJustified {P} known = (rule : KoRule) (process : P) (first : Notes) (kind : Kind) (new : Exam)
-    (after : Dialogue P) → EndsWrong known (begun rule true) (begun_with process first) (Wrote kind) new after
+ComplaintsAreJustified {P} known = (rule : KoRule) (process : P) (first : Notes) (kind : Kind) (after : Dialogue P)
+    → EndsWrong known (begun_with (begun rule true) process first) (Wrote kind) after
     → IsWronglyWritten known rule process kind after
 
 -- A right engine under this ko rule, whatever it chose among what its policy may, was given just the bytes that were
@@ -64,8 +64,8 @@ ComplaintsAreJustified {P} known = (rule : KoRule) (process : P) (first : Notes)
 -- was found in it.
 abbrev pub NoRightEngineIsComplainedOf : {P Q : Type 0} → Ghosts P → May Q → Type 0
 NoRightEngineIsComplainedOf {P} {Q} known may = (rule : KoRule) (policy : Q) (engine : Engine Q) (out later : List ℕ)
-    (process : P) (first : Notes) (kind : Kind) (new : Exam) (after : Dialogue P) (before gave : List ℕ)
-    → EndsWrong known (begun rule true) (begun_with process first) (Wrote kind) new after
+    (process : P) (first : Notes) (kind : Kind) (after : Dialogue P) (before gave : List ℕ)
+    → EndsWrong known (begun_with (begun rule true) process first) (Wrote kind) after
     → known.given process ≡ Some before → known.given after.process ≡ Some (before ++ gave)
     → Engages may (fresh_under rule policy) after.sent engine out → out ≡ gave ++ later
     → ⊥
@@ -76,19 +76,19 @@ NoRightEngineIsComplainedOf {P} {Q} known may = (rule : KoRule) (policy : Q) (en
 -- it was asked and what was heard are a talk in which each answer is a right one of the engine that those before it
 -- leave, and what is unanswered was asked of the engine after them. What was heard, and then what is held, are all that
 -- the process gave since its start.
-pub record IsRightlyAnswered {P : Type 0} (known : Ghosts P) (rule : KoRule) (process : P) (exam : Exam)
-    (now : Dialogue P) : Type 0 where
-  pub up : exam.up ≡ true
+pub record IsRightlyAnswered {P : Type 0} (known : Ghosts P) (rule : KoRule) (process : P) (now : Dialogue P)
+    : Type 0 where
+  pub up : now.exam.up ≡ true
   pub came : List ℕ
   pub said : List Exchange
-  pub talks : Talks rule now.sent came said exam
-  pub right : IsRightSoFar rule said exam
+  pub talks : Talks rule now.sent came said now.exam
+  pub right : IsRightSoFar rule said now.exam
   pub gave : Appends (known.given process) (known.given now.process) (came ++ now.held)
 
 abbrev pub SilenceSaysAllIsRight : {P : Type 0} → Ghosts P → Type 0
-SilenceSaysAllIsRight {P} known = (rule : KoRule) (process : P) (first : Notes) (exam : Exam) (now : Dialogue P)
-    → Converses known (begun rule true) (begun_with process first) exam now
-    → IsRightlyAnswered known rule process exam now
+SilenceSaysAllIsRight {P} known = (rule : KoRule) (process : P) (first : Notes) (now : Dialogue P)
+    → Converses known (begun_with (begun rule true) process first) now
+    → IsRightlyAnswered known rule process now
 
 -- ---- a loss
 
@@ -99,24 +99,24 @@ pub data BreaksOff {P : Type 0} (known : Ghosts P) (before after : P) : PipeCaus
 
 -- An engine was lost while it owed an answer: then its output ended, or it was cut off. Each answer that it gave until
 -- then was right. So a loss shows nothing wrong in what the engine wrote.
-pub record IsLost {P : Type 0} (known : Ghosts P) (rule : KoRule) (process : P) (cause : PipeCause) (exam : Exam)
+pub record IsLost {P : Type 0} (known : Ghosts P) (rule : KoRule) (process : P) (cause : PipeCause)
     (after : Dialogue P) : Type 0 where
-  pub right : IsRightlyAnswered known rule process exam after
-  pub owes : 0 < length exam.unanswered
+  pub right : IsRightlyAnswered known rule process after
+  pub owes : 0 < length after.exam.unanswered
   pub last : P
   pub breaks : BreaksOff known last after.process cause
 
 abbrev pub LossesAreNoWrongAnswers : {P : Type 0} → Ghosts P → Type 0
-LossesAreNoWrongAnswers {P} known = (rule : KoRule) (process : P) (first : Notes) (cause : PipeCause) (new : Exam)
-    (after : Dialogue P) → EndsWrong known (begun rule true) (begun_with process first) (CutOff cause) new after
-    → IsLost known rule process cause new after
+LossesAreNoWrongAnswers {P} known = (rule : KoRule) (process : P) (first : Notes) (cause : PipeCause)
+    (after : Dialogue P) → EndsWrong known (begun_with (begun rule true) process first) (CutOff cause) after
+    → IsLost known rule process cause after
 
 -- ---- the ko rule
 
 -- whatever is said with an engine, its ko rule stays
 abbrev pub KoRulesStay : {P : Type 0} → Ghosts P → Type 0
-KoRulesStay {P} known = (first new : Exam) (start after : Dialogue P) (fault : Option Fault)
-    → EndsSo known first start fault new after → new.game.rule ≡ first.game.rule
+KoRulesStay {P} known = (start after : Dialogue P) (fault : Option Fault)
+    → EndsSo known start fault after → after.exam.game.rule ≡ start.exam.game.rule
 
 -- ---- starts in vain
 
@@ -124,17 +124,17 @@ KoRulesStay {P} known = (first new : Exam) (start after : Dialogue P) (fault : O
 -- an engine that is up never makes it more; and it is none once a right answer was heard, after which fewer are
 -- unanswered.
 pub record RightAnswersEndStartsInVain {P : Type 0} (known : Ghosts P) : Type 0 where
-  pub asked : (purpose : Purpose) (old : Exam) (before : Dialogue P) (command : CheckCommand) (new : Exam)
-      (after : Dialogue P) → IsAsked purpose old before command new after
+  pub asked : (purpose : Purpose) (before : Dialogue P) (command : CheckCommand) (after : Dialogue P)
+      → IsAsked purpose before command after
       → after.notes.fruitless ≡ before.notes.fruitless
-  pub heard : (old : Exam) (before : Dialogue P) (fault : Option Fault) (new : Exam) (after : Dialogue P)
-      → old.up ≡ true → IsExchanged known old before fault new after
+  pub heard : (before : Dialogue P) (fault : Option Fault) (after : Dialogue P)
+      → before.exam.up ≡ true → IsExchanged known before fault after
       → after.notes.fruitless ≤ before.notes.fruitless
-  pub answered : (old : Exam) (before : Dialogue P) (new : Exam) (after : Dialogue P)
-      → old.up ≡ true → IsExchanged known old before None new after
-      → length new.unanswered < length old.unanswered → after.notes.fruitless ≡ 0
-  pub talked : (rule : KoRule) (process : P) (first : Notes) (fault : Option Fault) (new : Exam) (after : Dialogue P)
-      → EndsSo known (begun rule true) (begun_with process first) fault new after
+  pub answered : (before after : Dialogue P)
+      → before.exam.up ≡ true → IsExchanged known before None after
+      → length after.exam.unanswered < length before.exam.unanswered → after.notes.fruitless ≡ 0
+  pub talked : (rule : KoRule) (process : P) (first : Notes) (fault : Option Fault) (after : Dialogue P)
+      → EndsSo known (begun_with (begun rule true) process first) fault after
       → after.notes.fruitless ≤ first.fruitless
 
 -- ---- moves that were answered
@@ -160,15 +160,15 @@ pub record IsMoveAnswered (lesson : Lesson) (talk : List Said) (old new : Exam) 
 pub record MovesAreNotedOnceAnswered {P : Type 0} (known : Ghosts P) : Type 0 where
   pub at_first : nothing_noted.answered.items ≡ []
   pub starts : (notes : Notes) → (started notes).answered ≡ notes.answered
-  pub asked : (purpose : Purpose) (old : Exam) (before : Dialogue P) (command : CheckCommand) (new : Exam)
-      (after : Dialogue P) → IsAsked purpose old before command new after
+  pub asked : (purpose : Purpose) (before : Dialogue P) (command : CheckCommand) (after : Dialogue P)
+      → IsAsked purpose before command after
       → after.notes.answered ≡ before.notes.answered
-  pub heard : (rule : KoRule) (process : P) (first : Notes) (old : Exam) (before : Dialogue P) (fault : Option Fault)
-      (new : Exam) (after : Dialogue P) (lesson : Lesson)
-      → Converses known (begun rule true) (begun_with process first) old before
-      → IsExchanged known old before fault new after → is_among after.notes.answered.items lesson ≡ true
+  pub heard : (rule : KoRule) (process : P) (first : Notes) (before : Dialogue P) (fault : Option Fault)
+      (after : Dialogue P) (lesson : Lesson)
+      → Converses known (begun_with (begun rule true) process first) before
+      → IsExchanged known before fault after → is_among after.notes.answered.items lesson ≡ true
       → (is_among before.notes.answered.items lesson ≡ true)
-      ⊎ ((fault ≡ None) × IsMoveAnswered lesson before.talk old new)
+      ⊎ ((fault ≡ None) × IsMoveAnswered lesson before.talk before.exam after.exam)
 
 -- ---- what was sent
 
@@ -194,6 +194,6 @@ pub record IsSentSoFar {P : Type 0} (known : Ghosts P) (process : P) (now : Dial
 
 -- So it is in whatever is said with an engine since its start.
 abbrev pub WhatCountsAsSentWasHanded : {P : Type 0} → Ghosts P → Type 0
-WhatCountsAsSentWasHanded {P} known = (exam new : Exam) (process : P) (first : Notes) (fault : Option Fault)
-    (after : Dialogue P) → EndsSo known exam (begun_with process first) fault new after
+WhatCountsAsSentWasHanded {P} known = (exam : Exam) (process : P) (first : Notes) (fault : Option Fault)
+    (after : Dialogue P) → EndsSo known (begun_with exam process first) fault after
     → IsSentSoFar known process after

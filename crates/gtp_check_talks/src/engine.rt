@@ -5,7 +5,8 @@ ghost use Rattle.arrayvec.specs.ArrayVec.{array_vec_len};
 ghost use Rattle.gtp_wire.specs.Replies.{most_shown, with_reply};
 ghost use Rattle.gtp_check_judge.specs.Asking.{written_check};
 ghost use Rattle.gtp_check_judge.specs.Check.{with_exam};
-ghost use Rattle.gtp_check_judge.specs.Exam.{Asks, HasRoomFor};
+ghost use Rattle.gtp_check_judge.specs.declared.exam.Exam.{Exam};
+ghost use Rattle.gtp_check_judge.specs.Exam.{Asks, HasRoomFor, hearing};
 ghost use Rattle.gtp_check_judge.specs.Judging.{oldest};
 ghost use Rattle.gtp_check_talks.specs.declared.notes.Notes.{Notes};
 ghost use Rattle.gtp_check_talks.specs.Dialogues.{AreHeard, AreTaken, IsAsked, IsHeard, IsRead, IsExchanged, IsSent};
@@ -76,7 +77,8 @@ pub struct Engine<P> {
 impl<P: Process> Engine<P> {
     /// An engine that was asked nothing.
     pub fn new(alloc: Global, process: P) -> Self
-        ensures { (notes : Notes) → dialogue result notes ≡ begun_with process notes }
+        ensures { (exam : Exam) → (notes : Notes)
+            → dialogue result exam notes ≡ begun_with exam process notes }
     {
         Engine {
             process,
@@ -114,8 +116,8 @@ impl<P: Process> Engine<P> {
         requires may { HasRoomFor examiner.old.exam command }
         requires room { array_vec_len self.old.waiting + 64 ≤ LINES_ROOM }
         requires follows { MayFollow self.old.talk.items self.old.waiting.items }
-        ensures asked { OnOk result (IsAsked purpose examiner.old.exam
-            (dialogue self.old notes.old) command examiner.new.exam (dialogue self.new notes.new)) }
+        ensures asked { OnOk result (IsAsked purpose (dialogue self.old examiner.old.exam notes.old)
+            command (dialogue self.new examiner.new.exam notes.new)) }
         ensures process { self.new.process ≡ self.old.process }
         ensures check { examiner.new ≡ with_exam examiner.old examiner.new.exam }
     {
@@ -150,8 +152,8 @@ impl<P: Process> Engine<P> {
         room: &mut Room,
         notes: &mut Notes,
     ) -> Option<Fault>
-        ensures exchanged { IsExchanged P.Process examiner.old.exam
-            (dialogue self.old notes.old) result examiner.new.exam (dialogue self.new notes.new) }
+        ensures exchanged { IsExchanged P.Process (dialogue self.old examiner.old.exam notes.old)
+            result (dialogue self.new examiner.new.exam notes.new) }
         ensures check { examiner.new ≡ with_exam examiner.old examiner.new.exam }
     {
         if examiner.unanswered() == 0 {
@@ -169,8 +171,8 @@ impl<P: Process> Engine<P> {
     fn send_waiting(&mut self)
         ensures sent { IsSent P.Process (ends_in_pieces self.old.talk.items) self.old.waiting.items
             self.old.process self.new.process }
-        ensures rest { (notes : Notes) → dialogue self.new notes
-            ≡ record (dialogue self.old notes) { process = self.new.process; waiting = [] } }
+        ensures rest { (exam : Exam) → (notes : Notes) → dialogue self.new exam notes
+            ≡ record (dialogue self.old exam notes) { process = self.new.process; waiting = [] } }
     {
         let in_pieces = ends_in_pieces(&self.talk);
         send(&mut self.process, self.waiting.as_slice(), in_pieces);
@@ -179,8 +181,8 @@ impl<P: Process> Engine<P> {
 
     /// The engine is read once, and what it wrote is heard. One that owes several answers may run first.
     fn read(&mut self, examiner: &mut Examiner, room: &mut Room, notes: &mut Notes) -> Option<Fault>
-        ensures read { IsRead P.Process examiner.old.exam
-            (dialogue self.old notes.old) result examiner.new.exam (dialogue self.new notes.new) }
+        ensures read { IsRead P.Process (dialogue self.old examiner.old.exam notes.old) result
+            (dialogue self.new examiner.new.exam notes.new) }
         ensures check { examiner.new ≡ with_exam examiner.old examiner.new.exam }
     {
         if examiner.unanswered() > 1 {
@@ -202,8 +204,8 @@ impl<P: Process> Engine<P> {
         notes: &mut Notes,
     ) -> Option<Fault>
         requires { length bytes.now ≤ READ_ROOM }
-        ensures heard { AreHeard bytes.now examiner.old.exam (dialogue self.old notes.old) result
-            examiner.new.exam (dialogue self.new notes.new) }
+        ensures heard { AreHeard bytes.now (dialogue self.old examiner.old.exam notes.old) result
+            (dialogue self.new examiner.new.exam notes.new) }
         ensures check { examiner.new ≡ with_exam examiner.old examiner.new.exam }
     {
         let lesson = self.owed_purpose(examiner).lesson;
@@ -225,9 +227,8 @@ impl<P: Process> Engine<P> {
         reply: &mut Reply,
         notes: &mut Notes,
     ) -> Option<Fault>
-        ensures heard { AreHeard self.old.held examiner.old.exam
-            (record (dialogue self.old notes.old) { held = [] }) result
-            examiner.new.exam (dialogue self.new notes.new) }
+        ensures heard { AreHeard self.old.held (record (dialogue self.old examiner.old.exam
+            notes.old) { held = [] }) result (dialogue self.new examiner.new.exam notes.new) }
         ensures check { examiner.new ≡ with_exam examiner.old examiner.new.exam }
     {
         let lesson = self.owed_purpose(examiner).lesson;
@@ -300,8 +301,8 @@ impl<P: Process> Engine<P> {
 /// since its last whole reply is kept, where something is wrong up to the end of its line.
 fn hear(bytes: &[u8], wrote: &mut Beginning, examiner: &mut Examiner, reply: &mut Reply) -> Heard
     ensures used { result.used ≤ length bytes.now }
-    ensures heard { IsHeard examiner.old.exam bytes.now result.used
-        (option_map (with_reply reply.new) result.read) result.finding examiner.new.exam }
+    ensures heard { IsHeard examiner.old.exam bytes.now (hearing result.used
+        (option_map (with_reply reply.new) result.read) result.finding) examiner.new.exam }
     ensures quiet { IfNone result.finding (wrote.new.items
         ≡ kept_after wrote.old.items (take result.used bytes.now) (is_some result.read)) }
     ensures found { IfSome result.finding (λ finding. wrote.new.items

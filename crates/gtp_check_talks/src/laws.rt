@@ -1,7 +1,8 @@
 //! Laws of what is said with an engine. Each is the contract of a function that does nothing.
 ghost use Rattle.gtp_check_talks.specs.Laws.{ComplaintsAreJustified, NoRightEngineIsComplainedOf};
 ghost use Rattle.gtp_check_talks.specs.Laws.{KoRulesStay, LossesAreNoWrongAnswers, RightAnswersEndStartsInVain};
-ghost use Rattle.gtp_check_talks.specs.Laws.{MovesAreNotedOnceAnswered, SilenceSaysAllIsRight, WhatCountsAsSentWasHanded};
+ghost use Rattle.gtp_check_talks.specs.Laws.{MovesAreNotedOnceAnswered, SilenceSaysAllIsRight};
+ghost use Rattle.gtp_check_talks.specs.Laws.{WhatCountsAsSentWasHanded};
 
 use gtp_check_judge::laws::{
     findings_are_justified, no_right_engine_is_blamed, silence_says_all_is_right,

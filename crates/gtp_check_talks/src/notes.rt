@@ -1,8 +1,10 @@
 //! What is noted of right answers.
 ghost use Rattle.std.specs.Prelude.{◌≡◌};
 ghost use Rattle.gtp_check_talks.specs.Notes.{asks_for_move, beginning_of, counted, is_move, is_refused, lacks};
-ghost use Rattle.gtp_check_talks.specs.Notes.{noted, noted_in, noted_of, nothing_noted, started, with_answer, with_lacks};
-ghost use Rattle.gtp_check_talks.specs.Notes.{is_taken, taken_by, undos_after, with_lesson, with_match, with_most_undos};
+ghost use Rattle.gtp_check_talks.specs.Notes.{noted, noted_in, noted_of, nothing_noted, started, with_answer};
+ghost use Rattle.gtp_check_talks.specs.Notes.{with_lacks};
+ghost use Rattle.gtp_check_talks.specs.Notes.{is_taken, taken_by, undos_after, with_lesson, with_match};
+ghost use Rattle.gtp_check_talks.specs.Notes.{with_most_undos};
 ghost use Rattle.gtp_check_talks.specs.Notes.{with_refusal, with_size, with_taken};
 
 use crate::among::is_among;

@@ -5,8 +5,9 @@ ghost use Rattle.gtp_process.specs.Starts.{program_line};
 ghost use Rattle.gtp_check_judge.specs.Check.{with_exam};
 ghost use Rattle.gtp_check_judge.specs.Exam.{HasRoomFor};
 ghost use Rattle.gtp_check_talks.specs.Dialogues.{AsksAll, AsksFirst, AsksForMore, EndsLike, EndsSo, IsTrial, dialogue};
-ghost use Rattle.gtp_check_talks.specs.Dialogues.{IsFull, wrong_command, wrong_of, wrong_purpose, wrong_talk};
-ghost use Rattle.gtp_check_talks.specs.private.Asking.{AreAsked, standing};
+ghost use Rattle.gtp_check_talks.specs.Dialogues.{IsFull, standing, trial_of, wrong_command, wrong_of, wrong_purpose};
+ghost use Rattle.gtp_check_talks.specs.Dialogues.{wrong_talk};
+ghost use Rattle.gtp_check_talks.specs.private.Asking.{AreAsked};
 
 use crate::engine::{Ended, Engine, Room};
 use crate::notes::Notes;
@@ -68,37 +69,47 @@ impl Tried {
     }
 }
 
-/// A new engine is started, asked these commands and ended. Returns what is wrong with it, if anything is. One that
-/// can't be started gives nothing.
+/// A conversation that is tried.
+#[derive(Clone, Copy)]
+pub struct Trial<'t> {
+    /// What hands out memory.
+    pub alloc: Global,
+    /// The command line of the engine.
+    pub words: &'t [&'t str],
+    /// The commands, in their order.
+    pub commands: &'t [CheckCommand],
+    /// For what each of them is asked.
+    pub purpose: Purpose,
+}
+
+/// A new engine is started, asked the commands of a trial and ended. Returns what is wrong with it, if anything is. One
+/// that can't be started gives nothing.
 ///
 /// # Errors
 ///
 /// Where memory is refused.
 pub fn try_commands<S: Starter>(
-    alloc: Global,
+    trial: &Trial<'_>,
     starter: &mut S,
-    words: &[&str],
     examiner: &mut Examiner,
-    commands: &[CheckCommand],
-    purpose: Purpose,
     room: &mut Room,
     notes: &mut Notes,
 ) -> Result<Option<Tried>, AllocError>
     requires { examiner.old.starts < examiner.old.most_starts }
-    ensures tried { IfOk result (λ tried. IsTrial S.Process.Process (program_line words.now)
-        purpose commands.now examiner.old (S.asked starter.old) notes.old (option_map wrong_of tried)
-        examiner.new (S.asked starter.new) notes.new) }
-    ensures refused { OnErr result (AsksForMore (program_line words.now)
+    ensures tried { IfOk result (λ tried. IsTrial S.Process.Process (trial_of trial.now)
+        (standing examiner.old (S.asked starter.old) notes.old) (option_map wrong_of tried)
+        (standing examiner.new (S.asked starter.new) notes.new)) }
+    ensures refused { OnErr result (AsksForMore (program_line trial.now.words.now)
         (S.asked starter.old) (S.asked starter.new)) }
 {
-    let process = match starter.start(words) {
+    let process = match starter.start(trial.words) {
         Ok(process) => process,
         Err(StartFault::OutOfMemory) => return Err(AllocError),
         Err(StartFault::NotStarted(_)) => return Ok(None),
     };
     examiner.started();
-    let mut engine = Engine::new(alloc, process);
-    let found = ask_all(&mut engine, examiner, commands, purpose, room, notes);
+    let mut engine = Engine::new(trial.alloc, process);
+    let found = ask_all(trial, &mut engine, examiner, room, notes);
     let answered = engine.answered(examiner);
     examiner.lost();
     let said = engine.end();
@@ -112,31 +123,32 @@ pub fn try_commands<S: Starter>(
     }
 }
 
-/// The engine, which is up, is asked these commands, one after the other: until something is wrong, or it has answered all
-/// that may be asked.
+/// The engine, which is up, is asked the commands of a trial, one after the other: until something is wrong, or it has
+/// answered all that may be asked.
 ///
 /// Each turn of the loop gets on: a command is answered, or more of a reply is read, which has 8,192 bytes at most, or what
 /// waits is sent.
 fn ask_all<P: Process>(
+    trial: &Trial<'_>,
     engine: &mut Engine<P>,
     examiner: &mut Examiner,
-    commands: &[CheckCommand],
-    purpose: Purpose,
     room: &mut Room,
     notes: &mut Notes,
 ) -> Result<Option<Fault>, AllocError>
     requires up { examiner.old.exam.up ≡ true }
-    ensures ends { IfOk result (λ fault. EndsSo P.Process examiner.old.exam
-        (dialogue engine.old notes.old) fault examiner.new.exam (dialogue engine.new notes.new)) }
+    ensures ends { IfOk result (λ fault. EndsSo P.Process
+        (dialogue engine.old examiner.old.exam notes.old) fault
+        (dialogue engine.new examiner.new.exam notes.new)) }
     ensures check { examiner.new ≡ with_exam examiner.old examiner.new.exam }
-    ensures first { engine.old.talk.items ≡ []
-        → OnOk result (AsksFirst purpose commands.now engine.new.talk.items) }
+    ensures first { engine.old.talk.items ≡ [] → OnOk result
+        (AsksFirst trial.now.purpose trial.now.commands.now engine.new.talk.items) }
     ensures all { engine.old.talk.items ≡ [] → IfOk result (λ fault. IfNone fault
-        (AsksAll purpose commands.now examiner.new.exam (dialogue engine.new notes.new))) }
+        (AsksAll trial.now.purpose trial.now.commands.now
+        (dialogue engine.new examiner.new.exam notes.new))) }
 {
-    let mut rest = commands;
+    let mut rest = trial.commands;
     loop {
-        let asked = ask_some(engine, examiner, rest, purpose, notes)?;
+        let asked = ask_some(engine, examiner, rest, trial.purpose, notes)?;
         rest = rest.split_at(asked).1;
         if engine.owes_nothing(examiner) {
             return Ok(None);
@@ -156,8 +168,8 @@ fn ask_some<P: Process>(
     notes: &mut Notes,
 ) -> Result<usize, AllocError>
     ensures asks { IfOk result (λ count. AreAsked purpose
-        (standing examiner.old.exam (dialogue engine.old notes.old)) (take count commands.now)
-        (standing examiner.new.exam (dialogue engine.new notes.new))) }
+        (dialogue engine.old examiner.old.exam notes.old) (take count commands.now)
+        (dialogue engine.new examiner.new.exam notes.new)) }
     ensures few { IfOk result (λ count. count ≤ length commands.now) }
     ensures most { IfOk result (λ count. IfSome (slice_get commands.now count) (λ next.
         IsFull engine.new.talk.items engine.new.waiting.items

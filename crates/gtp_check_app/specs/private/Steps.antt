@@ -7,6 +7,7 @@ use Rattle.gtp_process.specs.declared.starter.Process.{Ghosts}
 use Rattle.gtp_process.specs.declared.starter.StartFault.TheVariants as start_fault
 use Rattle.gtp_process.specs.Quitting.{QuitsIfAny}
 use Rattle.gtp_process.specs.Starts.{Attempts, Tries, program_line}
+use Rattle.gtp_check_judge.specs.declared.exam.Exam.{Exam}
 use Rattle.gtp_check_judge.specs.Check.{started}
 use Rattle.gtp_check_questions.specs.declared.actions.Action.{Action}
 use Rattle.gtp_check_questions.specs.declared.actions.Action.TheVariants as action
@@ -67,7 +68,7 @@ pub data Begins {P : Type 0} (known : Ghosts P) (plan : Plan) (before : Moment P
       → before.state.notes.fruitless < most_fruitless → MayStart before.state.check before.state.tally
       → Tries before.asked has (program_line plan.words.items) (Ok process)
       → QuitsIfAny known (process_of before.state.engine)
-      → ((notes : Notes) → dialogue engine notes ≡ begun_with process notes)
+      → ((exam : Exam) (notes : Notes) → dialogue engine exam notes ≡ begun_with exam process notes)
       → Begins known plan before None (moment
       (state (started before.state.check) before.state.course (Some engine) (started_again before.state.tally)
       (noted_start before.state.notes)) has)

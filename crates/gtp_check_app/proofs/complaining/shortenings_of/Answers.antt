@@ -1,12 +1,15 @@
-use Rattle.std.proofs.Common.{◌≡◌, ◌∙◌, ap, arith, false, refl, sym, true, length, take, [], List}
+use Rattle.std.proofs.Common.{◌≡◌, ◌∙◌, ap, arith, false, sym, length, take, [], List}
 use Rattle.std.proofs.lemmas.List.{length-take, take_all}
 use Rattle.gtp_check_shortening.specs.declared.flat.Shortening.{Shortening}
 use Rattle.gtp_check_shortening.specs.Shortening.{shortenings}
-use Rattle.gtp_check_app.specs.Trials.{is_for, those_for}
+use Rattle.gtp_check_app.specs.Trials.{those_for}
 use Rattle.gtp_check_app.proofs.Trying.{added, full, passed}
 use Rattle.gtp_check_app.proofs.complaining.shortenings_of.Goals as goal
-use Rattle.gtp_check_app.proofs.complaining.shortenings_of.Goals.{then-len-trials+in_ok-is_for+then-branch+in_ok-push, else-len-trials}
-use Rattle.gtp_check_app.proofs.complaining.shortenings_of.Goals.{else-len-trials-via-then-len-trials+in_ok-is_for+else-branch, else-len-trials-via-else-len-trials}
+use Rattle.gtp_check_app.proofs.complaining.shortenings_of.Goals.{then-len-trials+in_ok-is_for+then-branch+in_ok-push}
+use Rattle.gtp_check_app.proofs.complaining.shortenings_of.Goals.{else-len-trials}
+use Rattle.gtp_check_app.proofs.complaining.shortenings_of.Goals.{}
+use Rattle.gtp_check_app.proofs.complaining.shortenings_of.Goals.{else-len-trials-via-then-len-trials+in_ok-is_for+else-branch}
+use Rattle.gtp_check_app.proofs.complaining.shortenings_of.Goals.{else-len-trials-via-else-len-trials}
 
 pub loop-shortening-init : goal.loop-shortening-init
 unfolding those_for

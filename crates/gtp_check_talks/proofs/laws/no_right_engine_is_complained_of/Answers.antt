@@ -11,8 +11,8 @@ grew one other before gave came appends was is =
     append_cancel_left before gave came (rw (was, is) at appends)
 
 pub returns : goal.returns
-returns g c rule policy engine out later process first kind new after before gave ends was is engages front =
-    let wrong = found_in g.P.Process rule process first c.findings_are_justified.ensures kind new after ends in
+returns g c rule policy engine out later process first kind after before gave ends was is engages front =
+    let wrong = found_in g.P.Process rule process first c.findings_are_justified.ensures kind after ends in
     let same = grew _ _ before gave (wrong.came ++ wrong.bytes) wrong.gave was is in
     absurd (cc (c.no_right_engine_is_blamed.ensures rule policy engine out after.sent wrong.came wrong.said wrong.old
     wrong.new wrong.bytes later wrong.used wrong.read (Some wrong.finding) wrong.talks wrong.hears engages

@@ -8,12 +8,12 @@ use Rattle.gtp_check_talks.proofs.trial.ask_all.Given as goal
 -- nothing was wrong so far
 abbrev pub invariant-loop-asked : goal.invariant-loop-asked
 invariant-loop-asked g l = record {
-  converses : Converses g.P.Process l.fn.examiner.exam (dialogue l.fn.engine l.fn.notes) l.examiner.exam
-      (dialogue l.engine l.notes);
+  converses : Converses g.P.Process (dialogue l.fn.engine l.fn.examiner.exam l.fn.notes)
+      (dialogue l.engine l.examiner.exam l.notes);
   check : l.examiner ≡ with_exam l.fn.examiner l.examiner.exam;
   up : l.examiner.exam.up ≡ true;
-  first : l.fn.engine.talk.items ≡ [] → commands_of l.engine.talk.items ++ l.rest ≡ l.commands;
-  purposes : l.fn.engine.talk.items ≡ [] → AreFor l.purpose l.engine.talk.items;
+  first : l.fn.engine.talk.items ≡ [] → commands_of l.engine.talk.items ++ l.rest ≡ l.trial.commands.now;
+  purposes : l.fn.engine.talk.items ≡ [] → AreFor l.trial.purpose l.engine.talk.items;
 }
 
 abbrev pub decreases-loop-asked : goal.decreases-loop-asked

@@ -2,7 +2,7 @@ use Rattle.std.proofs.Common.{ap, refl, sym, subst, ◌∙◌, List, [], ◌∷�
 use Rattle.std.proofs.lemmas.List.{take_more}
 use Rattle.gtp_check_judge.specs.declared.asking.CheckCommand.{CheckCommand}
 use Rattle.gtp_check_talks.specs.Dialogues.{dialogue}
-use Rattle.gtp_check_talks.specs.private.Asking.{AreAsked, none, one_more, standing}
+use Rattle.gtp_check_talks.specs.private.Asking.{AreAsked, none, one_more}
 use Rattle.gtp_check_talks.proofs.Conversations.{with_another}
 use Rattle.gtp_check_talks.proofs.trial.ask_some.Goals as goal
 
@@ -18,10 +18,10 @@ loop-index-preserved g c =
     record {
       asks = subst
           (λ (asked : List CheckCommand). AreAsked c.args.purpose
-          (standing c.args.examiner.now.exam (dialogue c.args.engine.now c.args.notes.now)) asked
-          (standing c.ask.new.examiner.exam (dialogue c.ask.new.self c.ask.new.notes)))
+          (dialogue c.args.engine.now c.args.examiner.now.exam c.args.notes.now) asked
+          (dialogue c.ask.new.self c.ask.new.examiner.exam c.ask.new.notes))
           (sym more)
-          (one_more {last = standing c.ask.new.examiner.exam (dialogue c.ask.new.self c.ask.new.notes)}
+          (one_more {last = dialogue c.ask.new.self c.ask.new.examiner.exam c.ask.new.notes}
           c.index-commands-index.result before.asks c.in_ok-ask.ensures.asked);
       check = with_another c.args.examiner.now c.loop-index.examiner c.ask.new.examiner before.check
           c.ask.ensures.check;

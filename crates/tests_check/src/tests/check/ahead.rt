@@ -10,7 +10,7 @@ use gtp_check_questions::Lesson;
 use gtp_check_shortening::talk::Purpose;
 use gtp_check_talks::engine::Room;
 use gtp_check_talks::notes::Notes;
-use gtp_check_talks::trial::{Tried, try_commands};
+use gtp_check_talks::trial::{Trial, Tried, try_commands};
 use gtp_check_texts::complaint::{Complaint, complaint_text};
 use gtp_check_texts::fault::Fault;
 use gtp_check_texts::last_game::Shown;
@@ -102,13 +102,16 @@ fn trial_of<R: Abort + AllocGlobal>(
     let mut examiner = Examiner::new(KoRule::Simple, 1);
     assert_true(rt, examiner.may_start());
     let mut notes = Notes::new();
-    let tried = try_commands(
-        rt.alloc(),
-        &mut Starts { texts },
-        &["engine"],
-        &mut examiner,
+    let trial = Trial {
+        alloc: rt.alloc(),
+        words: &["engine"],
         commands,
         purpose,
+    };
+    let tried = try_commands(
+        &trial,
+        &mut Starts { texts },
+        &mut examiner,
         &mut Room::new(),
         &mut notes,
     );

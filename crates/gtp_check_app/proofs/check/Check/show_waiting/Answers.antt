@@ -14,8 +14,8 @@ pub returns-then-not-is_read_next : goal.returns-then-not-is_read_next
 returns-then-not-is_read_next g c =
     rw (
       c.in-Some.is,
-      waits_not c.args.plan.now.lessons.items c.args.self.now.examiner
-          (dialogue c.in-Some.engine c.args.self.now.notes)
+      waits_not c.args.plan.now.lessons.items c.args.self.now.examiner.starts
+          (dialogue c.in-Some.engine c.args.self.now.examiner.exam c.args.self.now.notes)
           (sym c.is_read_next.ensures ∙ c.if-not-is_read_next.true),
     )
     (none_shown g.E.WriteOnce c.args.plan.now.shows_progress c.args.errors.now)
@@ -24,8 +24,8 @@ pub returns-in_default-said_at : goal.returns-in_default-said_at
 returns-in_default-said_at g c =
     rw (
       c.in-Some.is,
-      waits_for_none c.args.plan.now.lessons.items c.args.self.now.examiner
-          (dialogue c.in-Some.engine c.args.self.now.notes)
+      waits_for_none c.args.plan.now.lessons.items c.args.self.now.examiner.starts
+          (dialogue c.in-Some.engine c.args.self.now.examiner.exam c.args.self.now.notes)
           (sym c.is_read_next.ensures ∙ c.if-not-is_read_next.false)
           (sym (rw (c.as_slice.ensures.value, c.answered-number.ensures) at c.said_at.ensures)
           ∙ c.in_default-said_at.is),
@@ -36,8 +36,8 @@ pub returns : goal.returns
 returns g c =
     rw (
       c.in-Some.is,
-      waits_for c.args.plan.now.lessons.items c.args.self.now.examiner
-          (dialogue c.in-Some.engine c.args.self.now.notes) c.in-Some-said_at.said
+      waits_for c.args.plan.now.lessons.items c.args.self.now.examiner.starts
+          (dialogue c.in-Some.engine c.args.self.now.examiner.exam c.args.self.now.notes) c.in-Some-said_at.said
           (sym c.is_read_next.ensures ∙ c.if-not-is_read_next.false)
           (sym (rw (c.as_slice.ensures.value, c.answered-number.ensures) at c.said_at.ensures)
           ∙ c.in-Some-said_at.is),
