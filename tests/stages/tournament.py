@@ -13,7 +13,11 @@ The stage finds all processes that a script started by a word in their environme
 - Engines are tried that can't be started, or can't do something, and others that don't start in the middle of a run.
 - Folders go on that the scripts left which were written in bash, and a game of theirs may be played at the same time.
 - What a game costs beside twogtp, and what each command costs in a folder with 100,000 results, is little.
-- The tally is compared with results that were counted by hand, and Wilson's interval is worked out in another way.
+- The tally is compared with results that were counted by hand, and the interval of pairs is worked out in another way.
+- The formulas are compared with values worked out by hand and by R, and each slip in one is noticed. Tests of two engines are simulated,
+  and so is a tournament of engines whose differences are known.
+- What is exported is read by pgn-extract, and by GNU Go, whose boards and captures have to be those of the games.
+- One engine plays all others, engines are added, and games that are the same are found. A run says how far it is.
 - tap is tried with two engines. The sample engine plays whole games on many sizes, and takes and refuses the same moves as
   gtp_engine.
 - The same games are played by xargs, by the script for Slurm without Slurm, and by GNU Parallel on two machines, for which a
@@ -33,7 +37,11 @@ from tests.stages.of_tournament.stops import Stopped, Stubborn, Whole  # noqa: E
 from tests.stages.of_tournament.drawn import Drawn, Two, Unread  # noqa: E402, F401
 from tests.stages.of_tournament.plans import CutAtSpaces, Lost, NoResults, Plans  # noqa: E402, F401
 from tests.stages.of_tournament.machines import Arrays, Elsewhere, Leaving, Locks  # noqa: E402, F401
-from tests.stages.of_tournament.asked import Forms, Helps, Python, Said  # noqa: E402, F401
+from tests.stages.of_tournament.asked import Forms, Helps, Python, Said, SaidByTally  # noqa: E402, F401
+from tests.stages.of_tournament.gauntlets import Gauntlets, Same, Warned  # noqa: E402, F401
+from tests.stages.of_tournament.exports import ByGnuGo, Exported, Versions  # noqa: E402, F401
+from tests.stages.of_tournament.progressed import Lines, Times  # noqa: E402, F401
+from tests.stages.of_tournament.numbers import Errors, Mutants, PairsOfTwo, Tests, Values, Year  # noqa: E402, F401
 from tests.stages.of_tournament.damaged import Cut, Damages, Old  # noqa: E402, F401
 from tests.stages.of_tournament.costs import Many, OneGame  # noqa: E402, F401
 from tests.stages.of_tournament.counted import Intervals, Tallies, Wrong  # noqa: E402, F401

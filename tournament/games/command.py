@@ -1,5 +1,6 @@
 """The command `tournament`."""
 import contextlib
+import os
 import signal
 
 from . import output, results
@@ -21,6 +22,7 @@ def asked_plan(words):
     plan.seeds, plan.limit = words.last("--seeds", number), words.last("--limit", number)
     plan.move_limit, plan.start_limit = words.last("--move-limit", seconds), words.last("--start-limit", seconds)
     plan.is_direct = words.has("--direct")
+    plan.gauntlet = words.last("--gauntlet", lambda _, name: name)
     for option in ("--move-limit", "--start-limit"):
         if plan.is_direct and words.has(option):
             raise Mistake(f"{option} wants what --direct leaves out: write one of the two")
@@ -32,10 +34,13 @@ def make_plan(words):
     asked, is_given = asked_plan(words)
     words.last("--jobs", number), words.last("--task", share), words.last("--time-left", time_left)
     folder = words.places[0]
+    before = read_plan(folder).same_games() if os.path.exists(f"{folder}/plan") else ""
     plan = plan_for(asked, is_given, folder)
     twogtp = find_twogtp()
     try_options(twogtp, plan.options)
     write_plan(plan, folder)
+    if plan.same_games() not in ("", before):
+        output.complain(plan.same_games())
     return plan, twogtp
 
 
@@ -80,7 +85,14 @@ def do_game(words):
     return play_one(plan, folder, twogtp, name)
 
 
-COMMANDS = {"play": do_play, "plan": do_plan, "list": do_list, "game": do_game}
+def do_export(words):
+    """tournament export"""
+    from .export import export  # which isn't needed elsewhere
+
+    return export(words)
+
+
+COMMANDS = {"play": do_play, "plan": do_plan, "list": do_list, "game": do_game, "export": do_export}
 
 
 def main(words):
@@ -90,7 +102,7 @@ def main(words):
     if not words:
         return show(2, HELP[None], 2)
     if words[0] not in COMMANDS:
-        raise Mistake(f"there is no command '{words[0]}': write tournament play, plan, list or game")
+        raise Mistake(f"there is no command '{words[0]}': write tournament play, plan, list, game or export")
     asked = Words(words[0], words[1:])
     return show(1, HELP[words[0]], 0) if asked.is_help else COMMANDS[words[0]](asked)
 

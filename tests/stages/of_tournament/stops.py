@@ -139,7 +139,7 @@ class Sessions(Case):
         """Engines that start something that outlives them."""
         with room() as here:
             engine = here.script("leaves", LEAVES)
-            came = here.run("tournament", "play", "all", "--engine", f"one={engine} {here.at}", "--engine", "two=gtp_engine",
+            came = here.run("tournament", "play", "all", "--engine", f"one={engine} {here.at} %s", "--engine", "two=gtp_engine",
                             "--seeds", "2", "--jobs", "1", "--", "--size", "2")  # fmt: skip
             self.check("what an engine leaves in a session of its own is ended", (0, "", []), (*came[::2], here.left()))
             left = len((here.at / "pids").read_text().split())
