@@ -39,7 +39,7 @@ from tests.stages.of_tournament.plans import CutAtSpaces, Lost, NoResults, Plans
 from tests.stages.of_tournament.machines import Arrays, Elsewhere, Leaving, Locks  # noqa: E402, F401
 from tests.stages.of_tournament.asked import Forms, Helps, Python, Said, SaidByTally  # noqa: E402, F401
 from tests.stages.of_tournament.gauntlets import Gauntlets, Same, Warned  # noqa: E402, F401
-from tests.stages.of_tournament.exports import ByGnuGo, Exported, Versions  # noqa: E402, F401
+from tests.stages.of_tournament.exports import ByGnuGo, Exported, Page, Versions  # noqa: E402, F401
 from tests.stages.of_tournament.progressed import Lines, Times  # noqa: E402, F401
 from tests.stages.of_tournament.numbers import Errors, Mutants, PairsOfTwo, Tests, Values, Year  # noqa: E402, F401
 from tests.stages.of_tournament.damaged import Cut, Damages, Old  # noqa: E402, F401

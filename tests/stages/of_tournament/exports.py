@@ -210,6 +210,15 @@ def read_by_gnugo(place):
     return {"X": set(answers[1].split()), "O": set(answers[2].split())}, (answers[3], answers[4]), int(answers[5]), float(answers[6])
 
 
+class Page(checks.Case):
+    """What the page has of R is what was tried."""
+
+    def test_r(self):
+        """The commands of R."""
+        page = (SCRIPTS.parent / "docs/tournaments.md").read_text()
+        self.check("the page has the commands of R that were tried", True, f"```\n{IN_R.format(place='games.csv')}```\n" in page)
+
+
 # ---- by hand: the table for R
 
 IN_R = """\
