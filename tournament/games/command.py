@@ -18,11 +18,11 @@ def asked_plan(words):
     for name, value in words.options:
         if name == "--engine":
             plan.name_engine(value)
+    plan.gauntlet = words.last("--gauntlet", lambda _, name: name)
     plan.options = words.after or []
     plan.seeds, plan.limit = words.last("--seeds", number), words.last("--limit", number)
     plan.move_limit, plan.start_limit = words.last("--move-limit", seconds), words.last("--start-limit", seconds)
     plan.is_direct = words.has("--direct")
-    plan.gauntlet = words.last("--gauntlet", lambda _, name: name)
     for option in ("--move-limit", "--start-limit"):
         if plan.is_direct and words.has(option):
             raise Mistake(f"{option} wants what --direct leaves out: write one of the two")

@@ -34,15 +34,13 @@ def plan_for(asked, is_given, folder):
         plan = read_plan(folder)
         asked.folder = plan.folder
         look_at_limits(plan, asked, folder)
+        look_at_pairing(plan, asked, folder)
         if is_given and not asked.goes_on(plan):
             old, new = "\n".join(plan.players()), "\n".join(asked.players())
             raise Mistake(f"{folder} was begun with other engines or options. It has\n{old}\nand not\n{new}\nTake another folder.")
-        if asked.gauntlet not in (None, plan.gauntlet):
-            old = f"with --gauntlet {plan.gauntlet}" if plan.gauntlet else "without --gauntlet"
-            raise Mistake(f"{folder} was begun {old}: take another folder")
-        plan.engines, plan.made = asked.engines if is_given else plan.engines, None
         if asked.seeds and asked.seeds < plan.seeds:
             raise Mistake(f"{folder} was begun with {plan.seeds} seeds: there may be more, but not fewer")
+        plan.engines, plan.made = asked.engines if is_given else plan.engines, None
     elif len(asked.engines) < 2:
         raise Mistake(TWO_ENGINES if asked.engines else f"there is no {folder}/plan, so {TWO_ENGINES}")
     else:
@@ -66,6 +64,13 @@ def look_at_limits(plan, asked, folder):
     if asked.move_limit and asked.move_limit != plan.move_limit:
         old = f"--move-limit {plan.move_limit}" if plan.move_limit else "no --move-limit"
         raise Mistake(f"{folder} was begun with {old}: take another folder")
+
+
+def look_at_pairing(plan, asked, folder):
+    """Is the engine of a gauntlet that of the plan, where one is asked for?"""
+    if asked.gauntlet not in (None, plan.gauntlet):
+        old = f"with --gauntlet {plan.gauntlet}" if plan.gauntlet else "without --gauntlet"
+        raise Mistake(f"{folder} was begun {old}: take another folder")
 
 
 def make_folders(folder):

@@ -56,9 +56,10 @@ HELP = {
     None: "\n".join([HEAD, PLAN + PLAY + OPTION, FILES, STATUS]),
     "play": "\n".join(["""\
 usage: tournament play FOLDER --engine NAME=CMD --engine NAME=CMD ..
-           [--seeds N] [--gauntlet NAME] [--limit SECONDS]
-           [--move-limit SECONDS] [--start-limit SECONDS] [--direct]
-           [--jobs N] [--again] [--task K/T] [--time-left TIME] [-- OPTION ..]
+           [--gauntlet NAME]
+           [--seeds N] [--limit SECONDS] [--move-limit SECONDS]
+           [--start-limit SECONDS] [--direct] [--jobs N] [--again]
+           [--task K/T] [--time-left TIME] [-- OPTION ..]
        tournament play FOLDER .. where it has a plan
 
 Plays all games of FOLDER that have no result; a damaged one is none. The
@@ -69,9 +70,9 @@ it is, and in a terminal each ten seconds.
 """, PLAN + PLAY + OPTION, FILES, STATUS]),
     "plan": "\n".join(["""\
 usage: tournament plan FOLDER --engine NAME=CMD --engine NAME=CMD ..
-           [--seeds N] [--gauntlet NAME] [--limit SECONDS]
-           [--move-limit SECONDS] [--start-limit SECONDS] [--direct]
-           [-- OPTION ..]
+           [--gauntlet NAME]
+           [--seeds N] [--limit SECONDS] [--move-limit SECONDS]
+           [--start-limit SECONDS] [--direct] [-- OPTION ..]
 
 Makes FOLDER and FOLDER/plan, and plays nothing. It takes the words of
 tournament play. Where there is a plan it may have more seeds, more engines

@@ -68,12 +68,12 @@ class Plan:
 
     def __init__(self):
         self.engines = {}
+        self.gauntlet = None  # the engine that plays all others, which don't play each other
         self.options = []
         self.seeds = self.limit = None
         self.folder = None  # in which engines start; None in a plan of earlier scripts
         self.is_direct = False  # is nothing between twogtp and the engines?
         self.start_limit = self.move_limit = None  # seconds, as they are written
-        self.gauntlet = None  # the engine that plays all others, which don't play each other
         self.made = None  # the games, once they are asked for
 
     def add_engine(self, name, command):
@@ -100,6 +100,8 @@ class Plan:
         kind, _, rest = line.partition(" ")
         if kind == "engine" and " " in rest:
             self.add_engine(*rest.split(" ", 1))
+        elif kind == "gauntlet":
+            self.gauntlet = rest
         elif kind == "option" and line != kind:
             self.options.append(rest)
         elif kind == "seeds":
@@ -110,8 +112,6 @@ class Plan:
             self.folder = rest
         elif line == "direct":
             self.is_direct = True
-        elif kind == "gauntlet":
-            self.gauntlet = rest
         elif kind == "start-limit":
             self.start_limit = seconds(f"start-limit of {place}", rest)
         elif kind == "move-limit":
