@@ -201,8 +201,9 @@ class Table:
         if groups:
             again = sum(len(it) - 1 for it in groups)
             yield f"the same, move by move, as an earlier game of the same engines, colours and opening, and not in the intervals: {again}"
-            for first, *others in groups[:SHOWN]:
-                yield f"  {name(first)}: {name(others[0])}{f' and {len(others) - 1} others' if len(others) > 1 else ''}"
+            for first, second, *others in groups[:SHOWN]:
+                more = f" and {len(others)} other{'s' if len(others) > 1 else ''}" if others else ""
+                yield f"  {name(first)}: {name(second)}{more}"
             if len(groups) > SHOWN:
                 yield f"  and so on: {len(groups)} such games were played again"
 
