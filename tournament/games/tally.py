@@ -95,6 +95,10 @@ class Row:
         """The share of games that were won of those that have a winner, in percent."""
         return f"{100 * self.won / self.decided:5.1f}" if self.decided else "    -"
 
+    def record(self):
+        """How many were won and lost."""
+        return f"{self.won}-{self.decided - self.won}"
+
     def of(self):
         """How many were won of those that have a winner."""
         return f"{self.won} of {self.decided}"
@@ -171,14 +175,16 @@ class Table:
 
     def of_pairs(self):
         """A line for each two engines, and before them one for each engine that has more than one opponent."""
-        width = 2 * self.width + 3
-        yield f"{'pair':{width}}    won  nobody      0  0.5    1  1.5    2  score  95 % interval   Elo  95 % interval"
         several = [it for it in self.sums.order if sum((it, other) in self.sums.found for other in self.sums.order) > 1]
-        for key in [*((it,) for it in several), *self.sums.two()]:
+        keys = [*((it,) for it in several), *self.sums.two()]
+        name, counted = 2 * self.width + 3, max(4, *(len(str(it)) for key in keys for it in self.sums.found[key].every))
+        won = max(5, *(len(self.sums.rows[key].record()) for key in keys))
+        outcomes = " ".join(f"{it:>{counted}}" for it in ("0", "0.5", "1", "1.5", "2"))
+        yield f"{'pair':{name}}  {'won':>{won}}  nobody   {outcomes}  score  95 % interval   Elo  95 % interval"
+        for key in keys:
             row, found = self.sums.rows[key], self.sums.found[key]
-            won = f"{row.won}-{row.decided - row.won}"
-            counts = " ".join(f"{it:4}" for it in found.every)
-            yield f"{' - '.join([*key, 'all'][:2]):{width}}  {won:>5}  {row.all - row.decided:6}   {counts}  {of_score(found)}"
+            counts = " ".join(f"{it:{counted}}" for it in found.every)
+            yield f"{' - '.join([*key, 'all'][:2]):{name}}  {row.record():>{won}}  {row.all - row.decided:6}   {counts}  {of_score(found)}"
 
     def of_all(self):
         """What is said of all games together."""
@@ -200,7 +206,7 @@ class Table:
         groups, name = self.counts.pairs.same(), self.counts.games.name
         if groups:
             again = sum(len(it) - 1 for it in groups)
-            yield f"the same, move by move, as an earlier game of the same engines, colours and opening, and not in the intervals: {again}"
+            yield f"the same, move by move, as an earlier game of the same engines, colours and opening, which count once in the intervals: {again}"
             for first, second, *others in groups[:SHOWN]:
                 more = f" and {len(others)} other{'s' if len(others) > 1 else ''}" if others else ""
                 yield f"  {name(first)}: {name(second)}{more}"

@@ -114,7 +114,7 @@ class Same(Case):
             came = here.run("tournament", "play", "all", *words, *SMALL)
             self.check("all is played", 0, came.status)
             output = here.run("tally", "all").output
-            said = "the same, move by move, as an earlier game of the same engines, colours and opening, and not in the intervals: 22"
+            said = "the same, move by move, as an earlier game of the same engines, colours and opening, which count once in the intervals: 22"
             shown = [said, "  1_one_two: 2_one_two and 10 others", "  1_two_one: 2_two_one and 10 others"]
             self.check("it says which games are the same", shown, output[output.index("the same,") :].splitlines()[:3])
             first, = pairs_in(output)
