@@ -28,7 +28,7 @@ class Exports:
     def __init__(self, plan, folder, losing):
         self.plan, self.folder, self.games = plan, folder, plan.games()
         self.ends = Ends(plan, folder, losing)
-        self.openings = getattr(plan, "openings", ())
+        self.openings = plan.openings
         self.versions = {}  # on each machine
         self.without = self.games.count  # those that have no result
 

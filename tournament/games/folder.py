@@ -24,6 +24,8 @@ def read_plan(folder):
     if len(plan.engines) < 2 or not plan.seeds or not plan.limit:
         raise Mistake(f"{place} lacks engines, seeds or the limit")
     plan.is_direct = plan.is_direct or plan.is_old()
+    if plan.openings and plan.is_direct:
+        raise Mistake(f"{place} has openings, which aren't played directly")
     return plan
 
 
@@ -38,6 +40,8 @@ def plan_for(asked, is_given, folder):
         if is_given and not asked.goes_on(plan):
             old, new = "\n".join(plan.players()), "\n".join(asked.players())
             raise Mistake(f"{folder} was begun with other engines or options. It has\n{old}\nand not\n{new}\nTake another folder.")
+        if is_given and plan.openings and not asked.openings:
+            raise Mistake(f"{folder} was begun with openings: write --openings with the same ones, or leave out engines and options, too")
         if asked.seeds and asked.seeds < plan.seeds:
             raise Mistake(f"{folder} was begun with {plan.seeds} seeds: there may be more, but not fewer")
         plan.engines, plan.made = asked.engines if is_given else plan.engines, None
@@ -57,13 +61,16 @@ def look_at_limits(plan, asked, folder):
     """Is what is asked for of the program between as the plan has it?"""
     if asked.is_direct and not plan.is_direct:
         raise Mistake(f"{folder} was begun without --direct: take another folder")
-    given = [option for option, value in (("--start-limit", asked.start_limit), ("--move-limit", asked.move_limit)) if value]
+    values = (("--start-limit", asked.start_limit), ("--move-limit", asked.move_limit), ("--openings", asked.openings))
+    given = [option for option, value in values if value]
     if given and plan.is_direct:
         why = "by earlier scripts, which had none" if plan.is_old() else "with --direct"
         raise Mistake(f"{folder} was begun {why}, so it can't have {given[0]}: take another folder")
     if asked.move_limit and asked.move_limit != plan.move_limit:
         old = f"--move-limit {plan.move_limit}" if plan.move_limit else "no --move-limit"
         raise Mistake(f"{folder} was begun with {old}: take another folder")
+    if asked.openings and asked.openings != plan.openings:
+        raise Mistake(f"{folder} was begun with {'other' if plan.openings else 'no'} openings: take another folder")
 
 
 def look_at_pairing(plan, asked, folder):

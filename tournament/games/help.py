@@ -22,8 +22,12 @@ PLAN = """\
                      how long a genmove may take [as long as a game]
   --start-limit SECONDS
                      how long each other answer may take, also the first [60]
+  --openings FILE    a line of moves for each opening, such as D4 Q16 pass; #
+                     begins a comment. Seed 1 has the first one, with both
+                     colours, seed 2 the second, and so on, around
   --direct           engines are started by twogtp, which knows no quotes: no
-                     such limits, and moves aren't kept as they are played
+                     such limits, no openings, and moves aren't kept as they
+                     are played
 """
 PLAY = """\
   --jobs N           how many games at once [as many as processors]
@@ -58,8 +62,8 @@ HELP = {
 usage: tournament play FOLDER --engine NAME=CMD --engine NAME=CMD ..
            [--gauntlet NAME]
            [--seeds N] [--limit SECONDS] [--move-limit SECONDS]
-           [--start-limit SECONDS] [--direct] [--jobs N] [--again]
-           [--task K/T] [--time-left TIME] [-- OPTION ..]
+           [--start-limit SECONDS] [--openings FILE] [--direct] [--jobs N]
+           [--again] [--task K/T] [--time-left TIME] [-- OPTION ..]
        tournament play FOLDER .. where it has a plan
 
 Plays all games of FOLDER that have no result; a damaged one is none. The
@@ -72,7 +76,8 @@ it is, and in a terminal each ten seconds.
 usage: tournament plan FOLDER --engine NAME=CMD --engine NAME=CMD ..
            [--gauntlet NAME]
            [--seeds N] [--limit SECONDS] [--move-limit SECONDS]
-           [--start-limit SECONDS] [--direct] [-- OPTION ..]
+           [--start-limit SECONDS] [--openings FILE] [--direct]
+           [-- OPTION ..]
 
 Makes FOLDER and FOLDER/plan, and plays nothing. It takes the words of
 tournament play. Where there is a plan it may have more seeds, more engines

@@ -19,7 +19,7 @@ class Pairs:
 
     def __init__(self, plan, is_out=False):
         self.games, self.is_out = plan.games(), is_out  # aren't those to be counted that nobody won?
-        self.openings = getattr(plan, "openings", ())
+        self.openings = plan.openings
         self.scores = bytearray(self.games.count)
         self.moves = array("q", [0]) * self.games.count  # a number that the opening and the moves give; 0 for few moves
 

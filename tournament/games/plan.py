@@ -12,6 +12,8 @@ from typing import NamedTuple
 from .output import Mistake
 
 NAME = re.compile(r"[A-Za-z0-9][A-Za-z0-9.+-]{0,39}")
+MOVE = "(?:[A-HJ-Z](?:[1-9]|1[0-9]|2[0-5])|pass)"
+OPENING = re.compile(f"{MOVE}(?: {MOVE})*")
 GAME = re.compile(r"([1-9][0-9]{0,6})_([^_]+)_([^_]+)")
 MOST_GAMES = 10**9
 
@@ -74,6 +76,7 @@ class Plan:
         self.folder = None  # in which engines start; None in a plan of earlier scripts
         self.is_direct = False  # is nothing between twogtp and the engines?
         self.start_limit = self.move_limit = None  # seconds, as they are written
+        self.openings = []  # the moves of each, with spaces between them
         self.made = None  # the games, once they are asked for
 
     def add_engine(self, name, command):
@@ -116,6 +119,8 @@ class Plan:
             self.start_limit = seconds(f"start-limit of {place}", rest)
         elif kind == "move-limit":
             self.move_limit = seconds(f"move-limit of {place}", rest)
+        elif kind == "opening" and OPENING.fullmatch(rest):
+            self.openings.append(rest)
         else:
             raise Mistake(f"{place} has a line that isn't known: {line}")
 
@@ -145,7 +150,13 @@ class Plan:
         """All lines."""
         first = [] if self.is_old() else [f"folder {self.folder}"]
         limits = [f"start-limit {self.start_limit}"] if self.start_limit else []
-        return "".join(f"{line}\n" for line in [*first, *self.players(), *limits, f"seeds {self.seeds}", f"limit {self.limit}"])
+        openings = [f"opening {moves}" for moves in self.openings]
+        last = [f"seeds {self.seeds}", f"limit {self.limit}"]
+        return "".join(f"{line}\n" for line in [*first, *self.players(), *limits, *openings, *last])
+
+    def opening(self, seed):
+        """The moves with which the games of a seed begin: one opening after the other, and then the first again. None without openings."""
+        return self.openings[(seed - 1) % len(self.openings)] if self.openings else None
 
     def words(self, name):
         """The words of an engine's command: cut as a shell cuts it, or directly as twogtp cuts it."""
@@ -178,10 +189,9 @@ class Plan:
         the seed. An empty text where each game is another one."""
         fixed = [name for name, command in self.engines.items() if "%s" not in command]
         found = [name for name in fixed if any(name in sides and set(sides) <= set(fixed) for sides in self.games().sides)]
-        openings = getattr(self, "openings", ())
-        if not found or self.seeds <= (len(set(openings[: self.seeds])) or 1):
+        if not found or self.seeds <= (len(set(self.openings[: self.seeds])) or 1):
             return ""
-        seeds = "all seeds with the same opening" if openings else "all seeds"
+        seeds = "all seeds with the same opening" if self.openings else "all seeds"
         said = f"if they draw nothing by themselves, {seeds} are the same games, which tally counts once"
         return f"{', '.join(found[:-1])} and {found[-1]} have no %s, the seed, in their commands: {said}"
 

@@ -1,7 +1,6 @@
 """A game's record as SGF has it (FF[4]): a column and a row of letters, from the upper left."""
+from .rules import COLUMNS, handicap_points
 from .trial import Setup
-
-COLUMNS = "ABCDEFGHJKLMNOPQRSTUVWXYZ"
 
 
 class Board:
@@ -13,7 +12,7 @@ class Board:
 
     def record(self, row, end, moves):
         """The record of a game."""
-        stones = "".join(f"[{self.point(it)}]" for it in stones_of(self.size, self.handicap))
+        stones = "".join(f"[{self.point(it)}]" for it in handicap_points(self.size, self.handicap))
         head = {"FF": 4, "GM": 1, "CA": "UTF-8", "AP": row["twogtp_version"] and f"twogtp:{escaped(row['twogtp_version'])}", "SZ": self.size,
                 "KM": self.komi, "HA": self.handicap or None, "PB": row["black"], "PW": row["white"], "RE": result(row["verdict"], end),
                 "GN": row["game"], "C": row["verdict"]}  # fmt: skip
@@ -24,21 +23,11 @@ class Board:
 
     def of(self, move):
         """A move; a pass is empty."""
-        return "" if move == "pass" else self.point((COLUMNS.index(move[0]), int(move[1:]) - 1))
+        return "" if move == "pass" else self.point((COLUMNS.index(move[0]) + 1, int(move[1:])))
 
     def point(self, place):
-        """A column and a row, which are counted from the lower left."""
-        return "".join(chr(ord("a") + it) for it in (place[0], self.size - 1 - place[1]))
-
-
-def stones_of(size, count):
-    """The points of so many handicap stones, as `fixed_handicap` has them."""
-    low, middle, high = 2 + size // 13, size // 2, size - 3 - size // 13
-    corners = [(low, low), (high, high), (low, high), (high, low)]
-    sides = [(low, middle), (high, middle), (middle, low), (middle, high)]
-    if count < 5:
-        return corners[:count]
-    return [*corners, *sides][: count - count % 2] + [(middle, middle)] * (count % 2)
+        """A column and a row, which are counted from the lower left, from 1 up."""
+        return "".join(chr(ord("a") + it) for it in (place[0] - 1, self.size - place[1]))
 
 
 def result(verdict, end):

@@ -206,7 +206,8 @@ class Table:
         groups, name = self.counts.pairs.same(), self.counts.games.name
         if groups:
             again = sum(len(it) - 1 for it in groups)
-            yield f"the same, move by move, as an earlier game of the same engines, colours and opening, which count once in the intervals: {again}"
+            said = "the same, move by move, as an earlier game of the same engines, colours and opening"
+            yield f"{said}, which count once in the intervals: {again}"
             for first, second, *others in groups[:SHOWN]:
                 more = f" and {len(others)} other{'s' if len(others) > 1 else ''}" if others else ""
                 yield f"  {name(first)}: {name(second)}{more}"

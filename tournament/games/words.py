@@ -7,7 +7,8 @@ from .output import Mistake
 QUOTED = "--engine 'one=gtp_engine --policy random --seed %s'"
 OF_PLAN = {"--engine": ("NAME=CMD", QUOTED), "--seeds": ("a number", "--seeds 10"),
            "--limit": ("a number of seconds", "--limit 600"), "--move-limit": ("seconds", "--move-limit 30"),
-           "--start-limit": ("seconds", "--start-limit 300"), "--direct": None, "--jobs": ("a number", "--jobs 4"), "--again": None,
+           "--start-limit": ("seconds", "--start-limit 300"), "--openings": ("FILE", "--openings openings.txt"), "--direct": None,
+           "--jobs": ("a number", "--jobs 4"), "--again": None,
            "--task": ("K/T", "--task 3/100"), "--time-left": ("a time", "--time-left 30:00")}
 OF_PLAN["--gauntlet"] = ("an engine's NAME", "--gauntlet new")
 OF_LOSSES = {name: ("the word loses", f"{name} loses") for name in ("--abandoned", "--late")}

@@ -29,6 +29,11 @@ SAID = {
     ("play", "x", "--start-limit"): "--start-limit wants seconds after it, such as --start-limit 300",
     ("play", "x", "--direct", "--move-limit", "5"): "--move-limit wants what --direct leaves out: write one of the two",
     ("plan", "x", "--start-limit=5", "--direct"): "--start-limit wants what --direct leaves out: write one of the two",
+    ("plan", "x", "--openings", "o", "--direct"): "--openings wants what --direct leaves out: write one of the two",
+    ("play", "x", "--openings"): "--openings wants FILE after it, such as --openings openings.txt",
+    ("play", "x", "--opening=o"): "play has no option --opening: is it --openings?",
+    ("play", "x", *PLAN[:4], "--openings=nowhere"): "nowhere can't be read: No such file or directory",
+    ("play", "x", *PLAN[:4], "--openings=all"): "all can't be read: Is a directory",
     ("play", "all", "--direct"): "all was begun without --direct: take another folder",
     ("play", "all", "--move-limit", "5"): "all was begun with no --move-limit: take another folder",
     ("play", "direct", "--move-limit", "5"): "direct was begun with --direct, so it can't have --move-limit: take another folder",
@@ -141,7 +146,7 @@ class Helps(Case):
             self.check("each line of help fits 80 columns", [], [line for line in said.splitlines() if len(line) > 80])
 
 
-OF_PLAN = ["--engine", "--seeds", "--gauntlet", "--limit", "--move-limit", "--start-limit", "--direct"]
+OF_PLAN = ["--engine", "--seeds", "--gauntlet", "--limit", "--move-limit", "--start-limit", "--openings", "--direct"]
 OF_LOSSES = ["--abandoned", "--late"]
 OPTIONS_OF = {"play": [*OF_PLAN, "--jobs", "--again", "--task", "--time-left"], "plan": OF_PLAN, "list": ["--all"], "game": [],
               "export": ["--pgn", "--csv", "--jsonl", "--sgf", *OF_LOSSES]}  # fmt: skip

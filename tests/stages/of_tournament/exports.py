@@ -162,7 +162,26 @@ class Versions(Case):
             wanted = {"host": os.uname().nodename, "twogtp_version": own} | dict.fromkeys(("black_version", "white_version"), " ".join(answers))
             for key, wanted in wanted.items():
                 self.check(f"the {key} of each game", {wanted}, {row[key] for row in rows})
-            self.check("the seconds of each game", True, all(isinstance(row[it], float) for row in rows for it in ("black_seconds", "white_seconds")))
+            self.check("the opening of each game, where there are none", {None}, {row["opening"] for row in rows})
+            seconds = [row[it] for row in rows for it in ("black_seconds", "white_seconds")]
+            self.check("the seconds of each game", {float}, {type(it) for it in seconds})
+
+
+class Opened(Case):
+    """The opening of each game."""
+
+    def test_opened(self):
+        """Two openings and four seeds: the numbers of the openings, and the moves of each game."""
+        with room() as here:
+            (here.at / "openings").write_text("C3 D4\nB2\n")
+            here.run("tournament", "play", *two_engines("all"), "--openings", "openings", "--", "--size", "5")
+            rows = [json.loads(line) for line in here.run("tournament", "export", "all", "--jsonl").output.splitlines()]
+            self.check("all games are exported, with their openings", [1, 1, 2, 2] * 2, [row["opening"] for row in rows])
+            here.run("tournament", "export", "all", "--sgf", "records")
+            begin = {1: ";B[cc];W[db]", 2: ";B[bd];W"}
+            found = {row["game"]: (here.at / f"records/{row['game']}.sgf").read_text().split("\n")[1] for row in rows}
+            others = [row["game"] for row in rows if not found[row["game"]].startswith(begin[row["opening"]])]
+            self.check("each record begins with its opening", [], others)
 
 
 # sizes and handicaps of games that GNU Go reads

@@ -96,11 +96,23 @@ class Warned(Case):
                 self.check(f"{what}: with more seeds it says only what is new", said_of("a and b" if what == "one seed" else None), said)
 
 
-def said_of(who):
+    def test_openings(self):
+        """The same with openings: seeds with the same one."""
+        with room() as here:
+            for name, text in (("three", "D4\nE5\nC3\n"), ("twice", "D4\nE5\nD4\n")):
+                (here.at / name).write_text(text)
+            engines = ["--engine", "a=gtp_engine", "--engine", "b=gtp_engine"]
+            for openings, seeds, who in (("three", 3, None), ("three", 4, "a and b"), ("twice", 2, None), ("twice", 3, "a and b")):
+                words = [*engines, "--openings", openings, "--seeds", str(seeds), "--", "--size", "9"]
+                came = here.run("tournament", "plan", f"{openings}{seeds}", *words)
+                self.check(f"{seeds} seeds, openings {openings}: it names {who}", (0, "", said_of(who, "all seeds with the same opening")), came)
+
+
+def said_of(who, seeds="all seeds"):
     """What is said of these engines, if any are named."""
     if who is None:
         return ""
-    said = "have no %s, the seed, in their commands: if they draw nothing by themselves, all seeds are the same games, which tally counts once"
+    said = f"have no %s, the seed, in their commands: if they draw nothing by themselves, {seeds} are the same games, which tally counts once"
     return f"tournament: {who} {said}\n"
 
 
