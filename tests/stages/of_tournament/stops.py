@@ -315,7 +315,7 @@ class Full(Case):
         with open(filler, "wb", buffering=0) as file, contextlib.suppress(OSError):
             while True:
                 file.write(bytes(4096))
-        os.truncate(filler, filler.stat().st_size - 14 * 4096)  # those of a game that is played, and those that two leave
+        os.truncate(filler, filler.stat().st_size - 16 * 4096)  # those of a game that is played, and those that two leave
         status, output, errors = here.run("tournament", "play", "disk/all", "--jobs", "1")
         played = here.games("disk/all")
         self.check("a full disk: the status", 1, status)
