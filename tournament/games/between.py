@@ -206,7 +206,7 @@ def play(game, colour):
     relay.finish()
     status = engine.ended(PAUSE)
     is_due = talk.waiting and talk.waiting[0].name != b"quit" or not talk.has_answered
-    if not relay.caller_is_gone(SAME if was_asked_to_end(status) else 0) and is_due:
+    if not relay.caller_is_gone(SAME if is_due and was_asked_to_end(status) else 0) and is_due:
         talk.cut("ended", how(status))
     if status is None:
         os.close(1)

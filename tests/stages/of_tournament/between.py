@@ -235,6 +235,8 @@ class Late(Case):
             said = f"between: black: no answer in time to '{command}'\n"
             self.check(f"{row} is late: the status, and what is said", (124, said), (came.status, came.errors))
             self.check(f"{row} is late: the notes", noted, alone.lines())
+            seconds = float(alone.notes.read_text().splitlines()[-1].split()[3].rstrip(":"))
+            self.check(f"{row} is late: after the seconds of its limit, which are 1", True, 1 <= seconds < 20)
             again = alone.run(text)
             self.check(f"{row} is late: another start ends at once", (124, "", ""), again)
             self.check(f"{row} is late: the engine was started once", "\n", (here.at / "starts").read_text())
