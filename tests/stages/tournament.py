@@ -10,10 +10,16 @@ The stage finds all processes that a script started by a word in their environme
   do, and what was played has to be whole. A result that is cut at any byte is none, in each command.
 - What stands between twogtp and an engine is tried by itself: its bytes, its time, and how an engine ends. The notes of games that are
   played are compared with their records, and those of games that are stopped have who was waited for. Engines are late.
+- Openings are refused that can't be played, by rules that are compared with a plain reference. Games begin with openings, and engines
+  crash, refuse and wait there.
 - Engines are tried that can't be started, or can't do something, and others that don't start in the middle of a run.
 - Folders go on that the scripts left which were written in bash, and a game of theirs may be played at the same time.
 - What a game costs beside twogtp, and what each command costs in a folder with 100,000 results, is little.
-- The tally is compared with results that were counted by hand, and Wilson's interval is worked out in another way.
+- The tally is compared with results that were counted by hand, and the interval of pairs is worked out in another way.
+- The formulas are compared with values worked out by hand and by R, and each slip in one is noticed. Tests of two engines are simulated,
+  and so is a tournament of engines whose differences are known.
+- What is exported is read by pgn-extract, and by GNU Go, whose boards and captures have to be those of the games.
+- One engine plays all others, engines are added, and games that are the same are found. A run says how far it is.
 - tap is tried with two engines. The sample engine plays whole games on many sizes, and takes and refuses the same moves as
   gtp_engine.
 - The same games are played by xargs, by the script for Slurm without Slurm, and by GNU Parallel on two machines, for which a
@@ -33,13 +39,20 @@ from tests.stages.of_tournament.stops import Stopped, Stubborn, Whole  # noqa: E
 from tests.stages.of_tournament.drawn import Drawn, Two, Unread  # noqa: E402, F401
 from tests.stages.of_tournament.plans import CutAtSpaces, Lost, NoResults, Plans  # noqa: E402, F401
 from tests.stages.of_tournament.machines import Arrays, Elsewhere, Leaving, Locks  # noqa: E402, F401
-from tests.stages.of_tournament.asked import Forms, Helps, Python, Said  # noqa: E402, F401
+from tests.stages.of_tournament.asked import Forms, Helps, Python, Said, SaidByTally  # noqa: E402, F401
+from tests.stages.of_tournament.gauntlets import Gauntlets, Same, Warned  # noqa: E402, F401
+from tests.stages.of_tournament.exports import ByGnuGo, Exported, Opened, Page, Versions  # noqa: E402, F401
+from tests.stages.of_tournament.progressed import Lines, Times  # noqa: E402, F401
+from tests.stages.of_tournament.numbers import Errors, Mutants, PairsOfTwo, Tests, Values, Year  # noqa: E402, F401
 from tests.stages.of_tournament.damaged import Cut, Damages, Old  # noqa: E402, F401
 from tests.stages.of_tournament.costs import Many, OneGame  # noqa: E402, F401
 from tests.stages.of_tournament.counted import Intervals, Tallies, Wrong  # noqa: E402, F401
 from tests.stages.of_tournament.between import InTime, Late, Passing  # noqa: E402, F401
 from tests.stages.of_tournament.noted import Limits, Noted  # noqa: E402, F401
 from tests.stages.of_tournament.noted import Stopped as StoppedNotes  # noqa: E402, F401
+from tests.stages.of_tournament.openings import Folders, Refused, Rules, Taken  # noqa: E402, F401
+from tests.stages.of_tournament.opened import Answers, Crashes, Refusals, Talks, Times  # noqa: E402, F401
+from tests.stages.of_tournament.opened import Games as OpenedGames  # noqa: E402, F401
 from tests.stages.of_tournament.tries import InARow, NotStarted, Tried, Unable  # noqa: E402, F401
 from tests.stages.of_tournament.beside import Died, Games, Sample, Taps  # noqa: E402, F401
 

@@ -2,7 +2,8 @@
 
 The file of the game has parts with a zero byte between two: `notes FILE`, `folder FOLDER`, and of the colour
 `black WORD` for each word of the command. There may be `limit SECONDS`, which is of each answer but that of a genmove, `move-limit
-SECONDS`, which is of that, and `opening MOVE ..`. The notes get the moves as they are played, and how the engine ended.
+SECONDS`, which is of that, and `opening MOVE ..`: then the engine is told the moves with which the game begins by `play`, in place of
+`genmove`. The notes get the moves as they are played, and how the engine ended.
 
 An engine that was late is ended with all that it started, and no other start of it in this game gets any time. The engine ends with this
 process; what it started then is ended by that of the game. This one goes on as long as somebody has the engine's output.
@@ -21,6 +22,7 @@ from .talk import Talk
 ROOM = 65536  # bytes that are read at once
 LATE, NO_NOTES = 124, 125
 PAUSE = 0.2  # seconds in which an engine may end whose output has ended
+SAME = 0.5  # seconds in which twogtp ends, where it was asked to as the engine was
 
 
 class Ended(Exception):
@@ -45,7 +47,7 @@ class Game:
             parts.get(key, []).append(value)
         (self.place,), (self.folder,), self.words = parts["notes"], parts["folder"], parts[colour]
         self.limits = [float(parts[it][0]) if parts[it] else None for it in ("limit", "move-limit")]
-        self.opening = [it.encode() for line in parts["opening"] for it in line.split()]
+        self.opening = [it.upper().encode() for line in parts["opening"] for it in line.split()]
         self.notes = os.open(self.place, os.O_RDWR | os.O_APPEND | os.O_CLOEXEC)
         self.colour = colour
 
@@ -143,9 +145,9 @@ class Relay:
         while left:
             left = rest(1, left)
 
-    def caller_is_gone(self):
-        """Has twogtp ended?"""
-        if 0 in self.reads and select.select([0], [], [], 0)[0]:
+    def caller_is_gone(self, seconds):
+        """Has twogtp ended, or does it in so many seconds?"""
+        if 0 in self.reads and select.select([0], [], [], seconds)[0]:
             self.hear_caller()
         return 0 not in self.reads
 
@@ -165,6 +167,11 @@ def how(status):
     if status is None:
         return "its output ended, but it ran on"
     return f"signal {os.WTERMSIG(status)}" if os.WIFSIGNALED(status) else f"exit status {os.WEXITSTATUS(status)}"
+
+
+def was_asked_to_end(status):
+    """Did it end by a signal that twogtp gets, too, where a game is stopped?"""
+    return status is not None and os.WIFSIGNALED(status) and os.WTERMSIG(status) in below.ENDING
 
 
 def end_as(status):
@@ -199,7 +206,7 @@ def play(game, colour):
     relay.finish()
     status = engine.ended(PAUSE)
     is_due = talk.waiting and talk.waiting[0].name != b"quit" or not talk.has_answered
-    if not relay.caller_is_gone() and is_due:
+    if not relay.caller_is_gone(SAME if is_due and was_asked_to_end(status) else 0) and is_due:
         talk.cut("ended", how(status))
     if status is None:
         os.close(1)

@@ -1,5 +1,6 @@
 """The command `tournament`."""
 import contextlib
+import os
 import signal
 
 from . import output, results
@@ -17,11 +18,12 @@ def asked_plan(words):
     for name, value in words.options:
         if name == "--engine":
             plan.name_engine(value)
+    plan.gauntlet = words.last("--gauntlet", lambda _, name: name)
     plan.options = words.after or []
     plan.seeds, plan.limit = words.last("--seeds", number), words.last("--limit", number)
     plan.move_limit, plan.start_limit = words.last("--move-limit", seconds), words.last("--start-limit", seconds)
     plan.is_direct = words.has("--direct")
-    for option in ("--move-limit", "--start-limit"):
+    for option in ("--move-limit", "--start-limit", "--openings"):
         if plan.is_direct and words.has(option):
             raise Mistake(f"{option} wants what --direct leaves out: write one of the two")
     return plan, bool(plan.engines) or words.after is not None
@@ -30,13 +32,34 @@ def asked_plan(words):
 def make_plan(words):
     """The plan of the folder, which is made or looked at, and the program twogtp."""
     asked, is_given = asked_plan(words)
+    openings = words.last("--openings", read_openings) or []
+    asked.openings = [it.text() for it in openings]
     words.last("--jobs", number), words.last("--task", share), words.last("--time-left", time_left)
     folder = words.places[0]
+    before = read_plan(folder).same_games() if os.path.exists(f"{folder}/plan") else ""
     plan = plan_for(asked, is_given, folder)
     twogtp = find_twogtp()
     try_options(twogtp, plan.options)
+    if openings and plan is asked:
+        look_at_openings(openings, plan.options)
     write_plan(plan, folder)
+    if plan.same_games() not in ("", before):
+        output.complain(plan.same_games())
     return plan, twogtp
+
+
+def read_openings(_, place):
+    """The openings of the file that an option names."""
+    from .openings import read  # which isn't needed elsewhere
+
+    return read(place)
+
+
+def look_at_openings(openings, options):
+    """Looks for mistakes in the openings of a new plan."""
+    from .openings import look_at
+
+    look_at(openings, options)
 
 
 def do_play(words):
@@ -80,7 +103,14 @@ def do_game(words):
     return play_one(plan, folder, twogtp, name)
 
 
-COMMANDS = {"play": do_play, "plan": do_plan, "list": do_list, "game": do_game}
+def do_export(words):
+    """tournament export"""
+    from .export import export  # which isn't needed elsewhere
+
+    return export(words)
+
+
+COMMANDS = {"play": do_play, "plan": do_plan, "list": do_list, "game": do_game, "export": do_export}
 
 
 def main(words):
@@ -90,7 +120,7 @@ def main(words):
     if not words:
         return show(2, HELP[None], 2)
     if words[0] not in COMMANDS:
-        raise Mistake(f"there is no command '{words[0]}': write tournament play, plan, list or game")
+        raise Mistake(f"there is no command '{words[0]}': write tournament play, plan, list, game or export")
     asked = Words(words[0], words[1:])
     return show(1, HELP[words[0]], 0) if asked.is_help else COMMANDS[words[0]](asked)
 

@@ -24,6 +24,8 @@ def read_plan(folder):
     if len(plan.engines) < 2 or not plan.seeds or not plan.limit:
         raise Mistake(f"{place} lacks engines, seeds or the limit")
     plan.is_direct = plan.is_direct or plan.is_old()
+    if plan.openings and plan.is_direct:
+        raise Mistake(f"{place} has openings, which aren't played directly")
     return plan
 
 
@@ -34,11 +36,15 @@ def plan_for(asked, is_given, folder):
         plan = read_plan(folder)
         asked.folder = plan.folder
         look_at_limits(plan, asked, folder)
-        if is_given and plan.players() != asked.players():
+        look_at_pairing(plan, asked, folder)
+        if is_given and not asked.goes_on(plan):
             old, new = "\n".join(plan.players()), "\n".join(asked.players())
             raise Mistake(f"{folder} was begun with other engines or options. It has\n{old}\nand not\n{new}\nTake another folder.")
+        if is_given and plan.openings and not asked.openings:
+            raise Mistake(f"{folder} was begun with openings: write --openings with the same ones, or leave out engines and options, too")
         if asked.seeds and asked.seeds < plan.seeds:
             raise Mistake(f"{folder} was begun with {plan.seeds} seeds: there may be more, but not fewer")
+        plan.engines, plan.made = asked.engines if is_given else plan.engines, None
     elif len(asked.engines) < 2:
         raise Mistake(TWO_ENGINES if asked.engines else f"there is no {folder}/plan, so {TWO_ENGINES}")
     else:
@@ -55,13 +61,23 @@ def look_at_limits(plan, asked, folder):
     """Is what is asked for of the program between as the plan has it?"""
     if asked.is_direct and not plan.is_direct:
         raise Mistake(f"{folder} was begun without --direct: take another folder")
-    given = [option for option, value in (("--start-limit", asked.start_limit), ("--move-limit", asked.move_limit)) if value]
+    values = (("--start-limit", asked.start_limit), ("--move-limit", asked.move_limit), ("--openings", asked.openings))
+    given = [option for option, value in values if value]
     if given and plan.is_direct:
         why = "by earlier scripts, which had none" if plan.is_old() else "with --direct"
         raise Mistake(f"{folder} was begun {why}, so it can't have {given[0]}: take another folder")
     if asked.move_limit and asked.move_limit != plan.move_limit:
         old = f"--move-limit {plan.move_limit}" if plan.move_limit else "no --move-limit"
         raise Mistake(f"{folder} was begun with {old}: take another folder")
+    if asked.openings and asked.openings != plan.openings:
+        raise Mistake(f"{folder} was begun with {'other' if plan.openings else 'no'} openings: take another folder")
+
+
+def look_at_pairing(plan, asked, folder):
+    """Is the engine of a gauntlet that of the plan, where one is asked for?"""
+    if asked.gauntlet not in (None, plan.gauntlet):
+        old = f"with --gauntlet {plan.gauntlet}" if plan.gauntlet else "without --gauntlet"
+        raise Mistake(f"{folder} was begun {old}: take another folder")
 
 
 def make_folders(folder):

@@ -7,6 +7,7 @@ usage: tournament play FOLDER --engine NAME=CMD --engine NAME=CMD ..
        tournament plan FOLDER --engine ..   writes FOLDER/plan, plays nothing
        tournament list FOLDER [--all]       the games without a result, or all
        tournament game FOLDER GAME          plays one of them
+       tournament export FOLDER --csv       the results for other programs
        tournament COMMAND --help            says more of one
 """
 PLAN = """\
@@ -15,13 +16,18 @@ PLAN = """\
                      letters, digits, . + -
   --seeds N          the seeds 1 to N; each pair plays two games with each.
                      There may be more later, and the old games count. [10]
+  --gauntlet NAME    this engine plays all others, which don't play each other
   --limit SECONDS    how long a game may take [600]
   --move-limit SECONDS
                      how long a genmove may take [as long as a game]
   --start-limit SECONDS
                      how long each other answer may take, also the first [60]
+  --openings FILE    a line of moves for each opening, such as D4 Q16 pass; #
+                     begins a comment. Seed 1 has the first one, with both
+                     colours, seed 2 the second, and so on, around
   --direct           engines are started by twogtp, which knows no quotes: no
-                     such limits, and moves aren't kept as they are played
+                     such limits, no openings, and moves aren't kept as they
+                     are played
 """
 PLAY = """\
   --jobs N           how many games at once [as many as processors]
@@ -46,27 +52,36 @@ status: 0  each game has a result, and no side was unfit or abandoned
         69  an engine can't be started on this machine
         130, 143  stopped by Ctrl-C; by TERM or HUP
 """
+LOSSES = """\
+  --abandoned loses  a side that was abandoned loses
+  --late loses       a side that was abandoned since it was late loses
+"""
 HELP = {
     None: "\n".join([HEAD, PLAN + PLAY + OPTION, FILES, STATUS]),
     "play": "\n".join(["""\
 usage: tournament play FOLDER --engine NAME=CMD --engine NAME=CMD ..
+           [--gauntlet NAME]
            [--seeds N] [--limit SECONDS] [--move-limit SECONDS]
-           [--start-limit SECONDS] [--direct] [--jobs N] [--again]
-           [--task K/T] [--time-left TIME] [-- OPTION ..]
+           [--start-limit SECONDS] [--openings FILE] [--direct] [--jobs N]
+           [--again] [--task K/T] [--time-left TIME] [-- OPTION ..]
        tournament play FOLDER .. where it has a plan
 
 Plays all games of FOLDER that have no result; a damaged one is none. The
 same command goes on where it was stopped. What isn't given is taken from
-FOLDER/plan, which has to have the same engines and options.
+FOLDER/plan, which has to have the same engines and options; there may be more
+engines behind the others. A line on standard error says each minute how far
+it is, and in a terminal each ten seconds.
 """, PLAN + PLAY + OPTION, FILES, STATUS]),
     "plan": "\n".join(["""\
 usage: tournament plan FOLDER --engine NAME=CMD --engine NAME=CMD ..
+           [--gauntlet NAME]
            [--seeds N] [--limit SECONDS] [--move-limit SECONDS]
-           [--start-limit SECONDS] [--direct] [-- OPTION ..]
+           [--start-limit SECONDS] [--openings FILE] [--direct]
+           [-- OPTION ..]
 
 Makes FOLDER and FOLDER/plan, and plays nothing. It takes the words of
-tournament play. Where there is a plan it may have more seeds or another
-limit.
+tournament play. Where there is a plan it may have more seeds, more engines
+behind the others, or another limit.
 """, PLAN + OPTION, """\
 status: 0  FOLDER/plan is what was asked for
         1  it can't be written
@@ -88,16 +103,36 @@ usage: tournament game FOLDER GAME
 Plays one game of FOLDER/plan, such as 1_one_two, unless it has a result or
 another process plays it, which isn't a failure.
 """, FILES, STATUS]),
+    "export": """\
+usage: tournament export FOLDER --pgn | --csv | --jsonl | --sgf RECORDS
+           [--abandoned loses] [--late loses]
+
+Writes the results of FOLDER in the plan's order, for other programs.
+
+  --pgn              a game of PGN each, without moves, for rating programs
+  --csv              a table with a header
+  --jsonl            a line of JSON each
+  --sgf RECORDS      a file of SGF each, RECORDS/GAME.sgf
+""" + LOSSES + """
+status: 0, or 2 for a mistake in the arguments
+""",
     "tally": """\
-usage: tally FOLDER [--abandoned loses] [--late loses]
+usage: tally FOLDER [--abandoned loses] [--late loses] [--no-winner half|out]
+           [--sprt ELO0 ELO1] [--json]
 
 Counts the results of a folder that tournament made.
 
-  --abandoned loses  a side that was abandoned loses
-  --late loses       a side that was abandoned since it was late loses
+""" + LOSSES + """\
+  --no-winner half   in pairs a game that nobody won is half a point
+  --no-winner out    pairs with such a game aren't counted, but for drawn ones
+  --sprt ELO0 ELO1   says which of two differences in Elo is accepted, of the
+                     first engine of two to the second
+  --json             for other programs
 
-status: 0  each game of its plan has a result
+status: 0  each game of its plan has a result; of --sprt: ELO1 is accepted
         1  some game has none, or a file that is no result
         2  a mistake in the arguments
+        3  of --sprt: ELO0 is accepted
+        4  of --sprt: more pairs are wanted
 """,
 }

@@ -46,6 +46,7 @@ class Match:
         seed, *engines = game.split("_")
         parts = [f"notes {place}", f"folder {self.folder}"]
         parts += [f"limit {it}" for it in [self.plan.start_limit] if it] + [f"move-limit {it}" for it in [self.plan.move_limit] if it]
+        parts += [f"opening {it}" for it in [self.plan.opening(int(seed))] if it]
         for colour, engine in zip(NAMES, engines):
             parts += [f"{colour} {word}" for word in self.command(engine, seed)]
         return os.fsencode("\0".join([*parts, f"python {sys.version}"])) + b"\0\0" + self.code

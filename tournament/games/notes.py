@@ -10,7 +10,7 @@ FOLDER/notes/GAME has a line for the game, and then one for each note, which beg
     3 black thinks                      the genmove isn't answered yet
     3 black late 5.001: 12 genmove b    no answer came in time; or `ended`, or `waited` where it was twogtp that ended
     0 black not started: engine: No such file or directory
-    3 black refuses the opening
+    3 black refuses the opening         a move of the opening, its own or the other side's
 
 At the end come the times that both thought, and the result.
 """

@@ -1,8 +1,9 @@
 """The plan of a tournament: its engines, the options of twogtp, its seeds and the limit of a game, and the games that come of these.
 
 FOLDER/plan has a line each: `folder FOLDER`, in which engines start, `engine NAME COMMAND`, `option WORD`, `seeds N`, `limit SECONDS`. Of
-the program between it has `start-limit SECONDS`, `move-limit SECONDS` and `opening MOVE ..`, or `direct` where that is left out. A plan
-without `folder` is one of earlier scripts: its engines start in today's folder, and directly.
+the program between it has `start-limit SECONDS`, `move-limit SECONDS` and `opening MOVE ..`, or `direct` where that is left out. With
+`gauntlet NAME` this engine plays each other one, and no others play. A plan without `folder` is one of earlier scripts: its engines start
+in today's folder, and directly.
 """
 import os
 import re
@@ -11,6 +12,8 @@ from typing import NamedTuple
 from .output import Mistake
 
 NAME = re.compile(r"[A-Za-z0-9][A-Za-z0-9.+-]{0,39}")
+MOVE = "(?:[A-HJ-Z](?:[1-9]|1[0-9]|2[0-5])|pass)"
+OPENING = re.compile(f"{MOVE}(?: {MOVE})*")
 GAME = re.compile(r"([1-9][0-9]{0,6})_([^_]+)_([^_]+)")
 MOST_GAMES = 10**9
 
@@ -67,11 +70,13 @@ class Plan:
 
     def __init__(self):
         self.engines = {}
+        self.gauntlet = None  # the engine that plays all others, which don't play each other
         self.options = []
         self.seeds = self.limit = None
         self.folder = None  # in which engines start; None in a plan of earlier scripts
         self.is_direct = False  # is nothing between twogtp and the engines?
         self.start_limit = self.move_limit = None  # seconds, as they are written
+        self.openings = []  # the moves of each, with spaces between them
         self.made = None  # the games, once they are asked for
 
     def add_engine(self, name, command):
@@ -98,6 +103,8 @@ class Plan:
         kind, _, rest = line.partition(" ")
         if kind == "engine" and " " in rest:
             self.add_engine(*rest.split(" ", 1))
+        elif kind == "gauntlet":
+            self.gauntlet = rest
         elif kind == "option" and line != kind:
             self.options.append(rest)
         elif kind == "seeds":
@@ -112,6 +119,8 @@ class Plan:
             self.start_limit = seconds(f"start-limit of {place}", rest)
         elif kind == "move-limit":
             self.move_limit = seconds(f"move-limit of {place}", rest)
+        elif kind == "opening" and OPENING.fullmatch(rest):
+            self.openings.append(rest)
         else:
             raise Mistake(f"{place} has a line that isn't known: {line}")
 
@@ -126,13 +135,28 @@ class Plan:
         if any("\n" in it for it in self.options):
             raise Mistake("an option has more than one line")
         engines = [f"engine {name} {command}" for name, command in self.engines.items()]
-        return engines + [f"option {it}" for it in self.options] + self.between()
+        return engines + [f"option {it}" for it in self.options] + self.pairing() + self.between()
+
+    def pairing(self):
+        """The line that says who plays whom."""
+        return [f"gauntlet {self.gauntlet}"] if self.gauntlet else []
+
+    def goes_on(self, old):
+        """Does it have all of an older plan that may not change? There may be more engines behind the others."""
+        have, had = list(self.engines.items()), list(old.engines.items())
+        return have[: len(had)] == had and self.players()[len(have):] == old.players()[len(had):]
 
     def text(self):
         """All lines."""
         first = [] if self.is_old() else [f"folder {self.folder}"]
         limits = [f"start-limit {self.start_limit}"] if self.start_limit else []
-        return "".join(f"{line}\n" for line in [*first, *self.players(), *limits, f"seeds {self.seeds}", f"limit {self.limit}"])
+        openings = [f"opening {moves}" for moves in self.openings]
+        last = [f"seeds {self.seeds}", f"limit {self.limit}"]
+        return "".join(f"{line}\n" for line in [*first, *self.players(), *limits, *openings, *last])
+
+    def opening(self, seed):
+        """The moves with which the games of a seed begin: one opening after the other, and then the first again. None without openings."""
+        return self.openings[(seed - 1) % len(self.openings)] if self.openings else None
 
     def words(self, name):
         """The words of an engine's command: cut as a shell cuts it, or directly as twogtp cuts it."""
@@ -160,22 +184,35 @@ class Plan:
         for name in self.engines:
             self.words(name)
 
+    def same_games(self):
+        """What is said of engines that have to play the same games again, unless they draw by themselves: those whose commands don't have
+        the seed. An empty text where each game is another one."""
+        fixed = [name for name, command in self.engines.items() if "%s" not in command]
+        found = [name for name in fixed if any(name in sides and set(sides) <= set(fixed) for sides in self.games().sides)]
+        if not found or self.seeds <= (len(set(self.openings[: self.seeds])) or 1):
+            return ""
+        seeds = "all seeds with the same opening" if self.openings else "all seeds"
+        said = f"if they draw nothing by themselves, {seeds} are the same games, which tally counts once"
+        return f"{', '.join(found[:-1])} and {found[-1]} have no %s, the seed, in their commands: {said}"
+
     def has_boards(self):
         """Does twogtp write the last board into each result?"""
         return "--show" in self.options
 
     def games(self):
         """The games of the plan."""
+        if self.gauntlet is not None and self.gauntlet not in self.engines:
+            raise Mistake(f"--gauntlet wants the name of an engine, such as {next(iter(self.engines))}, and not '{self.gauntlet}'")
         if self.made is None:
-            self.made = Games(list(self.engines), self.seeds)
+            self.made = Games(list(self.engines), self.seeds, self.gauntlet)
         return self.made
 
 
 class Games:
     """The names of all games, SEED_BLACK_WHITE, each of which has a number from 0 up."""
 
-    def __init__(self, engines, seeds):
-        pairs = [(one, other) for at, one in enumerate(engines) for other in engines[at + 1:]]
+    def __init__(self, engines, seeds, gauntlet=None):
+        pairs = [(one, other) for at, one in enumerate(engines) for other in engines[at + 1:] if gauntlet in (None, one, other)]
         self.sides = [sides for one, other in pairs for sides in ((one, other), (other, one))]  # of a seed, in the plan's order
         self.of_seed = ["_".join(sides) for sides in self.sides]
         self.at = {name: at for at, name in enumerate(self.of_seed)}

@@ -8,9 +8,10 @@ from array import array
 from collections import Counter
 
 from . import output, results
-from .game import NO_BLACK, NO_WHITE, TAKEN
+from .game import NO_BLACK, NO_WHITE, STOPPED, TAKEN
 from .output import NoStart
 from .places import Places, Taken, clear_running
+from .progress import Progress
 from .run import Run
 from .tried import Tried
 
@@ -38,6 +39,7 @@ class Play:
         self.not_started = Counter()  # of an engine, in how many games in a row it wasn't
         self.is_unable = False  # were these too many, or can an engine not be started at all?
         self.is_written = True  # could all lines be written?
+        self.progress = None  # once it is known how many are to be played
 
     def with_result(self):
         """How many games have a result."""
@@ -98,8 +100,8 @@ class Play:
         return True
 
     def await_some(self):
-        """Waits until a game has ended, and writes its line."""
-        for name, outcome, parts in self.run.wait():
+        """Waits until a game has ended, and writes its line; or until it is time to say how far the run is."""
+        for name, outcome, parts in self.run.wait(self.progress.pause()):
             game, engines = self.games.number(name), name.split("_")[1:]
             if parts:
                 self.note(game, parts)
@@ -110,6 +112,8 @@ class Play:
                 self.later.append(game)
             elif outcome in (NO_BLACK, NO_WHITE):
                 self.note_not_started(engines[outcome - NO_BLACK])
+            self.progress.failed += not parts and outcome not in (TAKEN, STOPPED)
+        self.progress.look(self.count)
 
     def note_not_started(self, engine):
         """Takes note that an engine wasn't started in a game. Where these are too many in a row, no other game is begun."""
@@ -143,6 +147,7 @@ class Play:
         seconds long."""
         if self.count < self.total and not self.has_no_time():
             self.try_engines()
+        self.progress = Progress(self.count, self.total)
         self.play_these(self.missing())
         until = time.monotonic() + AGAIN
         while self.later and not self.is_over() and time.monotonic() < until:

@@ -39,15 +39,25 @@ def between():
     return "./between" if " " in named else f"{named} -S -E between"
 
 
+def version_of(twogtp):
+    """The version of twogtp; an empty text where it says none."""
+    return printed_by([twogtp, "--version"])[0].partition("\n")[0].partition(" ")[2]
+
+
+def printed_by(words):
+    """What a program prints, and its status."""
+    reads, writes = os.pipe()
+    process = start(words, writes, writes)
+    os.close(writes)
+    with open(reads, "rb") as file:
+        printed = os.fsdecode(file.read())
+    return printed, os.waitstatus_to_exitcode(os.waitpid(process, 0)[1])
+
+
 def try_options(twogtp, options):
     """Does twogtp take these options? It plays a game of two programs that end at once."""
     if any(it == "--games" or it.startswith("--games=") for it in options):
         raise Mistake("not --games: each game is a run of its own, with its seed")
-    reads, writes = os.pipe()
-    process = start([twogtp, "--why", "--record", "--black", "true", "--white", "true", *options], writes, writes)
-    os.close(writes)
-    with open(reads, "rb") as file:
-        printed = os.fsdecode(file.read())
-    status = os.waitstatus_to_exitcode(os.waitpid(process, 0)[1])
+    printed, status = printed_by([twogtp, "--why", "--record", "--black", "true", "--white", "true", *options])
     if status != 1 or "game 1: abandoned black" not in printed:
         raise Mistake(f"{twogtp} doesn't play with the options '{' '.join(options)}': status {status}", printed)

@@ -1,19 +1,35 @@
 """What an engine of a game is asked and what it answers, as `between` sees it: the moves, the time of each answer, and an opening.
 
+As long as the game goes as its opening has it, `ID genmove COLOUR` becomes `ID play COLOUR VERTEX` for the engine, and its success becomes
+`=ID VERTEX` for twogtp. So each command stays one, and has its answer.
+
 What happened is written at once, as notes: a line begins with the number of the next move and the colour (games/notes.py).
 """
 import time
 
 COMMENT, SPACE = b"#", bytes.maketrans(b"\t", b" ")
-CONTROL = bytes(it for it in range(128) if it < 32 and it != 9 or it == 127)
+CONTROL = bytes(it for it in range(128) if it < 32 and it not in (9, 10) or it == 127)
 LONGEST = 300  # bytes of an answer that are looked at
+MOST = 8192  # bytes that an answer may have for twogtp
 SOON = 0.2  # seconds after which it is noted that a move is waited for
 RESIGN = b"RESIGN"
 
 
-def shown(vertex):
+def written(vertex):
     """A vertex, a pass or a resignation as twogtp writes it."""
-    return vertex.decode() if vertex[1:2].isdigit() else vertex.decode().lower()
+    return vertex if vertex[1:2].isdigit() else vertex.lower()
+
+
+def play(moves, command):
+    """Plays on a list of moves what a command does that succeeds. That of a genmove, but of an opening, isn't known."""
+    if command.name == b"play":
+        moves.append(command.text.split()[-1].upper())
+    elif command.name == b"genmove":
+        moves.append(command.opening)
+    elif command.name == b"undo" and moves:
+        moves.pop()
+    elif command.name in (b"clear_board", b"boardsize"):
+        moves.clear()
 
 
 class Command:
@@ -24,7 +40,7 @@ class Command:
     def __init__(self, text, name, opening):
         self.text, self.name, self.opening = text, name, opening  # and the move that the engine is told in place of a genmove
         self.since = time.monotonic()
-        self.is_noted = name != b"genmove" or opening is not None  # that it is waited for
+        self.is_noted = name != b"genmove"  # that it is waited for
 
 
 class Talk:
@@ -37,7 +53,7 @@ class Talk:
         self.waiting = []
         self.moves = []
         self.line, self.answer = b"", b""  # the beginning of a line of twogtp's, and of an answer
-        self.held = None  # the bytes of an answer that is to be put otherwise
+        self.held = None  # the bytes of a success that is to be put otherwise
         self.at_start, self.inside = True, False  # a line of the engine's, and an answer
         self.has_answered = False
 
@@ -60,17 +76,26 @@ class Talk:
         name, opening = words[0] if words else number, None
         if not name:
             return line
-        if name == b"genmove":
-            opening = self.next_of_opening()
+        text = text.strip()
+        if name == b"genmove" and self.opening:
+            opening = self.next_of_opening(self.coming())
             if opening:
-                line = b" ".join(filter(None, [number, b"play", *words[1:2], opening])) + b"\n"
-        self.waiting.append(Command(text.strip(), name, opening))
+                text = b" ".join(filter(None, [number, b"play", *words[1:2], written(opening)]))
+                line = text + b"\n"
+        self.waiting.append(Command(text, name, opening))
         return line
 
-    def next_of_opening(self):
-        """The move that the opening has here, if it has one and the game went as it has it."""
-        count = len(self.moves)
-        return self.opening[count] if count < len(self.opening) and self.moves == self.opening[:count] else None
+    def coming(self):
+        """The moves as they are once all commands that wait have succeeded."""
+        moves = list(self.moves)
+        for command in self.waiting:
+            play(moves, command)
+        return moves
+
+    def next_of_opening(self, moves):
+        """The move that the opening has behind these, if it begins with them and goes on."""
+        count = len(moves)
+        return self.opening[count] if count < len(self.opening) and moves == self.opening[:count] else None
 
     def heard(self, data):
         """Takes what the engine wrote, and returns what twogtp gets. An answer ends at an empty line."""
@@ -84,20 +109,20 @@ class Talk:
 
     def piece(self, line):
         """Takes a line of the engine's, or a part of one, and returns what twogtp gets."""
-        bare = line.replace(b"\r", b"") if b"\r" in line else line
+        bare = line.translate(SPACE, CONTROL)
         if not self.inside:
-            if bare in (b"\n", b""):
+            bare = bare.lstrip(b" \n")
+            if not bare:
                 return line
             self.inside, self.answer = True, b""
-            self.held = b"" if self.waiting and self.waiting[0].opening else None
+            self.held = b"" if bare[:1] == b"=" and self.waiting and self.waiting[0].opening else None
         is_end = bare == b"\n" and self.at_start
         if bare:
             self.at_start = bare.endswith(b"\n")
         if len(self.answer) < LONGEST:
             self.answer += bare
         if self.held is not None:
-            self.held += line
-            line = b""
+            line, self.held = (b"", self.held + line) if len(self.held) + len(line) <= MOST else (self.held + line, None)
         if is_end:
             self.inside = False
             if self.waiting:
@@ -112,44 +137,45 @@ class Talk:
             self.note(f"0 {self.colour} started {now - self.began:.3f}\n")
             self.has_answered = True
         is_good = self.answer[:1] == b"="
-        if command.opening:
-            return self.opened(command.opening) if is_good else self.refused()
-        if command.name == b"genmove":
+        if self.held is not None:
+            return self.opened(command.opening)
+        if command.name == b"genmove" and not command.opening:
             self.moved(seconds, is_good)
         elif is_good:
             self.changed(command)
+        elif self.answer[:1] == b"?" and self.is_of_opening(command):
+            self.tell("refuses the opening")
         return None
 
     def opened(self, vertex):
         """Takes note of a move of the opening that the engine took, and returns the answer to the genmove."""
-        self.tell(f"{shown(vertex)} opening")
+        self.tell(f"{written(vertex).decode()} opening")
         self.moves.append(vertex)
-        number = self.answer[1:].split(b"\n")[0].split(b" ")[0]
-        return b"=%b %b\n\n" % (number, vertex)
+        text = self.answer[1:]
+        number = text[: len(text) - len(text.lstrip(b"0123456789"))]
+        return b"=%b %b\n\n" % (number, written(vertex))
 
-    def refused(self):
-        """Takes note that the engine didn't take a move of the opening. Its answer fails, and so does the genmove."""
-        self.tell("refuses the opening")
-        return self.held
+    def is_of_opening(self, command):
+        """Is the next move of the opening played by this command?"""
+        moves = list(self.moves)
+        play(moves, command)
+        return len(moves) > len(self.moves) and moves[-1] == self.next_of_opening(self.moves)
 
     def moved(self, seconds, is_good):
         """Takes note of the answer to a genmove."""
         words = self.answer[1:].split()
         vertex = b" ".join(words[1:] if self.answer[1:2].isdigit() else words).upper()
         is_vertex = is_good and vertex.isalnum() and len(vertex) <= len(RESIGN)
-        self.tell(f"{shown(vertex) if is_vertex else 'no-vertex' if is_good else 'failed'} {seconds:.3f}")
+        self.tell(f"{written(vertex).decode() if is_vertex else 'no-vertex' if is_good else 'failed'} {seconds:.3f}")
         if is_vertex and vertex != RESIGN:
             self.moves.append(vertex)
 
     def changed(self, command):
         """Takes note of the success of another command."""
-        if command.name == b"play":
-            self.moves.append(command.text.split()[-1].upper())
-        elif command.name == b"undo" and self.moves:
-            self.moves.pop()
+        is_undo = command.name == b"undo" and len(self.moves) > 0
+        play(self.moves, command)
+        if is_undo:
             self.tell("undone")
-        elif command.name in (b"clear_board", b"boardsize"):
-            self.moves.clear()
 
     def since(self, command):
         """When the time of an answer began: when its command came, or when the answer before it ended."""

@@ -2,73 +2,53 @@
 import contextlib
 import math
 import os
+import re
 from collections import Counter
-from typing import NamedTuple, Optional
 
-from . import notes, output, results
+from . import output, results, scores
+from .ends import FORFEITS, Ends, losing_ways
 from .folder import read_plan
 from .help import HELP
 from .output import Mistake
+from .pairs import Found, Pairs
 from .words import Words
 
-Z = 1.959963984540054  # of a 95 % interval
 HAS_LOG = 4  # a game without a result, of which there is a log
-TO_LOOK_INTO = [f"forfeit ({it})" for it in ("illegal move", "no vertex", "no move", "refused play")] + ["unfit", "abandoned", "late"]
-
-
-class End(NamedTuple):
-    """How a game ended: the side that won and the one that is to blame, Black 0 and White 1, and in which way: `late` is abandoned, since
-    an answer was late."""
-
-    winner: Optional[int]
-    blamed: Optional[int]
-    way: str
-
-
-def end_of(verdict):
-    """How a game with this verdict ended."""
-    text = verdict.decode()
-    if text in ("0", "limit"):
-        return End(None, None, text)
-    if text[1] != "+":
-        way, side = text.split(" ")
-        return End(None, ("black", "white").index(side), way)
-    winner = "BW".index(text[0])
-    return End(winner, 1 - winner, f"forfeit {text[3:]}") if text[2] == "F" else End(winner, None, "R" if text[2:] == "R" else "won")
+TO_LOOK_INTO = [*FORFEITS, "unfit", "abandoned", "late"]
+SHOWN = 10  # groups of games that are the same
 
 
 class Counts:
-    """What was counted of the results in a folder. The ways in which a side loses that else have no winner are given."""
+    """What was counted of the results in a folder. The ways in which a side loses that else have no winner are given, and whether games
+    that nobody won are left out of the pairs."""
 
-    def __init__(self, plan, folder, losing=()):
-        self.games, self.folder, self.losing = plan.games(), folder, losing
-        self.is_direct = plan.is_direct
+    def __init__(self, plan, folder, losing=(), is_out=False):
+        self.plan, self.games, self.folder, self.losing = plan, plan.games(), folder, losing
         self.kinds = bytearray(self.games.count)
         self.ends = [Counter() for _ in self.games.sides]  # of two engines with these colours: how often a game ended so
         self.restarts = Counter()  # of an engine
         self.restarted = 0  # games
-        self.unknown = 0  # games in which a side was abandoned, of which it isn't known whether it was late
-        ends = {}
+        self.pairs = Pairs(plan, is_out)
+        how = Ends(plan, folder, losing)
         for game, parts in results.each(plan, folder):
             self.kinds[game] = results.WHOLE if parts else results.DAMAGED
             if parts:
-                sides = game % len(self.ends)
-                end = ends.get(parts[1]) or ends.setdefault(parts[1], end_of(parts[1]))
-                self.ends[sides][self.abandoned(game, parts, end) if end.way == "abandoned" else end] += 1
-                self.count_restarts(sides, int(parts[3]), int(parts[4]))
-        with contextlib.suppress(FileNotFoundError), os.scandir(f"{folder}/logs") as logs:
+                sides, end = game % len(self.ends), how.of(game, parts)
+                self.ends[sides][end] += 1
+                self.pairs.add(game, end, parts)
+                if parts[3] != b"0" or parts[4] != b"0":
+                    self.count_restarts(sides, int(parts[3]), int(parts[4]))
+        self.unknown = how.unknown
+        self.have = self.kinds.count(results.WHOLE)
+        self.find_logs()
+
+    def find_logs(self):
+        """Takes note of the games without a result of which there is a log."""
+        with contextlib.suppress(FileNotFoundError), os.scandir(f"{self.folder}/logs") as logs:
             for log in logs:
                 game = self.games.number(log.name)
                 if game is not None and self.kinds[game] == results.NONE:
                     self.kinds[game] = HAS_LOG
-
-    def abandoned(self, game, parts, end):
-        """How a game ended in which a side was abandoned, by its notes if they are of this result."""
-        found = None if self.is_direct else notes.read(f"{self.folder}/notes/{self.games.name(game)}")
-        is_known = found is not None and found.result == results.line_of(parts)
-        self.unknown += not is_known
-        way = "late" if is_known and found.late[end.blamed] else "abandoned"
-        return End(1 - end.blamed if way in self.losing else None, end.blamed, way)
 
     def count_restarts(self, sides, *restarts):
         """Counts the restarts of both sides in a game."""
@@ -85,9 +65,13 @@ class Counts:
         """The number of games that ended in one of these ways."""
         return self.sum(lambda _, end: end.way in ways)
 
-    def with_winner(self, way):
-        """The number of games that ended in this way, and have a winner."""
-        return self.sum(lambda _, end: end.way == way and end.winner is not None)
+    def with_winner(self, way=None):
+        """The number of games that have a winner, or of those that ended in this way."""
+        return self.sum(lambda _, end: way in (end.way, None) and end.winner is not None)
+
+    def won_by(self, side):
+        """The number of games that this side won."""
+        return self.sum(lambda _, end: end.winner == side)
 
 
 class Row:
@@ -108,81 +92,107 @@ class Row:
         return f"{(2 * self.won + self.drawn) // 2}{'.5' if self.drawn % 2 else ''}"
 
     def share(self):
-        """The share of games that were won of those that have a winner, and its interval."""
-        if not self.decided:
-            return "    -   -            "
-        return f"{100 * self.won / self.decided:5.1f}   {interval(self.won, self.decided):13}"
+        """The share of games that were won of those that have a winner, in percent."""
+        return f"{100 * self.won / self.decided:5.1f}" if self.decided else "    -"
+
+    def record(self):
+        """How many were won and lost."""
+        return f"{self.won}-{self.decided - self.won}"
 
     def of(self):
         """How many were won of those that have a winner."""
         return f"{self.won} of {self.decided}"
 
 
-def interval(won, count):
-    """Wilson's interval of a share, in percent."""
-    share, under = won / count, 1 + Z * Z / count
-    middle = (share + Z * Z / (2 * count)) / under
-    half = Z * math.sqrt(share * (1 - share) / count + Z * Z / (4 * count * count)) / under
-    return f"{abs(100 * (middle - half)):.1f} to {100 * (middle + half):.1f}"
+class Sums:
+    """What each engine has, alone and against each other one, and each two engines' pairs."""
+
+    def __init__(self, counts):
+        self.counts, self.engines = counts, list(counts.plan.engines)
+        self.blamed = Counter()  # how often an engine was to blame for such an end
+        self.rows = {key: Row() for one in self.engines for key in ((one,), (one, 0), (one, 1))}
+        self.found = {}  # the pairs of two engines, and those of one against all others
+        for one, other, *numbers in counts.pairs.engines():
+            self.rows[one, other], self.rows[other, one] = Row(), Row()
+            found = counts.pairs.of_two(*numbers)
+            self.found[one, other], self.found[other, one] = found, found.turned()
+            for key in (one, other), (other, one):
+                self.found.setdefault(key[:1], Found()).add(self.found[key])
+        for sides, ends in zip(counts.games.sides, counts.ends):
+            for end, count in ends.items():
+                self.add(sides, end, count)
+        self.order = sorted(self.engines, key=lambda it: -2 * self.rows[it,].won - self.rows[it,].drawn)
+
+    def add(self, sides, end, count):
+        """Adds so many games of these engines that ended so."""
+        if end.blamed is not None:
+            self.blamed[sides[end.blamed], end.way] += count
+        for side, engine in enumerate(sides):
+            for key in ((engine,), (engine, side), (engine, sides[1 - side])):
+                self.rows[key].add(end, side, count)
+
+    def to_look_into(self):
+        """How often each engine was to blame, and restarted: each with its way and its count."""
+        for it in self.engines:
+            counts = [(way, self.blamed[it, way]) for way in TO_LOOK_INTO] + [("restarts", self.counts.restarts[it])]
+            yield from ((it, way, count) for way, count in counts if count)
+
+    def two(self):
+        """Each two engines that play, the better one first."""
+        return ((one, other) for at, one in enumerate(self.order) for other in self.order[at + 1:] if (one, other) in self.found)
 
 
 class Table:
     """The lines of a tally."""
 
-    def __init__(self, counts, engines):
-        self.counts, self.engines = counts, engines
-        self.blamed = Counter()  # how often an engine was to blame for such an end
-        self.rows = {key: Row() for one in engines for key in [(one,), (one, 0), (one, 1), *((one, other) for other in engines)]}
-        for sides, ends in zip(counts.games.sides, counts.ends):
-            for end, count in ends.items():
-                if end.blamed is not None:
-                    self.blamed[sides[end.blamed], end.way] += count
-                for side, engine in enumerate(sides):
-                    for key in ((engine,), (engine, side), (engine, sides[1 - side])):
-                        self.rows[key].add(end, side, count)
-        self.order = sorted(engines, key=lambda it: -2 * self.rows[it,].won - self.rows[it,].drawn)
-        self.width = max(6, *map(len, engines))
+    def __init__(self, counts):
+        self.counts, self.sums = counts, Sums(counts)
+        self.width = max(6, *map(len, self.sums.engines))
 
-    def lines(self, folder):
+    def lines(self):
         """All lines. Those of the games without a result are made one after the other."""
-        kinds, all_games = self.counts.kinds, self.counts.games.count
-        have = kinds.count(results.WHOLE)
-        yield f"{have} of {all_games} games have a result, {self.counts.sum(lambda _, end: end.winner is not None)} have a winner"
+        have, all_games = self.counts.have, self.counts.games.count
+        yield f"{have} of {all_games} games have a result, {self.counts.with_winner()} have a winner"
         yield ""
         yield from self.of_engines()
-        if len(self.order) > 2:
-            yield from self.of_pairs()
+        yield ""
+        yield from self.of_pairs()
+        yield ""
         yield from self.of_all()
-        yield from self.to_look_into()
+        yield from self.of_same()
+        looked = [f"  {engine}: {way}: {count}" for engine, way, count in self.sums.to_look_into()]
+        yield from ["to look into:", *looked] if looked else []
         if have < all_games:
             yield f"no result: {all_games - have}"
-        yield from self.without_result(folder)
+        yield from (f"  {name}: {why}" for name, why in without_result(self.counts))
 
     def of_engines(self):
         """A line for each engine, the best first."""
-        yield f"{'engine':{self.width}}  points    won  percent  95 % interval   with Black     with White"
-        for it in self.order:
-            row, colours = self.rows[it,], f"{self.rows[it, 0].of():13}  {self.rows[it, 1].of()}"
-            yield f"{it:{self.width}}  {row.points():>6}  {row.won:5}    {row.share()}   {colours}"
+        yield f"{'engine':{self.width}}  points    won  percent   with Black     with White"
+        for it in self.sums.order:
+            row, *colours = (self.sums.rows[key] for key in ((it,), (it, 0), (it, 1)))
+            yield f"{it:{self.width}}  {row.points():>6}  {row.won:5}    {row.share()}   {colours[0].of():13}  {colours[1].of()}"
 
     def of_pairs(self):
-        """A line for each two engines."""
-        width = 2 * self.width + 3
-        yield ""
-        yield f"{'pair':{width}}    won     percent  95 % interval   no winner"
-        for at, one in enumerate(self.order):
-            for other in self.order[at + 1:]:
-                row = self.rows[one, other]
-                won = f"{row.won}-{row.decided - row.won}"
-                yield f"{f'{one} - {other}':{width}}  {won:>5}    {row.share()}   {row.all - row.decided}"
+        """A line for each two engines, and before them one for each engine that has more than one opponent."""
+        several = [it for it in self.sums.order if sum((it, other) in self.sums.found for other in self.sums.order) > 1]
+        keys = [*((it,) for it in several), *self.sums.two()]
+        name, counted = 2 * self.width + 3, max(4, *(len(str(it)) for key in keys for it in self.sums.found[key].every))
+        won = max(5, *(len(self.sums.rows[key].record()) for key in keys))
+        outcomes = " ".join(f"{it:>{counted}}" for it in ("0", "0.5", "1", "1.5", "2"))
+        yield f"{'pair':{name}}  {'won':>{won}}  nobody   {outcomes}  score  95 % interval   Elo  95 % interval"
+        for key in keys:
+            row, found = self.sums.rows[key], self.sums.found[key]
+            counts = " ".join(f"{it:{counted}}" for it in found.every)
+            yield f"{' - '.join([*key, 'all'][:2]):{name}}  {row.record():>{won}}  {row.all - row.decided:6}   {counts}  {of_score(found)}"
 
     def of_all(self):
         """What is said of all games together."""
-        ended, won = self.counts.ended, [self.counts.sum(lambda _, end, side=side: end.winner == side) for side in (0, 1)]
-        yield ""
+        ended = self.counts.ended
         decided = {way: self.counts.with_winner(way) for way in ("abandoned", "late")}
         lost = "".join(f", {count} {way}" for way, count in decided.items() if count)
-        yield f"Black won {won[0]}, White {won[1]}; {ended('R')} by resignation, {ended(*TO_LOOK_INTO[:4])} by forfeit{lost}"
+        won = f"Black won {self.counts.won_by(0)}, White {self.counts.won_by(1)}"
+        yield f"{won}; {ended('R')} by resignation, {ended(*FORFEITS)} by forfeit{lost}"
         left, late = (ended(way) - decided[way] for way in ("abandoned", "late"))
         nobody = f"{ended('0')} drawn, {ended('limit')} at the limit of moves, {ended('unfit')} unfit, {left} abandoned"
         yield f"no winner: {nobody}{f', {late} late' if late else ''}"
@@ -191,34 +201,85 @@ class Table:
         if self.counts.restarted:
             yield f"games with a restart: {self.counts.restarted}"
 
-    def to_look_into(self):
-        """How often each engine was to blame, and restarted."""
-        found = []
-        for it in self.engines:
-            counts = [(way, self.blamed[it, way]) for way in TO_LOOK_INTO] + [("restarts", self.counts.restarts[it])]
-            found += [f"  {it}: {way}: {count}" for way, count in counts if count]
-        return ["to look into:", *found] if found else []
-
-    def without_result(self, folder):
-        """The games whose file is damaged, and those whose log says why they have no result."""
-        for game, kind in enumerate(self.counts.kinds):
-            if kind == results.DAMAGED:
-                yield f"  {self.counts.games.name(game)}: its file has no result"
-            elif kind == HAS_LOG:
-                name = self.counts.games.name(game)
-                why = results.last_line(f"{folder}/logs/{name}")
-                if why.startswith("tournament: "):
-                    yield f"  {name}: {why[12:]}"
+    def of_same(self):
+        """The games that are the same, move by move."""
+        groups, name = self.counts.pairs.same(), self.counts.games.name
+        if groups:
+            again = sum(len(it) - 1 for it in groups)
+            said = "the same, move by move, as an earlier game of the same engines, colours and opening"
+            yield f"{said}, which count once in the intervals: {again}"
+            for first, second, *others in groups[:SHOWN]:
+                more = f" and {len(others)} other{'s' if len(others) > 1 else ''}" if others else ""
+                yield f"  {name(first)}: {name(second)}{more}"
+            if len(groups) > SHOWN:
+                yield f"  and so on: {len(groups)} such games were played again"
 
 
-def losing_ways(words, plan):
-    """The ways in which a side loses, as the options say."""
-    for name, value in words.options:
-        if value != "loses":
-            raise Mistake(f"{name} wants the word loses after it, and not '{value}'")
-    if words.has("--late") and plan.is_direct:
-        raise Mistake("which side was late is known only where `between` stands: leave out --late, or write --abandoned loses")
-    return ["abandoned", "late"] if words.has("--abandoned") else ["late"] if words.has("--late") else []
+def of_score(found):
+    """The score of pairs in percent, and the difference in Elo, each with its interval."""
+    score, interval = found.score(), found.interval()
+    if score is None:
+        return "    -  -                 -"
+    percent = " to ".join(f"{100 * it:.1f}" for it in interval)
+    return f"{100 * score:5.1f}  {percent:13}  {in_elo(score):>4}  {' to '.join(map(in_elo, interval))}"
+
+
+def in_elo(score):
+    """A score as a difference in Elo."""
+    found = scores.elo(score)
+    return f"{found:+}" if math.isinf(found) else f"{round(found):+}"
+
+
+def without_result(counts):
+    """The games whose file is damaged, and those whose log says why they have no result: the name of each, and why."""
+    for game, kind in enumerate(counts.kinds):
+        if kind == results.DAMAGED:
+            yield counts.games.name(game), "its file has no result"
+        elif kind == HAS_LOG:
+            name = counts.games.name(game)
+            why = results.last_line(f"{counts.folder}/logs/{name}")
+            if why.startswith("tournament: "):
+                yield name, why[12:]
+
+
+class Test:
+    """A sequential test of two differences in Elo, of the first engine of a plan to the second."""
+
+    def __init__(self, counts, differences):
+        (one, other, *numbers), = counts.pairs.engines()
+        self.engines, self.differences = f"{one} - {other}", differences
+        self.counts = counts.pairs.in_order(*numbers)
+        self.decision = scores.decision(self.counts, *differences)
+        self.ratio = scores.ratio(self.counts, *differences) if any(self.counts) else 0.0
+
+    def line(self):
+        """What it says."""
+        low, high = (f"{it:g} Elo" for it in self.differences)
+        said = {None: "go on", 0: f"{low} accepted, not {high}", 1: f"{high} accepted, not {low}"}[self.decision]
+        bounds = f"{-scores.BOUND:.2f} to {scores.BOUND:.2f}"
+        few = f" (not below {scores.FEWEST})" if sum(self.counts) < scores.FEWEST else ""
+        return f"{self.engines}: {said}: {sum(self.counts)} pairs{few}, log likelihood ratio {self.ratio:.2f} of {bounds}"
+
+    def status(self):
+        """The status: 0 and 3 where the second or the first difference is accepted, 4 where more pairs are wanted."""
+        return {1: 0, 0: 3, None: 4}[self.decision]
+
+
+def differences(name, values):
+    """The two differences in Elo that an option has, the lower one first."""
+    if not all(re.fullmatch(r"[+-]?[0-9]{1,4}(\.[0-9]{1,3})?", it) for it in values):
+        raise Mistake(f"{name} wants two differences in Elo, such as {name} 0 10, and not '{' '.join(values)}'")
+    low, high = map(float, values)
+    if low >= high:
+        raise Mistake(f"{name} wants the lower difference first, such as {name} 0 10")
+    return low, high
+
+
+def half_or_out(name, value):
+    """Are games that nobody won to be left out?"""
+    if value not in ("half", "out"):
+        raise Mistake(f"{name} wants half or out after it, and not '{value}'")
+    return value == "out"
 
 
 def main(arguments):
@@ -229,6 +290,17 @@ def main(arguments):
         return 0
     folder, = words.places
     plan = read_plan(folder)
-    counts = Counts(plan, folder, losing_ways(words, plan))
-    output.write_all(1, Table(counts, list(plan.engines)).lines(folder))
-    return 0 if counts.kinds.count(results.WHOLE) == counts.games.count else 1
+    tested, is_out = words.last("--sprt", differences), words.last("--no-winner", half_or_out)
+    if tested and len(plan.engines) > 2:
+        raise Mistake(f"--sprt is of two engines, and {folder} has {len(plan.engines)}")
+    counts = Counts(plan, folder, losing_ways(words, plan), is_out)
+    test = Test(counts, tested) if tested else None
+    if words.has("--json"):
+        from .facts import text_of  # which isn't needed elsewhere
+
+        output.write(1, text_of(counts, test))
+    elif test:
+        output.write(1, f"{test.line()}\n")
+    else:
+        output.write_all(1, Table(counts).lines())
+    return test.status() if test else 0 if counts.have == counts.games.count else 1

@@ -11,7 +11,7 @@ import time
 from . import below, family
 
 PASSED, UNABLE, NOT_STARTED = range(3)  # how a trial ends: did it answer all, was something refused, or was nothing answered?
-LAST = 2  # seconds in which it may end by itself
+LAST = 2  # seconds in which it may end by itself, and in which it may say what it is
 ROOM = 65536
 MOST = 80  # bytes of an answer that are shown
 
@@ -21,15 +21,15 @@ class Failed(Exception):
 
 
 class Setup:
-    """What the options of a plan say of a board."""
+    """What the options of a plan say of a board and of a game's length."""
 
     def __init__(self, options):
-        said = {"--size": "19", "--komi": "6.5", "--handicap": "0"}
+        said = {"--size": "19", "--komi": "6.5", "--handicap": "0", "--max-moves": "1000"}
         for at, option in enumerate(options):
             name, is_joined, value = option.partition("=")
             if name in said:
                 said[name] = value if is_joined else options[at + 1]
-        self.size, self.komi, self.handicap = said.values()
+        self.size, self.komi, self.handicap, self.max_moves = said.values()
 
     def commands(self):
         """What an engine is asked: as by twogtp, and then for a move."""
@@ -49,7 +49,7 @@ class Asked:
         self.read, self.has_answered = b"", False
 
     def ask(self, number, command, seconds):
-        """Asks a command, and waits so long for its answer. Raises Failed where it fails."""
+        """Asks a command, waits so long for its answer, and returns that. Raises Failed where it fails."""
         until = time.monotonic() + seconds
         try:
             os.write(self.given, f"{number} {command}\n".encode())
@@ -65,6 +65,15 @@ class Asked:
             self.read += data
         answer, _, self.read = self.read.replace(b"\r", b"").lstrip(b"\n").partition(b"\n\n")
         self.judge(command, answer, str(number).encode())
+        return answer
+
+    def says(self, number, command):
+        """What it answers to a command of which nothing depends, in one line; nothing where that fails."""
+        try:
+            answer = self.ask(number, command, LAST)
+        except Failed:
+            return ""
+        return " ".join(answer.decode("utf-8", "replace").split()[1:])[:MOST]
 
     def judge(self, command, answer, number):
         """Is this a success with this number?"""
@@ -106,15 +115,17 @@ class Asked:
 
 
 def attempt(words, folder, log, setup, limits):
-    """Tries an engine, and returns how that ended, and what it can't do."""
+    """Tries an engine, and returns how that ended, and what it can't do; where it can all, what it says that it is."""
     engine = Asked(words, folder, log)
     try:
         if engine.failure:
             raise Failed(engine.failure)
-        for number, command in enumerate(setup.commands(), 1):
+        commands = setup.commands()
+        for number, command in enumerate(commands, 1):
             engine.ask(number, command, limits[command.startswith("genmove")])
+        said = " ".join(filter(None, [engine.says(number, it) for number, it in enumerate(("name", "version"), len(commands) + 1)]))
         engine.part()
-        return PASSED, ""
+        return PASSED, said
     except Failed as failed:
         return UNABLE if engine.has_answered else NOT_STARTED, failed.args[0]
 

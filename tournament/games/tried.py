@@ -4,7 +4,7 @@ import fcntl
 import os
 import signal
 
-from . import output, results, trial
+from . import output, program, results, trial
 from .output import NoStart
 from .places import new_file
 
@@ -83,14 +83,20 @@ class Tried:
         if not written:
             os.unlink(place)
         if outcome == trial.PASSED:
+            self.keep_version(name, why)
             self.note("passed", name)
         elif not self.run.stopped:
             said = f"{name} can't be started here: {why}" if outcome == trial.NOT_STARTED else f"{name}: {why or 'its trial was ended'}"
             output.complain(said + (f"; the last line of {self.run.folder}/{self.name}/{name}.log is: {written}" if written else ""))
         return outcome != trial.NOT_STARTED
 
+    def keep_version(self, name, said):
+        """Writes down what an engine says that it is, and the version of twogtp."""
+        with open(f"{self.place}/versions", "ab") as file:
+            file.write(os.fsencode(f"engine {name} {said}\ntwogtp {program.version_of(self.match.twogtp)}\n"))
+
     def outcome(self, name, log):
-        """How a trial ended, and what the engine can't do."""
+        """How a trial ended, and what the engine can't do, or where it can all, what it says that it is."""
         reads, writes = os.pipe()
         own = os.getpid()
         process = os.fork()
@@ -111,3 +117,14 @@ class Tried:
         if outcome < 0:
             self.run.family.end()
         return outcome, why
+
+
+def versions_of(place):
+    """What was written down last of each program in such a folder: `engine NAME` and `twogtp`, each with its version."""
+    found = {}
+    with contextlib.suppress(FileNotFoundError), open(f"{place}/versions", encoding="utf-8", errors="replace") as file:
+        for line in file:
+            words = line.rstrip("\n").split(" ")
+            count = 2 if words[0] == "engine" else 1
+            found[" ".join(words[:count])] = " ".join(words[count:]) or None
+    return found

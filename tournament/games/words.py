@@ -1,16 +1,23 @@
 """The arguments: which a command has, and how they are read."""
 import os
+from itertools import islice
 
 from .output import Mistake
 
 QUOTED = "--engine 'one=gtp_engine --policy random --seed %s'"
 OF_PLAN = {"--engine": ("NAME=CMD", QUOTED), "--seeds": ("a number", "--seeds 10"),
            "--limit": ("a number of seconds", "--limit 600"), "--move-limit": ("seconds", "--move-limit 30"),
-           "--start-limit": ("seconds", "--start-limit 300"), "--direct": None, "--jobs": ("a number", "--jobs 4"), "--again": None,
+           "--start-limit": ("seconds", "--start-limit 300"), "--openings": ("FILE", "--openings openings.txt"), "--direct": None,
+           "--jobs": ("a number", "--jobs 4"), "--again": None,
            "--task": ("K/T", "--task 3/100"), "--time-left": ("a time", "--time-left 30:00")}
-OF_TALLY = {name: ("the word loses", f"{name} loses") for name in ("--abandoned", "--late")}
-OPTIONS = {"play": OF_PLAN, "plan": OF_PLAN, "list": {"--all": None}, "game": {}, "tally": OF_TALLY}  # what each has after it, an example
-PLACES = {"play": ["FOLDER"], "plan": ["FOLDER"], "list": ["FOLDER"], "game": ["FOLDER", "GAME"], "tally": ["FOLDER"]}
+OF_PLAN["--gauntlet"] = ("an engine's NAME", "--gauntlet new")
+OF_LOSSES = {name: ("the word loses", f"{name} loses") for name in ("--abandoned", "--late")}
+OF_TALLY = {**OF_LOSSES, "--no-winner": ("half or out", "--no-winner out"), "--sprt": ("two differences in Elo", "--sprt 0 10", 2),
+            "--json": None}
+OF_EXPORT = {**OF_LOSSES, "--pgn": None, "--csv": None, "--jsonl": None, "--sgf": ("a new FOLDER", "--sgf records")}
+# what each has after it, an example, and how many words that are, where it isn't one
+OPTIONS = {"play": OF_PLAN, "plan": OF_PLAN, "list": {"--all": None}, "game": {}, "export": OF_EXPORT, "tally": OF_TALLY}
+PLACES = {it: ["FOLDER", "GAME"] if it == "game" else ["FOLDER"] for it in OPTIONS}
 OF_TWOGTP = ("--size", "--komi", "--handicap", "--max-moves", "--restarts", "--record", "--show", "--why", "--games", "--black", "--white")
 
 
@@ -41,11 +48,13 @@ class Words:
             raise Mistake(self.why_unknown(name))
         if known[name] is None and has_value:
             raise Mistake(f"{name} has no value: write {name}")
-        if known[name] is not None and not has_value:
-            wanted, example = known[name]
-            value = next(words, None)
-            if value is None:
+        if known[name] is not None:
+            wanted, example, count = (*known[name], 1)[:3]
+            values = [value] if has_value else []
+            values += islice(words, count - len(values))
+            if len(values) < count:
                 raise Mistake(f"{name} wants {wanted} after it, such as {example}")
+            value = values if count > 1 else values[0]
         self.options.append((name, value))
 
     def why_unknown(self, name):

@@ -10,4 +10,5 @@ pub mod SoughtSizes
 pub mod AnsweredKos
 pub mod SentPieces
 pub mod PartedScores
+pub mod UsualForm
 pub mod WrittenInFull

@@ -32,7 +32,7 @@ use Rattle.gtp_check_questions.specs.declared.stretches.Stretch.{Stretch}
 use Rattle.gtp_check_questions.specs.declared.suicides.Suicide.{Suicide}
 use Rattle.gtp_check_questions.specs.declared.suicides.Suicide.TheVariants.{Unasked}
 use Rattle.gtp_check_questions.specs.Asking.{IsStep}
-use Rattle.gtp_check_questions.specs.Boards.{inexact_komi_of, komi_of}
+use Rattle.gtp_check_questions.specs.Boards.{IsBoard, inexact_komi_of, komi_of}
 use Rattle.gtp_check_questions.specs.Course.{Course, GoesTo, IsIn, Leaves, begun, with_finding}
 use Rattle.gtp_check_questions.specs.Lessons.{is_in_pieces, parts_of, stretches_of}
 use Rattle.gtp_check_questions.specs.Openings.{opening_next}
@@ -296,6 +296,19 @@ pub record ListIsAskedFor : Type 0 where
   pub few : part < parts_of lesson.Start
   pub number : ℕ
   pub asks : (board : Board) → AsksInTurn lesson.Start part board number (Asks ListCommands ∷ [])
+
+-- ---- the usual form comes first
+
+-- The first part of the lesson of the start asks the moves of its scene in the usual form. The other parts have the same
+-- scene, turned as it is there, on a board of the same size. So what is wrong in one of these alone is wrong by its form.
+pub record UsualFormComesFirst : Type 0 where
+  pub number : ℕ
+  pub moves : Stretch
+  pub has_moves : slice_get (stretches_of lesson.Start 0) number ≡ Some moves
+  pub plays : (board : Board) → board.scene.now ≡ scene_of lesson.Start 0 → PlaysEachMove moves board
+  pub same : (part : ℕ) (known : Option ℕ) (first later : Board) → part < parts_of lesson.Start
+      → IsBoard lesson.Start 0 known first → IsBoard lesson.Start part known later
+      → (later.size ≡ first.size) × (later.scene.now ≡ first.scene.now) × (later.way ≡ first.way)
 
 -- ---- each command that an engine may lack is asked for
 

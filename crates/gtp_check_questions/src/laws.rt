@@ -1,6 +1,6 @@
 //! Laws of the course. Each is the contract of a function that does nothing.
 ghost use Rattle.gtp_check_questions.specs.Laws.{EveryCourseIsBounded, EachSceneIsAsked, EachStepAsksOneQuestion};
-ghost use Rattle.gtp_check_questions.specs.Laws.{ColoursAreInFull, ListIsAskedFor};
+ghost use Rattle.gtp_check_questions.specs.Laws.{ColoursAreInFull, ListIsAskedFor, UsualFormComesFirst};
 ghost use Rattle.gtp_check_questions.specs.Laws.{EachClearedBoardIsProbed, EachLackIsAskedFor, EachKomiIsExact};
 ghost use Rattle.gtp_check_questions.specs.Laws.{EachKoIsAnswered, EachSizeIsSought, NoSuicideIsAsked, PiecesAreSent};
 ghost use Rattle.gtp_check_questions.specs.Parting.{ScoresAreParted};
@@ -73,6 +73,12 @@ pub fn each_ko_is_answered()
 /// and an `undo`.
 pub fn pieces_are_sent()
     ensures { PiecesAreSent }
+{}
+
+/// The first part of the lesson of the start asks the moves of its scene in the usual form. The other parts have the
+/// same scene, turned as it is there, on a board of the same size.
+pub fn usual_form_comes_first()
+    ensures { UsualFormComesFirst }
 {}
 
 /// Between two scores of one start the engine is asked to make a move, or to take another komi than that of the first.

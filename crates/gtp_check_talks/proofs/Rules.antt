@@ -100,7 +100,7 @@ hears_rule : (old : Exam) (bytes : List ℕ) (used : ℕ) (read : Option (Result
 hears_rule old bytes used read finding new h = leaves_rule (with_rest old h.0) read finding new h.2
 
 heard_rule : (old : Exam) (bytes : List ℕ) (used : ℕ) (read : Option (Result Reply ReplyFault))
-    (finding : Option Finding) (new : Exam) → IsHeard old bytes used read finding new
+    (finding : Option Finding) (new : Exam) → IsHeard old bytes (hearing used read finding) new
     → new.game.rule ≡ old.game.rule
 heard_rule old bytes used read finding new heard = by old.up refl
   where

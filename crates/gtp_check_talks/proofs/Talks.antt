@@ -71,7 +71,7 @@ pub record GoesOn (rule : KoRule) (sent came : List ℕ) (exam : Exam) : Type 0 
 -- it does where bytes are heard in which nothing is found
 heard_on : (rule : KoRule) (sent came bytes : List ℕ) (used : ℕ) (read : Option (Result Reply ReplyFault))
     (old new : Exam)
-    → GoesOn rule sent came old → IsHeard old bytes used read None new
+    → GoesOn rule sent came old → IsHeard old bytes (hearing used read None) new
     → GoesOn rule sent (came ++ take used bytes) new
 heard_on rule sent came bytes used read old new goes heard =
     let hears = heard.up goes.up in

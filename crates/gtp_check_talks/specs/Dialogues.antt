@@ -35,7 +35,7 @@ use Rattle.gtp_check_questions.specs.declared.lessons.Lesson.TheVariants as less
 use Rattle.gtp_check_questions.specs.declared.suicides.Suicide.{Suicide}
 use Rattle.gtp_check_questions.specs.Course.{IsLeftOut}
 use Rattle.gtp_check_questions.specs.Lessons.{is_in_pieces}
-use Rattle.gtp_check_judge.specs.Exam.{Asks, HasRoomFor, Hears, HearsDown, hearing}
+use Rattle.gtp_check_judge.specs.Exam.{Asks, HasRoomFor, Hearing, Hears, HearsDown, hearing}
 use Rattle.gtp_check_talks.specs.declared.engine.Engine.{Engine}
 use Rattle.gtp_check_texts.specs.declared.fault.Fault.{Fault}
 use Rattle.gtp_check_texts.specs.declared.fault.Fault.TheVariants.{CutOff, Wrote}
@@ -168,10 +168,9 @@ noted_of_read lesson notes (Some asked) None skills = notes
 noted_of_read lesson notes None read skills = notes
 
 -- bytes are heard by the exam, be the engine up or not
-pub record IsHeard (old : Exam) (bytes : List ℕ) (used : ℕ) (read : Option (Result Reply ReplyFault))
-    (finding : Option Finding) (new : Exam) : Type 0 where
-  pub up : old.up ≡ true → Hears old bytes (hearing used read finding) new
-  pub down : old.up ≡ false → HearsDown old bytes used finding new
+pub record IsHeard (old : Exam) (bytes : List ℕ) (heard : Hearing) (new : Exam) : Type 0 where
+  pub up : old.up ≡ true → Hears old bytes heard new
+  pub down : old.up ≡ false → HearsDown old bytes heard.used heard.finding new
 
 -- what is kept of what the engine wrote, these bytes too: nothing after a whole reply
 abbrev pub kept_after : List ℕ → List ℕ → Bool → List ℕ
@@ -182,7 +181,7 @@ kept_after wrote bytes is_read = if is_read then [] else take most_shown (wrote 
 pub record IsHeardQuietly {P : Type 0} (bytes : List ℕ) (before after : Dialogue P) : Type 0 where
   pub used : ℕ
   pub read : Option (Result Reply ReplyFault)
-  pub heard : IsHeard before.exam bytes used read None after.exam
+  pub heard : IsHeard before.exam bytes (hearing used read None) after.exam
   pub wrote : after.wrote ≡ kept_after before.wrote (take used bytes) (is_some read)
   pub notes : after.notes ≡ noted_of_read (owed_purpose before.talk before.exam).lesson before.notes
       (oldest before.exam.unanswered) read after.exam.skills
@@ -206,7 +205,7 @@ pub record IsFoundIn {P : Type 0} (bytes : List ℕ) (before : Dialogue P) (faul
   pub used : ℕ
   pub read : Option (Result Reply ReplyFault)
   pub finding : Finding
-  pub found : IsHeard before.exam bytes used read (Some finding) after.exam
+  pub found : IsHeard before.exam bytes (hearing used read (Some finding)) after.exam
   pub wrote : after.wrote ≡ take most_shown (before.wrote ++ through_line used bytes)
   pub kind : fault ≡ Wrote finding.kind
   pub leads : after ≡ record before { exam = after.exam; wrote = after.wrote }

@@ -6,7 +6,7 @@ ghost use Rattle.gtp_wire.specs.Replies.{most_shown, with_reply};
 ghost use Rattle.gtp_check_judge.specs.Asking.{written_check};
 ghost use Rattle.gtp_check_judge.specs.Check.{with_exam};
 ghost use Rattle.gtp_check_judge.specs.declared.exam.Exam.{Exam};
-ghost use Rattle.gtp_check_judge.specs.Exam.{Asks, HasRoomFor};
+ghost use Rattle.gtp_check_judge.specs.Exam.{Asks, HasRoomFor, hearing};
 ghost use Rattle.gtp_check_judge.specs.Judging.{oldest};
 ghost use Rattle.gtp_check_talks.specs.declared.notes.Notes.{Notes};
 ghost use Rattle.gtp_check_talks.specs.Dialogues.{AreHeard, AreTaken, IsAsked, IsHeard, IsRead, IsExchanged, IsSent};
@@ -301,8 +301,8 @@ impl<P: Process> Engine<P> {
 /// since its last whole reply is kept, where something is wrong up to the end of its line.
 fn hear(bytes: &[u8], wrote: &mut Beginning, examiner: &mut Examiner, reply: &mut Reply) -> Heard
     ensures used { result.used ≤ length bytes.now }
-    ensures heard { IsHeard examiner.old.exam bytes.now result.used
-        (option_map (with_reply reply.new) result.read) result.finding examiner.new.exam }
+    ensures heard { IsHeard examiner.old.exam bytes.now (hearing result.used
+        (option_map (with_reply reply.new) result.read) result.finding) examiner.new.exam }
     ensures quiet { IfNone result.finding (wrote.new.items
         ≡ kept_after wrote.old.items (take result.used bytes.now) (is_some result.read)) }
     ensures found { IfSome result.finding (λ finding. wrote.new.items

@@ -6,7 +6,7 @@ from tests.shared import checks
 
 from .rooms import RANDOM, SCRIPTS, SMALL, Case, room, two_engines
 
-COMMANDS = ("play", "plan", "list", "game")
+COMMANDS = ("play", "plan", "list", "game", "export")
 PLAN = ["--engine", f"one={RANDOM} %s", "--engine", "two=cat", "--seeds", "3", "--limit", "20"]
 QUOTED = "--engine 'one=gtp_engine --policy random --seed %s'"
 # what is written on the command line, and what standard error says then, which tells what to write
@@ -29,6 +29,11 @@ SAID = {
     ("play", "x", "--start-limit"): "--start-limit wants seconds after it, such as --start-limit 300",
     ("play", "x", "--direct", "--move-limit", "5"): "--move-limit wants what --direct leaves out: write one of the two",
     ("plan", "x", "--start-limit=5", "--direct"): "--start-limit wants what --direct leaves out: write one of the two",
+    ("plan", "x", "--openings", "o", "--direct"): "--openings wants what --direct leaves out: write one of the two",
+    ("play", "x", "--openings"): "--openings wants FILE after it, such as --openings openings.txt",
+    ("play", "x", "--opening=o"): "play has no option --opening: is it --openings?",
+    ("play", "x", *PLAN[:4], "--openings=nowhere"): "nowhere can't be read: No such file or directory",
+    ("play", "x", *PLAN[:4], "--openings=all"): "all can't be read: Is a directory",
     ("play", "all", "--direct"): "all was begun without --direct: take another folder",
     ("play", "all", "--move-limit", "5"): "all was begun with no --move-limit: take another folder",
     ("play", "direct", "--move-limit", "5"): "direct was begun with --direct, so it can't have --move-limit: take another folder",
@@ -45,14 +50,43 @@ SAID = {
     ("game", "all", "one"): "all/plan has no game 'one': a game is named SEED_BLACK_WHITE, and tournament list --all prints them",
     ("game", "all", "01_one_two"):
         "all/plan has no game '01_one_two': a game is named SEED_BLACK_WHITE, and tournament list --all prints them",
+    ("play", "x", *PLAN[:4], "--gauntlet", "three"): "--gauntlet wants the name of an engine, such as one, and not 'three'",
+    ("play", "all", "--gauntlet", "one"): "all was begun without --gauntlet: take another folder",
+    ("export", "all"): "write one of --pgn, --csv, --jsonl and --sgf FOLDER",
+    ("export", "all", "--csv", "--pgn"): "write one of --pgn, --csv, --jsonl and --sgf FOLDER",
+    ("export", "all", "--sgf"): "--sgf wants a new FOLDER after it, such as --sgf records",
+    ("export", "all", "--csv", "--late", "wins"): "--late wants the word loses after it, and not 'wins'",
     ("list", "all", "--al"): "list has no option --al: is it --all?",
     ("list", "all", "--jobs", "2"): "list has no option --jobs: tournament list --help has those that it has",
     ("list", "all", "more"): "'more' is a word too many: write tournament list FOLDER",
     ("list", "x"): "there is no x/plan: tournament plan makes it",
-    ("paly", "x"): "there is no command 'paly': write tournament play, plan, list or game",
+    ("paly", "x"): "there is no command 'paly': write tournament play, plan, list, game or export",
     ("play", "x", *PLAN[:4], "--seeds", "9999999", "--engine", "a=cat", *[f"--engine=e{it}=cat" for it in range(20)]):
         "9999999 seeds are 5059999494 games, which are too many",
 }
+
+
+# the same of the tally
+SAID_BY_TALLY = {
+    ("all", "--sprt", "0"): "--sprt wants two differences in Elo after it, such as --sprt 0 10",
+    ("all", "--sprt", "0", "ten"): "--sprt wants two differences in Elo, such as --sprt 0 10, and not '0 ten'",
+    ("all", "--sprt=10", "0"): "--sprt wants the lower difference first, such as --sprt 0 10",
+    ("three", "--sprt", "0", "10"): "--sprt is of two engines, and three has 3",
+    ("all", "--no-winner", "loses"): "--no-winner wants half or out after it, and not 'loses'",
+    ("all", "--abandoned", "lose"): "--abandoned wants the word loses after it, and not 'lose'",
+    ("all", "--jsn"): "tally has no option --jsn: is it --json?",
+}
+
+
+@checks.table(SAID_BY_TALLY, lambda it: f"tally {' '.join(it)}: it says what to write")
+class SaidByTally(Case):
+    """A mistake in the arguments of the tally."""
+
+    def row(self, words):
+        with room() as here:
+            here.run("tournament", "plan", *two_engines("all"), *SMALL)
+            here.run("tournament", "plan", *two_engines("three"), "--engine", "three=cat", *SMALL)
+            self.same((2, "", f"tally: {SAID_BY_TALLY[words]}\n"), here.run("tally", *words))
 
 
 @checks.table(SAID, lambda it: f"tournament {' '.join(it)[:90]}: it says what to write")
@@ -105,14 +139,17 @@ class Helps(Case):
             whole = here.run("tournament", "--help")
             self.check("tournament --help has all options of play", OPTIONS_OF["play"], options_in(whole.output))
             came = here.run("tally", "--help")
-            self.check("tally --help", (0, "usage: tally FOLDER [--abandoned loses] [--late loses]\n", ""), shown(came))
-            self.check("tally --help: its options", ["--abandoned", "--late"], options_in(came.output))
-            said = whole.output + "".join(here.run("tournament", it, "--help").output for it in COMMANDS)
+            usage = "usage: tally FOLDER [--abandoned loses] [--late loses] [--no-winner half|out]\n"
+            self.check("tally --help", (0, usage, ""), shown(came))
+            self.check("tally --help: its options", [*OF_LOSSES, "--no-winner", "--no-winner", "--sprt", "--json"], options_in(came.output))
+            said = whole.output + came.output + "".join(here.run("tournament", it, "--help").output for it in COMMANDS)
             self.check("each line of help fits 80 columns", [], [line for line in said.splitlines() if len(line) > 80])
 
 
-OF_PLAN = ["--engine", "--seeds", "--limit", "--move-limit", "--start-limit", "--direct"]
-OPTIONS_OF = {"play": [*OF_PLAN, "--jobs", "--again", "--task", "--time-left"], "plan": OF_PLAN, "list": ["--all"], "game": []}
+OF_PLAN = ["--engine", "--seeds", "--gauntlet", "--limit", "--move-limit", "--start-limit", "--openings", "--direct"]
+OF_LOSSES = ["--abandoned", "--late"]
+OPTIONS_OF = {"play": [*OF_PLAN, "--jobs", "--again", "--task", "--time-left"], "plan": OF_PLAN, "list": ["--all"], "game": [],
+              "export": ["--pgn", "--csv", "--jsonl", "--sgf", *OF_LOSSES]}  # fmt: skip
 
 
 def options_in(text):
@@ -153,8 +190,8 @@ class Python(Case):
             self.check(what, (1, 8), (came.status, len(here.games("all"))))
 
 
-STANDARD = {"__future__", "array", "collections", "contextlib", "ctypes", "difflib", "errno", "fcntl", "marshal", "math", "os", "random",
-            "re", "select", "shlex", "signal", "sys", "time", "typing"}  # fmt: skip
+STANDARD = {"__future__", "array", "collections", "contextlib", "csv", "ctypes", "difflib", "errno", "fcntl", "io", "itertools", "json", "marshal",
+            "math", "os", "random", "re", "select", "shlex", "signal", "sys", "time", "typing"}  # fmt: skip
 IN_C = {"_ctypes", "_signal"}  # what is in C of a module, in place of which the whole one is imported where it isn't there
 
 

@@ -142,6 +142,19 @@ class Passing(Case):
             came = (answer, status, (here.at / "over").read_text(), alone.lines())
         self.same((b"=\n\n", 0, "over\n", ["0 black started S", "1 black waited S: 2 genmove b"]), came)
 
+    def test_stopped(self):
+        """Where both the engine and twogtp are asked to end, it is noted who was waited for, whichever ends first."""
+        with room() as here:
+            alone = Alone(here, "sh", "-c", "read x; echo > asked; kill -TERM $$")
+            with running.started([*QUICK, "black"], stdin=subprocess.PIPE, env=here.environment) as between:
+                between.stdin.write(b"1 name\n")
+                between.stdin.flush()
+                here.until((here.at / "asked").exists)
+                time.sleep(0.1)
+                between.stdin.close()
+                status = between.wait(LIMIT)
+            self.same((-signal.SIGTERM, ["0 black waited S: 1 name"]), (status, alone.lines()))
+
     def test_no_room(self):
         """Where the notes can't be written, they are removed, and the engine ends."""
         with room() as here:
@@ -164,11 +177,13 @@ class Passing(Case):
     def test_time(self):
         """A command takes less than 100 microseconds there."""
         engine = [str(Room.programs / "gtp_engine")]
+        undo, long = b"2 undo\n", " ".join(f"{column}{row}" for row in range(1, 20) for column in "ABCDEFGHJKLMNOPQRST")
+        rows = {"name": ([b"1 name\n"], [b"1 name\n"], ""), "genmove": ([b"1 genmove b\n", undo], [b"1 genmove b\n", undo], ""),
+                "genmove in an opening": ([b"1 genmove b\n", undo], [b"1 play b A1\n", undo], long)}  # fmt: skip
         with room() as here:
-            Alone(here, *engine, limit="60", move_limit="60")
-            for commands in ([b"1 name\n"], [b"1 genmove b\n", b"2 undo\n"]):
-                name = commands[0].decode().split()[1]
-                more = min(seconds_a_command([*QUICK, "black"], commands, here) - seconds_a_command(engine, commands, here) for _ in range(3))
+            for name, (commands, alone, opening) in rows.items():
+                Alone(here, *engine, limit="60", move_limit="60", **({"opening": opening} if opening else {}))
+                more = min(seconds_a_command([*QUICK, "black"], commands, here) - seconds_a_command(engine, alone, here) for _ in range(3))
                 self.check(f"a command takes less than 100 microseconds there: {name}: {1e6 * more:.0f}", True, more < 100e-6)
 
 
@@ -220,6 +235,8 @@ class Late(Case):
             said = f"between: black: no answer in time to '{command}'\n"
             self.check(f"{row} is late: the status, and what is said", (124, said), (came.status, came.errors))
             self.check(f"{row} is late: the notes", noted, alone.lines())
+            seconds = float(alone.notes.read_text().splitlines()[-1].split()[3].rstrip(":"))
+            self.check(f"{row} is late: after the seconds of its limit, which are 1", True, 1 <= seconds < 20)
             again = alone.run(text)
             self.check(f"{row} is late: another start ends at once", (124, "", ""), again)
             self.check(f"{row} is late: the engine was started once", "\n", (here.at / "starts").read_text())

@@ -126,7 +126,7 @@ class Many(Case):
             winner = "BW"[seed % 2]
             one = here.at / f"{winner}{seed // 2 % 8}"  # one of 16 files, which have many names
             if not one.exists():
-                one.write_text(f"game 1: {winner}+6.5 moves 2 restarts 0 0\npass pass\n")
+                one.write_text(f"game 1: {winner}+6.5 moves 30 restarts 0 0\n{'D4 ' * 29}{one.name}\n")
             for name in ("one_two", "two_one"):
                 os.link(one, place / f"{seed}_{name}")
         began = own_seconds()

@@ -100,6 +100,10 @@ class Stopped(Case):
             self.check(f"{row}: and who was waited for", "5 black thinks", notes[7])
             if ENDS[row]:
                 self.check(f"{row}: and how long, and why it ended", ENDS[row], [cut(without_seconds(it)) for it in notes[8:]])
+                thought = [sum(float(it.split()[3].rstrip(":")) for it in notes[3:-2] if who in it and "thinks" not in it) for who in ("black", "white")]
+                said = [float(it) for it in re.findall(r"\d+\.\d{3}", notes[-2])]
+                are_same = len(said) == 2 and all(abs(one - other) < 0.0006 for one, other in zip(said, thought))
+                self.check(f"{row}: how long both thought has the time that one was waited for", True, are_same)
             if row == "the limit":
                 said = errors.splitlines()[0]
                 is_so = re.fullmatch(r"tournament: 1_one_two: no result: not over in 2 seconds; one was waited for, 1\.\d+ seconds at '8 genmove b'", said)
@@ -115,6 +119,8 @@ class Stopped(Case):
             for pid in here.named("twogtp" if row == "twogtp is killed" else "game 1_one_two"):
                 os.kill(pid, signal.SIGKILL)
             here.until(lambda: not here.named("between black"))
+            if row == "twogtp is killed":
+                here.until(lambda: notes_of(here, "1_one_two")[-1].startswith("no result: "), 15)
             process.terminate()
 
 

@@ -23,7 +23,8 @@ limit 600
 CHANGED = {
     "another command": ["--engine", f"one={RANDOM} 5", "--engine", f"two={RANDOM} 10%s", *SMALL],
     "another name": ["--engine", f"one={RANDOM} %s", "--engine", f"three={RANDOM} 10%s", *SMALL],
-    "one engine more": [*ONE_AND_TWO, "--engine", "three=cat", *SMALL],
+    "one engine more, before the others": ["--engine", "three=cat", *ONE_AND_TWO, *SMALL],
+    "one engine more, and another command": ["--engine", f"one={RANDOM} 5", *ONE_AND_TWO[2:], "--engine", "three=cat", *SMALL],
     "another size": [*ONE_AND_TWO, "--", "--size", "7", "--komi", "0.5"],
     "no options": ONE_AND_TWO,
 }

@@ -139,7 +139,7 @@ class Sessions(Case):
         """Engines that start something that outlives them."""
         with room() as here:
             engine = here.script("leaves", LEAVES)
-            came = here.run("tournament", "play", "all", "--engine", f"one={engine} {here.at}", "--engine", "two=gtp_engine",
+            came = here.run("tournament", "play", "all", "--engine", f"one={engine} {here.at} %s", "--engine", "two=gtp_engine",
                             "--seeds", "2", "--jobs", "1", "--", "--size", "2")  # fmt: skip
             self.check("what an engine leaves in a session of its own is ended", (0, "", []), (*came[::2], here.left()))
             left = len((here.at / "pids").read_text().split())
@@ -315,7 +315,7 @@ class Full(Case):
         with open(filler, "wb", buffering=0) as file, contextlib.suppress(OSError):
             while True:
                 file.write(bytes(4096))
-        os.truncate(filler, filler.stat().st_size - 14 * 4096)  # those of a game that is played, and those that two leave
+        os.truncate(filler, filler.stat().st_size - 16 * 4096)  # those of a game that is played, and those that two leave
         status, output, errors = here.run("tournament", "play", "disk/all", "--jobs", "1")
         played = here.games("disk/all")
         self.check("a full disk: the status", 1, status)

@@ -89,8 +89,8 @@ class Tried(Case):
             came = here.run("tournament", "play", "all", "--jobs", "1")
             heard = (here.at / "heard").read_text().splitlines()
             self.check("all games", (0, ""), came[::2])
-            asked = ["start", "1 boardsize 7", "2 komi 0.5", "3 clear_board", "4 fixed_handicap 2", "5 genmove w", "quit"]
-            self.check("what the trial asks", asked, heard[:7])
+            asked = ["start", "1 boardsize 7", "2 komi 0.5", "3 clear_board", "4 fixed_handicap 2", "5 genmove w", "6 name", "7 version", "quit"]
+            self.check("what the trial asks", asked, heard[:9])
             self.check("one trial, and four games", 5, heard.count("start"))
             here.run("tournament", "play", "all", "--seeds", "2", "--jobs", "1")
             self.check("with more seeds there is no other trial", 9, (here.at / "heard").read_text().splitlines().count("start"))
@@ -165,7 +165,7 @@ class InARow(Case):
         """The run ends with the engine's name, and the games of the others have their result."""
         with room() as here:
             here.script("engine", FAILS)
-            engines = ["--engine", "one=gtp_engine", "--engine", f"two={RANDOM} 1", "--engine", "bad=./engine 1"]
+            engines = ["--engine", f"one={RANDOM} %s", "--engine", f"two={RANDOM} 1%s", "--engine", "bad=./engine 1"]
             words = ["play", "all", *engines, "--jobs", "1", "--seeds", "5", "--", "--size", "2", "--restarts", "0"]
             status, output, errors = here.run("tournament", *words)
             said = errors.splitlines()
@@ -184,7 +184,7 @@ class InARow(Case):
         """More games than ten, but not in a row, don't end it."""
         with room() as here:
             here.script("engine", FAILS)
-            engines = ["--engine", "one=gtp_engine", "--engine", "bad=./engine 2"]
+            engines = ["--engine", f"one={RANDOM} %s", "--engine", "bad=./engine 2"]
             words = ["play", "all", *engines, "--jobs", "1", "--seeds", "12", "--", "--size", "2", "--restarts", "0"]
             status, output, errors = here.run("tournament", *words)
             self.same((1, "12 of 24 games have a result", 12), (status, output.splitlines()[-1], len(lines(errors))))

@@ -1,0 +1,335 @@
+"""The numbers of the tally beside values that were worked out by hand and by R, and what simulated tournaments come to."""
+import json
+import math
+import sys
+
+from tests.references.mutator import Limit, Mutant, known_by, mutants_of
+from tests.shared import checks
+
+from . import simulated
+from .counted import by_hand, results_of
+from .rooms import SCRIPTS, Case, room
+
+sys.path.insert(0, str(SCRIPTS))
+
+from games import ends, pairs, plan, results, scores  # noqa: E402
+
+NEAR = 1e-9
+# What a function comes to. By hand:
+# - moments(0 1 2 0 1): the shares of four pairs are 1/4, 1/2, 1/2 and 1, so the mean is 9/16; their squares are 1/16, 1/4, 1/4 and 1, with
+#   the mean 25/64, and the variance is 25/64 - 81/256 = 19/256.
+# - elo(9/14) = 400 * log10(9/5); expected(400) = 1 / (1 + 1/10) = 10/11, expected(-400) = 1/11.
+# - interval(1 0 2 2 2): counted.py has it. interval(0 0 0 0 n): the mean is (n + 1/2) / (n + 1), and the variance that times 1/2 / (n + 1).
+# The others are by R 4.2, where n is the counts: x <- (0:4)/4; w <- n + c(.5,0,0,0,.5); m <- weighted.mean(x, w);
+# m + c(-1,1) * qnorm(.975) * sqrt(sum(w * (x-m)^2) / sum(w) / sum(n)). And where e is both differences: w <- n + .001;
+# m <- weighted.mean(x, w); v <- sum(w * x^2) / sum(w) - m^2; s <- 1 / (1 + 10^(-e/400)); sum(n) * diff(s) * (2*m - sum(s)) / (2*v).
+MANY = (10, 20, 40, 30, 20)
+VALUES = [
+    ("moments", ((0, 1, 2, 0, 1),), (9 / 16, 19 / 256)),
+    ("moments", (MANY,), (0.5625, 0.0846354166666667)),
+    ("interval", ((1, 0, 2, 2, 2),), (0.363088795694101, 0.886911204305899)),
+    ("interval", (MANY,), (0.509503603140252, 0.614463339008509)),
+    ("interval", ((0, 0, 10, 0, 0),), (0.406562383223617, 0.593437616776383)),
+    ("interval", ((0, 0, 0, 0, 10),), (0.825442834050307, 1.0)),
+    ("interval", ((10, 0, 0, 0, 0),), (0.0, 0.174557165949693)),
+    ("elo", (9 / 14,), 102.109002041322),
+    ("elo", (0.5,), 0.0),
+    ("elo", (0,), -math.inf),
+    ("elo", (1,), math.inf),
+    ("expected", (0,), 0.5),
+    ("expected", (400,), 10 / 11),
+    ("expected", (-400,), 1 / 11),
+    ("expected", (102.109002041322,), 9 / 14),
+    ("ratio", (MANY, 0, 10), 1.12810740788075),
+    ("ratio", (MANY, -5, 5), 1.27510894570018),
+    ("ratio", (MANY, 50, 100), -4.20832308826143),
+    ("ratio", ((0, 0, 0, 0, 1), 50, 100), 14.4527626583823),
+    ("ratio", ((0, 0, 10, 0, 0), 0, 10), -16.567565100831),
+    # Decisions are beside ln(19) = 2.9444390: by R these ratios are 2.9442994, -2.9443899, 2.9445727 and -2.9445727. With fewer than 48 pairs
+    # there is none.
+    ("decision", ((5, 15, 14, 6, 14), -50, 10), None),
+    ("decision", ((17, 20, 18, 15, 8), -50, 10), None),
+    ("decision", ((2, 14, 1, 17, 14), -20, 10), 1),
+    ("decision", ((17, 5, 19, 2, 5), -10, 20), 0),
+    ("decision", ((0, 0, 0, 1, 46), 0, 100), None),
+    ("decision", ((0, 0, 0, 2, 46), 0, 100), 1),
+    ("decision", ((46, 2, 0, 0, 0), 0, 100), 0),
+    ("decision", ((12, 0, 24, 0, 12), 0, 10), None),
+]
+# Mutants by hand, of the numbers that aren't whole.
+BY_HAND = [("Z is that of a 90 % interval", "Z", 1.6448536269514722), ("the bound is ln 20", "BOUND", math.log(20)),
+           ("the bound is ln 18", "BOUND", math.log(18)), ("0.01 is added", "ADDED", 0.01), ("0.0001 is added", "ADDED", 0.0001)]
+
+
+def is_near(wanted, got):
+    """Is it the same, but for what is lost in the last digits?"""
+    if isinstance(wanted, tuple):
+        return isinstance(got, tuple) and len(got) == len(wanted) and all(map(is_near, wanted, got))
+    if wanted is None or got is None or isinstance(wanted, int) or math.isinf(wanted):
+        return wanted == got
+    return abs(got - wanted) <= NEAR * max(1, abs(wanted))
+
+
+def off():
+    """The values that don't come out."""
+    found = [(name, words, wanted, getattr(scores, name)(*words)) for name, words, wanted in VALUES]
+    return [it for it in found if not is_near(it[2], it[3])]
+
+
+@checks.table(VALUES, lambda it: f"{it[0]}{it[1]}")
+class Values(Case):
+    """What a function comes to."""
+
+    def row(self, row):
+        name, words, wanted = row
+        got = getattr(scores, name)(*words)
+        self.nothing("" if is_near(wanted, got) else f"{got}, and not {wanted}")
+
+
+# Changes that make no difference: a ratio is never the bound to the last digit.
+EQUAL = {"scores.decision: found >= BOUND -> found > BOUND", "scores.decision: found <= -BOUND -> found < -BOUND"}
+
+
+class Mutants(checks.Case):
+    """Each formula with one slip: the values don't come out."""
+
+    def test_mutants(self):
+        """Each slip in a formula, and each other number, is noticed by some value."""
+        self.check("without a slip the values come out", [], off())
+        made = list(mutants_of(scores))
+        self.check("there are many slips", True, len(made) > 75)
+        by_hand_too = [*made, *((what, scores, name, value) for what, name, value in BY_HAND)]
+        self.check("each is noticed", [], [it[0] for it in by_hand_too if known_by(it[0]) not in EQUAL and not is_noticed(it, off)])
+
+
+def is_noticed(mutant, looked):
+    """Does this find something with the wrong body, or break?"""
+    _, owner, attribute, wrong = mutant
+    with Limit(), Mutant(owner, attribute, wrong):
+        try:
+            return looked() != []
+        except Exception:
+            return True
+
+
+# ---- the pairs
+
+# Two engines: how a game with Black of `a` ended, one with Black of `b`, and which moves both have: a letter for the last one, and how many,
+# where these aren't 21. So each seed is, for `a`:
+PLAYED = [
+    ("B+R", "W+R", "A", "B"),  # 2
+    ("W+R", "B+R", "S20", "S20"),  # 0
+    ("B+R", "B+R", "A", "C"),  # 1, not new: its first game is that of seed 1
+    ("B+R", "B+R", "D", "C"),  # 1, and new: its second game is that of seed 3, which isn't counted
+    ("W+R", "W+R", "S20", "S20"),  # 1, and new: these moves are too few to be the same
+    ("0", "limit", "E", "F"),  # 1, or out where games are that nobody won
+    ("0", "B+R", "H", "J"),  # 1/2
+    ("B+R", None, "G", None),  # not whole
+    ("B+R", "W+R", "G", "I"),  # 2, and new: the other game with these moves isn't counted
+    ("B+R", "W+R", "K", "B"),  # 2, not new: its second game is that of seed 1
+    ("B+R", "W+R", "I", "L"),  # 2, and new: these moves were played with the other colours
+    ("B+R", "W+R", "H", "M"),  # 2, not new: its first game is that of seed 7
+]
+EVERY, NEW, OUT = [1, 1, 4, 0, 5], [1, 1, 3, 0, 3], [1, 1, 3, 0, 5]
+IN_ORDER = [1, 1, 3, 0, 1]  # up to seed 7, but for seed 3
+SAME = [["1_a_b", "3_a_b"], ["1_b_a", "10_b_a"], ["3_b_a", "4_b_a"], ["7_a_b", "12_a_b"], ["8_a_b", "9_a_b"]]
+# With two openings, of three moves and of one, the seeds 1 and 3 have the first. Moves of an opening aren't counted among the 21.
+OPENINGS = ["D4 D4 D4", "D4"]
+OPENED = [("B+R", "B+R", "A24", "B23"), ("B+R", "B+R", "A24", "C22"), ("B+R", "B+R", "A24", "B23"), ("B+R", "B+R", "D21", "C22")]
+TWICE = ["D4", "D4"]  # the same opening twice
+SAME_OPENED = [["1_a_b", "3_a_b"], ["2_b_a", "4_b_a"]]
+
+
+def plan_of(names, seeds):
+    """A plan of these engines."""
+    made = plan.Plan()
+    made.engines, made.seeds = dict.fromkeys(names, "x"), seeds
+    return made
+
+
+def found_in(played, is_out=False, openings=()):
+    """What is found of the pairs of two engines, and which games are the same."""
+    made = plan_of("ab", len(played))
+    made.openings = openings
+    found = pairs.Pairs(made, is_out)
+    for seed, (*verdicts, one, other) in enumerate(played):
+        for side, (verdict, which) in enumerate(zip(verdicts, (one, other))):
+            if verdict:
+                count = int(which[1:] or 21)
+                text = f"game 1: {verdict} moves {count} restarts 0 0\n{' '.join(['D4'] * (count - 1))} {which[0]}1\n"
+                parts = results.parts_of(text.encode(), False)
+                found.add(2 * seed + side, ends.end_of(parts[1]), parts)
+    (one, other, *numbers), = found.engines()
+    two = found.of_two(*numbers)
+    names = [[made.games().name(game) for game in group] for group in found.same()]
+    return {"engines": (one, other), "every": two.every, "new": two.new, "in order": found.in_order(*numbers), "same": names,
+            "score": two.score(), "turned": (two.turned().every, two.turned().new)}  # fmt: skip
+
+
+FOUND = {"engines": ("a", "b"), "every": EVERY, "new": NEW, "in order": IN_ORDER, "same": SAME, "score": 29 / 44,
+         "turned": (EVERY[::-1], NEW[::-1])}  # fmt: skip
+NONE = (None, None, None, None)
+
+
+def pairs_off():
+    """What of the pairs doesn't come out."""
+    out, none, opened = found_in(PLAYED, True), found_in([NONE] * 2), found_in(OPENED, openings=OPENINGS)
+    one = found_in([("B+R", "B+R", "A", "A")] * 2)
+    late = [found_in([it, *PLAYED]) for it in (NONE, (None, "B+R", None, "X"), ("B+R", None, "X", None))]
+    three = pairs.Pairs(plan_of("abc", 1)).engines()
+    both, sum_of = pairs.Found(EVERY, NEW), ([2, 2, 7, 0, 8], [2, 2, 6, 0, 8])
+    both.add(pairs.Found(NEW, OUT))
+    found = {
+        "of two engines": found_in(PLAYED) == FOUND,
+        "without games that nobody won": out["every"] == OUT and out["in order"] == [1, 1, 2, 0, 1],
+        "where nothing was played": none["score"] is None and none["every"] == none["in order"] == [0] * 5 and none["same"] == [],
+        "the same pair twice": one["new"] == [0, 0, 1, 0, 0] and one["same"] == [["1_a_b", "2_a_b"], ["1_b_a", "2_b_a"]],
+        "a first pair that isn't whole": all(it["in order"] == [0] * 5 and it["every"] == EVERY for it in late),
+        "openings": opened["same"] == SAME_OPENED and opened["new"] == [0, 0, 2, 0, 0],
+        "the same opening twice": found_in([("B+R", "B+R", "A22", "B21")] * 2, openings=TWICE)["same"] == [["1_a_b", "2_a_b"]],
+        "three engines": three == [("a", "b", 0, 1), ("a", "c", 2, 3), ("b", "c", 4, 5)],
+        "no interval": pairs.Found().interval() is None,
+        "the interval is of new ones": pairs.Found(EVERY, (1, 0, 2, 2, 2)).interval() == scores.interval((1, 0, 2, 2, 2)),
+        "a sum": (both.every, both.new) == sum_of,
+    }
+    return [what for what, is_so in found.items() if not is_so]
+
+
+# Changes that make no difference: what is skipped where no game is the same, the order of two things of which only the sum counts, and a pair
+# that isn't whole, which is never among those that aren't new.
+EQUAL_PAIRS = {
+    "pairs.Pairs.of_two: self.old(one, other) -> self.old(other, one)",
+    "pairs.Pairs.in_order: self.old(one, other) -> self.old(other, one)",
+    "pairs.Pairs.in_order: seed < until -> seed <= until",
+    "pairs.Pairs.old: if not any((has_twice(it) for it in sides)): -> if False:",
+    "pairs.Pairs.old: zip(self.of(self.scores, one), self.of(self.scores, other)) -> zip(self.of(self.scores, other), self.of(self.scores, one))",
+    "pairs.Pairs.same: if has_twice(played): -> if True:",
+    "pairs.Found.add: zip(self.every, other.every) -> zip(other.every, self.every)",
+    "pairs.Found.add: zip(self.new, other.new) -> zip(other.new, self.new)",
+    "pairs.has_twice: len(set(played)) < len(played) -> len(set(played)) <= len(played)",
+    "pairs.has_twice: return len(set(played)) < len(played) -> return True",
+    "pairs.has_twice: (... for it in moves if it) -> (... for it in moves)",
+}
+
+
+class PairsOfTwo(checks.Case):
+    """The pairs of two engines, counted by hand."""
+
+    def test_pairs(self):
+        """What is found of the pairs, also where nothing was played."""
+        self.check("all pairs, those that are new, those in order, and the games that are the same", FOUND, found_in(PLAYED))
+        self.check("all that is asked of pairs", [], pairs_off())
+
+    def test_mutants(self):
+        """Each slip in how pairs are found is noticed."""
+        every = list(mutants_of(pairs))
+        made = [it for it in every if known_by(it.what) not in EQUAL_PAIRS]
+        self.check("each change that makes no difference can be made", len(EQUAL_PAIRS), len(every) - len(made))
+        self.check("there are many slips", True, len(made) > 100)
+        self.check("each is noticed", [], [it.what for it in made if not is_noticed(it, pairs_off)])
+
+
+# ---- the test of two engines, and the text for other programs
+
+WON, LOST, EVEN = ("B+R", "W+R"), ("W+R", "B+R"), ("B+R", "B+R")  # a pair, as the first engine sees it
+# 50 pairs: 30 won, 15 even and 5 lost
+SOME = [WON, WON, EVEN, WON, LOST, WON, EVEN, WON, EVEN, WON] * 5
+# what there is, and the test's line and status
+TESTED = {
+    "won": (SOME, ("0", "100"), "100 Elo accepted, not 0 Elo: 50 pairs", 0),
+    "lost": ([it[::-1] for it in SOME], ("0", "100"), "0 Elo accepted, not 100 Elo: 50 pairs", 3),
+    "open": ([EVEN, WON, LOST, EVEN] * 13, ("0", "10"), "go on: 52 pairs", 4),
+    "few": (SOME[:47], ("0", "100"), "go on: 47 pairs (not below 48)", 4),
+    "up to the first that isn't whole": ([*SOME[:48], ("B+R", None), *SOME], ("0", "100"), "100 Elo accepted, not 0 Elo: 48 pairs", 0),
+    "below 0": (SOME, ("-50", "50"), "50 Elo accepted, not -50 Elo: 50 pairs", 0),
+    "nothing": ([(None, None)] * 2, ("0", "10"), "go on: 0 pairs (not below 48)", 4),
+}
+
+
+def of_pairs(here, folder, played):
+    """A folder of two engines in which these pairs were played."""
+    games = {}
+    for seed, both in enumerate(played, 1):
+        games |= {f"{seed}_{it}": f"{verdict} moves 30 restarts 0 0" for it, verdict in zip(("a_b", "b_a"), both) if verdict}
+    results_of(here, folder, "ab", len(played), games)
+
+
+@checks.table(TESTED, lambda it: f"tally --sprt: {it}")
+class Tests(Case):
+    """The sequential test of two engines."""
+
+    def row(self, what):
+        played, differences, said, status = TESTED[what]
+        with room() as here:
+            of_pairs(here, "all", played)
+            came = here.run("tally", "all", "--sprt", *differences)
+            self.same((status, f"a - b: {said}", ""), (came.status, came.output.partition(", log")[0], came.errors))
+
+    def test_ratio(self):
+        """The ratio, and the same as JSON."""
+        with room() as here:
+            of_pairs(here, "all", SOME)
+            line = here.run("tally", "all", "--sprt", "0", "10").output
+            # by R, as above, of 5 0 15 0 30: 1.55231
+            self.check("the ratio", "a - b: go on: 50 pairs, log likelihood ratio 1.55 of -2.94 to 2.94\n", line)
+            found = json.loads(here.run("tally", "all", "--sprt", "0", "10", "--json").output)
+            ratio = scores.ratio((5, 0, 15, 0, 30), 0, 10)
+            wanted = {"elo0": 0, "elo1": 10, "accepted": "go on", "pairs": [5, 0, 15, 0, 30], "ratio": ratio, "bound": math.log(19)}
+            self.check("the same as JSON", wanted, found["sprt"])
+
+    def test_json(self):
+        """The tally as JSON, of games that were counted by hand."""
+        with room() as here:
+            by_hand(here)
+            came = here.run("tally", "two", "--json")
+            found = json.loads(came.output)
+            self.check("one line, and the status", (1, 1, ""), (came.status, came.output.count("\n"), came.errors))
+            kept = {key: found[key] for key in ("games", "results", "winners", "black_won", "white_won", "damaged", "same", "no_result")}
+            self.check("the counts", JSON, kept)
+            first, (pair,) = found["engines"][0], found["pairs"]
+            self.check("an engine", ENGINE, {key: first[key] for key in ENGINE})
+            self.check("its forfeits are the other's", {}, {key: it for key, it in first["to_look_into"].items() if key != "restarts"})
+            self.check("the pair", ["b", "a"], pair["engines"])
+            values = [pair["score"], *pair["interval"], pair["elo"], *pair["elo_interval"]]
+            wanted = (9 / 14, 0.363088795694101, 0.886911204305899, 102.109002041322, -97.6264165494777, 357.784224860328)
+            self.check("its numbers", True, is_near(wanted, tuple(values)))
+            out = json.loads(here.run("tally", "two", "--json", "--no-winner", "out").output)["pairs"][0]
+            self.check("an infinite difference is null", [True, None], [it and it < 0 for it in out["elo_interval"]])
+
+
+JSON = {"games": 20, "results": 14, "winners": 8, "black_won": 4, "white_won": 4, "damaged": 1, "same": [],
+        "no_result": {"8_a_b": "not over in 600 seconds", "9_b_a": "its file has no result"}}  # fmt: skip
+ENGINE = {"name": "b", "points": 6.5, "games": 14, "won": 6, "lost": 2, "drawn": 1, "nobody": 5, "black": {"won": 3, "lost": 1},
+          "white": {"won": 3, "lost": 1}, "pairs": [1, 0, 2, 2, 2], "pairs_in_interval": [1, 0, 2, 2, 2]}  # fmt: skip
+
+
+# ---- what simulations come to
+
+# two differences, and how many runs of each; in some seconds
+SIMULATED = [((0, 100), simulated.independent, 2000), ((0, 100), simulated.by_colour, 2000), ((-50, 50), simulated.drawish, 2000)]
+
+
+@checks.table(SIMULATED, lambda it: f"a sequential test of {it[0][0]} and {it[0][1]} Elo errs in at most 6 % at both: pairs {it[1].__name__}")
+class Errors(Case):
+    """The error rates of the sequential test."""
+
+    def row(self, row):
+        differences, kind, runs = row
+        found = simulated.error_rates(kind, differences, runs)
+        self.nothing("" if all(rate <= 0.06 for rate, _ in found) else found)
+
+
+class Year(Case):
+    """Many engines with known differences."""
+
+    def test_year(self):
+        """What the tally finds of the differences of twelve engines."""
+        with room() as here:
+            elos = simulated.strengths(12, 40)
+            simulated.make(here.at / "year", elos, 40)
+            found, _, _ = simulated.found_of(here.at / "year")
+            self.check("all games have a result", (66 * 80, 66 * 80), (found["games"], found["results"]))
+            count, every = simulated.inside(found, elos)
+            self.check(f"the true difference is inside {count} of {every} intervals, at least 60", True, every == 66 and count >= 60)
+            near = [abs(elos[it["name"]] - 40 * place) for place, it in zip(range(11, -1, -1), found["engines"])]
+            self.check(f"no engine is two places off: {near}", True, max(near) <= 40)

@@ -1,0 +1,42 @@
+"""How far a run is: a line on standard error, each minute, and in a terminal more often."""
+import os
+import time
+
+from . import output
+
+AT_ONCE, OFTEN, SELDOM = 0, 10, 60  # seconds to the first line in a terminal, between two there, and between two elsewhere
+
+
+class Progress:
+    """The progress of a run that began with so many results. `clock` says the time in seconds."""
+
+    def __init__(self, count, total, is_terminal=None, clock=time.monotonic):
+        self.before, self.total, self.clock, self.began = count, total, clock, clock()
+        self.failed = 0  # games that ended without a result
+        is_terminal = os.isatty(2) if is_terminal is None else is_terminal
+        self.step = OFTEN if is_terminal else SELDOM
+        self.next = self.began + (AT_ONCE if is_terminal else SELDOM)
+
+    def pause(self):
+        """How many seconds there are to the next line."""
+        return max(0.0, self.next - self.clock())
+
+    def look(self, count):
+        """Writes a line where it is time. There are so many results now."""
+        if self.clock() >= self.next:
+            self.next = self.clock() + self.step
+            output.complain(self.line(count))
+
+    def line(self, count):
+        """What is done, what failed, how many games a minute there are, and how long the rest takes so."""
+        minutes = (self.clock() - self.began) / 60
+        rate = (count - self.before) / minutes if minutes > 0 else 0
+        left = shown((self.total - count) / rate) if rate else "unknown time"
+        return f"{count} of {self.total} games have a result, {self.failed} failed; {rate:.1f} games a minute, {left} left"
+
+
+def shown(minutes):
+    """A time as it is said."""
+    if minutes < 100:
+        return f"{minutes:.0f} min"
+    return f"{minutes / 60:.0f} h" if minutes < 100 * 60 else f"{minutes / (24 * 60):.0f} days"
