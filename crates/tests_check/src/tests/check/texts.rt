@@ -1,14 +1,15 @@
 //! The first and the last lines, and the list of lessons.
 use crate::asserts::assert_equal;
 use go_base::{Colour, Move};
-use gtp_check_judge::CheckCommand;
+use go_board::KoRule;
+use gtp_check_judge::{Asked, CheckCommand, Due, Examiner, Heard};
 use gtp_check_plan::options::read_options;
 use gtp_check_plan::plan::plan_of;
 use gtp_check_questions::{LESSONS, Lesson};
 use gtp_check_summary::summary::{Ending, Over, first_line, last_lines};
 use gtp_check_talks::notes::Notes;
 use gtp_check_texts::listing::list_text;
-use gtp_wire::Command;
+use gtp_wire::{Command, Reply};
 use std::str;
 use std::test::Fail;
 
@@ -27,14 +28,18 @@ fn a_check_has_a_first_line_and_last_lines_and_a_lesson_has_a_line(
     notes.most_undos = Some(400);
     let _ = notes.refused.try_push(1);
     let _ = notes.refused.try_push(25);
+    let skills = Examiner::new(KoRule::Simple, 1).skills();
+    // A `play` that is refused is answered too.
+    let refusal = Reply::new();
     for lesson in LESSONS {
-        let command = match lesson {
-            Lesson::Genmoves | Lesson::Komi | Lesson::Games => CheckCommand::Name,
-            Lesson::Suicide => CheckCommand::Match(Command::ClearBoard),
-            Lesson::Ko => CheckCommand::Match(Command::Play(Move::default())),
-            _ => CheckCommand::Match(Command::Genmove(Colour::White)),
+        let answered = match lesson {
+            Lesson::Genmoves | Lesson::Komi | Lesson::Games => Some(CheckCommand::Name),
+            Lesson::Suicide => None,
+            Lesson::Ko => Some(CheckCommand::Match(Command::Play(Move::default()))),
+            _ => Some(CheckCommand::Match(Command::Genmove(Colour::White))),
         };
-        notes.count(lesson, &command);
+        notes.count();
+        notes.take(&heard_after(answered), lesson, &refusal, skills);
     }
     let ending = Ending {
         over: &Over::NoMoreStarts,
@@ -61,4 +66,19 @@ check: 13 commands, 2 starts, 0 complaints
     let first = b"start        the first moves".as_slice();
     assert_equal(&rt, list.as_slice().starts_with(first), true);
     Ok(())
+}
+
+/// What was heard, where this command was answered rightly, if any.
+fn heard_after(answered: Option<CheckCommand>) -> Heard {
+    Heard {
+        used: 0,
+        read: None,
+        finding: None,
+        answered: answered.map(|command| Asked {
+            id: 1,
+            command,
+            due: Due::AnyReply,
+        }),
+        refused: None,
+    }
 }
