@@ -23,7 +23,8 @@ pub fn trials_are_few<P: Process>()
 {}
 
 /// The status of a check that is over is 1 exactly where something was found, and 0 exactly where nothing was, each
-/// lesson was asked to its end, and a `play` or a `genmove` was answered rightly in each.
+/// lesson was asked to its end, and each is noted. A lesson is noted only where a `play` or a `genmove` was answered
+/// rightly in it.
 pub fn a_pass_is_earned<P: Process>()
     ensures { APassIsEarned P.Process }
 {

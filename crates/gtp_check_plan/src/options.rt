@@ -29,11 +29,11 @@ An engine that doesn't answer is waited for. With patience before its command
 it is ended where an answer takes too long.
 
 Status:
-  0  nothing was found, and moves were asked in each lesson
+  0  nothing was found, and in each lesson a move was answered rightly
   1  something was found
   2  the arguments have a mistake, or the engine could not be started
   3  the program could not go on: write fault, out of memory, too many turns
-  4  nothing was found, but in some lesson no move was asked
+  4  nothing was found, but in some lesson no move was answered rightly
 
 Example:
   gtp_check 'gnugo --mode gtp --chinese-rules'

@@ -1,4 +1,4 @@
--- Two scores of one start are parted: by a new start, a move, or another komi.
+-- Two scores of one part are parted: by a new start, a `play`, or another komi.
 use Rattle.std.specs.Prelude.{◌≢◌, ◌==◌, ◌&&◌, nat_lt, if◌then◌else◌, slice_index_or, ℤ, pos}
 use Rattle.std.proofs.Common.{◌≡◌, ℕ, zero, suc, Bool, true, false, ◌+◌, ◌/◌, ◌%◌, ◌<◌, ◌≤◌, refl, sym, ap, arith, ◌∙◌, subst}
 use Rattle.std.proofs.Common.{List, [], ◌∷◌, slice_get, Option, None, Some}

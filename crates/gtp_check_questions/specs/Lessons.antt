@@ -128,10 +128,11 @@ komi_stretches =
     stretch.Komi ∷ stretch.Clear ∷ stretch.Score ∷ stretch.Inexact ∷ stretch.Moves ∷ stretch.Inexact ∷ stretch.Own ∷
     stretch.Clear ∷ stretch.Komi ∷ stretch.Score ∷ []
 
+-- A part ends on a cleared board: an engine may refuse the next one's size while a game is on.
 abbrev pub drawn_stretches : List Stretch
 drawn_stretches =
     stretch.Seek ∷ stretch.Size ∷ stretch.Taken ∷ stretch.Komi ∷ stretch.Clear ∷ stretch.Probed 1500 ∷
-    stretch.Back 6 ∷ stretch.Probed 60 ∷ []
+    stretch.Back 6 ∷ stretch.Probed 60 ∷ stretch.Clear ∷ []
 
 abbrev pub record_stretches : List Stretch
 record_stretches =
@@ -142,14 +143,16 @@ record_stretches =
     stretch.Score ∷ stretch.OtherKomi ∷ stretch.Clear ∷ stretch.Komi ∷ stretch.Score ∷ stretch.OtherKomi ∷
     stretch.Score ∷ []
 
--- The board is filled for the choices of both colours, and again for the capture of all that fills it.
+-- The board is filled for the choices of both colours, and again for the capture of all that fills it. Before that
+-- another size is asked for while a game is on, which an engine may refuse.
 abbrev pub genmoves_stretches : List Stretch
 genmoves_stretches =
-    stretch.Seek ∷ stretch.Size ∷ stretch.Taken ∷ stretch.Komi ∷ stretch.Clear ∷ stretch.Genmoves 240 ∷ stretch.Size ∷
-    stretch.Taken ∷ stretch.Clear ∷ stretch.Filled ∷ stretch.Chosen Black ∷ stretch.Undo ∷ stretch.Chosen White ∷
-    stretch.Undo ∷ stretch.Chosen Black ∷ stretch.Undo ∷ stretch.Clear ∷ stretch.Gaps ∷ stretch.Chosen Black ∷
-    stretch.Clear ∷ stretch.Filled ∷ stretch.Swept ∷ stretch.Corner ∷ stretch.Undo ∷ stretch.Corner ∷ stretch.Clear ∷
-    stretch.Handicap ∷ stretch.Genmoves 20 ∷ stretch.Probed 60 ∷ []
+    stretch.Seek ∷ stretch.Size ∷ stretch.Taken ∷ stretch.Komi ∷ stretch.Clear ∷ stretch.Genmoves 240 ∷
+    stretch.OtherSize ∷ stretch.Own ∷ stretch.Clear ∷ stretch.Size ∷ stretch.Taken ∷ stretch.Clear ∷ stretch.Filled ∷
+    stretch.Chosen Black ∷ stretch.Undo ∷ stretch.Chosen White ∷ stretch.Undo ∷ stretch.Chosen Black ∷ stretch.Undo ∷
+    stretch.Clear ∷ stretch.Gaps ∷ stretch.Chosen Black ∷ stretch.Clear ∷ stretch.Filled ∷ stretch.Swept ∷
+    stretch.Corner ∷ stretch.Undo ∷ stretch.Corner ∷ stretch.Clear ∷ stretch.Handicap ∷ stretch.Genmoves 20 ∷
+    stretch.Probed 60 ∷ stretch.Clear ∷ []
 
 abbrev pub games_stretches : List Stretch
 games_stretches =
@@ -158,7 +161,7 @@ games_stretches =
     stretch.Emptied 12 ∷ stretch.Undo ∷ stretch.Handicap ∷ stretch.Stars ∷ stretch.Probed 9 ∷ stretch.Emptied 6 ∷
     stretch.Undo ∷ stretch.Stars ∷ stretch.Clear ∷ stretch.Handicap ∷ stretch.Stars ∷ stretch.Clear ∷
     stretch.Probed 60 ∷ stretch.Clear ∷ stretch.Score ∷ stretch.Komi ∷ stretch.Clear ∷ stretch.OtherKomi ∷
-    stretch.Score ∷ stretch.Moves ∷ stretch.Handicap ∷ stretch.Own ∷ stretch.OtherSize ∷ stretch.Own ∷
+    stretch.Score ∷ stretch.Moves ∷ stretch.Handicap ∷ stretch.Own ∷ stretch.Clear ∷ stretch.OtherSize ∷
     stretch.OtherTaken ∷ stretch.Komi ∷ stretch.Clear ∷ stretch.Score ∷ stretch.Handicap ∷ stretch.Probed 60 ∷
     stretch.Clear ∷ stretch.Score ∷ stretch.OtherKomi ∷ stretch.Komi ∷ stretch.Size ∷ stretch.Clear ∷ stretch.Score ∷
     stretch.OtherKomi ∷ stretch.Clear ∷ stretch.Komi ∷ stretch.Score ∷ stretch.OtherKomi ∷ stretch.Score ∷

@@ -1,4 +1,4 @@
--- What parts two scores of one start. (An engine may draw an estimate by chance, and keep it until komi or the board
+-- What parts two scores of one part. (An engine may draw an estimate by chance, and keep it until komi or the board
 -- changes. Two scores that come out the same are compared with later ones, so hardly an estimate that was kept may come
 -- out twice.)
 use Rattle.std.specs.Prelude.{◌≡◌, ◌≢◌, ℕ, zero, suc, ◌<◌, ℤ, List, [], ◌∷◌, slice_get, Option, None, Some}
@@ -30,14 +30,14 @@ komi_at board now stretches zero = now
 komi_at board now [] (suc number) = now
 komi_at board now (first ∷ later) (suc number) = komi_at board (komi_after board now first) later number
 
--- whatever is drawn, and whatever the game is: the first step of the stretch asks for a move to be made
+-- whatever is drawn, and whatever the game is: the first step of the stretch asks for a `play`
 pub record AsksForPlay (now : Stretch) (board : Board) : Type 0 where
   pub some : 0 < steps_of now
   pub plays : (draws : Draws) (game : GameRecord) (question : Question)
       → IsQuestion now (record { number = 0; draws = draws }) board game question
       → (move : Move) × (question ≡ asks (command.Play move))
 
--- The stretch parts a score with this komi from later ones: the engine is started anew; or it is asked to make a move;
+-- The stretch parts a score with this komi from later ones: the engine is started anew; or it is asked for a `play`;
 -- or it is asked to take another komi.
 pub data Parts (board : Board) (komi : Option ℤ) : Stretch → Type 0 where
   restarts : Parts board komi stretch.Restart

@@ -81,8 +81,8 @@ pub fn usual_form_comes_first()
     ensures { UsualFormComesFirst }
 {}
 
-/// Between two scores of one start the engine is asked to make a move, or to take another komi than that of the first.
-/// So an estimate that it keeps until the board or komi changes isn't heard twice.
+/// Between two scores of one part the engine is started anew, or is asked for a `play`, or to take another komi than that
+/// of the first. (An engine may keep an estimate until the board or komi changes. The tables' `play` is of a stone.)
 pub fn scores_are_parted()
     ensures { ScoresAreParted }
 {}

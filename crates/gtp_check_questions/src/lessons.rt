@@ -7,7 +7,7 @@ ghost use Rattle.gtp_check_questions.specs.Scenes.{scenes_of};
 
 use crate::scenes::{CAPTURES, JOINING, KO, SUICIDE, Scene, WAYS};
 use crate::stretches::Stretch;
-use crate::tables;
+use crate::{games, tables};
 use arrayvec::ArrayVec;
 
 /// How many lessons there are.
@@ -170,10 +170,10 @@ impl Lesson {
             Lesson::Handicaps => &tables::HANDICAPS,
             Lesson::Komi => &tables::KOMI,
             Lesson::Drawn => &tables::DRAWN,
-            Lesson::Record => &tables::RECORD,
-            Lesson::Genmoves => &tables::GENMOVES,
-            Lesson::Games => &tables::GAMES,
-            Lesson::Restarts => &tables::RESTARTS,
+            Lesson::Record => &games::RECORD,
+            Lesson::Genmoves => &games::GENMOVES,
+            Lesson::Games => &games::GAMES,
+            Lesson::Restarts => &games::RESTARTS,
         }
     }
 

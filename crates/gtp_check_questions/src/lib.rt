@@ -9,6 +9,7 @@ pub mod actions;
 pub mod boards;
 mod course;
 pub mod draws;
+mod games;
 mod kos;
 pub mod laws;
 pub mod lessons;
