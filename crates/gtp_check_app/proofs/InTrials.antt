@@ -6,12 +6,14 @@ use Rattle.gtp_process.specs.declared.starter.Process.{Ghosts}
 use Rattle.gtp_check_judge.specs.declared.asking.CheckCommand.{CheckCommand}
 use Rattle.gtp_check_judge.specs.Check.{started}
 use Rattle.gtp_check_judge.specs.Exam.{begun}
+use Rattle.gtp_check_questions.specs.declared.suicides.Suicide.{Suicide}
 use Rattle.gtp_check_shortening.specs.declared.flat.Shortening.{Shortening}
 use Rattle.gtp_check_shortening.specs.Reduction.{Reduction}
 use Rattle.gtp_check_texts.specs.declared.fault.Fault.{Fault}
 use Rattle.gtp_check_texts.specs.declared.fault.Fault.TheVariants.{CutOff, Wrote}
 use Rattle.gtp_check_talks.specs.declared.notes.Notes.{Notes}
-use Rattle.gtp_check_talks.specs.Dialogues.{Dialogue, EndsWrong, IsTrial, Wrong, begun_with, wrong_with}
+use Rattle.gtp_check_talks.specs.Dialogues.{Converses, Dialogue, EndsWrong, IsTrial, Spares, SparesToEnd, Wrong}
+use Rattle.gtp_check_talks.specs.Dialogues.{begun_with, wrong_with}
 use Rattle.gtp_check_talks.specs.Laws.{ComplaintsAreJustified, KoRulesStay, LossesAreNoWrongAnswers}
 use Rattle.gtp_check_talks.specs.Laws.{RightAnswersEndStartsInVain, SilenceSaysAllIsRight}
 use Rattle.gtp_check_plan.specs.declared.plan.Plan.{Plan}
@@ -92,25 +94,46 @@ module _ {P : Type 0} (known : Ghosts P) (laws : Laws known) where
 
   -- ---- one trial
 
+  -- a conversation in which nothing was left out is one
+  converses_so : (suicide : Suicide) (start : Dialogue P) {end : Dialogue P}
+      → Spares known suicide start end → Converses known start end
+  converses_so suicide start Spares.begins_so = Converses.begins
+  converses_so suicide start (Spares.asks_so purpose command more wanted asked) =
+      Converses.asks purpose command (converses_so suicide start more) asked
+  converses_so suicide start (Spares.exchanges_so more exchanged) =
+      Converses.exchanges (converses_so suicide start more) exchanged
+
+  ends_so : (suicide : Suicide) (start : Dialogue P) (fault : Fault) (end : Dialogue P)
+      → SparesToEnd known suicide start fault end → EndsWrong known start fault end
+  ends_so suicide start fault end so = record {
+    before = so.before;
+    converses = converses_so suicide start so.spares;
+    exchanged = so.exchanged;
+  }
+
   trial_rule : (tries : Trial) (before : Standing P) {result : Option Wrong} {after : Standing P}
       → IsTrial known tries before result after → after.check.exam.game.rule ≡ before.check.exam.game.rule
   trial_rule tries before (IsTrial.unstarted reason never) = refl
   trial_rule tries before
-      (IsTrial.right {engine = engine} process ending started_so converses asks left) =
-      laws.stays (begun_with (started before.check).exam process before.notes) engine None converses
+      (IsTrial.right {engine = engine} process ending started_so spares asks left) =
+      laws.stays (begun_with (started before.check).exam process before.notes) engine None
+      (converses_so tries.suicide (begun_with (started before.check).exam process before.notes) spares)
   trial_rule tries before
       (IsTrial.wrong {engine = engine} process ending fault started_so ends asks left) =
-      laws.stays (begun_with (started before.check).exam process before.notes) engine (Some fault) ends
+      laws.stays (begun_with (started before.check).exam process before.notes) engine (Some fault)
+      (ends_so tries.suicide (begun_with (started before.check).exam process before.notes) fault engine ends)
 
   trial_less : (tries : Trial) (before : Standing P) {result : Option Wrong} {after : Standing P}
       → IsTrial known tries before result after → after.notes.fruitless ≤ before.notes.fruitless
   trial_less tries before (IsTrial.unstarted reason never) = omega arith
   trial_less tries before
-      (IsTrial.right {engine = engine} process ending started_so converses asks left) =
-      laws.vain.talked before.check.exam.game.rule process before.notes None engine converses
+      (IsTrial.right {engine = engine} process ending started_so spares asks left) =
+      laws.vain.talked before.check.exam.game.rule process before.notes None engine
+      (converses_so tries.suicide (begun_with (started before.check).exam process before.notes) spares)
   trial_less tries before
       (IsTrial.wrong {engine = engine} process ending fault started_so ends asks left) =
-      laws.vain.talked before.check.exam.game.rule process before.notes (Some fault) engine ends
+      laws.vain.talked before.check.exam.game.rule process before.notes (Some fault) engine
+      (ends_so tries.suicide (begun_with (started before.check).exam process before.notes) fault engine ends)
 
   trial_grounded : (rule : KoRule) (tries : Trial) (before : Standing P) {result : Option Wrong} {after : Standing P}
       → before.check.exam.game.rule ≡ rule → IsTrial known tries before result after
@@ -118,12 +141,13 @@ module _ {P : Type 0} (known : Ghosts P) (laws : Laws known) where
   trial_grounded rule tries before same (IsTrial.unstarted reason never) tried is =
       absurd (cc is)
   trial_grounded rule tries before same
-      (IsTrial.right process ending started_so converses asks left) tried is = absurd (cc is)
+      (IsTrial.right process ending started_so spares asks left) tried is = absurd (cc is)
   trial_grounded rule tries before same
       (IsTrial.wrong {engine = engine} process ending fault started_so ends asks left) tried is =
       subst (IsGrounded known rule) (one_there is)
       (subst (λ (r : KoRule). IsGrounded known r (wrong_with fault engine ending)) same
-      (grounded_by before.check.exam.game.rule process before.notes fault engine ending ends left))
+      (grounded_by before.check.exam.game.rule process before.notes fault engine ending
+      (ends_so tries.suicide (begun_with (started before.check).exam process before.notes) fault engine ends) left))
 
   module _ (plan : Plan) (found : Wrong) (rule : KoRule) where
     tried_comes : (commands : List CheckCommand) (before : Moment P) (result : Option Wrong) (after : Moment P)

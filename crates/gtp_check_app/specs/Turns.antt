@@ -293,7 +293,8 @@ module _ {P : Type 0} (known : Ghosts P) (plan : Plan) where
   pub data IsTried (found : Wrong) (commands : List CheckCommand) (before : Moment P)
       : Option Wrong → Moment P → Type 0 where
     by_trial : {result : Option Wrong} {after : Standing P}
-        → IsTrial known (trial (program_line plan.words.items) (wrong_purpose found) commands) (standing_in before)
+        → IsTrial known
+        (trial (program_line plan.words.items) (wrong_purpose found) commands plan.suicide) (standing_in before)
         result after
         → IsTried found commands before result
         (moment (record before.state { check = after.check; notes = after.notes }) after.asked)

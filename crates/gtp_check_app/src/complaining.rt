@@ -286,6 +286,7 @@ impl<S: Starter> Check<S> {
             words: plan.words.as_slice(),
             commands,
             purpose: found.purpose(),
+            suicide: plan.suicide,
         };
         let tried = try_commands(
             &trial,

@@ -12,7 +12,7 @@ use crate::lessons::{Lesson, Lessons};
 use crate::openings::Opening;
 use crate::places::Place;
 use crate::stretches::Stretch;
-use crate::suicides::{Suicide, is_suicide};
+use crate::suicides::Suicide;
 use go_base::{Move, Size};
 use go_board::Game;
 use gtp_check_judge::{Board as Known, CheckCommand, Examiner, Skill};
@@ -274,7 +274,7 @@ impl Course {
         ensures is { result ≡ true → IsLeftOut self.now.suicide examiner.now.exam.game command }
         ensures only { IsLeftOut self.now.suicide examiner.now.exam.game command → result ≡ true }
     {
-        self.suicide == Suicide::Unasked && is_suicide(examiner.game(), command)
+        self.suicide.leaves_out(examiner.game(), command)
     }
 
     /// The engine is asked this, where it may be. Where it may not be in this game, or is left out, the step is passed

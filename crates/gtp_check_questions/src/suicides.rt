@@ -1,6 +1,6 @@
 //! Suicide: moves that leave their own chain without a liberty.
 ghost use Rattle.std.specs.Prelude.{◌≡◌, true};
-ghost use Rattle.gtp_check_questions.specs.Course.{IsSuicide};
+ghost use Rattle.gtp_check_questions.specs.Course.{IsLeftOut, IsSuicide};
 
 use go_board::{Game, PlayFault};
 use gtp_check_judge::CheckCommand;
@@ -15,8 +15,18 @@ pub enum Suicide {
     Unasked,
 }
 
+impl Suicide {
+    /// Whether a command is left out in this game: it is suicide, and that isn't asked.
+    pub fn leaves_out(self, game: &Game, command: CheckCommand) -> bool
+        ensures is { result ≡ true → IsLeftOut self game.now command }
+        ensures only { IsLeftOut self game.now command → result ≡ true }
+    {
+        self == Suicide::Unasked && is_suicide(game, command)
+    }
+}
+
 /// Whether a command is a `play` that the game's rules refuse as suicide.
-pub(crate) fn is_suicide(game: &Game, command: CheckCommand) -> bool
+fn is_suicide(game: &Game, command: CheckCommand) -> bool
     ensures is { result ≡ true → IsSuicide game.now command }
     ensures only { IsSuicide game.now command → result ≡ true }
 {

@@ -4,9 +4,8 @@ use Rattle.std.proofs.lemmas.List.{append-nil, length-append}
 use Rattle.gtp_process.specs.declared.starter.Process.{Ghosts}
 use Rattle.gtp_check_judge.specs.declared.asking.CheckCommand.{CheckCommand}
 use Rattle.gtp_check_judge.specs.declared.exam.Exam.{Exam}
-use Rattle.gtp_check_shortening.specs.declared.talk.Purpose.{Purpose}
 use Rattle.gtp_check_shortening.specs.Shortening.{commands_of}
-use Rattle.gtp_check_talks.specs.Dialogues.{AreFor, Converses, Dialogue, asks, begins}
+use Rattle.gtp_check_talks.specs.Dialogues.{AreFor, Dialogue, Spares, Trial, asks_so}
 use Rattle.gtp_check_talks.specs.private.Asking.{AreAsked, none, one_more}
 use Rattle.gtp_check_talks.proofs.Trials.{asked_for, asked_more}
 
@@ -16,34 +15,35 @@ pub record IsAskedMore (count : ℕ) (old new : Exam) : Type 0 where
   pub reader : new.reader ≡ old.reader
   pub more : length new.unanswered ≡ length old.unanswered + count
 
-module _ {P : Type 0} (purpose : Purpose) (first : Dialogue P) where
+module _ {P : Type 0} (tries : Trial) (first : Dialogue P) where
   -- the conversation goes on
-  pub asked_on : (known : Ghosts P) {commands : List CheckCommand} (last : Dialogue P)
-      → AreAsked purpose first commands last → Converses known first last
-  asked_on known last none = begins
-  asked_on known last (one_more {mid = mid} command more asked) =
-      asks purpose command (asked_on known mid more) asked
+  pub asked_on : (known : Ghosts P) (start : Dialogue P) {commands : List CheckCommand} (last : Dialogue P)
+      → Spares known tries.suicide start first → AreAsked tries first commands last
+      → Spares known tries.suicide start last
+  asked_on known start last spares none = spares
+  asked_on known start last spares (one_more {mid = mid} command more wanted asked) =
+      asks_so tries.purpose command (asked_on known start mid spares more) wanted asked
 
   -- these are its commands
-  pub asked_talk : {commands : List CheckCommand} (last : Dialogue P) → AreAsked purpose first commands last
+  pub asked_talk : {commands : List CheckCommand} (last : Dialogue P) → AreAsked tries first commands last
       → commands_of last.talk ≡ commands_of first.talk ++ commands
   asked_talk last none = sym (append-nil (commands_of first.talk))
-  asked_talk last (one_more {commands = commands} {mid = mid} command more asked) =
-      asked_more purpose mid command last asked
+  asked_talk last (one_more {commands = commands} {mid = mid} command more wanted asked) =
+      asked_more tries.purpose mid command last asked
       ∙ ap (λ (talk : List CheckCommand). talk ++ command ∷ []) (asked_talk mid more)
       ∙ append_assoc (commands_of first.talk) commands (command ∷ [])
 
   -- each for the purpose of those before
-  pub asked_purposes : {commands : List CheckCommand} (last : Dialogue P) → AreAsked purpose first commands last
-      → AreFor purpose first.talk → AreFor purpose last.talk
+  pub asked_purposes : {commands : List CheckCommand} (last : Dialogue P) → AreAsked tries first commands last
+      → AreFor tries.purpose first.talk → AreFor tries.purpose last.talk
   asked_purposes last none all = all
-  asked_purposes last (one_more {mid = mid} command more asked) all =
-      asked_for purpose mid command last asked (asked_purposes mid more all)
+  asked_purposes last (one_more {mid = mid} command more wanted asked) all =
+      asked_for tries.purpose mid command last asked (asked_purposes mid more all)
 
-  pub asked_exam : {commands : List CheckCommand} (last : Dialogue P) → AreAsked purpose first commands last
+  pub asked_exam : {commands : List CheckCommand} (last : Dialogue P) → AreAsked tries first commands last
       → IsAskedMore (length commands) first.exam last.exam
   asked_exam last none = record { up = refl; reader = refl; more = omega arith }
-  asked_exam last (one_more {commands = commands} {mid = mid} command more asked) =
+  asked_exam last (one_more {commands = commands} {mid = mid} command more wanted asked) =
       let before = asked_exam mid more in
       let is = asked.asks.new_is in
       let owes : length last.exam.unanswered ≡ length mid.exam.unanswered + 1 =
@@ -55,8 +55,8 @@ module _ {P : Type 0} (purpose : Purpose) (first : Dialogue P) where
       }
 
   -- where none was asked, what waits is the same
-  pub asked_none : {commands : List CheckCommand} (last : Dialogue P) → AreAsked purpose first commands last
+  pub asked_none : {commands : List CheckCommand} (last : Dialogue P) → AreAsked tries first commands last
       → length commands ≡ 0 → last.waiting ≡ first.waiting
   asked_none last none is = refl
-  asked_none last (one_more {commands = commands} command more asked) is =
+  asked_none last (one_more {commands = commands} command more wanted asked) is =
       absurd (omega (arith, length-append commands (command ∷ [])))

@@ -1,23 +1,12 @@
--- Conversations that follow each other, and trials of one.
+-- Trials of a conversation.
 use Rattle.std.proofs.Common.{◌≡◌, ◌∙◌, ap, Some, None, Ok}
 use Rattle.gtp_process.specs.declared.starter.Ending.{Ending}
 use Rattle.gtp_process.specs.declared.starter.Process.{Ghosts}
 use Rattle.gtp_process.specs.Starts.{Attempts, Tries}
 use Rattle.gtp_check_judge.specs.Check.{Check, after_loss, started, with_exam}
 use Rattle.gtp_check_texts.specs.declared.fault.Fault.{Fault}
-use Rattle.gtp_check_talks.specs.Dialogues.{AsksAll, AsksFirst, Converses, Dialogue, EndsWrong, IsTrial, Standing}
-use Rattle.gtp_check_talks.specs.Dialogues.{Trial}
-use Rattle.gtp_check_talks.specs.Dialogues.{Wrong, asks, begins, begun_with, exchanges, right, standing, wrong}
-use Rattle.gtp_check_talks.specs.Dialogues.{wrong_with}
-
--- a conversation that goes on is one
-pub one_after : {P : Type 0} (known : Ghosts P) (start middle : Dialogue P) → Converses known start middle
-    → {end : Dialogue P} → Converses known middle end → Converses known start end
-one_after known start middle one begins = one
-one_after known start middle one (asks purpose command more asked) =
-    asks purpose command (one_after known start middle one more) asked
-one_after known start middle one (exchanges more exchanged) =
-    exchanges (one_after known start middle one more) exchanged
+use Rattle.gtp_check_talks.specs.Dialogues.{AsksAll, AsksFirst, Dialogue, IsTrial, Spares, SparesToEnd, Standing}
+use Rattle.gtp_check_talks.specs.Dialogues.{Trial, Wrong, begun_with, right, standing, wrong, wrong_with}
 
 -- the check with another exam, and then with yet another
 pub with_another : (old mid new : Check) → mid ≡ with_exam old mid.exam → new ≡ with_exam mid new.exam
@@ -29,7 +18,7 @@ module _ {P : Type 0} (known : Ghosts P) (tries : Trial) (before : Standing P) (
   -- a trial in which something was wrong
   pub trial_wrong : (fault : Fault) (found : Wrong) → mid ≡ started before.check
       → start ≡ begun_with mid.exam process before.notes → new ≡ with_exam mid engine.exam
-      → Tries before.asked has tries.line (Ok process) → EndsWrong known start fault engine
+      → Tries before.asked has tries.line (Ok process) → SparesToEnd known tries.suicide start fault engine
       → AsksFirst tries.purpose tries.commands engine.talk → known.leaves engine.process ending
       → found ≡ wrong_with fault engine ending
       → IsTrial known tries before (Some found) (standing (after_loss new) has engine.notes)
@@ -39,7 +28,7 @@ module _ {P : Type 0} (known : Ghosts P) (tries : Trial) (before : Standing P) (
   -- a trial in which nothing was wrong
   pub trial_right : mid ≡ started before.check → start ≡ begun_with mid.exam process before.notes
       → new ≡ with_exam mid engine.exam → Tries before.asked has tries.line (Ok process)
-      → Converses known start engine → AsksAll tries.purpose tries.commands engine
+      → Spares known tries.suicide start engine → AsksAll tries engine
       → known.leaves engine.process ending
       → IsTrial known tries before None (standing (after_loss new) has engine.notes)
   trial_right mid-is start-is new-is tried converses asked left =

@@ -9,14 +9,14 @@ use Rattle.std.proofs.Math.Seq.{take-append_seam}
 use Rattle.gtp_process.specs.declared.starter.Process.{Ghosts}
 use Rattle.gtp_check_judge.specs.declared.asking.CheckCommand.{CheckCommand}
 use Rattle.gtp_check_judge.specs.declared.exam.Exam.{Exam}
-use Rattle.gtp_check_judge.specs.Exam.{HasRoomFor}
+use Rattle.gtp_check_questions.specs.declared.suicides.Suicide.{Suicide}
 use Rattle.gtp_check_talks.specs.declared.engine.Engine.{Engine}
 use Rattle.gtp_check_texts.specs.declared.fault.Fault.{Fault}
 use Rattle.gtp_check_talks.specs.declared.notes.Notes.{Notes}
 use Rattle.gtp_check_shortening.specs.declared.talk.Purpose.{Purpose}
 use Rattle.gtp_check_shortening.specs.declared.talk.Said.{Said}
 use Rattle.gtp_check_talks.specs.Dialogues.{AreFor, AreHeard, Dialogue, IsAsked, IsExchanged, IsRead, begun_with}
-use Rattle.gtp_check_talks.specs.Dialogues.{IsFull, dialogue}
+use Rattle.gtp_check_talks.specs.Dialogues.{IsFull, IsHeldBack, dialogue}
 use Rattle.gtp_check_shortening.specs.Shortening.{commands_of}
 
 -- an engine that was just started was asked nothing
@@ -104,17 +104,18 @@ next_of old rest commands talk count is more few =
     ap (λ (list : List CheckCommand). slice_get list (length talk)) (sym is)
     ∙ ap (λ (n : ℕ). slice_get (old ++ rest) n) long ∙ at_back old rest count
 
--- where nothing waits, the next one may not be asked
-pub next_may_not : (exam : Exam) (talk : List Said) (waiting : List ℕ) (next : Option CheckCommand) → waiting ≡ []
-    → IfSome next (λ command. IsFull talk waiting ⊎ ¬ HasRoomFor exam command)
-    → IfSome next (λ command. ¬ HasRoomFor exam command)
-next_may_not exam talk waiting None none h = h
-next_may_not exam talk waiting (Some command) none h =
+-- where nothing waits, the next one is held back
+pub next_may_not : (suicide : Suicide) (exam : Exam) (talk : List Said) (waiting : List ℕ)
+    (next : Option CheckCommand) → waiting ≡ []
+    → IfSome next (λ command. IsFull talk waiting ⊎ IsHeldBack suicide exam command)
+    → IfSome next (IsHeldBack suicide exam)
+next_may_not suicide exam talk waiting None none h = h
+next_may_not suicide exam talk waiting (Some command) none h =
     let empty : length waiting ≡ 0 = ap (λ (lines : List ℕ). length lines) none in
-    elim h as (λ _. ¬ HasRoomFor exam command) [
-      | inl full ↦ elim full as (λ _. ¬ HasRoomFor exam command) [
+    elim h as (λ _. IsHeldBack suicide exam command) [
+      | inl full ↦ elim full as (λ _. IsHeldBack suicide exam command) [
         | inl long ↦ absurd (omega (arith, long))
         | inr pieces ↦ absurd (omega (arith, pieces.1))
       ]
-      | inr may_not ↦ may_not
+      | inr held ↦ held
     ]

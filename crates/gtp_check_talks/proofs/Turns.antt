@@ -16,8 +16,7 @@ use Rattle.gtp_check_judge.specs.declared.judging.Judgement.TheVariants.{Right, 
 use Rattle.gtp_check_judge.specs.declared.unanswered.Asked.{Asked}
 use Rattle.gtp_check_judge.specs.Judging.{oldest, has_id}
 use Rattle.gtp_check_judge.specs.Exam.{IdLeaves, Leaves, ReplyLeaves, after_judged, finding_of, with_learned, with_rest, reply_to}
-use Rattle.gtp_check_shortening.specs.declared.talk.Purpose.{Purpose}
-use Rattle.gtp_check_talks.specs.Dialogues.{AreHeard, Dialogue, IsExchanged, IsRead}
+use Rattle.gtp_check_talks.specs.Dialogues.{AreHeard, Dialogue, IsExchanged, IsRead, Trial}
 use Rattle.gtp_check_talks.specs.private.Asking.{AreAsked}
 use Rattle.gtp_check_talks.proofs.Asked.{IsAskedMore, asked_exam, asked_none}
 
@@ -164,15 +163,15 @@ pub record TurnsOn {P : Type 0} (rest later : ℕ) (first after : Dialogue P) : 
 
 -- Commands were asked, and the engine owed something: an answer, or it had not been sent all. Then it was heard, and
 -- nothing was wrong.
-pub turned : {P : Type 0} (known : Ghosts P) (purpose : Purpose) (first old : Dialogue P) (commands : List CheckCommand)
+pub turned : {P : Type 0} (known : Ghosts P) (tries : Trial) (first old : Dialogue P) (commands : List CheckCommand)
     (rest later : ℕ) (after : Dialogue P) → later + length commands ≡ rest → first.exam.up ≡ true
-    → AreAsked purpose first commands old → (0 < length old.waiting) ⊎ (0 < length old.exam.unanswered)
+    → AreAsked tries first commands old → (0 < length old.waiting) ⊎ (0 < length old.exam.unanswered)
     → IsExchanged known old None after → TurnsOn rest later first after
-turned known purpose first old commands rest later after is up asks owes exchanged =
+turned known tries first old commands rest later after is up asks owes exchanged =
     by old.exam.unanswered refl
   where
     asked : IsAskedMore (length commands) first.exam old.exam
-    asked = asked_exam purpose first old asks
+    asked = asked_exam tries first old asks
 
     by : (list : List Asked) → old.exam.unanswered ≡ list → TurnsOn rest later first after
     by [] none =
@@ -186,7 +185,7 @@ turned known purpose first old commands rest later after is up asks owes exchang
         record {
           up = ap (λ (exam : Exam). exam.up) out.0 ∙ asked.up ∙ up;
           less = less_sent rest (length commands) later first.exam old.exam after.exam first.waiting old.waiting
-              after.waiting is asked nothing out.0 out.1 some (asked_none purpose first old asks);
+              after.waiting is asked nothing out.0 out.1 some (asked_none tries first old asks);
         }
     by (one ∷ more) are =
         let some : 0 < length old.exam.unanswered =

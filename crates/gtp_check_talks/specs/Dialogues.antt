@@ -32,6 +32,8 @@ use Rattle.gtp_check_judge.specs.Judging.{oldest, refused_by}
 use Rattle.gtp_check_judge.specs.Check.{Check, after_loss, started, with_exam}
 use Rattle.gtp_check_questions.specs.declared.lessons.Lesson.{Lesson}
 use Rattle.gtp_check_questions.specs.declared.lessons.Lesson.TheVariants as lesson
+use Rattle.gtp_check_questions.specs.declared.suicides.Suicide.{Suicide}
+use Rattle.gtp_check_questions.specs.Course.{IsLeftOut}
 use Rattle.gtp_check_questions.specs.Lessons.{is_in_pieces}
 use Rattle.gtp_check_judge.specs.Exam.{Asks, HasRoomFor, Hearing, Hears, HearsDown, hearing}
 use Rattle.gtp_check_talks.specs.declared.engine.Engine.{Engine}
@@ -315,6 +317,27 @@ abbrev pub EndsSo : {P : Type 0} → Ghosts P → Dialogue P → Option Fault �
 EndsSo known start None after = Converses known start after
 EndsSo known start (Some fault) after = EndsWrong known start fault after
 
+-- The same, where no command was asked that is left out in the game: none was suicide, where that isn't asked.
+pub data Spares {P : Type 0} (known : Ghosts P) (suicide : Suicide) (start : Dialogue P) : Dialogue P → Type 0 where
+  begins_so : Spares known suicide start start
+  asks_so : {before after : Dialogue P} (purpose : Purpose) (command : CheckCommand)
+      → Spares known suicide start before → ¬ IsLeftOut suicide before.exam.game command
+      → IsAsked purpose before command after → Spares known suicide start after
+  exchanges_so : {before after : Dialogue P}
+      → Spares known suicide start before → IsExchanged known before None after → Spares known suicide start after
+
+-- such a conversation ended with something wrong
+pub record SparesToEnd {P : Type 0} (known : Ghosts P) (suicide : Suicide) (start : Dialogue P) (fault : Fault)
+    (after : Dialogue P) : Type 0 where
+  pub before : Dialogue P
+  pub spares : Spares known suicide start before
+  pub exchanged : IsExchanged known before (Some fault) after
+
+-- so it ended: with something wrong, or without
+abbrev pub EndsSparing : {P : Type 0} → Ghosts P → Suicide → Dialogue P → Option Fault → Dialogue P → Type 0
+EndsSparing known suicide start None after = Spares known suicide start after
+EndsSparing known suicide start (Some fault) after = SparesToEnd known suicide start fault after
+
 -- ---- a conversation that ended with something wrong
 
 -- What is wrong, how many commands were answered before, the lines of all that the engine was asked, how many bytes of
@@ -385,27 +408,37 @@ pub record AsksFirst (purpose : Purpose) (commands : List CheckCommand) (talk : 
   pub order : commands_of talk ≡ take (length talk) commands
   pub purposes : AreFor purpose talk
 
--- An engine that is up was asked all of these commands. Or it was asked the first of them, and the next one may not be
--- asked in this game. It was sent all that it was asked, and has answered it.
-pub record AsksAll {P : Type 0} (purpose : Purpose) (commands : List CheckCommand) (engine : Dialogue P)
-    : Type 0 where
-  pub first : AsksFirst purpose commands engine.talk
-  pub next : IfSome (slice_get commands (length engine.talk)) (λ command. ¬ HasRoomFor engine.exam command)
-  pub up : engine.exam.up ≡ true
-  pub sent : engine.waiting ≡ []
-  pub answered : engine.exam.unanswered ≡ []
+-- The command may not be asked in this game, or is left out: it is suicide, and that isn't asked.
+abbrev pub IsHeldBack : Suicide → Exam → CheckCommand → Type 0
+IsHeldBack suicide exam command = (¬ HasRoomFor exam command) ⊎ IsLeftOut suicide exam.game command
 
--- what is tried: these commands, each for this purpose, on an engine that is asked for by this command line
+-- what is tried: these commands, each for this purpose, on an engine that is asked for by this command line; and
+-- whether a `play` is asked that would be suicide
 pub record Trial : Type 0 where
   pub line : List Text
   pub purpose : Purpose
   pub commands : List CheckCommand
+  pub suicide : Suicide
 
-abbrev pub trial : List Text → Purpose → List CheckCommand → Trial
-trial line purpose commands = record { line = line; purpose = purpose; commands = commands }
+abbrev pub trial : List Text → Purpose → List CheckCommand → Suicide → Trial
+trial line purpose commands suicide = record {
+  line = line;
+  purpose = purpose;
+  commands = commands;
+  suicide = suicide;
+}
 
 abbrev pub trial_of : TrialOfCommands → Trial
-trial_of tries = trial (program_line tries.words.now) tries.purpose tries.commands.now
+trial_of tries = trial (program_line tries.words.now) tries.purpose tries.commands.now tries.suicide
+
+-- An engine that is up was asked all of the commands. Or it was asked the first of them, and the next one may not be
+-- asked in this game, or is left out. It was sent all that it was asked, and has answered it.
+pub record AsksAll {P : Type 0} (tries : Trial) (engine : Dialogue P) : Type 0 where
+  pub first : AsksFirst tries.purpose tries.commands engine.talk
+  pub next : IfSome (slice_get tries.commands (length engine.talk)) (IsHeldBack tries.suicide engine.exam)
+  pub up : engine.exam.up ≡ true
+  pub sent : engine.waiting ≡ []
+  pub answered : engine.exam.unanswered ≡ []
 
 -- between two trials: the check of all engines, the starts that were asked for, and what is noted
 pub record Standing (P : Type 0) : Type 0 where
@@ -421,7 +454,8 @@ abbrev pub ended_with : Check → Exam → Check
 ended_with check exam = after_loss (with_exam (started check) exam)
 
 -- A conversation was tried. The engine wasn't started. Or it was, and answered all of the commands rightly, as far as
--- they may be asked. Or it was asked the first of them, and then this was wrong. Its process was ended.
+-- they may be asked and aren't left out. Or it was asked the first of them, and then this was wrong. None that it was
+-- asked is left out. Its process was ended.
 pub data IsTrial {P : Type 0} (known : Ghosts P) (tries : Trial) (before : Standing P)
     : Option Wrong → Standing P → Type 0 where
   unstarted : {has : Attempts P} (reason : StartReason)
@@ -429,12 +463,12 @@ pub data IsTrial {P : Type 0} (known : Ghosts P) (tries : Trial) (before : Stand
       → IsTrial known tries before None (record before { asked = has })
   right : {has : Attempts P} {engine : Dialogue P} (process : P) (ending : Ending)
       → Tries before.asked has tries.line (Ok process)
-      → Converses known (begun_with (started before.check).exam process before.notes) engine
-      → AsksAll tries.purpose tries.commands engine → known.leaves engine.process ending
+      → Spares known tries.suicide (begun_with (started before.check).exam process before.notes) engine
+      → AsksAll tries engine → known.leaves engine.process ending
       → IsTrial known tries before None (standing (ended_with before.check engine.exam) has engine.notes)
   wrong : {has : Attempts P} {engine : Dialogue P} (process : P) (ending : Ending) (fault : Fault)
       → Tries before.asked has tries.line (Ok process)
-      → EndsWrong known (begun_with (started before.check).exam process before.notes) fault engine
+      → SparesToEnd known tries.suicide (begun_with (started before.check).exam process before.notes) fault engine
       → AsksFirst tries.purpose tries.commands engine.talk → known.leaves engine.process ending
       → IsTrial known tries before (Some (wrong_with fault engine ending))
       (standing (ended_with before.check engine.exam) has engine.notes)

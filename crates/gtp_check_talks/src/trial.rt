@@ -1,18 +1,19 @@
 //! A shorter conversation is tried on a new engine.
-ghost use Rattle.std.specs.Prelude.{◌≡◌, ◌<◌, ◌≤◌, ◌↔◌, ◌⊎◌, true, [], length, take, slice_get};
+ghost use Rattle.std.specs.Prelude.{◌≡◌, ◌<◌, ◌≤◌, ◌↔◌, ◌⊎◌, true, false, [], length, take, slice_get};
 ghost use Rattle.std.specs.Prelude.{IsTrue, IfOk, IfNone, IfSome, OnOk, OnErr, option_map};
 ghost use Rattle.gtp_process.specs.Starts.{program_line};
 ghost use Rattle.gtp_check_judge.specs.Check.{with_exam};
 ghost use Rattle.gtp_check_judge.specs.Exam.{HasRoomFor};
-ghost use Rattle.gtp_check_talks.specs.Dialogues.{AsksAll, AsksFirst, AsksForMore, EndsLike, EndsSo, IsTrial, dialogue};
-ghost use Rattle.gtp_check_talks.specs.Dialogues.{IsFull, standing, trial_of, wrong_command, wrong_of, wrong_purpose};
-ghost use Rattle.gtp_check_talks.specs.Dialogues.{wrong_talk};
+ghost use Rattle.gtp_check_questions.specs.Course.{IsLeftOut};
+ghost use Rattle.gtp_check_talks.specs.Dialogues.{AsksAll, AsksFirst, AsksForMore, EndsLike, EndsSparing, IsTrial, dialogue};
+ghost use Rattle.gtp_check_talks.specs.Dialogues.{IsFull, IsHeldBack, standing, trial_of, wrong_command, wrong_of};
+ghost use Rattle.gtp_check_talks.specs.Dialogues.{wrong_purpose, wrong_talk};
 ghost use Rattle.gtp_check_talks.specs.private.Asking.{AreAsked};
 
 use crate::engine::{Ended, Engine, Room};
 use crate::notes::Notes;
 use gtp_check_judge::{CheckCommand, Examiner};
-use gtp_check_questions::Lesson;
+use gtp_check_questions::{Lesson, Suicide};
 use gtp_check_shortening::talk::{Purpose, Said};
 use gtp_check_texts::fault::Fault;
 use gtp_process::{Process, StartFault, Starter};
@@ -80,10 +81,12 @@ pub struct Trial<'t> {
     pub commands: &'t [CheckCommand],
     /// For what each of them is asked.
     pub purpose: Purpose,
+    /// Whether a `play` is asked that would be suicide.
+    pub suicide: Suicide,
 }
 
 /// A new engine is started, asked the commands of a trial and ended. Returns what is wrong with it, if anything is. One
-/// that can't be started gives nothing.
+/// that can't be started gives nothing. Where a command may not be asked, or is left out, the trial is over.
 ///
 /// # Errors
 ///
@@ -124,7 +127,7 @@ pub fn try_commands<S: Starter>(
 }
 
 /// The engine, which is up, is asked the commands of a trial, one after the other: until something is wrong, or it has
-/// answered all that may be asked.
+/// answered all up to one that may not be asked, or is left out.
 ///
 /// Each turn of the loop gets on: a command is answered, or more of a reply is read, which has 8,192 bytes at most, or what
 /// waits is sent.
@@ -136,19 +139,18 @@ fn ask_all<P: Process>(
     notes: &mut Notes,
 ) -> Result<Option<Fault>, AllocError>
     requires up { examiner.old.exam.up ≡ true }
-    ensures ends { IfOk result (λ fault. EndsSo P.Process
+    ensures ends { IfOk result (λ fault. EndsSparing P.Process trial.now.suicide
         (dialogue engine.old examiner.old.exam notes.old) fault
         (dialogue engine.new examiner.new.exam notes.new)) }
     ensures check { examiner.new ≡ with_exam examiner.old examiner.new.exam }
     ensures first { engine.old.talk.items ≡ [] → OnOk result
         (AsksFirst trial.now.purpose trial.now.commands.now engine.new.talk.items) }
     ensures all { engine.old.talk.items ≡ [] → IfOk result (λ fault. IfNone fault
-        (AsksAll trial.now.purpose trial.now.commands.now
-        (dialogue engine.new examiner.new.exam notes.new))) }
+        (AsksAll (trial_of trial.now) (dialogue engine.new examiner.new.exam notes.new))) }
 {
     let mut rest = trial.commands;
     loop {
-        let asked = ask_some(engine, examiner, rest, trial.purpose, notes)?;
+        let asked = ask_some(trial, rest, engine, examiner, notes)?;
         rest = rest.split_at(asked).1;
         if engine.owes_nothing(examiner) {
             return Ok(None);
@@ -159,29 +161,39 @@ fn ask_all<P: Process>(
     }
 }
 
-/// The engine is asked the first of these commands, as many as may be asked at once. Returns how many.
+/// The engine is asked the first of these commands of a trial, as many as may be asked at once. Returns how many.
 fn ask_some<P: Process>(
+    trial: &Trial<'_>,
+    commands: &[CheckCommand],
     engine: &mut Engine<P>,
     examiner: &mut Examiner,
-    commands: &[CheckCommand],
-    purpose: Purpose,
     notes: &mut Notes,
 ) -> Result<usize, AllocError>
-    ensures asks { IfOk result (λ count. AreAsked purpose
+    ensures asks { IfOk result (λ count. AreAsked (trial_of trial.now)
         (dialogue engine.old examiner.old.exam notes.old) (take count commands.now)
         (dialogue engine.new examiner.new.exam notes.new)) }
     ensures few { IfOk result (λ count. count ≤ length commands.now) }
     ensures most { IfOk result (λ count. IfSome (slice_get commands.now count) (λ next.
         IsFull engine.new.talk.items engine.new.waiting.items
-        ⊎ ¬ HasRoomFor examiner.new.exam next)) }
+        ⊎ IsHeldBack trial.now.suicide examiner.new.exam next)) }
     ensures check { examiner.new ≡ with_exam examiner.old examiner.new.exam }
 {
+    let purpose = trial.purpose;
     for index in 0..commands.len() {
         let command = commands[index];
-        if !engine.has_room() || !examiner.has_room(&command) {
+        if !engine.has_room() || is_held_back(examiner, &command, trial.suicide) {
             return Ok(index);
         }
         engine.ask(examiner, command, purpose, notes)?;
     }
     Ok(commands.len())
+}
+
+/// Whether a command may not be asked of the engine now, or is left out.
+fn is_held_back(examiner: &Examiner, command: &CheckCommand, suicide: Suicide) -> bool
+    ensures is { result ≡ true → IsHeldBack suicide examiner.now.exam command.now }
+    ensures may { result ≡ false → HasRoomFor examiner.now.exam command.now }
+    ensures wanted { result ≡ false → ¬ IsLeftOut suicide examiner.now.exam.game command.now }
+{
+    !examiner.has_room(command) || suicide.leaves_out(examiner.game(), *command)
 }

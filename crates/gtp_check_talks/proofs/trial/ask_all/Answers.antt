@@ -2,17 +2,17 @@ use Rattle.std.proofs.Common.{◌≡◌, ◌∙◌, ◌-◌, ◌++◌, ap, refl,
 use Rattle.std.proofs.lemmas.List.{length-drop, length-take-le}
 use Rattle.std.proofs.lemmas.List.Elements.{All-nil}
 use Rattle.gtp_check_shortening.specs.declared.talk.Said.{Said}
-use Rattle.gtp_check_talks.specs.Dialogues.{AreFor, begins, dialogue, exchanges}
+use Rattle.gtp_check_talks.specs.Dialogues.{AreFor, begins_so, dialogue, exchanges_so, trial_of}
 use Rattle.gtp_check_shortening.specs.Shortening.{commands_of}
 use Rattle.gtp_check_talks.proofs.Asked.{asked_exam, asked_on, asked_purposes, asked_talk}
-use Rattle.gtp_check_talks.proofs.Conversations.{one_after, with_another}
+use Rattle.gtp_check_talks.proofs.Conversations.{with_another}
 use Rattle.gtp_check_talks.proofs.Trials.{asks_first, exchanged_talk, next_may_not, next_of, some_more_of}
 use Rattle.gtp_check_talks.proofs.Turns.{turned}
 use Rattle.gtp_check_talks.proofs.trial.ask_all.Goals as goal
 
 pub loop-asked-init : goal.loop-asked-init
 loop-asked-init g c = record {
-  converses = begins;
+  spares = begins_so;
   check = refl;
   up = c.requires.up;
   first = λ none. ap (λ (talk : List Said). commands_of talk ++ c.args.trial.now.commands.now) none;
@@ -23,12 +23,11 @@ loop-asked-init g c = record {
 
 pub returns-then-owes_nothing-clause-ends : goal.returns-then-owes_nothing-clause-ends
 returns-then-owes_nothing-clause-ends g c =
-    one_after g.P.Process (dialogue c.args.engine.now c.args.examiner.now.exam c.args.notes.now)
-    (dialogue c.loop-asked.engine c.loop-asked.examiner.exam c.loop-asked.notes) c.loop-asked.invariant.converses
-    (asked_on c.args.trial.now.purpose (dialogue c.loop-asked.engine c.loop-asked.examiner.exam c.loop-asked.notes)
-    g.P.Process
+    asked_on (trial_of c.args.trial.now)
+    (dialogue c.loop-asked.engine c.loop-asked.examiner.exam c.loop-asked.notes) g.P.Process
+    (dialogue c.args.engine.now c.args.examiner.now.exam c.args.notes.now)
     (dialogue c.ask_some.new.engine c.ask_some.new.examiner.exam c.ask_some.new.notes)
-    c.in_ok-asked.ensures.asks)
+    c.loop-asked.invariant.spares c.in_ok-asked.ensures.asks
 
 pub returns-then-owes_nothing-clause-first : goal.returns-then-owes_nothing-clause-first
 returns-then-owes_nothing-clause-first g c = λ none.
@@ -40,9 +39,9 @@ returns-then-owes_nothing-clause-first g c = λ none.
           c.ask_some.new.engine.talk.items
           (some_more_of (commands_of c.loop-asked.engine.talk.items) (commands_of c.ask_some.new.engine.talk.items)
           c.loop-asked.rest.now (drop c.in_ok-asked.asked c.loop-asked.rest.now) c.args.trial.now.commands.now
-          c.in_ok-asked.asked (c.loop-asked.invariant.first none) (asked_talk c.args.trial.now.purpose from now asks)
+          c.in_ok-asked.asked (c.loop-asked.invariant.first none) (asked_talk (trial_of c.args.trial.now) from now asks)
           refl);
-      purposes = asked_purposes c.args.trial.now.purpose from now asks (c.loop-asked.invariant.purposes none);
+      purposes = asked_purposes (trial_of c.args.trial.now) from now asks (c.loop-asked.invariant.purposes none);
     }
 
 pub returns-then-owes_nothing-clause-all : goal.returns-then-owes_nothing-clause-all
@@ -53,13 +52,13 @@ returns-then-owes_nothing-clause-all g c = λ none.
     let sent = c.owes_nothing.ensures.sent c.if-owes_nothing.true in
     let next = next_of (commands_of c.loop-asked.engine.talk.items) c.loop-asked.rest.now c.args.trial.now.commands.now
     c.ask_some.new.engine.talk.items c.in_ok-asked.asked (c.loop-asked.invariant.first none)
-    (asked_talk c.args.trial.now.purpose from now asks) c.in_ok-asked.ensures.few in
+    (asked_talk (trial_of c.args.trial.now) from now asks) c.in_ok-asked.ensures.few in
     record {
       first = returns-then-owes_nothing-clause-first g c none;
       next = rw next
-          (next_may_not c.ask_some.new.examiner.exam c.ask_some.new.engine.talk.items
+          (next_may_not c.args.trial.now.suicide c.ask_some.new.examiner.exam c.ask_some.new.engine.talk.items
           c.ask_some.new.engine.waiting.items _ sent c.in_ok-asked.ensures.most);
-      up = (asked_exam c.args.trial.now.purpose from now asks).up ∙ c.loop-asked.invariant.up;
+      up = (asked_exam (trial_of c.args.trial.now) from now asks).up ∙ c.loop-asked.invariant.up;
       sent = sent;
       answered = c.owes_nothing.ensures.answered c.if-owes_nothing.true;
     }
@@ -67,12 +66,11 @@ returns-then-owes_nothing-clause-all g c = λ none.
 pub returns-in-Some-clause-ends : goal.returns-in-Some-clause-ends
 returns-in-Some-clause-ends g c = record {
   before = dialogue c.ask_some.new.engine c.ask_some.new.examiner.exam c.ask_some.new.notes;
-  converses = one_after g.P.Process (dialogue c.args.engine.now c.args.examiner.now.exam c.args.notes.now)
-      (dialogue c.loop-asked.engine c.loop-asked.examiner.exam c.loop-asked.notes) c.loop-asked.invariant.converses
-      (asked_on c.args.trial.now.purpose (dialogue c.loop-asked.engine c.loop-asked.examiner.exam c.loop-asked.notes)
-      g.P.Process
+  spares = asked_on (trial_of c.args.trial.now)
+      (dialogue c.loop-asked.engine c.loop-asked.examiner.exam c.loop-asked.notes) g.P.Process
+      (dialogue c.args.engine.now c.args.examiner.now.exam c.args.notes.now)
       (dialogue c.ask_some.new.engine c.ask_some.new.examiner.exam c.ask_some.new.notes)
-      c.in_ok-asked.ensures.asks);
+      c.loop-asked.invariant.spares c.in_ok-asked.ensures.asks;
   exchanged = c.in-Some.ensures.exchanged;
 }
 
@@ -92,9 +90,9 @@ returns-in-Some-clause-first g c = λ none.
           ∙ some_more_of (commands_of c.loop-asked.engine.talk.items)
           (commands_of c.ask_some.new.engine.talk.items) c.loop-asked.rest.now
           (drop c.in_ok-asked.asked c.loop-asked.rest.now) c.args.trial.now.commands.now c.in_ok-asked.asked
-          (c.loop-asked.invariant.first none) (asked_talk c.args.trial.now.purpose from now asks) refl);
+          (c.loop-asked.invariant.first none) (asked_talk (trial_of c.args.trial.now) from now asks) refl);
       purposes = subst (AreFor c.args.trial.now.purpose) (sym same)
-          (asked_purposes c.args.trial.now.purpose from now asks (c.loop-asked.invariant.purposes none));
+          (asked_purposes (trial_of c.args.trial.now) from now asks (c.loop-asked.invariant.purposes none));
     }
 
 pub loop-asked-smaller : goal.loop-asked-smaller
@@ -102,7 +100,7 @@ loop-asked-smaller g c =
     let count = length-take-le c.in_ok-asked.asked c.loop-asked.rest.now c.in_ok-asked.ensures.few in
     let later : length c.split_at.result.1.now ≡ length c.loop-asked.rest.now - c.in_ok-asked.asked =
     ap length c.split_at.ensures.back ∙ length-drop c.in_ok-asked.asked c.loop-asked.rest.now in
-    (turned g.P.Process c.args.trial.now.purpose (dialogue c.loop-asked.engine c.loop-asked.examiner.exam
+    (turned g.P.Process (trial_of c.args.trial.now) (dialogue c.loop-asked.engine c.loop-asked.examiner.exam
     c.loop-asked.notes)
     (dialogue c.ask_some.new.engine c.ask_some.new.examiner.exam c.ask_some.new.notes)
     (take c.in_ok-asked.asked c.loop-asked.rest.now) (length c.loop-asked.rest.now) (length c.split_at.result.1.now)
@@ -124,16 +122,15 @@ loop-asked-preserved g c =
     let later : length c.split_at.result.1.now ≡ length c.loop-asked.rest.now - c.in_ok-asked.asked =
     ap length c.split_at.ensures.back ∙ length-drop c.in_ok-asked.asked c.loop-asked.rest.now in
     record {
-      converses = exchanges
-          (one_after g.P.Process (dialogue c.args.engine.now c.args.examiner.now.exam c.args.notes.now)
-          (dialogue c.loop-asked.engine c.loop-asked.examiner.exam c.loop-asked.notes) before.converses
-          (asked_on c.args.trial.now.purpose from g.P.Process now asks))
+      spares = exchanges_so
+          (asked_on (trial_of c.args.trial.now) from g.P.Process
+          (dialogue c.args.engine.now c.args.examiner.now.exam c.args.notes.now) now before.spares asks)
           c.in_default.ensures.exchanged;
       check = with_another c.args.examiner.now c.ask_some.new.examiner c.exchange.new.examiner
           (with_another c.args.examiner.now c.loop-asked.examiner c.ask_some.new.examiner before.check
           c.ask_some.ensures.check)
           c.exchange.ensures.check;
-      up = (turned g.P.Process c.args.trial.now.purpose from now
+      up = (turned g.P.Process (trial_of c.args.trial.now) from now
           (take c.in_ok-asked.asked c.loop-asked.rest.now) (length c.loop-asked.rest.now)
           (length c.split_at.result.1.now)
           (dialogue c.exchange.new.self c.exchange.new.examiner.exam c.exchange.new.notes)
@@ -144,7 +141,7 @@ loop-asked-preserved g c =
           ∙ some_more_of (commands_of c.loop-asked.engine.talk.items)
           (commands_of c.ask_some.new.engine.talk.items) c.loop-asked.rest.now
           c.split_at.result.1.now c.args.trial.now.commands.now c.in_ok-asked.asked (before.first none)
-          (asked_talk c.args.trial.now.purpose from now asks) c.split_at.ensures.back;
+          (asked_talk (trial_of c.args.trial.now) from now asks) c.split_at.ensures.back;
       purposes = λ none. subst (AreFor c.args.trial.now.purpose) (sym same)
-          (asked_purposes c.args.trial.now.purpose from now asks (before.purposes none));
+          (asked_purposes (trial_of c.args.trial.now) from now asks (before.purposes none));
     }

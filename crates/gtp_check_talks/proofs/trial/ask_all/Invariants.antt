@@ -1,6 +1,6 @@
 use Rattle.std.proofs.Common.{◌≡◌, true, [], ◌++◌, length}
 use Rattle.gtp_check_judge.specs.Check.{with_exam}
-use Rattle.gtp_check_talks.specs.Dialogues.{AreFor, Converses, dialogue}
+use Rattle.gtp_check_talks.specs.Dialogues.{AreFor, Spares, dialogue}
 use Rattle.gtp_check_shortening.specs.Shortening.{commands_of}
 use Rattle.gtp_check_talks.proofs.Turns.{left}
 use Rattle.gtp_check_talks.proofs.trial.ask_all.Given as goal
@@ -8,7 +8,7 @@ use Rattle.gtp_check_talks.proofs.trial.ask_all.Given as goal
 -- nothing was wrong so far
 abbrev pub invariant-loop-asked : goal.invariant-loop-asked
 invariant-loop-asked g l = record {
-  converses : Converses g.P.Process (dialogue l.fn.engine l.fn.examiner.exam l.fn.notes)
+  spares : Spares g.P.Process l.trial.suicide (dialogue l.fn.engine l.fn.examiner.exam l.fn.notes)
       (dialogue l.engine l.examiner.exam l.notes);
   check : l.examiner ≡ with_exam l.fn.examiner l.examiner.exam;
   up : l.examiner.exam.up ≡ true;

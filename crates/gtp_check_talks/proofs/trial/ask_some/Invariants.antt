@@ -1,13 +1,13 @@
 use Rattle.std.proofs.Common.{◌≡◌, take}
 use Rattle.gtp_check_judge.specs.Check.{with_exam}
-use Rattle.gtp_check_talks.specs.Dialogues.{dialogue}
+use Rattle.gtp_check_talks.specs.Dialogues.{dialogue, trial_of}
 use Rattle.gtp_check_talks.specs.private.Asking.{AreAsked}
 use Rattle.gtp_check_talks.proofs.trial.ask_some.Given as goal
 
 -- the commands so far were asked
 abbrev pub invariant-loop-index : goal.invariant-loop-index
 invariant-loop-index g l = record {
-  asks : AreAsked l.purpose (dialogue l.fn.engine l.fn.examiner.exam l.fn.notes) (take l.index l.commands)
+  asks : AreAsked (trial_of l.trial) (dialogue l.fn.engine l.fn.examiner.exam l.fn.notes) (take l.index l.commands)
       (dialogue l.engine l.examiner.exam l.notes);
   check : l.examiner ≡ with_exam l.fn.examiner l.examiner.exam;
 }

@@ -6,7 +6,7 @@ use crate::tests::commands::command;
 use byte_streams::CallFault;
 use go_board::KoRule;
 use gtp_check_judge::{CheckCommand, Examiner, Kind};
-use gtp_check_questions::Lesson;
+use gtp_check_questions::{Lesson, Suicide};
 use gtp_check_shortening::talk::Purpose;
 use gtp_check_talks::engine::Room;
 use gtp_check_talks::notes::Notes;
@@ -94,6 +94,7 @@ fn trial_of<R: Abort + AllocGlobal>(
     rt: &R,
     texts: &'static [&'static [u8]],
     commands: &[CheckCommand],
+    suicide: Suicide,
 ) -> (u32, Option<Tried>) {
     let purpose = Purpose {
         lesson: Lesson::Komi,
@@ -107,6 +108,7 @@ fn trial_of<R: Abort + AllocGlobal>(
         words: &["engine"],
         commands,
         purpose,
+        suicide,
     };
     let tried = try_commands(
         &trial,
@@ -162,7 +164,7 @@ const SHOWN: &str = "# 1 komi: \"2 clear_board\": it was refused
 fn what_was_never_sent_is_not_shown(rt: HostRuntime) -> Result<(), Fail> {
     let commands = commands_of(&rt, &["boardsize 5", "clear_board", "name", "version"]);
     for refusal in &REFUSALS {
-        let (count, tried) = trial_of(&rt, refusal.texts, commands.as_slice());
+        let (count, tried) = trial_of(&rt, refusal.texts, commands.as_slice(), Suicide::Forbidden);
         assert_equal(&rt, count, 4);
         let tried = some(&rt, tried);
         assert_equal_for(&rt, refusal.after, tried.fault, Fault::Wrote(Kind::Refused));
@@ -211,7 +213,28 @@ fn a_trial_asks_all_of_an_engine_that_answers_before_it_is_asked(rt: HostRuntime
         let known = command(&rt, "known_command fixed_handicap");
         assert_true(&rt, commands.push(known).is_ok());
     }
-    let (count, tried) = trial_of(&rt, &ANSWERS, commands.as_slice());
+    let (count, tried) = trial_of(&rt, &ANSWERS, commands.as_slice(), Suicide::Forbidden);
     assert_true(&rt, tried.is_none());
     assert_equal(&rt, count, 36);
+}
+
+/// The answers to a board of White's two stones round A1, and the refusal of what comes next.
+static SHUT_IN: [&[u8]; 1] = [b"=1\n\n=2\n\n=3\n\n=4\n\n?5 suicide\n\n=6\n\n"];
+
+#[test]
+fn a_trial_is_over_before_a_suicide_that_is_not_asked(rt: HostRuntime) {
+    let texts = [
+        "boardsize 5",
+        "clear_board",
+        "play w A2",
+        "play w B1",
+        "play b A1",
+        "name",
+    ];
+    let commands = commands_of(&rt, &texts);
+    for (suicide, wanted) in [(Suicide::Unasked, 4), (Suicide::Forbidden, 6)] {
+        let (count, tried) = trial_of(&rt, &SHUT_IN, commands.as_slice(), suicide);
+        assert_true(&rt, tried.is_none());
+        assert_equal(&rt, count, wanted);
+    }
 }
