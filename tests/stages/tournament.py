@@ -51,7 +51,8 @@ from tests.stages.of_tournament.between import InTime, Late, Passing  # noqa: E4
 from tests.stages.of_tournament.noted import Limits, Noted  # noqa: E402, F401
 from tests.stages.of_tournament.noted import Stopped as StoppedNotes  # noqa: E402, F401
 from tests.stages.of_tournament.openings import Folders, Refused, Rules, Taken  # noqa: E402, F401
-from tests.stages.of_tournament.opened import Answers, Crashes, Refusals, Talks, Times  # noqa: E402, F401
+from tests.stages.of_tournament.opened import Answers, Crashes, Refusals, Talks  # noqa: E402, F401
+from tests.stages.of_tournament.opened import Times as OpenedTimes  # noqa: E402, F401
 from tests.stages.of_tournament.opened import Games as OpenedGames  # noqa: E402, F401
 from tests.stages.of_tournament.tries import InARow, NotStarted, Tried, Unable  # noqa: E402, F401
 from tests.stages.of_tournament.beside import Died, Games, Sample, Taps  # noqa: E402, F401

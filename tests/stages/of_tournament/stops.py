@@ -102,7 +102,7 @@ class Stubborn(Case):
             self.check("at the limit of a game: the status", 1, status)
             self.check("at the limit of a game: none is left", [], here.left())
             names = ["1_one_two", "1_two_one", "2_one_two", "2_two_one"]
-            whom = [f"{name.split('_')[1]} was waited for, 0. seconds at '1 boardsize 19'" for name in names]
+            whom = [f"{name.split('_')[1]} was waited for, S seconds at '1 boardsize 19'" for name in names]
             why = [f"not over in 1 seconds; {who}" for who in whom]
             said = [f"tournament: {name}: no result: {it}" for name, it in zip(names, why)]
             self.check("at the limit of a game: it says so", said, lines(without_parts(errors)))
@@ -116,8 +116,8 @@ class Stubborn(Case):
 
 
 def without_parts(text):
-    """A text without the parts of seconds in it."""
-    return re.sub(r"(\d\.)\d+ seconds", r"\1 seconds", text)
+    """A text without the seconds in it: on a busy machine they are more."""
+    return re.sub(r"\d+\.\d+ seconds", "S seconds", text)
 
 
 # An engine that leaves a process in a session of its own, and notes which of those before it live still.

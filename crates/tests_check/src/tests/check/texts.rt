@@ -33,13 +33,20 @@ fn a_check_has_a_first_line_and_last_lines_and_a_lesson_has_a_line(
     let refusal = Reply::new();
     for lesson in LESSONS {
         let answered = match lesson {
-            Lesson::Genmoves | Lesson::Komi | Lesson::Games => Some(CheckCommand::Name),
+            Lesson::Genmoves | Lesson::Komi | Lesson::Games => Some(asked(CheckCommand::Name)),
             Lesson::Suicide => None,
-            Lesson::Ko => Some(CheckCommand::Match(Command::Play(Move::default()))),
-            _ => Some(CheckCommand::Match(Command::Genmove(Colour::White))),
+            Lesson::Ko => Some(asked(CheckCommand::Match(Command::Play(Move::default())))),
+            _ => Some(asked(CheckCommand::Match(Command::Genmove(Colour::White)))),
+        };
+        let heard = Heard {
+            used: 0,
+            read: None,
+            finding: None,
+            answered,
+            refused: None,
         };
         notes.count();
-        notes.take(&heard_after(answered), lesson, &refusal, skills);
+        notes.take(&heard, lesson, &refusal, skills);
     }
     let ending = Ending {
         over: &Over::NoMoreStarts,
@@ -68,17 +75,11 @@ check: 13 commands, 2 starts, 0 complaints
     Ok(())
 }
 
-/// What was heard, where this command was answered rightly, if any.
-fn heard_after(answered: Option<CheckCommand>) -> Heard {
-    Heard {
-        used: 0,
-        read: None,
-        finding: None,
-        answered: answered.map(|command| Asked {
-            id: 1,
-            command,
-            due: Due::AnyReply,
-        }),
-        refused: None,
+/// A command that was asked, whose answer is not judged.
+fn asked(command: CheckCommand) -> Asked {
+    Asked {
+        id: 1,
+        command,
+        due: Due::AnyReply,
     }
 }
