@@ -34,7 +34,7 @@ sys.path[0] = str(Path(__file__).resolve().parents[2])
 
 from tests.shared import checks  # noqa: E402
 from tests.stages.of_tournament import rooms  # noqa: E402
-from tests.stages.of_tournament.stops import Full, Interrupted, Killed, Limited, OneKilled, Sessions, Silent  # noqa: E402, F401
+from tests.stages.of_tournament.stops import AllKilled, Full, Interrupted, Killed, Limited, OneKilled, Sessions, Silent  # noqa: E402, F401
 from tests.stages.of_tournament.stops import Stopped, Stubborn, Whole  # noqa: E402, F401
 from tests.stages.of_tournament.drawn import Drawn, Two, Unread  # noqa: E402, F401
 from tests.stages.of_tournament.plans import CutAtSpaces, Lost, NoResults, Plans  # noqa: E402, F401

@@ -22,6 +22,7 @@ from .talk import Talk
 ROOM = 65536  # bytes that are read at once
 LATE, NO_NOTES = 124, 125
 PAUSE = 0.2  # seconds in which an engine may end whose output has ended
+GONE = 5  # seconds in which one may end that nobody writes to or reads any more
 SAME = 0.5  # seconds in which twogtp ends, where it was asked to as the engine was
 
 
@@ -102,6 +103,7 @@ class Relay:
         self.talk, self.engine = talk, engine
         self.to_engine = self.to_caller = b""
         self.reads = {0, engine.taken}
+        self.left = None  # since when twogtp is gone
         os.set_blocking(1, False)
 
     def run(self):
@@ -111,6 +113,9 @@ class Relay:
             pause = self.talk.pause()
             if pause is not None and pause <= 0:
                 return True
+            if 0 not in self.reads:
+                pause = PAUSE if pause is None else min(PAUSE, pause)
+                self.end_if_left()
             writes = [end for end, text in ((self.engine.given, self.to_engine), (1, self.to_caller)) if text]
             readable, _, _ = select.select(self.reads if len(self.to_caller) < ROOM else self.reads - {taken}, writes, [], pause)
             if 0 in readable:
@@ -126,6 +131,17 @@ class Relay:
                 self.to_caller = rest(1, self.to_caller)
             if 0 not in self.reads and not self.to_engine and self.engine.given is not None:
                 self.engine.given = os.close(self.engine.given)
+
+    def end_if_left(self):
+        """Ends the engine where twogtp has gone, and the engine goes on for too long: nobody else would end it."""
+        ends = select.poll()
+        ends.register(1, 0)
+        if not ends.poll(0):
+            return
+        self.left = self.left or time.monotonic()
+        if time.monotonic() > self.left + GONE:
+            below.end_all()
+            raise Ended(LATE)
 
     def hear_caller(self):
         """Reads what twogtp wrote. Where it has ended, that is noted if it waited for an answer."""

@@ -10,7 +10,7 @@ import time
 
 from tests.shared import checks
 
-from .rooms import LIMIT, RANDOM, SLOW, SMALL, STUBBORN, Case, heed, lines, results, room, tried, two_engines
+from .rooms import HANGS, LIMIT, RANDOM, SLOW, SMALL, STUBBORN, Case, heed, lines, results, room, tried, two_engines
 
 
 # An engine that doesn't answer `quit`, and doesn't end.
@@ -187,6 +187,26 @@ class Killed(Case):
             process.terminate()
             process.wait(LIMIT)
             self.check(f"{what} is killed: none is left at the end", True, here.until(lambda: not here.left(), 15))
+
+
+class AllKilled(Case):
+    """Those that play a game are killed at one moment, with twogtp: its engines hang, and nobody else would end them."""
+
+    def test_all(self):
+        """The run, the game and twogtp are killed at one moment."""
+        with room() as here:
+            engine = here.script("hangs", HANGS)
+            engines = ["--engine", f"one={engine} 1", "--engine", f"two={engine} 1"]
+            here.run("tournament", "plan", "all", *engines, "--seeds", "1", "--", "--size", "9")
+            tried(here, "all")
+            process = here.start("tournament", "play", "all", "--jobs", "1")
+            self.check("all killed: an engine hangs", True, here.until(lambda: here.named("sleep")))
+            for pid in [process.pid, *here.named("game 1_one_two"), *here.named("twogtp")]:
+                os.kill(pid, signal.SIGSTOP)
+            for pid in [process.pid, *here.named("game 1_one_two"), *here.named("twogtp")]:
+                os.kill(pid, signal.SIGKILL)
+            process.communicate(timeout=LIMIT)
+            self.check("all killed: none is left", True, here.until(lambda: not here.left(), 20))
 
 
 class OneKilled(Case):
