@@ -49,7 +49,7 @@ def plan_for(asked, is_given, folder):
         raise Mistake(TWO_ENGINES if asked.engines else f"there is no {folder}/plan, so {TWO_ENGINES}")
     else:
         plan = asked
-        plan.folder = os.getcwd()
+        plan.folder, plan.is_new = os.getcwd(), True
         plan.start_limit = plan.start_limit or (None if plan.is_direct else START_LIMIT)
     plan.seeds, plan.limit = asked.seeds or plan.seeds or SEEDS, asked.limit or plan.limit or LIMIT
     plan.start_limit = asked.start_limit or plan.start_limit
@@ -100,8 +100,28 @@ def write_plan(plan, folder):
             file.write(text)
             file.flush()
             os.fsync(file.fileno())
-        os.replace(aside, place)
+        put(aside, place, plan.is_new)
     except OSError as problem:
         if os.path.exists(aside):
             os.unlink(aside)
         raise OSError(problem.errno, f"it can't be written: {problem.strerror}", place) from None
+
+
+def put(aside, place, is_new):
+    """Moves a plan to its place. A new one takes no other one's: of two runs that begin a folder at once, one makes it."""
+    if is_new:
+        try:
+            os.link(aside, place)
+        except FileExistsError:
+            with open(aside, "rb") as mine, open(place, "rb") as other:
+                is_same = mine.read() == other.read()
+            os.unlink(aside)
+            if not is_same:
+                raise Mistake(f"{place} was made by another run at the same time: take another folder") from None
+            return
+        except OSError:  # a file system without links
+            os.replace(aside, place)
+            return
+        os.unlink(aside)
+    else:
+        os.replace(aside, place)

@@ -78,6 +78,7 @@ class Plan:
         self.start_limit = self.move_limit = None  # seconds, as they are written
         self.openings = []  # the moves of each, with spaces between them
         self.made = None  # the games, once they are asked for
+        self.is_new = False  # had the folder no plan?
 
     def add_engine(self, name, command):
         """Adds an engine."""

@@ -81,6 +81,15 @@ class Plans(Case):
             said = "tournament: there is no /no/such/twogtp: name it by TWOGTP\n"
             self.check("without twogtp: status 2", (2, "", said), here.run("tournament", "play", "all"))
 
+    def test_at_once(self):
+        """Of two runs that begin a folder with other options at once, one makes it; with the same ones both have it."""
+        for sizes in [("5", "7")] * 10 + [("5", "5")]:
+            with room() as here:
+                begun = [here.start("tournament", "plan", "all", *ONE_AND_TWO, "--", "--size", size) for size in sizes]
+                ended = sorted((process.communicate(timeout=100) and process.returncode) for process in begun)
+                wanted = [0, 0] if sizes[0] == sizes[1] else [0, 2]
+                self.same((wanted, ["plan"]), (ended, [it.name for it in (here.at / "all").glob("plan*")]))
+
 
 class Lost(Case):
     """Games in which a side is abandoned keep their line and their log, and --again plays them."""
