@@ -1,5 +1,6 @@
 /* The machine's limit for a check: it starts an engine as often, and sends it the same commands, eight on their way at most, and none
- * after a `genmove` or a `boardsize` before that is answered. It looks at nothing but the ends of replies.
+ * after a `genmove`, a `boardsize`, or an `undo` with two spaces before it, before that is answered. It looks at nothing but the ends of
+ * replies.
  *
  * usage: limit FOLDER STARTS ENGINE ARGUMENT..    with sent.0, sent.1, .. */
 #define _GNU_SOURCE
@@ -36,7 +37,8 @@ static int hear(int from) {
 }
 
 static int is_alone(const char *line, const char *end) {
-    return memmem(line, (size_t)(end - line), " genmove", 8) || memmem(line, (size_t)(end - line), " boardsize", 10);
+    size_t length = (size_t)(end - line);
+    return memmem(line, length, " genmove", 8) || memmem(line, length, " boardsize", 10) || memmem(line, length, "  undo", 6);
 }
 
 /* Sends all these lines, and hears the replies. */

@@ -7,7 +7,8 @@ are as right, and those that have what the standard leaves to engines (tests/eng
 
 Wrong engines (tests/engines/wrong) are noticed by the lessons that show their bugs, and each complaint is pasted into one more process of
 the wrong engine and of the right one. One that takes each piece of a line for a line (tests/engines/wrong/pieces) is noticed. Of one that
-no short conversation shows (tests/engines/wrong/late) the last game is shown alone.
+no short conversation shows (tests/engines/wrong/late) the last game is shown alone, and it is counted how many shorter
+ones are tried. One whose failures end by one newline (tests/engines/wrong/unended) is shown in few lines.
 of_gtp_check/table.py says what shows each bug, and what isn't noticed. Engines that misbehave (tests/engines/hostile/engine) end as was
 worked out by hand. Where standard error is a terminal, what is waited for is on it, and the output is the same. At last no process may be
 left.
@@ -165,6 +166,16 @@ class Pieces(checks.Case):
 @checks.table(wrong.LATELY, lambda it: f"a late mistake: {it[0]}, at command {it[1]}", wrong.late)
 class Late(Checks):
     """A mistake that no shorter conversation shows: the last game of more than forty commands is shown alone."""
+
+
+@checks.table(wrong.TRIED, lambda it: f"shorter conversations are tried of more than twelve commands: {it[0]}", wrong.tried)
+class Tried(Checks):
+    """Of how many commands shorter conversations are tried, and up to how many commands in all of them."""
+
+
+@checks.table(wrong.UNENDED_IN, lambda it: f"one newline ends: {it[0]}, in {it[1]}", wrong.unended)
+class Unended(Checks):
+    """An answer that ends by one newline: what is shown of it is short, and names the empty line."""
 
 
 class Table(checks.Case):

@@ -1,17 +1,18 @@
--- For one complaint few engines are started.
+-- For one complaint few engines are started, and few commands are asked.
 use Rattle.std.proofs.Common.{◌≡◌, ◌+◌, ◌-◌, ◌≤◌, ◌<◌, ◌&&◌, ap, arith, refl, ℕ, Bool, true, false}
 use Rattle.std.proofs.Common.{List, length, Option, None, Some, not}
-use Rattle.std.specs.Prelude.{if◌then◌else◌, nat_le, nat_lt, unwrap_or}
-use Rattle.std.proofs.lemmas.Bool.{ltb-true}
+use Rattle.std.specs.Prelude.{if◌then◌else◌, max, nat_le, nat_lt, unwrap_or}
+use Rattle.std.proofs.lemmas.Bool.{leb-true, ltb-true}
 use Rattle.std.proofs.lemmas.List.{length-take}
 use Rattle.gtp_process.specs.declared.starter.Process.{Ghosts}
 use Rattle.gtp_check_judge.specs.declared.asking.CheckCommand.{CheckCommand}
 use Rattle.gtp_check_shortening.specs.declared.flat.Shortening.{Shortening}
 use Rattle.gtp_check_shortening.specs.Reduction.{Reduction, candidate, is_minimal, next}
 use Rattle.gtp_check_shortening.specs.Shortening.{shortenings}
-use Rattle.gtp_check_talks.specs.Dialogues.{IsTrial, Wrong, wrong_talk}
+use Rattle.gtp_check_talks.specs.Dialogues.{IsTrial, Wrong, wrong_purpose, wrong_talk}
 use Rattle.gtp_check_texts.specs.declared.fault.Fault.{Fault}
 use Rattle.gtp_check_plan.specs.declared.plan.Plan.{Plan}
+use Rattle.gtp_check_app.specs.Laws.{asked_in, asked_to_shorten, commands_of_lesson}
 use Rattle.gtp_check_app.specs.Trials.{LastGames, few_commands, limits_of, those_for}
 use Rattle.gtp_check_talks.specs.Dialogues.{Standing, Trial}
 use Rattle.gtp_check_app.specs.Turns.{standing_in}
@@ -80,6 +81,51 @@ module _ {P : Type 0} (known : Ghosts P) where
         let one = one_starts commands mid tries in
         let some = some_left now commands is in
         omega (arith, earlier, one, some)
+
+    -- and so many commands
+    room_left : (now : Reduction) (commands : List CheckCommand) → next now ≡ Some commands
+        → length commands ≤ now.left.commands
+    room_left now commands is =
+        by (nat_le (length (candidate now)) now.left.commands) refl (nat_lt 0 now.left.trials) (is_minimal now) is
+      where
+        by : (fits : Bool) → nat_le (length (candidate now)) now.left.commands ≡ fits → (some minimal : Bool)
+            → (if not minimal && (some && fits) then Some (candidate now) else None) ≡ Some commands
+            → length commands ≤ now.left.commands
+        by true fits true false is =
+            let same : candidate now ≡ commands = cc is in
+            omega (
+              arith,
+              leb-true (length (candidate now)) now.left.commands fits,
+              ap (λ (list : List CheckCommand). length list) same,
+            )
+        by true fits true true is = absurd (cc is)
+        by true fits false true is = absurd (cc is)
+        by true fits false false is = absurd (cc is)
+        by false fits true true is = absurd (cc is)
+        by false fits true false is = absurd (cc is)
+        by false fits false true is = absurd (cc is)
+        by false fits false false is = absurd (cc is)
+
+    -- what was asked, and what may still be
+    reduces_asked : (first : Reduction) (before : Moment P) {now : Reduction} {best : Option Wrong}
+        {after : Moment P} → (reduces : Reduces known plan found first before now best after)
+        → asked_in reduces + now.left.commands ≤ first.left.commands
+    reduces_asked first before Reduces.begins = omega arith
+    reduces_asked first before (Reduces.failed {now = now} commands more is tries) =
+        let earlier = reduces_asked first before more in
+        let room = room_left now commands is in
+        omega (arith, earlier, room)
+    reduces_asked first before (Reduces.succeeded {now = now} commands more is tries) =
+        let earlier = reduces_asked first before more in
+        let room = room_left now commands is in
+        omega (arith, earlier, room)
+
+    pub few_asked : (before after : Moment P) (shorter : Option Wrong)
+        → (shortened : IsShortened known plan found before shorter after)
+        → asked_to_shorten shortened ≤ max 20000 (commands_of_lesson found (wrong_purpose found).lesson)
+    few_asked before after shorter
+        (IsShortened.both_ways {mid = mid} shortens (IsReduced.reduced reduces over)) =
+        omega (arith, reduces_asked _ mid reduces)
 
     -- what is left for it
     limits_few : (longer : Wrong) (tried : ℕ) → (limits_of plan found longer tried).trials ≤ plan.trials - tried

@@ -18,7 +18,8 @@ use Rattle.gtp_check_app.specs.declared.tally.Tally.{Tally}
 use Rattle.gtp_check_app.specs.Checks.{AsksForList, HasRun, IsHeld}
 use Rattle.gtp_check_app.specs.Laws.{APassIsEarned, IsPass}
 use Rattle.gtp_check_plan.specs.Options.{AsksForText}
-use Rattle.gtp_check_app.specs.RunLaws.{AsksForCheck, HasAnswered, HasComplained, HasNotPassed, HasPassed, HasTurn}
+use Rattle.gtp_check_app.specs.RunLaws.{AsksForCheck, HasAnswered, HasComplained, HasEarned, HasNotPassed, HasPassed}
+use Rattle.gtp_check_app.specs.RunLaws.{HasTurn}
 use Rattle.gtp_check_app.specs.RunLaws.{IsOverAt}
 use Rattle.gtp_check_app.specs.RunLaws.{StatusesSay, complaints_in, fault_in}
 use Rattle.gtp_check_app.specs.Sequence.{Beginning, Known, Point, Turns, TurnsAreOver, beginning, first_point}
@@ -26,7 +27,7 @@ use Rattle.gtp_check_app.specs.Status.{not_earned, something_found}
 use Rattle.gtp_check_app.specs.Tally.{alike, is_last, is_shown, most_shown_alike, started_again, without_start}
 use Rattle.gtp_check_app.specs.Unjudged.{is_blamed}
 use Rattle.gtp_check_app.specs.Turns.{Complains, IsOver, Moment, State, Turn, WritesFirst, found_in, moment}
-use Rattle.gtp_check_app.proofs.Answered.{over_answered}
+use Rattle.gtp_check_app.proofs.Answered.{over_answered, over_noted}
 use Rattle.gtp_check_app.proofs.InTrials.{Laws, shortened_comes}
 use Rattle.gtp_check_app.proofs.InTurns.{asked_tally, some_found, turn_none}
 use Rattle.gtp_check_app.proofs.OverTurns.{silent_checks}
@@ -247,6 +248,21 @@ module _ {P O E : Type 0} (known : Known P O E) (laws : Laws known.processes) (e
           (sym (over_tally over.before why last.now over.over) ∙ pass.nothing_found) among)
           begins.plan.lessons.items pass.moves
 
+      -- a check that found nothing, and has earned a pass, is one
+      pass_of : {why : Over} {last : Point P O E}
+          → (over : TurnsAreOver known begins.plan (first_point begins) why last)
+          → last.now.state.tally.complaints ≡ 0 → HasEarned known begins (last_before over) last.now.state
+          → IsPass begins.plan last.now.state
+      pass_of {why = why} {last = last} over none has = record {
+        nothing_found = none;
+        over = has.asked;
+        moves = All-weaker (HasAnswered known begins (last_before over))
+            (λ (lesson : Lesson). is_among last.now.state.notes.answered.items lesson ≡ true)
+            (λ lesson answered. over_noted known laws earned.noted begins lesson last.now over.over
+            (sym (over_tally over.before why last.now over.over) ∙ none) answered)
+            begins.plan.lessons.items has.answered;
+      }
+
       held_found : {status : ℕ} {has : Attempts P} {after : Streams O E}
           → IsHeld known begins status has after → status ≡ something_found → HasComplained known begins
       held_found (IsHeld.is_over {why = why} {last = last} over shown not_first closed lines goes_out) is =
@@ -270,7 +286,7 @@ module _ {P O E : Type 0} (known : Known P O E) (laws : Laws known.processes) (e
             last = last.now.state;
             over = over_at over;
             pass = pass;
-            answered = answered_all over pass;
+            earned = record { asked = pass.over; answered = answered_all over pass };
             no_fault = quiet over pass.nothing_found;
           }
       held_passed (IsHeld.not_started over shown first closed reported) is = absurd (omega (arith, is))
@@ -283,6 +299,7 @@ module _ {P O E : Type 0} (known : Known P O E) (laws : Laws known.processes) (e
             last = last.now.state;
             over = over_at over;
             no_pass = neither.1;
+            not_earned = λ earned. neither.1 (pass_of over neither.0 earned);
             no_fault = quiet over neither.0;
           }
       held_not_passed (IsHeld.not_started over shown first closed reported) is = absurd (omega (arith, is))

@@ -3,6 +3,7 @@ use Rattle.std.proofs.Common.{◌≡◌, ◌∙◌, ◌≤◌, arith, refl, subs
 use Rattle.go_board.specs.declared.rules.KoRule.{KoRule}
 use Rattle.gtp_process.specs.declared.starter.Ending.{Ending}
 use Rattle.gtp_process.specs.declared.starter.Process.{Ghosts}
+use Rattle.gtp_process.specs.Starts.{Attempts, program_line}
 use Rattle.gtp_check_judge.specs.declared.asking.CheckCommand.{CheckCommand}
 use Rattle.gtp_check_judge.specs.Check.{started}
 use Rattle.gtp_check_judge.specs.Exam.{begun}
@@ -12,16 +13,19 @@ use Rattle.gtp_check_shortening.specs.Reduction.{Reduction}
 use Rattle.gtp_check_texts.specs.declared.fault.Fault.{Fault}
 use Rattle.gtp_check_texts.specs.declared.fault.Fault.TheVariants.{CutOff, Wrote}
 use Rattle.gtp_check_talks.specs.declared.notes.Notes.{Notes}
-use Rattle.gtp_check_talks.specs.Dialogues.{Converses, Dialogue, EndsWrong, IsTrial, Spares, SparesToEnd, Wrong}
+use Rattle.gtp_check_talks.specs.Dialogues.{AsksForMore, Converses, Dialogue, EndsWrong, IsTrial, Spares, SparesToEnd}
+use Rattle.gtp_check_talks.specs.Dialogues.{Wrong}
 use Rattle.gtp_check_talks.specs.Dialogues.{begun_with, wrong_with}
 use Rattle.gtp_check_talks.specs.Laws.{ComplaintsAreJustified, KoRulesStay, LossesAreNoWrongAnswers}
 use Rattle.gtp_check_talks.specs.Laws.{RightAnswersEndStartsInVain, SilenceSaysAllIsRight}
 use Rattle.gtp_check_plan.specs.declared.plan.Plan.{Plan}
-use Rattle.gtp_check_app.specs.RunLaws.{IsGrounded, IsShownBy}
+use Rattle.gtp_check_app.specs.RunLaws.{EndAlike, IsGrounded, IsShownBy, IsStarted, Starts, starts_of}
 use Rattle.gtp_check_talks.specs.Dialogues.{Standing, Trial}
 use Rattle.gtp_check_app.specs.Turns.{standing_in}
 use Rattle.gtp_check_app.specs.Turns.{IsReduced, IsShortened, IsTried, Moment, Reduces, Shortens, State, TriesOne}
 use Rattle.gtp_check_app.specs.Trials.{LastGames, or_else}
+use Rattle.gtp_check_app.proofs.InStarts.{Grow, grounded_since, grounded_until, grow_more, just_started}
+use Rattle.gtp_check_app.proofs.Shortening.{one_asks, reduces_asks, shortens_asks}
 
 -- what there is is one thing
 pub one_there : {A : Type 0} {one other : A} → Some one ≡ Some other → one ≡ other
@@ -53,20 +57,48 @@ pub record Laws {P : Type 0} (known : Ghosts P) : Type 0 where
   pub silent : SilenceSaysAllIsRight known
   pub vain : RightAnswersEndStartsInVain known
 
-module _ {P : Type 0} (known : Ghosts P) where
+module _ {P : Type 0} (known : Ghosts P) (plan : Plan) (found : Wrong) (rule : KoRule) where
+  -- what was tried has its ground, and ended like what was found
+  pub record IsFair (before after : Attempts P) (tried : Wrong) : Type 0 where
+    pub grounded : IsGrounded known rule (starts_of plan before after) tried
+    pub alike : EndAlike tried found
+
+  -- the same where more starts are looked at: those before, and those after
+  pub fair_from : (first before after : Attempts P) (tried : Wrong) → Grow first before
+      → IsFair before after tried → IsFair first after tried
+  fair_from first before after tried grows fair = record {
+    grounded = grounded_since known rule plan first before after tried grows fair.grounded;
+    alike = fair.alike;
+  }
+
+  fair_since : (first before after : Attempts P) (tried : Wrong)
+      → AsksForMore (program_line plan.words.items) first before
+      → IsFair before after tried → IsFair first after tried
+  fair_since first before after tried more =
+      fair_from first before after tried (grow_more (program_line plan.words.items) first before more)
+
+  fair_until : (before after last : Attempts P) (tried : Wrong)
+      → AsksForMore (program_line plan.words.items) after last
+      → IsFair before after tried → IsFair before last tried
+  fair_until before after last tried more fair = record {
+    grounded = grounded_until known rule plan before after last tried more fair.grounded;
+    alike = fair.alike;
+  }
+
   -- what comes of a trial: what was found in it, if anything, has its ground
-  record Comes (rule : KoRule) (before : State P) (result : Option Wrong) (after : State P) : Type 0 where
-    stays : Stays before after
-    grounded : (tried : Wrong) → result ≡ Some tried → IsGrounded known rule tried
+  record Comes (before : Moment P) (result : Option Wrong) (after : Moment P) : Type 0 where
+    stays : Stays before.state after.state
+    fair : (tried : Wrong) → result ≡ Some tried → IsFair before.asked after.asked tried
 
-  nothing_comes : (rule : KoRule) (now : State P) → Comes rule now None now
-  nothing_comes rule now = record { stays = unchanged now; grounded = λ tried is. absurd (cc is) }
+  nothing_comes : (now : Moment P) → Comes now None now
+  nothing_comes now = record { stays = unchanged now.state; fair = λ tried is. absurd (cc is) }
 
-  later : (rule : KoRule) (before mid after : State P) (result : Option Wrong) → Stays before mid
-      → Comes rule mid result after → Comes rule before result after
-  later rule before mid after result one other = record {
-    stays = both_stay before mid after one other.stays;
-    grounded = other.grounded;
+  later : (before mid after : Moment P) (result : Option Wrong) → Stays before.state mid.state
+      → AsksForMore (program_line plan.words.items) before.asked mid.asked
+      → Comes mid result after → Comes before result after
+  later before mid after result one more other = record {
+    stays = both_stay before.state mid.state after.state one other.stays;
+    fair = λ tried is. fair_since before.asked mid.asked after.asked tried more (other.fair tried is);
   }
 
 module _ {P : Type 0} (known : Ghosts P) (laws : Laws known) where
@@ -80,11 +112,13 @@ module _ {P : Type 0} (known : Ghosts P) (laws : Laws known) where
   shown_by rule process first (CutOff cause) end ends =
       IsShownBy.lost (laws.lost rule process first cause end ends)
 
-  pub grounded_by : (rule : KoRule) (process : P) (first : Notes) (fault : Fault) (end : Dialogue P)
-      (ending : Ending) → EndsWrong known (begun_with (begun rule true) process first) fault end
-      → known.leaves end.process ending → IsGrounded known rule (wrong_with fault end ending)
-  grounded_by rule process first fault end ending ends left = record {
+  pub grounded_by : (rule : KoRule) (starts : Starts P) (process : P) (first : Notes) (fault : Fault)
+      (end : Dialogue P) (ending : Ending) → IsStarted starts process
+      → EndsWrong known (begun_with (begun rule true) process first) fault end
+      → known.leaves end.process ending → IsGrounded known rule starts (wrong_with fault end ending)
+  grounded_by rule starts process first fault end ending started_so ends left = record {
     process = process;
+    started = started_so;
     end = end;
     ending = ending;
     is = refl;
@@ -137,92 +171,114 @@ module _ {P : Type 0} (known : Ghosts P) (laws : Laws known) where
 
   trial_grounded : (rule : KoRule) (tries : Trial) (before : Standing P) {result : Option Wrong} {after : Standing P}
       → before.check.exam.game.rule ≡ rule → IsTrial known tries before result after
-      → (tried : Wrong) → result ≡ Some tried → IsGrounded known rule tried
+      → (tried : Wrong) → result ≡ Some tried
+      → IsGrounded known rule
+      (record { line = tries.line; before = before.asked; after = after.asked }) tried
   trial_grounded rule tries before same (IsTrial.unstarted reason never) tried is =
       absurd (cc is)
   trial_grounded rule tries before same
       (IsTrial.right process ending started_so spares asks left) tried is = absurd (cc is)
   trial_grounded rule tries before same
-      (IsTrial.wrong {engine = engine} process ending fault started_so ends asks left) tried is =
-      subst (IsGrounded known rule) (one_there is)
-      (subst (λ (r : KoRule). IsGrounded known r (wrong_with fault engine ending)) same
-      (grounded_by before.check.exam.game.rule process before.notes fault engine ending
+      (IsTrial.wrong {has = has} {engine = engine} process ending fault started_so ends asks left) tried is =
+      let starts : Starts P = record { line = tries.line; before = before.asked; after = has } in
+      subst (IsGrounded known rule starts) (one_there is)
+      (subst (λ (r : KoRule). IsGrounded known r starts (wrong_with fault engine ending)) same
+      (grounded_by before.check.exam.game.rule starts process before.notes fault engine ending
+      (just_started tries.line before.asked has process started_so)
       (ends_so tries.suicide (begun_with (started before.check).exam process before.notes) fault engine ends) left))
 
   module _ (plan : Plan) (found : Wrong) (rule : KoRule) where
-    tried_comes : (commands : List CheckCommand) (before : Moment P) (result : Option Wrong) (after : Moment P)
-        → before.state.check.exam.game.rule ≡ rule → IsTried known plan found commands before result after
-        → Comes known rule before.state result after.state
-    tried_comes commands before result after same (IsTried.by_trial held) = record {
-      stays = record {
-        tally = refl;
-        engine = refl;
-        rule = trial_rule _ (standing_in before) held;
-        fruitless = trial_less _ (standing_in before) held;
-      };
-      grounded = trial_grounded rule _ (standing_in before) same held;
+    tried_stays : (commands : List CheckCommand) (before : Moment P) {result : Option Wrong} {after : Moment P}
+        → IsTried known plan found commands before result after → Stays before.state after.state
+    tried_stays commands before (IsTried.by_trial held) = record {
+      tally = refl;
+      engine = refl;
+      rule = trial_rule _ (standing_in before) held;
+      fruitless = trial_less _ (standing_in before) held;
     }
+
+    tried_grounded : (commands : List CheckCommand) (before : Moment P) {result : Option Wrong} {after : Moment P}
+        → before.state.check.exam.game.rule ≡ rule → IsTried known plan found commands before result after
+        → (tried : Wrong) → result ≡ Some tried
+        → IsGrounded known rule (starts_of plan before.asked after.asked) tried
+    tried_grounded commands before same (IsTried.by_trial held) =
+        trial_grounded rule _ (standing_in before) same held
 
     one_comes : (commands : List CheckCommand) (before : Moment P) → before.state.check.exam.game.rule ≡ rule
         → {result : Option Wrong} {after : Moment P} → TriesOne known plan found commands before result after
-        → Comes known rule before.state result after.state
-    one_comes commands before same (TriesOne.no_start none) = nothing_comes known rule before.state
-    one_comes commands before same (TriesOne.right {after = after} may tried) =
-        tried_comes commands before None after same tried
-    one_comes commands before same (TriesOne.other {tried = one} {after = after} may tried unlike) = record {
-      stays = (tried_comes commands before (Some one) after same tried).stays;
-      grounded = λ other is. absurd (cc is);
+        → Comes known plan found rule before result after
+    one_comes commands before same (TriesOne.no_start never) = nothing_comes known plan found rule before
+    one_comes commands before same (TriesOne.right may tried) =
+        record { stays = tried_stays commands before tried; fair = λ other is. absurd (cc is) }
+    one_comes commands before same (TriesOne.other may tried unlike) =
+        record { stays = tried_stays commands before tried; fair = λ other is. absurd (cc is) }
+    one_comes commands before same (TriesOne.alike {tried = one} {after = after} may tried like) = record {
+      stays = tried_stays commands before tried;
+      fair = λ other is.
+          subst (IsFair known plan found rule before.asked after.asked) (one_there is)
+          (record {
+            grounded = tried_grounded commands before same tried one refl;
+            alike = record { fault = like.fault; command = like.command };
+          });
     }
-    one_comes commands before same (TriesOne.alike {tried = one} {after = after} may tried like) =
-        tried_comes commands before (Some one) after same tried
 
     shortens_comes : (before : Moment P) → before.state.check.exam.game.rule ≡ rule → {hows : List Shortening}
         {after : Moment P} {games : LastGames} → Shortens known plan found hows before games after
-        → Comes known rule before.state games.ended after.state
-    shortens_comes before same Shortens.none_left = nothing_comes known rule before.state
+        → Comes known plan found rule before games.ended after
+    shortens_comes before same Shortens.none_left = nothing_comes known plan found rule before
     shortens_comes before same (Shortens.missed {mid = mid} {after = after} {games = games} tried more) =
         let one = one_comes _ before same tried in
-        later known rule before.state mid.state after.state games.ended one.stays
+        later known plan found rule before mid after games.ended one.stays
+        (one_asks known plan found _ before tried)
         (shortens_comes mid (one.stays.rule ∙ same) more)
     shortens_comes before same (Shortens.shortened_so tried) = one_comes _ before same tried
 
     reduces_comes : (first : Reduction) (before : Moment P) → before.state.check.exam.game.rule ≡ rule
         → {now : Reduction} {best : Option Wrong} {after : Moment P}
-        → Reduces known plan found first before now best after → Comes known rule before.state best after.state
-    reduces_comes first before same Reduces.begins = nothing_comes known rule before.state
+        → Reduces known plan found first before now best after → Comes known plan found rule before best after
+    reduces_comes first before same Reduces.begins = nothing_comes known plan found rule before
     reduces_comes first before same (Reduces.failed {mid = mid} {after = after} commands more next tries) =
         let earlier = reduces_comes first before same more in
         let one = one_comes commands mid (earlier.stays.rule ∙ same) tries in
         record {
           stays = both_stay before.state mid.state after.state earlier.stays one.stays;
-          grounded = earlier.grounded;
+          fair = λ tried is.
+              fair_until known plan found rule before.asked mid.asked after.asked tried
+              (one_asks known plan found commands mid tries) (earlier.fair tried is);
         }
     reduces_comes first before same
         (Reduces.succeeded {mid = mid} {after = after} {tried = one} commands more next tries) =
         let earlier = reduces_comes first before same more in
-        later known rule before.state mid.state after.state (Some one) earlier.stays
+        later known plan found rule before mid after (Some one) earlier.stays
+        (reduces_asks known plan found first before more)
         (one_comes commands mid (earlier.stays.rule ∙ same) tries)
 
   -- ---- what is shown
 
-  -- what is grounded on either way
-  of_either : (rule : KoRule) (best games : Option Wrong)
-      → ((tried : Wrong) → best ≡ Some tried → IsGrounded known rule tried)
-      → ((tried : Wrong) → games ≡ Some tried → IsGrounded known rule tried)
-      → (tried : Wrong) → or_else best games ≡ Some tried → IsGrounded known rule tried
-  of_either rule None games one other tried is = other tried is
-  of_either rule (Some found) games one other tried is = one tried is
+  -- what is fair either way
+  of_either : (Fair : Wrong → Type 0) (best games : Option Wrong)
+      → ((tried : Wrong) → best ≡ Some tried → Fair tried) → ((tried : Wrong) → games ≡ Some tried → Fair tried)
+      → (tried : Wrong) → or_else best games ≡ Some tried → Fair tried
+  of_either Fair None games one other tried is = other tried is
+  of_either Fair (Some found) games one other tried is = one tried is
 
   -- a conversation was made shorter, and what ended it then has its ground
   pub shortened_comes : (plan : Plan) (found : Wrong) (rule : KoRule) (before : Moment P)
       {result : Option Wrong} {after : Moment P} → before.state.check.exam.game.rule ≡ rule
       → IsShortened known plan found before result after
-      → Stays before.state after.state × ((tried : Wrong) → result ≡ Some tried → IsGrounded known rule tried)
+      → Stays before.state after.state
+      × ((tried : Wrong) → result ≡ Some tried → IsFair known plan found rule before.asked after.asked tried)
   shortened_comes plan found rule before same
       (IsShortened.both_ways {games = one} {best = other} {mid = mid} {after = after} shortens
       (IsReduced.reduced reduces over)) =
       let games = shortens_comes plan found rule before same shortens in
       let best = reduces_comes plan found rule _ mid (games.stays.rule ∙ same) reduces in (
         both_stay before.state mid.state after.state games.stays best.stays,
-        of_either rule other one.ended best.grounded games.grounded,
+        of_either (IsFair known plan found rule before.asked after.asked) other one.ended
+            (λ tried is.
+            fair_since known plan found rule before.asked mid.asked after.asked tried
+            (shortens_asks known plan found _ shortens) (best.fair tried is))
+            (λ tried is.
+            fair_until known plan found rule before.asked mid.asked after.asked tried
+            (reduces_asks known plan found _ mid reduces) (games.fair tried is)),
       )

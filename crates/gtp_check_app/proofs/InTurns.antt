@@ -21,78 +21,34 @@ use Rattle.gtp_check_questions.specs.declared.lessons.Lesson.{Lesson}
 use Rattle.gtp_check_talks.specs.Dialogues.{wrong_purpose}
 use Rattle.gtp_check_app.specs.declared.tally.Tally.{Tally}
 use Rattle.gtp_check_app.specs.Tally.{found, in_lesson, is_shown, started_again, with_hidden, with_known, without_start}
-use Rattle.gtp_check_app.specs.RunLaws.{IsGrounded, IsHeldWith, IsJustComplaint, complaints_in, ended_in, fault_in}
+use Rattle.gtp_check_app.specs.RunLaws.{IsGrounded, IsHeldWith, IsJustComplaint}
+use Rattle.gtp_check_app.specs.RunLaws.{came_in, complaints_in, ended_in, fault_in}
+use Rattle.gtp_check_app.specs.RunLaws.{starts_of}
 use Rattle.gtp_check_app.specs.Unjudged.{is_blamed}
 use Rattle.gtp_check_app.specs.Sequence.{Beginning, Known, Point, Turns, first_point}
 use Rattle.gtp_check_app.specs.Turns.{Asks, Closes, Complains, Exchanges, IsHeardOut, Moment, State, Turn, WritesFirst}
 use Rattle.gtp_check_app.specs.Turns.{before_all, found_in, moment, state}
-use Rattle.gtp_check_app.proofs.InTrials.{Laws, grounded_by, one_there, shortened_comes}
+use Rattle.gtp_check_app.proofs.InStarts.{Grow, grounded_until, grow_both, grow_more, grow_none, grow_one, just_started}
+use Rattle.gtp_check_app.proofs.InStarts.{started_since}
+use Rattle.gtp_check_app.proofs.InTrials.{IsFair, Laws, fair_from, grounded_by, one_there, shortened_comes}
+use Rattle.gtp_check_app.proofs.Shortening.{shortened_asks}
 
-module _ {P : Type 0} (known : Ghosts P) (laws : Laws known) (plan : Plan) where
-  -- the ko rule is the plan's, and an engine that is there is held with in a conversation in which so far this is
-  -- wrong, if anything
+-- an engine that is there is held with in a conversation in which so far this is wrong, if anything
+abbrev pub IsHeld : {P : Type 0} → Ghosts P → Plan → Attempts P → Option Fault → Moment P → Engine P → Type 0
+IsHeld known plan since fault now engine =
+    IsHeldWith known plan.rule (starts_of plan since now.asked) fault
+    (dialogue engine now.state.check.exam now.state.notes)
+
+module _ {P : Type 0} (known : Ghosts P) (laws : Laws known) (plan : Plan) (since : Attempts P) where
+  -- the ko rule is the plan's, an engine that is there was started by the check, which asked for starts since then, and
+  -- is held with
   pub record IsSound (fault : Option Fault) (now : Moment P) : Type 0 where
     pub rule : now.state.check.exam.game.rule ≡ plan.rule
-    pub engine : (engine : Engine P) → now.state.engine ≡ Some engine → IsHeldWith known plan fault now engine
+    pub grows : Grow since now.asked
+    pub engine : (engine : Engine P) → now.state.engine ≡ Some engine → IsHeld known plan since fault now engine
 
-  -- ---- steps of the course
-
-  -- a state with another course, or with something else found, has the same engine
-  with_course : (now : State P) (has : Attempts P) (course : Course) → IsSound None (moment now has)
-      → IsSound None (moment (record now { course = course }) has)
-  with_course now has course sound = record {
-    rule = sound.rule;
-    engine = λ engine is.
-        let held = sound.engine engine is in
-        record {
-          process = held.process;
-          earlier = held.earlier;
-          started = held.started;
-          first = held.first;
-          ends = held.ends;
-        };
-  }
-
-  -- an engine is held with, and something came of it
-  engine_after : (before : State P) (has : Attempts P) (fault : Option Fault) (old : Engine P) (exam : Exam)
-      (now : Engine P) (notes : Notes) (held : IsHeldWith known plan None (moment before has) old)
-      → EndsSo known (begun_with (begun plan.rule true) held.process held.first) fault (dialogue now exam notes)
-      → (after : State P)
-      → after ≡ record before { check = with_exam before.check exam; engine = Some now; notes = notes }
-      → IsSound fault (moment after has)
-  engine_after before has fault old exam now notes held ends after leads =
-      subst (λ (s : State P). IsSound fault (moment s has)) (sym leads)
-      (record {
-        rule = laws.stays (begun_with (begun plan.rule true) held.process held.first) (dialogue now exam notes) fault
-            ends;
-        engine = λ one is.
-            subst
-            (IsHeldWith known plan fault
-            (moment (record before { check = with_exam before.check exam; engine = Some now; notes = notes }) has))
-            (one_there is)
-            (record {
-              process = held.process;
-              earlier = held.earlier;
-              started = held.started;
-              first = held.first;
-              ends = ends;
-            });
-      })
-
-  pub asked_sound : {singly : Bool} (first : State P) (has : Attempts P) {now : State P}
-      → IsSound None (moment first has) → Asks singly first now → IsSound None (moment now has)
-  asked_sound first has sound Asks.nothing = sound
-  asked_sound first has sound (Asks.passes {mid = mid} course more next) =
-      with_course mid has course (asked_sound first has sound more)
-  asked_sound first has sound (Asks.asks {mid = mid} {after = after} command course more next free asked) =
-      let earlier : IsSound None (moment (record mid { course = course }) has) =
-      with_course mid has course (asked_sound first has sound more) in
-      let held = earlier.engine asked.engine asked.had in
-      engine_after (record mid { course = course }) has None asked.engine asked.exam asked.now asked.notes held
-      (Converses.asks _ command held.ends asked.asked) after asked.leads
-
-  -- ---- an exchange
-
+module _ {P : Type 0} (known : Ghosts P) where
+  -- an exchange of a conversation in which nothing was found
   exchange_ends : (start before after : Dialogue P) (fault : Option Fault)
       → Converses known start before → IsExchanged known before fault after
       → EndsSo known start fault after
@@ -100,107 +56,6 @@ module _ {P : Type 0} (known : Ghosts P) (laws : Laws known) (plan : Plan) where
       Converses.exchanges converses exchanged
   exchange_ends start before after (Some fault) converses exchanged =
       record { before = before; converses = converses; exchanged = exchanged }
-
-  heard_sound : (before : State P) (has : Attempts P) (fault : Option Fault) (after : State P)
-      → IsSound None (moment before has) → IsHeardOut known before fault after → IsSound fault (moment after has)
-  heard_sound before has fault after sound heard =
-      let held = sound.engine heard.engine heard.had in
-      engine_after before has fault heard.engine heard.exam heard.heard heard.notes held
-      (exchange_ends (begun_with (begun plan.rule true) held.process held.first)
-      (dialogue heard.engine before.check.exam before.notes) (dialogue heard.heard heard.exam heard.notes) fault
-      held.ends
-      heard.exchanged)
-      after heard.leads
-
-  first_sound : (before : State P) (has : Attempts P) (fault : Option Fault) (is_wrong : Bool) {after : State P}
-      {line : List (List ℕ)} → IsSound fault (moment before has) → WritesFirst known plan before is_wrong after line
-      → IsSound fault (moment after has)
-  first_sound before has fault is_wrong sound (WritesFirst.not_due is) = sound
-  first_sound before has fault is_wrong sound (WritesFirst.due is) = record {
-    rule = sound.rule;
-    engine = λ engine there.
-        let held = sound.engine engine there in
-        record {
-          process = held.process;
-          earlier = held.earlier;
-          started = held.started;
-          first = held.first;
-          ends = held.ends;
-        };
-  }
-
-  -- ---- the end of an engine
-
-  -- without an engine there is only the rule
-  pub down : (now : Moment P) → now.state.check.exam.game.rule ≡ plan.rule → now.state.engine ≡ None
-      → IsSound None now
-  down now rule none = record { rule = rule; engine = λ engine is. absurd (let e = sym none ∙ is in cc e) }
-
-  closed_down : (fault : Fault) (before : Moment P) (wrong : Wrong) (mid : State P)
-      → IsSound (Some fault) before → Closes known fault before.state wrong mid
-      → IsSound None (moment (found_in mid wrong fault) before.asked)
-  closed_down fault before wrong mid sound closes =
-      down (moment (found_in mid wrong fault) before.asked)
-      (ap (λ (s : State P). s.check.exam.game.rule) closes.leads ∙ sound.rule)
-      (ap (λ (s : State P). s.engine) closes.leads)
-
-  closed_grounded : (fault : Fault) (before : Moment P) (wrong : Wrong) (mid : State P)
-      → IsSound (Some fault) before → Closes known fault before.state wrong mid → IsGrounded known plan.rule wrong
-  closed_grounded fault before wrong mid sound closes =
-      let held = sound.engine closes.engine closes.had in
-      subst (IsGrounded known plan.rule) (sym closes.is)
-      (grounded_by known laws plan.rule held.process held.first fault
-      (dialogue closes.engine before.state.check.exam before.state.notes) closes.ending held.ends closes.ended)
-
-  -- the one that is shown has its ground
-  of_shown : (wrong : Wrong) (shorter : Option Wrong) → IsGrounded known plan.rule wrong
-      → ((tried : Wrong) → shorter ≡ Some tried → IsGrounded known plan.rule tried)
-      → IsGrounded known plan.rule (unwrap_or shorter wrong)
-  of_shown wrong None whole shown = whole
-  of_shown wrong (Some tried) whole shown = shown tried refl
-
-  complained_sound : (before : Moment P) {fault : Option Fault} {after : Moment P} {said : List (List ℕ)}
-      → IsSound fault before → Complains known plan before fault after said → IsSound None after
-  complained_sound before sound Complains.nothing = sound
-  complained_sound before sound (Complains.passed_over {after = after} unjudged passes) =
-      down (moment after before.asked) (ap (λ (s : State P). s.check.exam.game.rule) passes.leads ∙ sound.rule)
-      (ap (λ (s : State P). s.engine) passes.leads)
-  complained_sound before sound (Complains.hidden {fault = fault} {mid = mid} wrong judged closes not_shown) =
-      closed_down fault before wrong mid sound closes
-  complained_sound before sound
-      (Complains.shown {fault = fault} {mid = mid} {after = after} wrong complaint judged closes shows shortened
-      about) =
-      let closed = closed_down fault before wrong mid sound closes in
-      let comes = shortened_comes known laws plan wrong plan.rule (moment (found_in mid wrong fault) before.asked)
-      closed.rule shortened in
-      down after (comes.0.rule ∙ closed.rule) (comes.0.engine ∙ ap (λ (s : State P). s.engine) closes.leads)
-
-  complained_just : (before : Moment P) {fault : Option Fault} {after : Moment P} {said : List (List ℕ)}
-      → IsSound fault before → Complains known plan before fault after said
-      → All (IsJustComplaint known plan.rule) said
-  complained_just before sound Complains.nothing = All-nil (IsJustComplaint known plan.rule)
-  complained_just before sound (Complains.passed_over unjudged passes) =
-      All-nil (IsJustComplaint known plan.rule)
-  complained_just before sound (Complains.hidden wrong judged closes not_shown) =
-      All-nil (IsJustComplaint known plan.rule)
-  complained_just before sound
-      (Complains.shown {fault = fault} {mid = mid} {after = after} {shorter = shorter} wrong complaint judged closes
-      shows shortened about) =
-      let closed = closed_down fault before wrong mid sound closes in
-      let comes = shortened_comes known laws plan wrong plan.rule (moment (found_in mid wrong fault) before.asked)
-      closed.rule shortened in
-      All-cons (IsJustComplaint known plan.rule) (complaint_lines complaint) []
-      (record {
-        complaint = complaint;
-        is = refl;
-        caption = _;
-        wrong = unwrap_or shorter wrong;
-        of = about;
-        grounded = of_shown wrong shorter (closed_grounded fault before wrong mid sound closes) comes.1;
-      })
-      (All-nil (IsJustComplaint known plan.rule))
-
-  -- ---- a turn
 
   -- a conversation that begins under this ko rule
   fresh_converses : (rule other : KoRule) → other ≡ rule → (process : P) (notes : Notes) (now : Dialogue P)
@@ -213,24 +68,197 @@ module _ {P : Type 0} (known : Ghosts P) (laws : Laws known) (plan : Plan) where
       Converses known (begun_with (begun rule true) process notes) (begun_with (begun r true) process notes))
       (sym same) Converses.begins)
 
+module _ {P : Type 0} {since : Attempts P} (known : Ghosts P) (laws : Laws known) (plan : Plan) where
+  -- ---- steps of the course
+
+  -- a state with another course, or with something else found, has the same engine
+  with_course : (now : State P) (has : Attempts P) (course : Course)
+      → IsSound known laws plan since None (moment now has)
+      → IsSound known laws plan since None (moment (record now { course = course }) has)
+  with_course now has course sound =
+      record { rule = sound.rule; grows = sound.grows; engine = sound.engine }
+
+  -- an engine is held with, and something came of it
+  engine_after : (before : State P) (has : Attempts P) (fault : Option Fault) (old : Engine P) (exam : Exam)
+      (now : Engine P) (notes : Notes) (grows : Grow since has)
+      (held : IsHeld known plan since None (moment before has) old)
+      → EndsSo known (begun_with (begun plan.rule true) held.process held.first) fault (dialogue now exam notes)
+      → (after : State P)
+      → after ≡ record before { check = with_exam before.check exam; engine = Some now; notes = notes }
+      → IsSound known laws plan since fault (moment after has)
+  engine_after before has fault old exam now notes grows held ends after leads =
+      subst (λ (s : State P). IsSound known laws plan since fault (moment s has)) (sym leads)
+      (record {
+        rule = laws.stays (begun_with (begun plan.rule true) held.process held.first) (dialogue now exam notes) fault
+            ends;
+        grows = grows;
+        engine = λ one is.
+            subst
+            (IsHeld known plan since fault
+            (moment (record before { check = with_exam before.check exam; engine = Some now; notes = notes }) has))
+            (one_there is)
+            (record {
+              process = held.process;
+              started = held.started;
+              first = held.first;
+              ends = ends;
+            });
+      })
+
+  pub asked_sound : {singly : Bool} (first : State P) (has : Attempts P) {now : State P}
+      → IsSound known laws plan since None (moment first has) → Asks singly first now
+      → IsSound known laws plan since None (moment now has)
+  asked_sound first has sound Asks.nothing = sound
+  asked_sound first has sound (Asks.passes {mid = mid} course more next) =
+      with_course mid has course (asked_sound first has sound more)
+  asked_sound first has sound (Asks.asks {mid = mid} {after = after} command course more next free asked) =
+      let earlier : IsSound known laws plan since None (moment (record mid { course = course }) has) =
+      with_course mid has course (asked_sound first has sound more) in
+      let held = earlier.engine asked.engine asked.had in
+      engine_after (record mid { course = course }) has None asked.engine asked.exam asked.now asked.notes
+      earlier.grows held
+      (Converses.asks _ command held.ends asked.asked) after asked.leads
+
+  -- ---- an exchange
+
+  heard_sound : (before : State P) (has : Attempts P) (fault : Option Fault) (after : State P)
+      → IsSound known laws plan since None (moment before has) → IsHeardOut known before fault after
+      → IsSound known laws plan since fault (moment after has)
+  heard_sound before has fault after sound heard =
+      let held = sound.engine heard.engine heard.had in
+      engine_after before has fault heard.engine heard.exam heard.heard heard.notes sound.grows held
+      (exchange_ends known (begun_with (begun plan.rule true) held.process held.first)
+      (dialogue heard.engine before.check.exam before.notes) (dialogue heard.heard heard.exam heard.notes) fault
+      held.ends
+      heard.exchanged)
+      after heard.leads
+
+  first_sound : (before : State P) (has : Attempts P) (fault : Option Fault) (is_wrong : Bool) {after : State P}
+      {line : List (List ℕ)} → IsSound known laws plan since fault (moment before has)
+      → WritesFirst known plan before is_wrong after line
+      → IsSound known laws plan since fault (moment after has)
+  first_sound before has fault is_wrong sound (WritesFirst.not_due is) = sound
+  first_sound before has fault is_wrong sound (WritesFirst.due is) =
+      record { rule = sound.rule; grows = sound.grows; engine = sound.engine }
+
+  -- ---- the end of an engine
+
+  -- without an engine there is only the rule
+  pub down : (now : Moment P) → now.state.check.exam.game.rule ≡ plan.rule → Grow since now.asked
+      → now.state.engine ≡ None → IsSound known laws plan since None now
+  down now rule grows none =
+      record { rule = rule; grows = grows; engine = λ engine is. absurd (let e = sym none ∙ is in cc e) }
+
+  closed_down : (fault : Fault) (before : Moment P) (wrong : Wrong) (mid : State P)
+      → IsSound known laws plan since (Some fault) before → Closes known fault before.state wrong mid
+      → IsSound known laws plan since None (moment (found_in mid wrong fault) before.asked)
+  closed_down fault before wrong mid sound closes =
+      down (moment (found_in mid wrong fault) before.asked)
+      (ap (λ (s : State P). s.check.exam.game.rule) closes.leads ∙ sound.rule) sound.grows
+      (ap (λ (s : State P). s.engine) closes.leads)
+
+  closed_grounded : (fault : Fault) (before : Moment P) (wrong : Wrong) (mid : State P)
+      → IsSound known laws plan since (Some fault) before → Closes known fault before.state wrong mid
+      → IsGrounded known plan.rule (starts_of plan since before.asked) wrong
+  closed_grounded fault before wrong mid sound closes =
+      let held = sound.engine closes.engine closes.had in
+      subst (IsGrounded known plan.rule (starts_of plan since before.asked)) (sym closes.is)
+      (grounded_by known laws plan.rule (starts_of plan since before.asked) held.process held.first fault
+      (dialogue closes.engine before.state.check.exam before.state.notes) closes.ending held.started held.ends
+      closes.ended)
+
+  -- what is shown has its ground, and ended like what was found
+  of_shown : (before : Moment P) (wrong : Wrong) (shorter : Option Wrong) (after : Moment P)
+      → IsFair known plan wrong plan.rule since after.asked wrong
+      → ((tried : Wrong) → shorter ≡ Some tried
+      → IsFair known plan wrong plan.rule since after.asked tried)
+      → IsFair known plan wrong plan.rule since after.asked (unwrap_or shorter wrong)
+  of_shown before wrong None after whole shown = whole
+  of_shown before wrong (Some tried) after whole shown = shown tried refl
+
+  complained_sound : (before : Moment P) {fault : Option Fault} {after : Moment P} {said : List (List ℕ)}
+      → IsSound known laws plan since fault before → Complains known plan before fault after said
+      → IsSound known laws plan since None after
+  complained_sound before sound Complains.nothing = sound
+  complained_sound before sound (Complains.passed_over {after = after} unjudged passes) =
+      down (moment after before.asked) (ap (λ (s : State P). s.check.exam.game.rule) passes.leads ∙ sound.rule)
+      sound.grows
+      (ap (λ (s : State P). s.engine) passes.leads)
+  complained_sound before sound (Complains.hidden {fault = fault} {mid = mid} wrong judged closes not_shown) =
+      closed_down fault before wrong mid sound closes
+  complained_sound before sound
+      (Complains.shown {fault = fault} {mid = mid} {after = after} wrong complaint judged closes shows shortened
+      about) =
+      let closed = closed_down fault before wrong mid sound closes in
+      let comes = shortened_comes known laws plan wrong plan.rule (moment (found_in mid wrong fault) before.asked)
+      closed.rule shortened in
+      let more = shortened_asks known plan wrong (moment (found_in mid wrong fault) before.asked) shortened in
+      down after (comes.0.rule ∙ closed.rule)
+      (grow_both since before.asked after.asked sound.grows (grow_more _ before.asked after.asked more))
+      (comes.0.engine ∙ ap (λ (s : State P). s.engine) closes.leads)
+
+  complained_just : (before : Moment P) {fault : Option Fault} {after : Moment P} {said : List (List ℕ)}
+      → IsSound known laws plan since fault before → Complains known plan before fault after said
+      → All (IsJustComplaint known plan.rule (starts_of plan since after.asked)
+      (Some (record { fault = fault; state = before.state }))) said
+  complained_just before sound Complains.nothing = All-nil _
+  complained_just before sound (Complains.passed_over unjudged passes) = All-nil _
+  complained_just before sound (Complains.hidden wrong judged closes not_shown) = All-nil _
+  complained_just before sound
+      (Complains.shown {fault = fault} {mid = mid} {after = after} {shorter = shorter} wrong complaint judged closes
+      shows shortened about) =
+      let closed = closed_down fault before wrong mid sound closes in
+      let comes = shortened_comes known laws plan wrong plan.rule (moment (found_in mid wrong fault) before.asked)
+      closed.rule shortened in
+      let more = shortened_asks known plan wrong (moment (found_in mid wrong fault) before.asked) shortened in
+      let found_so = grounded_until known plan.rule plan since before.asked after.asked wrong more
+      (closed_grounded fault before wrong mid sound closes) in
+      let fair = of_shown before wrong shorter after
+      (record { grounded = found_so; alike = record { fault = refl; command = refl } })
+      (λ tried is. fair_from known plan wrong plan.rule since before.asked after.asked tried sound.grows
+      (comes.1 tried is)) in
+      All-cons (IsJustComplaint known plan.rule (starts_of plan since after.asked)
+      (Some (record { fault = Some fault; state = before.state })))
+      (complaint_lines complaint) []
+      (record {
+        complaint = complaint;
+        is = refl;
+        caption = _;
+        wrong = unwrap_or shorter wrong;
+        of = about;
+        grounded = fair.grounded;
+        cause = fault;
+        state = before.state;
+        came_so = refl;
+        found = wrong;
+        down = mid;
+        closed = closes;
+        found_so = found_so;
+        alike = fair.alike;
+      })
+      (All-nil (IsJustComplaint known plan.rule (starts_of plan since after.asked)
+      (Some (record { fault = Some fault; state = before.state }))))
+
+  -- ---- a turn
+
   begun_sound : (mid : State P) (had has : Attempts P) (course : Course) (engine : Engine P) (process : P)
-      → IsSound None (moment mid had) → Tries had has (program_line plan.words.items) (Ok process)
+      → IsSound known laws plan since None (moment mid had) → Tries had has (program_line plan.words.items) (Ok process)
       → ((exam : Exam) (notes : Notes) → dialogue engine exam notes ≡ begun_with exam process notes)
-      → IsSound None (moment
+      → IsSound known laws plan since None (moment
       (state (started mid.check) course (Some engine) (started_again mid.tally) (noted_start mid.notes)) has)
   begun_sound mid had has course engine process sound tries fresh = record {
     rule = sound.rule;
+    grows = grow_both since had has sound.grows (grow_one had has _ _ tries);
     engine = λ one is.
         subst
-        (IsHeldWith known plan None (moment
+        (IsHeld known plan since None (moment
         (state (started mid.check) course (Some engine) (started_again mid.tally) (noted_start mid.notes)) has))
         (one_there is)
         (record {
           process = process;
-          earlier = had;
-          started = tries;
+          started = started_since _ process since had has sound.grows (just_started _ had has process tries);
           first = noted_start mid.notes;
-          ends = fresh_converses plan.rule mid.check.exam.game.rule sound.rule process (noted_start mid.notes)
+          ends = fresh_converses known plan.rule mid.check.exam.game.rule sound.rule process (noted_start mid.notes)
               (dialogue engine (started mid.check).exam (noted_start mid.notes))
               (fresh (started mid.check).exam (noted_start mid.notes));
         });
@@ -238,17 +266,18 @@ module _ {P : Type 0} (known : Ghosts P) (laws : Laws known) (plan : Plan) where
 
   -- the state in which the first line was written, and what was wrong
   written_sound : (before : Moment P) (mid next : State P) (fault : Option Fault) (line : List (List ℕ))
-      → IsSound None before → (heard : Exchanges known plan before.state fault mid)
+      → IsSound known laws plan since None before → (heard : Exchanges known plan before.state fault mid)
       → WritesFirst known plan mid (is_blamed plan.suicide fault) next line
-      → IsSound fault (moment next before.asked)
+      → IsSound known laws plan since fault (moment next before.asked)
   written_sound before mid next fault line sound heard first =
       first_sound mid before.asked fault (is_blamed plan.suicide fault)
       (heard_sound heard.mid before.asked fault mid (asked_sound before.state before.asked sound heard.asks)
       heard.heard)
       first
 
-  pub turn_sound : (before : Moment P) {after : Moment P} {texts shows : List (List ℕ)} → IsSound None before
-      → Turn known plan before after texts shows → IsSound None after
+  pub turn_sound : (before : Moment P) {after : Moment P} {texts shows : List (List ℕ)}
+      → IsSound known laws plan since None before
+      → Turn known plan before after texts shows → IsSound known laws plan since None after
   turn_sound before sound
       (Turn.starts {mid = mid} {course = course} {has = has} {engine = engine} process steps next fruitful may tries
       quits fresh) =
@@ -256,20 +285,21 @@ module _ {P : Type 0} (known : Ghosts P) (laws : Laws known) (plan : Plan) where
       fresh
   turn_sound before sound (Turn.restarts {mid = mid} {course = course} steps next quits) =
       down (moment (record mid { check = after_loss mid.check; course = course; engine = None }) before.asked)
-      (asked_sound before.state before.asked sound steps).rule refl
+      (asked_sound before.state before.asked sound steps).rule sound.grows refl
   turn_sound before sound (Turn.kills {mid = mid} {course = course} steps next ended) =
       down (moment (record mid { check = after_loss mid.check; course = course; engine = None }) before.asked)
-      (asked_sound before.state before.asked sound steps).rule refl
+      (asked_sound before.state before.asked sound steps).rule sound.grows refl
   turn_sound before sound
       (Turn.exchanges {mid = mid} {next = next} {fault = fault} {line = line} heard first complains) =
       complained_sound (moment next before.asked) (written_sound before mid next fault line sound heard first) complains
 
-  pub turn_just : (before : Moment P) {after : Moment P} {texts shows : List (List ℕ)} → IsSound None before
-      → (turn : Turn known plan before after texts shows) → All (IsJustComplaint known plan.rule) (complaints_in turn)
-  turn_just before sound (Turn.starts process steps next fruitful may tries quits fresh) =
-      All-nil (IsJustComplaint known plan.rule)
-  turn_just before sound (Turn.restarts steps next quits) = All-nil (IsJustComplaint known plan.rule)
-  turn_just before sound (Turn.kills steps next ended) = All-nil (IsJustComplaint known plan.rule)
+  pub turn_just : (before : Moment P) {after : Moment P} {texts shows : List (List ℕ)}
+      → IsSound known laws plan since None before
+      → (turn : Turn known plan before after texts shows)
+      → All (IsJustComplaint known plan.rule (starts_of plan since after.asked) (came_in turn)) (complaints_in turn)
+  turn_just before sound (Turn.starts process steps next fruitful may tries quits fresh) = All-nil _
+  turn_just before sound (Turn.restarts steps next quits) = All-nil _
+  turn_just before sound (Turn.kills steps next ended) = All-nil _
   turn_just before sound
       (Turn.exchanges {mid = mid} {next = next} {fault = fault} {line = line} heard first complains) =
       complained_just (moment next before.asked) (written_sound before mid next fault line sound heard first) complains
@@ -277,14 +307,16 @@ module _ {P : Type 0} (known : Ghosts P) (laws : Laws known) (plan : Plan) where
   -- ---- who is ended in a turn
 
   -- an engine that is there is up
-  pub is_up : (now : Moment P) (engine : Engine P) → IsSound None now → now.state.engine ≡ Some engine
+  pub is_up : (now : Moment P) (engine : Engine P) → IsSound known laws plan since None now
+      → now.state.engine ≡ Some engine
       → now.state.check.exam.up ≡ true
   is_up now engine sound there =
       let held = sound.engine engine there in
       (laws.silent plan.rule held.process held.first (dialogue engine now.state.check.exam now.state.notes)
       held.ends).up
 
-  pub turn_ends : (before : Moment P) {after : Moment P} {texts shows : List (List ℕ)} → IsSound None before
+  pub turn_ends : (before : Moment P) {after : Moment P} {texts shows : List (List ℕ)}
+      → IsSound known laws plan since None before
       → (turn : Turn known plan before after texts shows)
       → (ends : State P) (engine : Engine P) → ended_in turn ≡ Some ends → ends.engine ≡ Some engine
       → ends.check.exam.unanswered ≡ []
@@ -302,21 +334,27 @@ module _ {P : Type 0} (known : Ghosts P) (laws : Laws known) (plan : Plan) where
 
 -- ---- turns
 
-module _ {P O E : Type 0} (known : Known P O E) (laws : Laws known.processes) (plan : Plan) where
+module _ {P O E : Type 0} {since : Attempts P} (known : Known P O E) (laws : Laws known.processes) (plan : Plan) where
   pub turns_sound : (first : Point P O E) {count : ℕ} {last : Point P O E}
-      → IsSound known.processes laws plan None first.now → Turns known plan first count last
-      → IsSound known.processes laws plan None last.now
+      → IsSound known.processes laws plan since None first.now → Turns known plan first count last
+      → IsSound known.processes laws plan since None last.now
   turns_sound first sound Turns.not_yet = sound
   turns_sound first sound (Turns.turns {before = before} more turn goes_out shown) =
       turn_sound known.processes laws plan before.now (turns_sound first sound more) turn
 
+-- a check begins soundly
+pub begins_sound : {P O E : Type 0} (known : Known P O E) (laws : Laws known.processes) (begins : Beginning P O E)
+    → IsSound known.processes laws begins.plan begins.asked None (first_point begins).now
+begins_sound known laws begins =
+    down known.processes laws begins.plan (moment (before_all begins.plan) begins.asked) refl (grow_none begins.asked)
+    refl
+
 -- a check is sound at each point to which it comes
 pub all_sound : {P O E : Type 0} (known : Known P O E) (laws : Laws known.processes) (begins : Beginning P O E)
     {count : ℕ} {last : Point P O E} → Turns known begins.plan (first_point begins) count last
-    → IsSound known.processes laws begins.plan None last.now
+    → IsSound known.processes laws begins.plan begins.asked None last.now
 all_sound known laws begins more =
-    turns_sound known laws begins.plan (first_point begins)
-    (down known.processes laws begins.plan (moment (before_all begins.plan) begins.asked) refl refl) more
+    turns_sound known laws begins.plan (first_point begins) (begins_sound known laws begins) more
 
 -- ---- in a check that found nothing
 

@@ -35,8 +35,8 @@ module _ {P : Type 0} (known : Ghosts P) (laws : Laws known) (plan : Plan) where
 
   -- ---- an exchange
 
-  heard_less : (before : State P) (has : Attempts P) (fault : Option Fault) (after : State P)
-      → IsSound known laws plan None (moment before has) → IsHeardOut known before fault after
+  heard_less : {since : Attempts P} (before : State P) (has : Attempts P) (fault : Option Fault) (after : State P)
+      → IsSound known laws plan since None (moment before has) → IsHeardOut known before fault after
       → after.notes.fruitless ≤ before.notes.fruitless
   heard_less before has fault after sound heard =
       let up = is_up known laws plan (moment before has) heard.engine sound heard.had in
@@ -46,8 +46,8 @@ module _ {P : Type 0} (known : Ghosts P) (laws : Laws known) (plan : Plan) where
       let is : after.notes.fruitless ≡ heard.notes.fruitless = ap (λ (s : State P). s.notes.fruitless) heard.leads in
       omega (arith, less, is)
 
-  heard_none : (before : State P) (has : Attempts P) (after : State P)
-      → IsSound known laws plan None (moment before has) → IsHeardOut known before None after
+  heard_none : {since : Attempts P} (before : State P) (has : Attempts P) (after : State P)
+      → IsSound known laws plan since None (moment before has) → IsHeardOut known before None after
       → length after.check.exam.unanswered < length before.check.exam.unanswered → after.notes.fruitless ≡ 0
   heard_none before has after sound heard fewer =
       let up = is_up known laws plan (moment before has) heard.engine sound heard.had in
@@ -57,8 +57,9 @@ module _ {P : Type 0} (known : Ghosts P) (laws : Laws known) (plan : Plan) where
       ∙ laws.vain.answered (dialogue heard.engine before.check.exam before.notes)
       (dialogue heard.heard heard.exam heard.notes) up heard.exchanged (omega (arith, fewer, count))
 
-  heard_vain : (before : State P) (has : Attempts P) (fault : Option Fault) (after : State P) (count : ℕ)
-      → IsSound known laws plan None (moment before has) → IsHeardOut known before fault after
+  heard_vain : {since : Attempts P} (before : State P) (has : Attempts P) (fault : Option Fault) (after : State P)
+      (count : ℕ)
+      → IsSound known laws plan since None (moment before has) → IsHeardOut known before fault after
       → before.notes.fruitless ≤ count
       → after.notes.fruitless
       ≤ vain_after fault (length before.check.exam.unanswered) (length after.check.exam.unanswered) count
@@ -100,8 +101,8 @@ module _ {P : Type 0} (known : Ghosts P) (laws : Laws known) (plan : Plan) where
 
   -- ---- a turn
 
-  pub turn_vain : (before : Moment P) {after : Moment P} {texts shows : List (List ℕ)}
-      → IsSound known laws plan None before → (turn : Turn known plan before after texts shows) (count : ℕ)
+  pub turn_vain : {since : Attempts P} (before : Moment P) {after : Moment P} {texts shows : List (List ℕ)}
+      → IsSound known laws plan since None before → (turn : Turn known plan before after texts shows) (count : ℕ)
       → before.state.notes.fruitless ≤ count → after.state.notes.fruitless ≤ vain_in turn count
   turn_vain before sound (Turn.starts process steps next fruitful may tries quits fresh) count few =
       let keeps = asked_keeps before.state steps in omega (arith, keeps, few)
@@ -118,8 +119,8 @@ module _ {P : Type 0} (known : Ghosts P) (laws : Laws known) (plan : Plan) where
       let less = complained_less (moment next before.asked) complains in
       omega (arith, vain, same, less)
 
-  pub turn_few : (before : Moment P) {after : Moment P} {texts shows : List (List ℕ)}
-      → IsSound known laws plan None before → Turn known plan before after texts shows
+  pub turn_few : {since : Attempts P} (before : Moment P) {after : Moment P} {texts shows : List (List ℕ)}
+      → IsSound known laws plan since None before → Turn known plan before after texts shows
       → before.state.notes.fruitless ≤ 3 → after.state.notes.fruitless ≤ 3
   turn_few before sound (Turn.starts process steps next fruitful may tries quits fresh) few =
       omega (arith, fruitful)
@@ -164,16 +165,16 @@ module _ {P : Type 0} (known : Ghosts P) (laws : Laws known) (plan : Plan) where
 -- ---- turns
 
 module _ {P O E : Type 0} (known : Known P O E) (laws : Laws known.processes) (plan : Plan) where
-  pub turns_vain : (first : Point P O E) {count : ℕ} {last : Point P O E}
-      → IsSound known.processes laws plan None first.now → first.now.state.notes.fruitless ≡ 0
+  pub turns_vain : {since : Attempts P} (first : Point P O E) {count : ℕ} {last : Point P O E}
+      → IsSound known.processes laws plan since None first.now → first.now.state.notes.fruitless ≡ 0
       → (more : Turns known plan first count last) → last.now.state.notes.fruitless ≤ in_vain more
   turns_vain first sound none Turns.not_yet = omega (arith, none)
   turns_vain first sound none (Turns.turns {before = before} more turn goes_out shown) =
       turn_vain known.processes laws plan before.now (turns_sound known laws plan first sound more) turn (in_vain more)
       (turns_vain first sound none more)
 
-  pub turns_few : (first : Point P O E) {count : ℕ} {last : Point P O E}
-      → IsSound known.processes laws plan None first.now → first.now.state.notes.fruitless ≡ 0
+  pub turns_few : {since : Attempts P} (first : Point P O E) {count : ℕ} {last : Point P O E}
+      → IsSound known.processes laws plan since None first.now → first.now.state.notes.fruitless ≡ 0
       → Turns known plan first count last → last.now.state.notes.fruitless ≤ 3
   turns_few first sound none Turns.not_yet = omega (arith, none)
   turns_few first sound none (Turns.turns {before = before} more turn goes_out shown) =

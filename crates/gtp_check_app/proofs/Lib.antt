@@ -1,6 +1,7 @@
 mod Answered
 mod FewTrials
 mod Gathering
+mod InStarts
 mod InStatus
 mod InTrials
 mod InTurns
@@ -11,6 +12,7 @@ mod Progressing
 mod Running
 mod Settling
 mod Shortening
+mod Spacing
 mod Suicides
 mod Trying
 mod Turning

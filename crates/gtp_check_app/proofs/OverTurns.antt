@@ -13,7 +13,7 @@ use Rattle.gtp_check_app.specs.RunLaws.{ThreeStartsInVainEndIt}
 use Rattle.gtp_check_app.specs.Sequence.{Beginning, Known, Point, first_point}
 use Rattle.gtp_check_app.specs.Turns.{process_of}
 use Rattle.gtp_check_app.proofs.InTrials.{Laws}
-use Rattle.gtp_check_app.proofs.InTurns.{IsSound, all_sound, down, turn_ends, turn_just, turn_none, turns_none}
+use Rattle.gtp_check_app.proofs.InTurns.{IsSound, all_sound, begins_sound, turn_ends, turn_just, turn_none, turns_none}
 use Rattle.gtp_check_app.proofs.InVain.{ended_vain, turn_starts, turns_few, turns_vain}
 
 -- ---- how an engine is ended at the end
@@ -32,7 +32,7 @@ closed_quiet known process unanswered false is closed none =
 
 module _ {P O E : Type 0} (known : Known P O E) (laws : Laws known.processes) where
   sound_at : (begins : Beginning P O E) (now : Point P O E) → ComesTo known begins now
-      → IsSound known.processes laws begins.plan None now.now
+      → IsSound known.processes laws begins.plan begins.asked None now.now
   sound_at begins now comes = all_sound known laws begins comes.turns
 
   pub silent_checks : SilentChecksAreRight known
@@ -64,19 +64,15 @@ module _ {P O E : Type 0} (known : Known P O E) (laws : Laws known.processes) wh
         closed_quiet known.processes (process_of last.engine) last.check.exam.unanswered _ refl closed none;
   }
 
-  -- a check begins soundly
-  begins_sound : (begins : Beginning P O E)
-      → IsSound known.processes laws begins.plan None (first_point begins).now
-  begins_sound begins = down known.processes laws begins.plan (first_point begins).now refl refl
-
   pub three_starts : ThreeStartsInVainEndIt known
   three_starts = record {
     few = λ begins now comes.
-        turns_few known laws begins.plan (first_point begins) (begins_sound begins) refl comes.turns;
+        turns_few known laws begins.plan (first_point begins) (begins_sound known laws begins) refl comes.turns;
     starts = λ begins last has is.
         turn_starts known.processes laws begins.plan has.before.now has.is.turn is;
     ended = λ begins now comes last over.
         let many = ended_vain known.processes laws begins.plan now.now last over in
-        let vain = turns_vain known laws begins.plan (first_point begins) (begins_sound begins) refl comes.turns in
+        let vain = turns_vain known laws begins.plan (first_point begins) (begins_sound known laws begins) refl
+        comes.turns in
         omega (arith, many, vain);
   }

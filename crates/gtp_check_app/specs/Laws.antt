@@ -1,9 +1,13 @@
 -- A pass is earned, and suicide isn't judged where it isn't asked. (Own.)
-use Rattle.std.specs.Prelude.{◌≡◌, ◌+◌, ◌≤◌, ◌<◌, ◌↔◌, ℕ, true, All, List, [], length, Option, Some}
+use Rattle.std.specs.Prelude.{◌≡◌, ◌==◌, ◌+◌, ◌≤◌, ◌<◌, ◌↔◌, ℕ, true, All, List, [], length, count_by, max}
+use Rattle.std.specs.Prelude.{Option, Some}
 use Rattle.go_board.specs.declared.faults.PlayFault.TheVariants.{Suicide}
 use Rattle.gtp_process.specs.declared.starter.Process.{Ghosts}
 use Rattle.gtp_check_judge.specs.declared.judging.Kind.TheVariants.{Unlawful}
+use Rattle.gtp_check_questions.specs.Lessons.{number_of}
+use Rattle.gtp_check_questions.specs.declared.lessons.Lesson.{Lesson}
 use Rattle.gtp_check_questions.specs.declared.suicides.Suicide.TheVariants.{Unasked}
+use Rattle.gtp_check_shortening.specs.Reduction.{Reduction}
 use Rattle.cli.specs.Status.{done}
 use Rattle.gtp_check_texts.specs.Complaints.{complaint_lines}
 use Rattle.gtp_check_texts.specs.declared.complaint.Complaint.{Complaint}
@@ -12,10 +16,11 @@ use Rattle.gtp_check_texts.specs.declared.fault.Fault.TheVariants.{Wrote}
 use Rattle.gtp_check_plan.specs.declared.plan.Plan.{Plan}
 use Rattle.gtp_check_app.specs.Checks.{status_in}
 use Rattle.gtp_check_talks.specs.Among.{is_among}
+use Rattle.gtp_check_talks.specs.Dialogues.{Wrong, wrong_purpose, wrong_talk}
 use Rattle.gtp_check_talks.specs.Laws.{MovesAreNotedOnceAnswered}
 use Rattle.gtp_check_app.specs.Status.{not_earned, something_found}
 use Rattle.gtp_check_app.specs.Tally.{with_suicide}
-use Rattle.gtp_check_app.specs.Turns.{Complains, Moment, State}
+use Rattle.gtp_check_app.specs.Turns.{Complains, IsReduced, IsShortened, Moment, Reduces, State}
 
 -- ---- suicide that isn't judged
 
@@ -44,6 +49,31 @@ TrialsAreFew {P} known = (plan : Plan) (before after : Moment P) (fault : Option
     → Complains known plan before fault after said
     → after.state.check.starts ≤ before.state.check.starts + plan.trials
 
+-- how many commands were asked in the trials in which parts were left out, in all of them together
+abbrev pub asked_in : {P : Type 0} {known : Ghosts P} {plan : Plan} {found : Wrong} {first : Reduction}
+    {before : Moment P} {last : Reduction} {best : Option Wrong} {after : Moment P}
+    → Reduces known plan found first before last best after → ℕ
+asked_in Reduces.begins = 0
+asked_in (Reduces.failed commands more is tries) = asked_in more + length commands
+asked_in (Reduces.succeeded commands more is tries) = asked_in more + length commands
+
+abbrev pub asked_to_shorten : {P : Type 0} {known : Ghosts P} {plan : Plan} {found : Wrong} {before : Moment P}
+    {shorter : Option Wrong} {after : Moment P} → IsShortened known plan found before shorter after → ℕ
+asked_to_shorten (IsShortened.both_ways shortens (IsReduced.reduced reduces over)) = asked_in reduces
+
+-- how many commands a conversation that ended so has of this lesson
+abbrev pub commands_of_lesson : Wrong → Lesson → ℕ
+commands_of_lesson wrong lesson =
+    count_by (λ said. number_of lesson == number_of said.purpose.lesson) (wrong_talk wrong)
+
+-- Where parts of a conversation are left out, the trials together ask no more of its commands than the one that was found
+-- had in the lesson in which it ended, or 20,000. (Each `name` that is asked besides, since an answer may run on, isn't
+-- counted.)
+abbrev pub TrialsAskFew : {P : Type 0} → Ghosts P → Type 0
+TrialsAskFew {P} known = (plan : Plan) (found : Wrong) (before after : Moment P) (shorter : Option Wrong)
+    (shortened : IsShortened known plan found before shorter after)
+    → asked_to_shorten shortened ≤ max 20000 (commands_of_lesson found (wrong_purpose found).lesson)
+
 -- ---- a pass
 
 -- A check is over so, and the engine has passed: nothing was found, the course is over, and of each of its lessons it
@@ -54,7 +84,7 @@ pub record IsPass {P : Type 0} (plan : Plan) (last : State P) : Type 0 where
   pub moves : All (λ lesson. is_among last.notes.answered.items lesson ≡ true) plan.lessons.items
 
 -- What a status says of a check that is over so: 1 that something was found, 0 that the engine has passed, and 4 that
--- nothing was found and it hasn't passed. And a lesson is noted only where a move that was asked in it was answered
+-- nothing was found and it hasn't passed. And a lesson is noted just where a move that was asked in it was answered
 -- rightly.
 pub record APassIsEarned {P : Type 0} (known : Ghosts P) : Type 0 where
   pub found : (plan : Plan) (last : State P) → (status_in plan last ≡ something_found) ↔ (0 < last.tally.complaints)

@@ -1,6 +1,6 @@
 -- Laws of a whole check: what holds of each turn of it, and of its end. (Own.)
-use Rattle.std.specs.Prelude.{◌≡◌, ◌⊎◌, ℕ, ◌+◌, ◌<◌, ◌≤◌, Bool, true, false, All, List, [], length}
-use Rattle.std.specs.Prelude.{nat_lt, if◌then◌else◌, Option, None, Some, Ok}
+use Rattle.std.specs.Prelude.{◌≡◌, ◌⊎◌, ⊤, ℕ, ◌+◌, ◌<◌, ◌≤◌, Bool, true, false, All, List, [], ◌∷◌, ◌++◌, length}
+use Rattle.std.specs.Prelude.{nat_lt, slice_get, if◌then◌else◌, Option, None, Some, option_map, Ok}
 use Rattle.byte_streams.specs.Writing.{LinesGoOut}
 use Rattle.go_board.specs.declared.rules.KoRule.{KoRule}
 use Rattle.gtp_process.specs.declared.causes.PipeCause.{PipeCause}
@@ -8,7 +8,8 @@ use Rattle.gtp_process.specs.declared.starter.Ending.{Ending}
 use Rattle.gtp_process.specs.declared.starter.Process.{Ghosts}
 use Rattle.gtp_process.specs.Endings.{IsEnded}
 use Rattle.gtp_process.specs.Quitting.{QuitsIfAny}
-use Rattle.gtp_process.specs.Starts.{Attempts, Tries, program_line}
+use Rattle.gtp_process.specs.Starts.{Attempt, Attempts, program_line}
+use Rattle.gtp_check_judge.specs.declared.asking.CheckCommand.{CheckCommand}
 use Rattle.gtp_check_judge.specs.declared.judging.Kind.{Kind}
 use Rattle.gtp_check_judge.specs.Exam.{begun}
 use Rattle.gtp_check_questions.specs.declared.lessons.Lesson.{Lesson}
@@ -34,7 +35,7 @@ use Rattle.gtp_check_plan.specs.Options.{AsksForText}
 use Rattle.gtp_check_app.specs.Status.{not_earned, something_found}
 use Rattle.gtp_check_app.specs.Unjudged.{is_blamed}
 use Rattle.gtp_check_app.specs.Sequence.{Beginning, Known, Point, Turns, beginning, first_point}
-use Rattle.gtp_check_app.specs.Turns.{IsComplaint, IsOver, Moment, State, Turn, moment, process_of}
+use Rattle.gtp_check_app.specs.Turns.{Closes, IsComplaint, IsOver, Moment, State, Turn, moment, process_of}
 
 -- ---- a check and its turns
 
@@ -77,24 +78,51 @@ fault_in (Turn.restarts steps next quits) = None
 fault_in (Turn.kills steps next ended) = None
 fault_in (Turn.exchanges {fault = fault} heard first complains) = fault
 
+-- ---- the starts of a check
+
+-- The command line by which a check has to start its engines, and the starts that were asked for: before the check, and
+-- up to a point of it.
+pub record Starts (P : Type 0) : Type 0 where
+  pub line : List Text
+  pub before : Attempts P
+  pub after : Attempts P
+
+abbrev pub starts_of : {P : Type 0} → Plan → Attempts P → Attempts P → Starts P
+starts_of plan before after =
+    record { line = program_line plan.words.items; before = before; after = after }
+
+-- One of the attempts that were made in between was by this command line, the whole of it, and it started this process.
+pub record IsAmong {P : Type 0} (line : List Text) (process : P) (before after : List (Attempt P)) : Type 0 where
+  pub earlier : List (Attempt P)
+  pub later : List (Attempt P)
+  pub is : after ≡ before ++ earlier ++ record { line = line; answer = Ok process } ∷ later
+
+-- the same, where the attempts are known
+abbrev pub IsStartedBy : {P : Type 0} → List Text → P → Attempts P → Attempts P → Type 0
+IsStartedBy line process None after = ⊤
+IsStartedBy line process (Some before) None = ⊥
+IsStartedBy line process (Some before) (Some after) = IsAmong line process before after
+
+-- the check started this process, by its command line
+abbrev pub IsStarted : {P : Type 0} → Starts P → P → Type 0
+IsStarted starts process = IsStartedBy starts.line process starts.before starts.after
+
 -- ---- the engine of a check
 
--- An engine was started by the plan's command line, and what it was asked and what was heard since then are one
--- conversation, in which so far this is wrong, if anything.
-pub record IsHeldWith {P : Type 0} (known : Ghosts P) (plan : Plan) (fault : Option Fault) (now : Moment P)
-    (engine : Engine P) : Type 0 where
+-- An engine was started by the check, and what it was asked and what was heard since then are one conversation under
+-- this ko rule, in which so far this is wrong, if anything.
+pub record IsHeldWith {P : Type 0} (known : Ghosts P) (rule : KoRule) (starts : Starts P) (fault : Option Fault)
+    (end : Dialogue P) : Type 0 where
   pub process : P
-  pub earlier : Attempts P
-  pub started : Tries earlier now.asked (program_line plan.words.items) (Ok process)
+  pub started : IsStarted starts process
   pub first : Notes
-  pub ends : EndsSo known (begun_with (begun plan.rule true) process first) fault
-      (dialogue engine now.state.check.exam now.state.notes)
+  pub ends : EndsSo known (begun_with (begun rule true) process first) fault end
 
 -- Where a check has an engine, that was started by this check, and each answer that was heard of it is a right one.
-pub record AnswersRightly {P : Type 0} (known : Ghosts P) (plan : Plan) (now : Moment P) (engine : Engine P)
+pub record AnswersRightly {P : Type 0} (known : Ghosts P) (rule : KoRule) (starts : Starts P) (end : Dialogue P)
     : Type 0 where
-  pub held : IsHeldWith known plan None now engine
-  pub right : IsRightlyAnswered known plan.rule held.process (dialogue engine now.state.check.exam now.state.notes)
+  pub held : IsHeldWith known rule starts None end
+  pub right : IsRightlyAnswered known rule held.process end
 
 -- ---- silence
 
@@ -104,7 +132,9 @@ pub record SilentChecksAreRight {P O E : Type 0} (known : Known P O E) : Type 0 
   pub no_fault : (begins : Beginning P O E) (last : Point P O E) → last.now.state.tally.complaints ≡ 0
       → (has : HasTurn known begins last) → is_blamed begins.plan.suicide (fault_in has.is.turn) ≡ false
   pub right : (begins : Beginning P O E) (now : Point P O E) (engine : Engine P) → ComesTo known begins now
-      → now.now.state.engine ≡ Some engine → AnswersRightly known.processes begins.plan now.now engine
+      → now.now.state.engine ≡ Some engine
+      → AnswersRightly known.processes begins.plan.rule (starts_of begins.plan begins.asked now.now.asked)
+      (dialogue engine now.now.state.check.exam now.now.state.notes)
 
 -- ---- complaints
 
@@ -117,23 +147,59 @@ pub data IsShownBy {P : Type 0} (known : Ghosts P) (rule : KoRule) (process : P)
   lost : {cause : PipeCause} {end : Dialogue P} → IsLost known rule process cause end
       → IsShownBy known rule process (CutOff cause) end
 
--- This ended a conversation with an engine that was started under this ko rule, and then its process ended.
-pub record IsGrounded {P : Type 0} (known : Ghosts P) (rule : KoRule) (wrong : Wrong) : Type 0 where
+-- This ended a conversation under this ko rule with an engine that the check started by its command line, and then the
+-- engine's process ended.
+pub record IsGrounded {P : Type 0} (known : Ghosts P) (rule : KoRule) (starts : Starts P) (wrong : Wrong)
+    : Type 0 where
   pub process : P
+  pub started : IsStarted starts process
   pub end : Dialogue P
   pub ending : Ending
   pub is : wrong ≡ wrong_with wrong.fault end ending
   pub left : known.leaves end.process ending
   pub shown : IsShownBy known rule process wrong.fault end
 
--- A text is that of a complaint of such a conversation.
-pub record IsJustComplaint {P : Type 0} (known : Ghosts P) (rule : KoRule) (text : List ℕ) : Type 0 where
+-- the command with which a conversation ended: the first of those asked that wasn't answered rightly, if there is one
+abbrev pub last_command : Wrong → Option CheckCommand
+last_command wrong = option_map (λ said. said.command) (slice_get wrong.talk wrong.answered)
+
+-- Two conversations ended alike: the same is wrong, after the same command.
+pub record EndAlike (one other : Wrong) : Type 0 where
+  pub fault : one.fault ≡ other.fault
+  pub command : last_command one ≡ last_command other
+
+-- What an exchange of a turn came to: what was wrong, if anything, and the state in which that was found.
+pub record Came (P : Type 0) : Type 0 where
+  pub fault : Option Fault
+  pub state : State P
+
+-- what the exchange of a turn came to, if it has one
+abbrev pub came_in : {P : Type 0} {known : Ghosts P} {plan : Plan} {before after : Moment P}
+    {texts shows : List (List ℕ)} → Turn known plan before after texts shows → Option (Came P)
+came_in (Turn.starts process steps next fruitful may tries quits fresh) = None
+came_in (Turn.restarts steps next quits) = None
+came_in (Turn.kills steps next ended) = None
+came_in (Turn.exchanges {next = next} {fault = fault} heard first complains) =
+    Some (record { fault = fault; state = next })
+
+-- A text is that of a complaint of such a conversation. That is the one with the engine in which this was found, and
+-- which was ended then, or a shorter one that ended like it.
+pub record IsJustComplaint {P : Type 0} (known : Ghosts P) (rule : KoRule) (starts : Starts P) (came : Option (Came P))
+    (text : List ℕ) : Type 0 where
   pub complaint : Complaint
   pub is : text ≡ complaint_lines complaint
   pub caption : Caption
   pub wrong : Wrong
   pub of : IsComplaint rule caption wrong complaint
-  pub grounded : IsGrounded known rule wrong
+  pub grounded : IsGrounded known rule starts wrong
+  pub cause : Fault
+  pub state : State P
+  pub came_so : came ≡ Some (record { fault = Some cause; state = state })
+  pub found : Wrong
+  pub down : State P
+  pub closed : Closes known cause state found down
+  pub found_so : IsGrounded known rule starts found
+  pub alike : EndAlike wrong found
 
 -- the complaints that are written in a turn
 abbrev pub complaints_in : {P : Type 0} {known : Ghosts P} {plan : Plan} {before after : Moment P}
@@ -143,11 +209,14 @@ complaints_in (Turn.restarts steps next quits) = []
 complaints_in (Turn.kills steps next ended) = []
 complaints_in (Turn.exchanges {said = said} heard first complains) = said
 
--- Each complaint of a check is of one conversation with an engine since its start, and shows a wrong answer or a loss.
+-- Each complaint of a check is of one conversation with an engine since its start by the check's command line. It shows
+-- a wrong answer or a loss, and ended like what was found in the turn.
 abbrev pub EachComplaintIsJust : {P O E : Type 0} → Known P O E → Type 0
 EachComplaintIsJust {P} {O} {E} known = (begins : Beginning P O E) (last : Point P O E)
     (has : HasTurn known begins last)
-    → All (IsJustComplaint known.processes begins.plan.rule) (complaints_in has.is.turn)
+    → All (IsJustComplaint known.processes begins.plan.rule
+    (starts_of begins.plan begins.asked has.after.now.asked) (came_in has.is.turn))
+    (complaints_in has.is.turn)
 
 -- ---- who is sent `quit`
 
@@ -247,20 +316,28 @@ pub record HasAnswered {P O E : Type 0} (known : Known P O E) (begins : Beginnin
   pub turn : HasTurn known begins last
   pub answered : IsAnsweredIn lesson turn.is.turn
 
--- A check is over, and the engine has passed: nothing that is judged was wrong in any turn, and the pass is earned. In
--- each lesson of the plan there was a turn in which a `play` or a `genmove` of it was answered rightly.
+-- A check that came to this point, and then was over so, has earned a pass: each lesson of the plan was asked to its
+-- end, and in each there was a turn in which a `play` or a `genmove` of it was answered rightly.
+pub record HasEarned {P O E : Type 0} (known : Known P O E) (begins : Beginning P O E) (now : Point P O E)
+    (last : State P) : Type 0 where
+  pub asked : length begins.plan.lessons.items ≤ last.course.place.lesson
+  pub answered : All (HasAnswered known begins now) begins.plan.lessons.items
+
+-- A check is over, and the engine has passed: nothing that is judged was wrong in any turn, and the pass is earned.
 pub record HasPassed {P O E : Type 0} (known : Known P O E) (begins : Beginning P O E) : Type 0 where
   pub last : State P
   pub over : IsOverAt known begins last
   pub pass : IsPass begins.plan last
-  pub answered : All (HasAnswered known begins over.now) begins.plan.lessons.items
+  pub earned : HasEarned known begins over.now last
   pub no_fault : (turn : HasTurn known begins over.now) → is_blamed begins.plan.suicide (fault_in turn.is.turn) ≡ false
 
--- A check is over, nothing that is judged was wrong in any turn, and a pass isn't earned.
+-- A check is over, nothing that is judged was wrong in any turn, and a pass isn't earned: a lesson wasn't asked to its
+-- end, or in one no `play` and no `genmove` was answered rightly in any turn.
 pub record HasNotPassed {P O E : Type 0} (known : Known P O E) (begins : Beginning P O E) : Type 0 where
   pub last : State P
   pub over : IsOverAt known begins last
   pub no_pass : ¬ IsPass begins.plan last
+  pub not_earned : ¬ HasEarned known begins over.now last
   pub no_fault : (turn : HasTurn known begins over.now) → is_blamed begins.plan.suicide (fault_in turn.is.turn) ≡ false
 
 -- the words ask for a check, of which this holds

@@ -55,7 +55,7 @@ use Rattle.gtp_check_summary.specs.Summary.{first_line}
 use Rattle.gtp_check_shortening.specs.Played.{played}
 use Rattle.gtp_check_shortening.specs.Superko.{IsPositional, game_before}
 use Rattle.gtp_check_app.specs.Unjudged.{HasPassedOver, is_blamed, is_unjudged}
-use Rattle.gtp_check_app.specs.Trials.{LastGames, limits_of, or_else, shortenings_of}
+use Rattle.gtp_check_app.specs.Trials.{LastGames, asked_for, limits_of, or_else, shortenings_of}
 use Rattle.gtp_check_app.specs.Tally.{found, is_shown, nothing_found, started_again, with_suicide}
 
 -- how many turns a check has at most; no check within the limits has this number
@@ -289,12 +289,14 @@ module _ {P : Type 0} (known : Ghosts P) where
 module _ {P : Type 0} (known : Ghosts P) (plan : Plan) where
   -- ---- a shorter conversation
 
-  -- These commands were asked of another engine, for what the command was asked that was answered wrongly.
+  -- These commands were asked of another engine, with what else is asked where an answer may have run on, for what the
+  -- command was asked that was answered wrongly.
   pub data IsTried (found : Wrong) (commands : List CheckCommand) (before : Moment P)
       : Option Wrong → Moment P → Type 0 where
     by_trial : {result : Option Wrong} {after : Standing P}
         → IsTrial known
-        (trial (program_line plan.words.items) (wrong_purpose found) commands plan.suicide) (standing_in before)
+        (trial (program_line plan.words.items) (wrong_purpose found) (asked_for found commands) plan.suicide)
+        (standing_in before)
         result after
         → IsTried found commands before result
         (moment (record before.state { check = after.check; notes = after.notes }) after.asked)

@@ -25,13 +25,16 @@ ghost use Rattle.cli.specs.declared.failure.Failure.TheVariants as failure;
 use crate::check::{Check, purpose_in};
 use crate::progress::{clear, show_looking};
 use crate::streams::Streams;
+use crate::trials::asked_for;
 use byte_streams::{WriteOnce, write_text};
 use cli::failure::Failure;
 use go_board::{Game, KoRule};
 use gtp_check_judge::{CheckCommand, Kind};
 use gtp_check_plan::plan::Plan;
 use gtp_check_questions::{Course, Lesson};
-use gtp_check_shortening::flat::{Shortening, commands_of, games_in, shortened, shortenings};
+use gtp_check_shortening::flat::{
+    Shortening, commands_of, games_in, has_cut, shortened, shortenings,
+};
 use gtp_check_shortening::played::played;
 use gtp_check_shortening::superko::{game_before, is_positional};
 use gtp_check_shortening::talk::{Purpose, Said};
@@ -261,8 +264,8 @@ impl<S: Starter> Check<S> {
         Ok(best)
     }
 
-    /// These commands are asked of a new engine, where a start is left. What is wrong then is returned where it is the same
-    /// as what was found.
+    /// These commands are asked of a new engine, where a start is left, with `name` between them where an answer may have
+    /// run on. What is wrong then is returned where it is the same as what was found.
     fn try_one(
         &mut self,
         found: &Tried,
@@ -281,6 +284,8 @@ impl<S: Starter> Check<S> {
         if !self.examiner.may_start() {
             return Ok(None);
         }
+        let asked = asked_for(self.alloc, found, commands)?;
+        let commands = asked.as_slice();
         let trial = Trial {
             alloc: self.alloc,
             words: plan.words.as_slice(),
@@ -341,12 +346,15 @@ fn shortenings_of(alloc: Global, talk: &[Said], trials: u32) -> Result<Vec<Short
     Ok(tried)
 }
 
-/// Whether a conversation is shortened so: it has more commands than are few, and more games than this is for, and what
-/// is left of it has fewer commands.
+/// Whether a conversation is shortened so: it has more commands than are few, more games than this is for, and some in
+/// the last games before those that are kept; and what is left of it has fewer commands.
 fn is_for(alloc: Global, talk: &[Said], shortening: Shortening) -> Result<bool, AllocError>
     ensures { IfOk result (λ may. may ≡ is_for talk.now shortening) }
 {
     if talk.len() <= FEW_COMMANDS || games_in(talk) <= shortening.more_than {
+        return Ok(false);
+    }
+    if !has_cut(shortening, talk) {
         return Ok(false);
     }
     let commands = shortened(alloc, talk, shortening)?;

@@ -1,5 +1,5 @@
 //! Laws of the check. Each is the contract of a function that does nothing.
-ghost use Rattle.gtp_check_app.specs.Laws.{APassIsEarned, NoChosenSuicideIsBlamed, TrialsAreFew};
+ghost use Rattle.gtp_check_app.specs.Laws.{APassIsEarned, NoChosenSuicideIsBlamed, TrialsAreFew, TrialsAskFew};
 ghost use Rattle.gtp_check_app.specs.RunLaws.{EachComplaintIsJust, QuitGoesToWhoOwesNothing, SilentChecksAreRight};
 ghost use Rattle.gtp_check_app.specs.RunLaws.{StatusesSay, ThreeStartsInVainEndIt};
 ghost use Rattle.gtp_check_app.specs.Sequence.{known_of};
@@ -22,8 +22,14 @@ pub fn trials_are_few<P: Process>()
     ensures { TrialsAreFew P.Process }
 {}
 
+/// Where parts of a conversation are left out, the trials together ask no more of its commands than the one that was found
+/// had in its lesson, or 20,000. Each `name` that is asked besides, since an answer may run on, isn't counted.
+pub fn trials_ask_few<P: Process>()
+    ensures { TrialsAskFew P.Process }
+{}
+
 /// The status of a check that is over is 1 exactly where something was found, and 0 exactly where nothing was, each
-/// lesson was asked to its end, and each is noted. A lesson is noted only where a `play` or a `genmove` was answered
+/// lesson was asked to its end, and each is noted. A lesson is noted just where a `play` or a `genmove` was answered
 /// rightly in it.
 pub fn a_pass_is_earned<P: Process>()
     ensures { APassIsEarned P.Process }
@@ -77,7 +83,8 @@ pub fn three_starts_in_vain_end_it<P: Process, O: WriteOnce, E: WriteOnce>()
 }
 
 /// A run whose status is 1 wrote a complaint; one whose status is 0 passed the engine, or was asked for a text alone;
-/// and in one whose status is 4 nothing that is judged was wrong, and the engine hasn't passed.
+/// and in one whose status is 4 nothing that is judged was wrong, and the engine hasn't passed. To pass is to be asked
+/// each lesson to its end, and to answer a `play` or a `genmove` of each rightly.
 pub fn statuses_say<P: Process, O: WriteOnce, E: WriteOnce>()
     ensures { StatusesSay (known_of P.Process O.WriteOnce E.WriteOnce) }
 {

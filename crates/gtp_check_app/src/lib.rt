@@ -14,4 +14,5 @@ pub mod run;
 mod status;
 pub mod streams;
 pub mod tally;
+mod trials;
 mod unjudged;

@@ -46,9 +46,9 @@ pub data FollowsDigits : List ℕ → List ℕ → Type 0 where
   nothing : FollowsDigits [] []
   point : (decimals : List ℕ) → FollowsDigits (codes "." ++ decimals) decimals
 
--- The text is a decimal number of points without a sign: digits, and a point and digits or none; at least one digit in
--- all.
-pub record SpellsPoints (said : SaidScore) (text : List ℕ) : Type 0 where
+-- The text is a decimal number of points without a sign and without an exponent: digits, and a point and digits or none;
+-- at least one digit in all.
+pub record SpellsPlainPoints (said : SaidScore) (text : List ℕ) : Type 0 where
   pub whole : List ℕ
   pub rest : List ℕ
   pub decimals : List ℕ
@@ -59,12 +59,50 @@ pub record SpellsPoints (said : SaidScore) (text : List ℕ) : Type 0 where
   pub some_digit : 0 < length whole + length decimals
   pub value : IsScoreOf whole decimals said
 
--- The word is a score: `B+` and points, `W+` and points, by which White leads, or a zero. The letters are capitals.
+-- the letter of an exponent
+pub data MarksExponent : List ℕ → Type 0 where
+  small : MarksExponent (codes "e")
+  capital : MarksExponent (codes "E")
+
+-- a sign, or none
+pub data MayBeSign : List ℕ → Type 0 where
+  none : MayBeSign []
+  plus : MayBeSign (codes "+")
+  minus : MayBeSign (codes "-")
+
+-- an exponent: its letter, a sign or none, and digits, one at least
+pub record IsExponent (text : List ℕ) : Type 0 where
+  pub letter : List ℕ
+  pub sign : List ℕ
+  pub digits : List ℕ
+  pub shape : text ≡ letter ++ (sign ++ digits)
+  pub marks : MarksExponent letter
+  pub signed : MayBeSign sign
+  pub are_digits : AllDigits 10 digits
+  pub some_digit : 0 < length digits
+
+-- What a number says that this follows: it itself where that is nothing, and a long one where it is an exponent, of any
+-- value. So none with an exponent is compared.
+pub data SaysWith (plain : SaidScore) : List ℕ → SaidScore → Type 0 where
+  no_exponent : SaysWith plain [] plain
+  exponent : (text : List ℕ) → IsExponent text → SaysWith plain text Long
+
+-- the text is a number of points without a sign before it, and an exponent or none
+pub record SpellsPoints (said : SaidScore) (text : List ℕ) : Type 0 where
+  pub number : List ℕ
+  pub exponent : List ℕ
+  pub shape : text ≡ number ++ exponent
+  pub plain : SaidScore
+  pub spelled : SpellsPlainPoints plain number
+  pub value : SaysWith plain exponent said
+
+-- The word is a score: `B+` and points, `W+` and points, by which White leads, or a zero, whose digits before the
+-- exponent are zeros alone. The letters `B` and `W` are capitals.
 pub data NamesScore : SaidScore → List ℕ → Type 0 where
   black : (said : SaidScore) (points : List ℕ) → SpellsPoints said points → NamesScore said (codes "B+" ++ points)
   white : (said : SaidScore) (points : List ℕ) → SpellsPoints said points
       → NamesScore (negative said) (codes "W+" ++ points)
-  zero : (said : SaidScore) (text : List ℕ) → SpellsPoints said text → are_only_zeros text ≡ true
+  zero : (said : SaidScore) (text : List ℕ) (spelled : SpellsPoints said text) → are_only_zeros spelled.number ≡ true
       → NamesScore said text
 
 -- A text is read as a score exactly where it is one word that is that score. So any other text is none.

@@ -1,5 +1,5 @@
 -- Laws of the examiner: what holds of every talk between it and one engine, whatever that is.
-use Rattle.std.specs.Prelude.{◌≡◌, ◌≢◌, ℕ, pos, ◌+ℤ◌, ◌*ℤ◌, max, Bool, true, false, List, [], ◌∷◌, ◌++◌, take, Option}
+use Rattle.std.specs.Prelude.{◌≡◌, ◌≢◌, ℕ, pos, ◌+ℤ◌, ◌*ℤ◌, Bool, true, false, List, [], ◌∷◌, ◌++◌, take, Option}
 use Rattle.std.specs.Prelude.{None, Some}
 use Rattle.std.specs.Prelude.{IfSome, Result, Ok, Err, ◌+◌, ◌<◌, ◌⊎◌, length}
 use Rattle.go_base.specs.Size.{IsSize}
@@ -29,7 +29,7 @@ use Rattle.gtp_check_judge.specs.declared.opinions.View.{View}
 use Rattle.gtp_check_judge.specs.declared.opinions.Opinion.TheVariants.{Twice}
 use Rattle.gtp_check_judge.specs.Scores.{score_of_text}
 use Rattle.gtp_check_judge.specs.Listings.{lists_required}
-use Rattle.gtp_check_judge.specs.Opinions.{agrees_with, distance}
+use Rattle.gtp_check_judge.specs.Opinions.{agrees_with, allowed, distance}
 use Rattle.gtp_wire.specs.Words.{reply_words}
 use Rattle.gtp_session.specs.Policy.{May, IsLawful}
 use Rattle.gtp_session.specs.Commands.{answer, asked}
@@ -242,14 +242,14 @@ NoRightAnswer before None (Some read) = Unit {0}
 NoRightAnswer before None None = ⊥
 
 -- The text is a score of an empty board of a size of which the engine said a score twice. The two differ by more than
--- their komis do, and one of the last digit that is written, the coarser of the two.
+-- their komis do, one of the last digit that is written, the coarser of the two, and a hundredth of a point.
 pub record DiffersFromOpinion (before : RightEngine) (text : List ℕ) : Type 0 where
   pub old : View
   pub stands : before.opinion ≡ Twice old
   pub size : old.size ≡ before.game.size
   pub score : Score
   pub said : score_of_text text ≡ Some (Number score)
-  pub far : max old.unit score.unit
+  pub far : allowed old.unit score.unit
       < distance old.lead (score.millionths +ℤ (pos 500000 *ℤ before.game.komi))
 
 -- What a kind says of a reply to a command that was asked of the engine before. Every right answer is a success, since

@@ -37,9 +37,20 @@ abbrev pub is_same : View → View → Bool
 is_same old new =
     old.size == new.size && (distance old.komi new.komi == 0 && distance old.lead new.lead == 0)
 
--- Two scores differ as their komis do, within one of the last digit that is written: the coarser of the two.
+-- By so many millionths of a point two scores may be apart, however many digits are written: a hundredth of a point. (The
+-- standard's topic float: floats have 32 bits. At 1,000 points each sum is off by up to 31 or 61 millionths, and an engine
+-- may add up hundreds. Komis differ by half points, so nothing that counts is missed.)
+abbrev pub least_allowed : ℕ
+least_allowed = 10000
+
+-- how far two scores may be apart, where one of the last digit that is written is this in the one and that in the other
+abbrev pub allowed : ℕ → ℕ → ℕ
+allowed m n = max (max m n) least_allowed
+
+-- Two scores differ as their komis do, within one of the last digit that is written, the coarser of the two, or within a
+-- hundredth of a point.
 abbrev pub differ_as_komis : View → View → Bool
-differ_as_komis old new = nat_le (distance old.lead new.lead) (max old.unit new.unit)
+differ_as_komis old new = nat_le (distance old.lead new.lead) (allowed old.unit new.unit)
 
 -- The score is right by the opinion so far. It is compared only with one that was heard twice of the same size.
 abbrev pub agrees : Opinion → View → Bool

@@ -1,6 +1,6 @@
 -- Laws of scores. (The standard's topic final_score leaves to the engine how it counts, and what it thinks of a board.
 -- Two scores of one board differ as the komis do, where the engine's opinion of the board stays.)
-use Rattle.std.specs.Prelude.{◌≡◌, ◌≢◌, ◌⊎◌, ℕ, ◌<◌, ◌≤◌, max, true, ℤ, pos, neg_ℤ, ◌+ℤ◌, ◌*ℤ◌, ◌≤ℤ◌, ◌<ℤ◌}
+use Rattle.std.specs.Prelude.{◌≡◌, ◌≢◌, ◌⊎◌, ℕ, ◌<◌, ◌≤◌, true, ℤ, pos, neg_ℤ, ◌+ℤ◌, ◌*ℤ◌, ◌≤ℤ◌, ◌<ℤ◌}
 use Rattle.std.specs.Prelude.{List, [], ◌∷◌, ◌++◌, Option, None, Some, Ok}
 use Rattle.go_board.specs.declared.rules.KoRule.{KoRule}
 use Rattle.gtp_wire.specs.declared.replies.Reply.{Reply}
@@ -17,7 +17,7 @@ use Rattle.gtp_check_judge.specs.declared.exam.Exam.{Exam}
 use Rattle.gtp_check_judge.specs.declared.exam.Finding.{Finding}
 use Rattle.gtp_check_judge.specs.RightEngine.{RightEngine}
 use Rattle.gtp_check_judge.specs.Scores.{score_of_text}
-use Rattle.gtp_check_judge.specs.Opinions.{distance}
+use Rattle.gtp_check_judge.specs.Opinions.{allowed, distance}
 use Rattle.gtp_check_judge.specs.Dues.{IsDue}
 use Rattle.gtp_check_judge.specs.Judging.{oldest}
 use Rattle.gtp_check_judge.specs.Exam.{Hears, HasRoomFor, hearing}
@@ -85,7 +85,7 @@ pub record HearsOfBoard (exam : Exam) (reply : Reply) (entry : Asked) (new : Vie
   pub says : SaysOfBoard new (record { entry = entry; reply = reply })
 
 -- A reply to the oldest unanswered command, which this is: the engine says a score that is compared with nothing, since
--- it has too many digits, or since komi is beyond 1,000 points.
+-- it has too many digits or an exponent, or since komi is beyond 1,000 points.
 pub record HearsUncompared (exam : Exam) (reply : Reply) (entry : Asked) : Type 0 where
   pub oldest_is : oldest exam.unanswered ≡ Some entry
   pub id : reply.id ≡ Some entry.id
@@ -98,9 +98,10 @@ pub record HearsUncompared (exam : Exam) (reply : Reply) (entry : Asked) : Type 
   pub uncompared : (score ≡ Long) ⊎ ((komi <ℤ neg_ℤ (pos 2000)) ⊎ (pos 2000 <ℤ komi))
 
 -- Where the engine said the score of a board twice, each other score of a board of that size is found wrong that
--- differs from it by more than the komis do, and by more than one of the last digit that is written, the coarser of the
--- two. One that differs by no more isn't. No other score is compared with anything: a score of too many digits, or one
--- that is said at a komi beyond 1,000 points, changes nothing.
+-- differs from it by more than the komis do and is allowed: one of the last digit that is written, the coarser of the
+-- two, or a hundredth of a point where that is more. One that differs by no more isn't. No other score is compared with
+-- anything: a score of too many digits, one with an exponent, or one that is said at a komi beyond 1,000 points, changes
+-- nothing.
 --
 -- What others are compared with was heard twice, and none of another size was compared since. And the first that was
 -- heard so is what they are compared with.
@@ -109,12 +110,12 @@ pub record ScoresDifferAsKomis : Type 0 where
       (reply : Reply) (finding : Option Finding) (entry : Asked) (one other : View)
       → Talks rule sent came said old → Hears old bytes (hearing used (Some (Ok reply)) finding) new
       → HearsOfBoard old reply entry other → old.opinion ≡ Twice one → other.size ≡ one.size
-      → max one.unit other.unit < distance one.lead other.lead → finding ≢ None
+      → allowed one.unit other.unit < distance one.lead other.lead → finding ≢ None
   pub near : (rule : KoRule) (sent came : List ℕ) (said : List Exchange) (old new : Exam) (bytes : List ℕ) (used : ℕ)
       (reply : Reply) (finding : Option Finding) (entry : Asked) (one other : View)
       → Talks rule sent came said old → Hears old bytes (hearing used (Some (Ok reply)) finding) new
       → HearsOfBoard old reply entry other → old.opinion ≡ Twice one
-      → distance one.lead other.lead ≤ max one.unit other.unit → finding ≡ None
+      → distance one.lead other.lead ≤ allowed one.unit other.unit → finding ≡ None
   pub free : (rule : KoRule) (sent came : List ℕ) (said : List Exchange) (old new : Exam) (bytes : List ℕ) (used : ℕ)
       (reply : Reply) (finding : Option Finding) (entry : Asked) (other : View)
       → Talks rule sent came said old → Hears old bytes (hearing used (Some (Ok reply)) finding) new

@@ -137,15 +137,15 @@ pub fn scores_are_of_empty_boards()
 {}
 
 /// Where an engine said the score of an empty board twice in a row, a score of a board of that size is found wrong
-/// exactly where the two differ by more than the komis do and one of the last digit that is written. The first that was
-/// said so stands until a score of another size is compared. No other score is compared, and none of too many digits or
-/// at a komi beyond a thousand points.
+/// exactly where the two differ by more than the komis do, and by more than one of the last digit that is written and a
+/// hundredth of a point. The first that was said so stands until a score of another size is compared. No other score is compared, and
+/// none of too many digits, with an exponent, or at a komi beyond a thousand points.
 pub fn scores_differ_as_komis()
     ensures { ScoresDifferAsKomis }
 {}
 
 /// A text is read as a score exactly where it is one word: `B+` or `W+` and a number of points without a sign, with any
-/// digits, or a zero.
+/// digits, or a zero. Either may have an exponent, and is compared with nothing then.
 pub fn scores_are_read()
     ensures { ScoresAreRead }
 {}

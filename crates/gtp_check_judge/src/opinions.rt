@@ -10,6 +10,10 @@ use go_base::{Komi, Size};
 /// The greatest komi at which scores are compared, in half points, either way: a thousand points.
 const MOST_NEAR: u32 = 2_000;
 
+/// By so many millionths of a point two scores may be apart, however many digits are written, since engines may compute
+/// in floats of 32 bits. (The standard's topic float.)
+const LEAST_ALLOWED: u64 = 10_000;
+
 /// A score that an engine said of an empty board, komi left out.
 #[derive(Clone, Copy, Debug, PartialEq, Eq)]
 pub struct View {
@@ -71,11 +75,11 @@ fn is_same(old: &View, new: &View) -> bool
         && old.lead.abs_diff(new.lead) == 0
 }
 
-/// Whether two scores differ as their komis do, within one of the last digit that is written.
+/// Whether two scores differ as their komis do, within one of the last digit that is written or a hundredth of a point.
 fn differ_as_komis(old: &View, new: &View) -> bool
     ensures { result ≡ differ_as_komis old.now new.now }
 {
-    old.lead.abs_diff(new.lead) <= old.unit.max(new.unit)
+    old.lead.abs_diff(new.lead) <= old.unit.max(new.unit).max(LEAST_ALLOWED)
 }
 
 /// Whether a score is right by the opinion so far.

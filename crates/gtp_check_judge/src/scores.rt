@@ -1,12 +1,15 @@
 //! What is answered to a `final_score`.
 ghost use Rattle.std.specs.Prelude.{◌≡◌, ◌≤◌, IfSome, IsTrue, length};
 ghost use Rattle.std.specs.Char.{is_ascii_digit};
-ghost use Rattle.std.specs.List.{list_all};
+ghost use Rattle.std.specs.List.{list_all, prefix_len};
 ghost use Rattle.std.specs.Option.{option_copied};
 ghost use Rattle.std.specs.Str.Parse.{AllDigits, digits_value};
 ghost use Rattle.go_base.specs.Komi.{decimals_of};
+ghost use Rattle.go_base.specs.Text.{skip_while};
 ghost use Rattle.gtp_check_judge.specs.Scores.{points_of, lead_of, negative, negated, zero_of, score_of_word};
 ghost use Rattle.gtp_check_judge.specs.Scores.{score_of_text, score_of_digits, unit_of, are_only_zeros, IsInReach};
+ghost use Rattle.gtp_check_judge.specs.Scores.{after_sign, are_some_digits, before_exponent, is_before_exponent};
+ghost use Rattle.gtp_check_judge.specs.Scores.{plain_points_of, with_exponent};
 
 use go_base::{read_int, split_digits};
 use gtp_wire::first_word;
@@ -31,7 +34,8 @@ pub struct Score {
 pub enum SaidScore {
     /// This number.
     Number(Score),
-    /// A number of more digits than are compared: more than nine before the point, or more than six after it.
+    /// A number that is compared with nothing: it has more than nine digits before the point, more than six after it, or
+    /// an exponent, whose value isn't read.
     Long,
 }
 
@@ -103,7 +107,8 @@ fn read_zero(text: &[u8]) -> Option<SaidScore>
     ensures value { result ≡ zero_of text.now }
     ensures limits { IfSome result IsInReach }
 {
-    if are_only_zeros(text) {
+    let (number, _) = split_exponent(text);
+    if are_only_zeros(number) {
         read_points(text)
     } else {
         None
@@ -117,9 +122,57 @@ fn are_only_zeros(text: &[u8]) -> bool
     text.iter().all(|byte| *byte == b'0' || *byte == b'.')
 }
 
-/// The score of a text that has no sign: digits, and then nothing, or a point and digits.
+/// The score of a text that has no sign before it: digits, a point and digits or none, and an exponent or none.
 fn read_points(text: &[u8]) -> Option<SaidScore>
     ensures value { result ≡ points_of text.now }
+    ensures limits { IfSome result IsInReach }
+{
+    let (number, exponent) = split_exponent(text);
+    let said = read_plain_points(number)?;
+    with_exponent(said, exponent)
+}
+
+/// What is before the first letter of an exponent, `e` or `E`, and the rest from there on.
+fn split_exponent(text: &[u8]) -> (&[u8], &[u8])
+    ensures number { result.0.now ≡ before_exponent text.now }
+    ensures exponent { result.1.now ≡ skip_while is_before_exponent text.now }
+{
+    text.split_at(before_exponent_len(text))
+}
+
+/// The score of a number, with what follows it. It is compared with nothing where that is an exponent.
+fn with_exponent(said: SaidScore, exponent: &[u8]) -> Option<SaidScore>
+    requires { IsInReach said }
+    ensures value { result ≡ with_exponent said exponent.now }
+    ensures limits { IfSome result IsInReach }
+{
+    match exponent {
+        [] => Some(said),
+        [_, rest @ ..] if are_some_digits(after_sign(rest)) => Some(SaidScore::Long),
+        _ => None,
+    }
+}
+
+/// What follows the sign of an exponent, which may have none.
+fn after_sign(exponent: &[u8]) -> &[u8]
+    ensures { result.now ≡ after_sign exponent.entry.now }
+{
+    match exponent {
+        [b'+' | b'-', digits @ ..] => digits,
+        _ => exponent,
+    }
+}
+
+/// Whether a text is digits, one at least.
+fn are_some_digits(text: &[u8]) -> bool
+    ensures { result ≡ are_some_digits text.now }
+{
+    are_digits(text) && !text.is_empty()
+}
+
+/// The score of a text that has no sign and no exponent: digits, and then nothing, or a point and digits.
+fn read_plain_points(text: &[u8]) -> Option<SaidScore>
+    ensures value { result ≡ plain_points_of text.now }
     ensures limits { IfSome result IsInReach }
 {
     let (whole, rest) = split_digits(text);
@@ -174,6 +227,16 @@ fn number_of(digits: &[u8]) -> u64
     ensures limit { result ≤ 999999999 }
 {
     u64::from(read_int(digits).unwrap_or(0))
+}
+
+/// How many bytes are before the letter of an exponent.
+fn before_exponent_len(text: &[u8]) -> usize
+    ensures value { result ≡ prefix_len is_before_exponent text.now }
+    ensures within { result ≤ length text.now }
+{
+    text.iter()
+        .take_while(|byte| **byte != b'e' && **byte != b'E')
+        .count()
 }
 
 /// What one of the last of so many digits after the point is, in millionths of a point.

@@ -12,3 +12,4 @@ pub mod SentPieces
 pub mod PartedScores
 pub mod UsualForm
 pub mod WrittenInFull
+pub mod PosedQuestions

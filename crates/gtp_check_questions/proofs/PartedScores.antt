@@ -1,22 +1,31 @@
--- Two scores of one part are parted: by a new start, a `play`, or another komi.
+-- Two scores of one part are parted: by a new start, a stone, or another komi.
 use Rattle.std.specs.Prelude.{◌≢◌, ◌==◌, ◌&&◌, nat_lt, if◌then◌else◌, slice_index_or, ℤ, pos}
 use Rattle.std.proofs.Common.{◌≡◌, ℕ, zero, suc, Bool, true, false, ◌+◌, ◌/◌, ◌%◌, ◌<◌, ◌≤◌, refl, sym, ap, arith, ◌∙◌, subst}
 use Rattle.std.proofs.Common.{List, [], ◌∷◌, slice_get, Option, None, Some}
 use Rattle.std.proofs.lemmas.Bool.{ltb-true}
 use Rattle.std.proofs.lemmas.Bool.Decides.{nat_tests}
 use Rattle.std.proofs.lemmas.Int.{ints}
+use Rattle.rand_pcg.specs.Lcg.{Lcg}
+use Rattle.go_base.specs.Point.{column_of, point, row_of}
 use Rattle.go_base.specs.declared.colours.Colour.{Colour}
+use Rattle.go_base.specs.declared.colours.Colour.TheVariants.{Black}
+use Rattle.go_board.specs.Game.{GameRecord}
+use Rattle.gtp_check_questions.specs.declared.actions.Question.{Question}
 use Rattle.gtp_check_questions.specs.declared.boards.Board.{Board}
 use Rattle.gtp_check_questions.specs.declared.lessons.Lesson.{Lesson}
 use Rattle.gtp_check_questions.specs.declared.lessons.Lesson.TheVariants as lesson
+use Rattle.gtp_check_questions.specs.declared.scenes.Way.{Way}
 use Rattle.gtp_check_questions.specs.declared.stretches.Stretch.{Stretch}
 use Rattle.gtp_check_questions.specs.declared.stretches.Stretch.TheVariants as stretch
-use Rattle.gtp_check_questions.specs.Boards.{IsBoard, komi_of, komis}
+use Rattle.gtp_check_questions.specs.Boards.{komi_of, komis}
+use Rattle.gtp_check_questions.specs.Draws.{generator_of_step}
 use Rattle.gtp_check_questions.specs.Lessons.{in_full_stretches, list_stretches, parts_of, pieces_stretches}
 use Rattle.gtp_check_questions.specs.Lessons.{start_stretches, stretches_of}
-use Rattle.gtp_check_questions.specs.Parting.{AreParted, AsksForPlay, Parts, ScoresAreParted, komi_after, komi_at}
-use Rattle.gtp_check_questions.specs.Questions.{act_asked}
-use Rattle.gtp_check_questions.specs.Scenes.{Acts, acts_if, ko_scenes, scene_of}
+use Rattle.gtp_check_questions.specs.Parting.{AreParted, AsksForStone, IsOfStone, Parts, ScoresAreParted}
+use Rattle.gtp_check_questions.specs.Parting.{komi_after}
+use Rattle.gtp_check_questions.specs.Questions.{IsDrawnMove, IsPointOf, act_asked, drawn_colour}
+use Rattle.gtp_check_questions.specs.Scenes.{Acts, acts_if, crossing, ko_scenes, mirrored, scene_of, turned, turned_act}
+use Rattle.gtp_check_questions.proofs.Candidates.{crossing_at}
 
 -- ---- the two komis of a part differ
 
@@ -44,6 +53,71 @@ komis_differ : (part : ℕ) → komi_of part ≢ komi_of (part + 2)
 komis_differ part is =
     differ_at (part % 16) (omega arith)
     (is ∙ ap (λ (r : ℕ). slice_index_or komis r (pos 13)) (omega arith))
+
+-- ---- stones
+
+-- the move of an act that is in the corner of two lines each way
+record InCorner (act : Colour × ℕ × ℕ) : Type 0 where
+  left : 1 ≤ act.1
+  right : act.1 ≤ 2
+  bottom : 1 ≤ act.2
+  top : act.2 ≤ 2
+
+-- the first move of the scene, which is in that corner
+record HasFirstAct (board : Board) : Type 0 where
+  act : Colour × ℕ × ℕ
+  is : slice_get board.scene.now 0 ≡ Some act
+  corner : InCorner act
+
+crossing_on : (size column row : ℕ) → size ≤ 25 → 1 ≤ column → column ≤ size → 1 ≤ row → row ≤ size
+    → IsPointOf size (crossing column row)
+crossing_on size column row few left right bottom top =
+    let column_is : column_of (point column row) ≡ column = omega arith in
+    let row_is : row_of (point column row) ≡ row = omega arith in (
+      point column row,
+      record {
+        left = omega arith;
+        right = omega arith;
+        bottom = omega arith;
+        top = omega arith;
+      },
+      crossing_at column row left (omega arith) bottom (omega arith),
+    )
+
+mirrored_on : (size line : ℕ) (is_mirrored : Bool) → 1 ≤ line → line ≤ size
+    → (1 ≤ mirrored line size is_mirrored) × (mirrored line size is_mirrored ≤ size)
+mirrored_on size line true some few = (omega arith, omega arith)
+mirrored_on size line false some few = (omega arith, omega arith)
+
+-- it is on a point, however it is turned
+turned_on : (way : Way) (column row size : ℕ) → size ≤ 25 → 1 ≤ column → column ≤ size → 1 ≤ row → row ≤ size
+    → IsPointOf size (turned way column row size)
+turned_on way column row size few left right bottom top = by way.across
+  where
+    along : (1 ≤ mirrored column size way.sideways) × (mirrored column size way.sideways ≤ size)
+    along = mirrored_on size column way.sideways left right
+
+    up : (1 ≤ mirrored row size way.upside_down) × (mirrored row size way.upside_down ≤ size)
+    up = mirrored_on size row way.upside_down bottom top
+
+    by : (across : Bool)
+        → IsPointOf size
+        (if across then crossing (mirrored row size way.upside_down) (mirrored column size way.sideways)
+        else crossing (mirrored column size way.sideways) (mirrored row size way.upside_down))
+    by true = crossing_on size _ _ few up.0 up.1 along.0 along.1
+    by false = crossing_on size _ _ few along.0 along.1 up.0 up.1
+
+on_corner : (board : Board) (game : GameRecord) (act : Colour × ℕ × ℕ) → InCorner act → 2 ≤ board.size
+    → board.size ≤ 25 → IsOfStone board game (turned_act board.way act board.size)
+on_corner board game act corner some few =
+    IsOfStone.on_point
+    (turned_on board.way act.1 act.2 board.size few corner.left (omega (arith, corner.right)) corner.bottom
+    (omega (arith, corner.top)))
+
+of_drawn : (board : Board) (game : GameRecord) (generator : Lcg) (question : Question)
+    → (is : IsDrawnMove game generator question)
+    → IsOfStone board game (record { colour = drawn_colour generator; vertex = is.0 })
+of_drawn board game generator question is = IsOfStone.drawn is.1.first.legal is.1.passes_last
 
 -- ---- a list in which all scores are parted
 
@@ -93,7 +167,7 @@ both true false is = absurd (cc is)
 both false b is = absurd (cc is)
 
 module _ (board : Board) (differ : board.komi ≢ board.other_komi) (scene : Bool)
-    (first_act : scene ≡ true → (act : Colour × ℕ × ℕ) × (slice_get board.scene.now 0 ≡ Some act)) where
+    (first_act : scene ≡ true → HasFirstAct board) where
   abbrev IsKomi : Asked → Option ℤ → Type 0
   IsKomi Asked.none komi = Unit {0}
   IsKomi Asked.own komi = komi ≡ Some board.komi
@@ -107,21 +181,28 @@ module _ (board : Board) (differ : board.komi ≢ board.other_komi) (scene : Boo
   stays stretch.Inexact at komi is = tt
   stays _ at komi is = is
 
-  moves_play : scene ≡ true → AsksForPlay stretch.Moves board
+  moves_play : scene ≡ true → AsksForStone stretch.Moves board
   moves_play has =
-      let act = first_act has in
-      record { some = omega arith; plays = λ draws game question is. (_, is ∙ ap (act_asked board) act.1) }
+      let first = first_act has in
+      record {
+        some = omega arith;
+        plays = λ draws game question is.
+            (_, is ∙ ap (act_asked board) first.is, λ some few. on_corner board game first.act first.corner some few);
+      }
 
-  drawn_play : (steps : ℕ) → 0 < steps → AsksForPlay (stretch.Drawn steps) board
+  drawn_play : (steps : ℕ) → 0 < steps → AsksForStone (stretch.Drawn steps) board
   drawn_play steps some = record {
     some = grind (arith, nat_tests, some);
-    plays = λ draws game question is. (_, is.2);
+    plays = λ draws game question is.
+        (_, is.2, λ least most. of_drawn board game (generator_of_step draws) question is);
   }
 
-  probed_play : (steps : ℕ) → 0 < steps → AsksForPlay (stretch.Probed steps) board
+  probed_play : (steps : ℕ) → 0 < steps → AsksForStone (stretch.Probed steps) board
   probed_play steps some = record {
     some = grind (arith, nat_tests, some);
-    plays = λ draws game question is. (_, (is.0 refl).2);
+    plays = λ draws game question is.
+        let move = is.0 refl in
+        (_, move.2, λ least most. of_drawn board game (generator_of_step draws) question move);
   }
 
   parts : (now : Stretch) (at : Asked) (komi : Option ℤ) → IsKomi at komi → parts_by scene now at ≡ true
@@ -132,7 +213,15 @@ module _ (board : Board) (differ : board.komi ≢ board.other_komi) (scene : Boo
   parts stretch.Kill at komi is by = Parts.kills
   parts stretch.Moves at komi is by = Parts.plays (moves_play by)
   parts stretch.Swept at komi is by =
-      Parts.plays (record { some = omega arith; plays = λ draws game question asked. (_, asked) })
+      Parts.plays (record {
+        some = omega arith;
+        plays = λ draws game question asked. (
+          _,
+          asked,
+          λ some few. on_corner board game (Black, 2, 1)
+              (record { left = omega arith; right = omega arith; bottom = omega arith; top = omega arith }) some few,
+        );
+      })
   parts (stretch.Drawn steps) at komi is by = Parts.plays (drawn_play steps (ltb-true 0 steps by))
   parts (stretch.Probed steps) at komi is by = Parts.plays (probed_play steps (ltb-true 0 steps by))
   parts _ at komi is by = absurd (cc by)
@@ -256,9 +345,12 @@ first_scene part few =
     let first : part / 16 ≡ 0 = omega (arith, few) in ap (λ (number : ℕ). acts_if (slice_get ko_scenes number)) first
 
 first_act : (now : Lesson) (part : ℕ) (board : Board) → part < parts_of now → board.scene.now ≡ scene_of now part
-    → has_scene now ≡ true → (act : Colour × ℕ × ℕ) × (slice_get board.scene.now 0 ≡ Some act)
-first_act lesson.Komi part board few scene has =
-    (_, ap (λ (acts : Acts). slice_get acts 0) (scene ∙ first_scene part few))
+    → has_scene now ≡ true → HasFirstAct board
+first_act lesson.Komi part board few scene has = record {
+  act = _;
+  is = ap (λ (acts : Acts). slice_get acts 0) (scene ∙ first_scene part few);
+  corner = record { left = omega arith; right = omega arith; bottom = omega arith; top = omega arith };
+}
 first_act _ part board few scene has = absurd (cc has)
 
 pub each_pair : ScoresAreParted

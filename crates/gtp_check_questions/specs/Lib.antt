@@ -9,4 +9,5 @@ pub mod Questions
 pub mod Course
 pub mod Asking
 pub mod Parting
+pub mod Posing
 pub mod Laws

@@ -1,12 +1,14 @@
 -- What parts two scores of one part. (An engine may draw an estimate by chance, and keep it until komi or the board
 -- changes. Two scores that come out the same are compared with later ones, so hardly an estimate that was kept may come
 -- out twice.)
-use Rattle.std.specs.Prelude.{◌≡◌, ◌≢◌, ℕ, zero, suc, ◌<◌, ℤ, List, [], ◌∷◌, slice_get, Option, None, Some}
+use Rattle.std.specs.Prelude.{◌≡◌, ◌≢◌, ℕ, zero, suc, ◌<◌, ◌≤◌, ℤ, List, [], ◌∷◌, slice_get, Option, None, Some}
+use Rattle.go_base.specs.Point.{IsOn}
+use Rattle.go_base.specs.Size.{most_size}
 use Rattle.go_base.specs.declared.moves.Move.{Move}
-use Rattle.go_board.specs.Game.{GameRecord}
+use Rattle.go_base.specs.declared.vertices.Vertex.TheVariants.{Pass, At}
+use Rattle.go_board.specs.Game.{GameRecord, IsLegal}
 use Rattle.gtp_wire.specs.declared.commands.Command.TheVariants as command
 use Rattle.gtp_check_questions.specs.declared.actions.Question.{Question}
-use Rattle.gtp_check_questions.specs.declared.actions.Question.TheVariants as asked
 use Rattle.gtp_check_questions.specs.declared.boards.Board.{Board}
 use Rattle.gtp_check_questions.specs.declared.draws.Draws.{Draws}
 use Rattle.gtp_check_questions.specs.declared.lessons.Lesson.{Lesson}
@@ -14,7 +16,7 @@ use Rattle.gtp_check_questions.specs.declared.stretches.Stretch.{Stretch}
 use Rattle.gtp_check_questions.specs.declared.stretches.Stretch.TheVariants as stretch
 use Rattle.gtp_check_questions.specs.Boards.{IsBoard}
 use Rattle.gtp_check_questions.specs.Lessons.{parts_of, stretches_of}
-use Rattle.gtp_check_questions.specs.Questions.{IsQuestion, asks}
+use Rattle.gtp_check_questions.specs.Questions.{IsPointOf, IsQuestion, asks}
 use Rattle.gtp_check_questions.specs.Stretches.{steps_of}
 
 -- the komi that is asked for after a stretch, where it was this one before
@@ -30,19 +32,30 @@ komi_at board now stretches zero = now
 komi_at board now [] (suc number) = now
 komi_at board now (first ∷ later) (suc number) = komi_at board (komi_after board now first) later number
 
--- whatever is drawn, and whatever the game is: the first step of the stretch asks for a `play`
-pub record AsksForPlay (now : Stretch) (board : Board) : Type 0 where
+-- The move is of a stone, and no pass: it is on a point of the part's board. Or it is legal in this game, and a pass
+-- only where no point of the game's board is legal for its colour. (Scores are asked of empty boards, where each point
+-- is.)
+pub data IsOfStone (board : Board) (game : GameRecord) (move : Move) : Type 0 where
+  on_point : IsPointOf board.size move.vertex → IsOfStone board game move
+  drawn : IsLegal game move.colour move.vertex
+      → (move.vertex ≡ Pass → (p : ℕ) → IsOn game.size p → IsLegal game move.colour (At p) → ⊥)
+      → IsOfStone board game move
+
+-- Whatever is drawn, and whatever the game is: the first step of the stretch asks for a `play`. On a board of two lines
+-- at least it is that of a stone.
+pub record AsksForStone (now : Stretch) (board : Board) : Type 0 where
   pub some : 0 < steps_of now
   pub plays : (draws : Draws) (game : GameRecord) (question : Question)
       → IsQuestion now (record { number = 0; draws = draws }) board game question
       → (move : Move) × (question ≡ asks (command.Play move))
+      × (2 ≤ board.size → board.size ≤ most_size → IsOfStone board game move)
 
--- The stretch parts a score with this komi from later ones: the engine is started anew; or it is asked for a `play`;
--- or it is asked to take another komi.
+-- The stretch parts a score with this komi from later ones: the engine is started anew; or it is asked for a `play` of
+-- a stone; or it is asked to take another komi.
 pub data Parts (board : Board) (komi : Option ℤ) : Stretch → Type 0 where
   restarts : Parts board komi stretch.Restart
   kills : Parts board komi stretch.Kill
-  plays : {now : Stretch} → AsksForPlay now board → Parts board komi now
+  plays : {now : Stretch} → AsksForStone now board → Parts board komi now
   takes : {now : Stretch} {old other : ℤ} → komi ≡ Some old → old ≢ other
       → ((draws : Draws) (game : GameRecord)
       → IsQuestion now (record { number = 0; draws = draws }) board game (asks (command.Komi other)))

@@ -4,6 +4,7 @@ ghost use Rattle.gtp_check_questions.specs.Laws.{ColoursAreInFull, ListIsAskedFo
 ghost use Rattle.gtp_check_questions.specs.Laws.{EachClearedBoardIsProbed, EachLackIsAskedFor, EachKomiIsExact};
 ghost use Rattle.gtp_check_questions.specs.Laws.{EachKoIsAnswered, EachSizeIsSought, NoSuicideIsAsked, PiecesAreSent};
 ghost use Rattle.gtp_check_questions.specs.Parting.{ScoresAreParted};
+ghost use Rattle.gtp_check_questions.specs.Posing.{EachQuestionIsAsked};
 
 /// Whatever is answered, and whenever a part is left: commands that are asked, steps that are passed over and engines
 /// that are ended are together at most 67,200,000 for each lesson and once more, and five after each start.
@@ -20,6 +21,13 @@ pub fn each_scene_is_asked()
 /// What a step asks is determined: by the course, whose seed and place say what is drawn, and the game.
 pub fn each_step_asks_one_question()
     ensures { EachStepAsksOneQuestion }
+{}
+
+/// What a step asks is asked wherever it may be asked and isn't left out: a probe as a `play`, and where that is legal
+/// an `undo` is due next. A step is passed over only where that doesn't hold, or where it asks nothing. Then the next
+/// step comes.
+pub fn each_question_is_asked()
+    ensures { EachQuestionIsAsked }
 {}
 
 /// In each part of a lesson of scenes the moves of the scene are asked, then `clear_board`, and then a probe of each of
@@ -81,8 +89,9 @@ pub fn usual_form_comes_first()
     ensures { UsualFormComesFirst }
 {}
 
-/// Between two scores of one part the engine is started anew, or is asked for a `play`, or to take another komi than that
-/// of the first. (An engine may keep an estimate until the board or komi changes. The tables' `play` is of a stone.)
+/// Between two scores of one part the engine is started anew, or is asked for a `play` of a stone, or to take another
+/// komi than that of the first. (An engine may keep an estimate until the board or komi changes. The stone is on a board of
+/// two lines at least, and a drawn move may be a pass where its colour has no other legal one.)
 pub fn scores_are_parted()
     ensures { ScoresAreParted }
 {}

@@ -10,7 +10,7 @@ use Rattle.go_board.specs.Game.{GameRecord}
 use Rattle.gtp_check_judge.specs.declared.asking.CheckCommand.{CheckCommand}
 use Rattle.gtp_check_shortening.specs.declared.talk.Said.{Said}
 use Rattle.gtp_check_shortening.specs.Shortening.{flat, games_in, is_clear, listed, role_of, start_of, stays, taken_back}
-use Rattle.gtp_check_shortening.specs.Shortening.{taken_by}
+use Rattle.gtp_check_shortening.specs.Shortening.{standing_back, stays_on, taken_by}
 use Rattle.gtp_check_shortening.specs.Superko.{after_all, after_asked}
 
 -- the rest of a list from one of its elements on
@@ -69,6 +69,31 @@ flat_more commands next said later false kept back is kept-is next-is =
     ap reverse (next-is ∙ ap (λ (one : Option CheckCommand). commands ++ listed one) kept-is)
     ∙ reverse-append commands [] ∙ back
     ∙ ap (λ (b : Bool). if b then said.command ∷ flat later else flat later) is
+
+-- ---- what stays of a board that is set up
+
+pub standing_more : (game : GameRecord) (commands seen next : List CheckCommand) (said : Said) (later : List Said)
+    (after : ℕ) (stay : Bool) (kept : Option CheckCommand) → commands ≡ standing_back game later
+    → after ≡ taken_back later → seen ≡ commands → stay ≡ stays_on game said after seen
+    → kept ≡ then_some stay said.command → next ≡ commands ++ listed kept
+    → next ≡ standing_back game (said ∷ later)
+unfolding standing_back
+standing_more game commands seen next said later after stay kept back taken seen-is is kept-is next-is =
+    next-is ∙ ap (λ (one : Option CheckCommand). commands ++ listed one) kept-is
+    ∙ ap (λ (b : Bool). commands ++ listed (then_some b said.command)) is
+    ∙ ap (λ (all : List CheckCommand). commands ++ listed (then_some (stays_on game said after all) said.command))
+    seen-is
+    ∙ ap (λ (n : ℕ). commands ++ listed (then_some (stays_on game said n commands) said.command)) taken
+    ∙ ap (λ (all : List CheckCommand). all
+    ++ listed (then_some (stays_on game said (taken_back later) all) said.command))
+    back
+
+-- of no command nothing stays
+pub nothing_stands : (game : GameRecord) (talk : List Said) (commands : List CheckCommand) → commands ≡ []
+    → commands ≡ standing_back game (drop (length talk - 0) talk)
+unfolding standing_back
+nothing_stands game talk commands none =
+    none ∙ sym (at_drop_all (standing_back game) talk (length talk - 0) (omega arith))
 
 -- ---- the game after commands
 

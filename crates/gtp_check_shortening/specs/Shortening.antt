@@ -1,8 +1,15 @@
 -- Which shorter conversations are tried in place of a long one. (Own.)
 use Rattle.std.specs.Prelude.{ℕ, ◌+◌, ◌-◌, ◌==◌, Bool, true, false, nat_lt, if◌then◌else◌, count_by, map, take, drop}
-use Rattle.std.specs.Prelude.{fold}
-use Rattle.std.specs.Prelude.{List, [], ◌∷◌, ◌++◌, length, Option, None, Some}
+use Rattle.std.specs.Prelude.{◌&&◌, max, not, is_some, fold}
+use Rattle.std.specs.Prelude.{List, [], ◌∷◌, ◌++◌, length, reverse, Option, None, Some}
+use Rattle.std.specs.Bool.{then_some}
 use Rattle.std.specs.List.{list_any}
+use Rattle.std.specs.Option.{option_map_or}
+use Rattle.go_base.specs.declared.vertices.Vertex.{Vertex}
+use Rattle.go_base.specs.declared.vertices.Vertex.TheVariants.{Pass, At}
+use Rattle.go_board.specs.Board.{stone_at}
+use Rattle.go_board.specs.Game.{GameRecord, board_of, fresh_game_under}
+use Rattle.go_board.specs.declared.rules.KoRule.TheVariants as rule
 use Rattle.gtp_wire.specs.declared.commands.Command.{Command}
 use Rattle.gtp_wire.specs.declared.commands.Command.TheVariants.{Boardsize, Komi, ClearBoard, FixedHandicap, Play}
 use Rattle.gtp_wire.specs.declared.commands.Command.TheVariants.{Genmove, Undo, Quit}
@@ -17,6 +24,7 @@ use Rattle.gtp_check_shortening.specs.declared.flat.Role.TheVariants as role
 use Rattle.gtp_check_shortening.specs.declared.flat.Shortening.{Shortening}
 use Rattle.gtp_check_shortening.specs.declared.talk.Said.{Said}
 use Rattle.gtp_check_shortening.specs.Played.{played}
+use Rattle.gtp_check_shortening.specs.Superko.{after_all, play_of}
 
 -- ---- what a command is to a game
 
@@ -117,6 +125,55 @@ flat [] = []
 flat (said ∷ later) =
     if stays (role_of said) (taken_back later) then said.command ∷ flat later else flat later
 
+-- ---- a board that is set up anew
+
+-- whether a vertex is this point
+abbrev pub is_point : Vertex → ℕ → Bool
+is_point Pass point = false
+is_point (At other) point = other == point
+
+-- whether a command is a `play` on this point
+abbrev pub is_play_at : CheckCommand → ℕ → Bool
+is_play_at command point = option_map_or (λ move. is_point move.vertex point) (play_of command) false
+
+-- A vertex is a point on which there is a stone, and none of these commands is a `play` there.
+abbrev pub still_stands : GameRecord → Vertex → List CheckCommand → Bool
+still_stands game Pass later = false
+still_stands game (At point) later =
+    is_some (stone_at (board_of game) point) && not (list_any (λ command. is_play_at command point) later)
+
+-- A command stands where it isn't a `play`, or one whose stone is there in the end, and none of those that stay after
+-- it is a `play` on the same point.
+abbrev pub stands : GameRecord → CheckCommand → List CheckCommand → Bool
+stands game command later =
+    option_map_or (λ move. still_stands game move.vertex later) (play_of command) true
+
+-- A command stays where it would in a flat game, and stands.
+abbrev pub stays_on : GameRecord → Said → ℕ → List CheckCommand → Bool
+stays_on game said after later = stays (role_of said) after && stands game said.command later
+
+-- the commands that stay, the last one first
+unfoldable pub standing_back : GameRecord → List Said → List CheckCommand
+standing_back game [] = []
+standing_back game (said ∷ later) =
+    standing_back game later
+    ++ listed (then_some (stays_on game said (taken_back later) (standing_back game later)) said.command)
+
+-- the same in their order
+abbrev pub standing : GameRecord → List Said → List CheckCommand
+standing game talk = reverse (standing_back game talk)
+
+-- Of the commands from this place on those by which the board is set up that there is after all of them by simple ko.
+-- Where it isn't known the flat game stays.
+abbrev pub set_up : ℕ → List Said → List CheckCommand
+set_up start talk =
+    option_map_or (λ game. standing game (drop start talk)) (after_all (fresh_game_under rule.Simple) talk)
+    (flat (drop start talk))
+
+-- the same, if there are such commands
+abbrev pub set_up_if : ℕ → List Said → List CheckCommand
+set_up_if start talk = if nat_lt start (length talk) then set_up start talk else []
+
 -- ---- a shorter conversation
 
 abbrev pub commands_of : List Said → List CheckCommand
@@ -144,9 +201,24 @@ with_needed commands =
     needed_for commands known.FixedHandicap ++ needed_for commands known.Undo
     ++ needed_for commands known.FinalScore ++ commands
 
--- the last so many games alone, with what is in force before them
-abbrev pub from_game : ℕ → Bool → List Said → List CheckCommand
-from_game start whole talk = with_needed (settings (take start talk) ++ games_as whole (drop start talk))
+-- The games alone from the first place on, with what is in force before them. Of what comes before the second place
+-- only that stays by which the board is set up.
+abbrev pub from_game : ℕ → ℕ → Bool → List Said → List CheckCommand
+from_game start cut whole talk =
+    with_needed ((settings (take start talk) ++ set_up_if start (take cut talk)) ++ games_as whole (drop cut talk))
+
+-- where what stays as it is begins, of games that begin at this place: there, or before the last commands that are kept
+abbrev pub cut_of : Option ℕ → ℕ → List Said → ℕ
+cut_of None start talk = start
+cut_of (Some kept) start talk = max start (length talk - kept)
+
+-- whether there are commands in the last games before those that are kept
+abbrev pub is_cut : Option ℕ → ℕ → List Said → Bool
+is_cut None start talk = true
+is_cut (Some kept) start talk = nat_lt start (length talk - kept)
+
+abbrev pub has_cut : Shortening → List Said → Bool
+has_cut how talk = is_cut how.kept (start_of how.games talk) talk
 
 -- the conversation as it was asked, or as what was done
 abbrev pub played_if : Bool → List Said → List Said
@@ -155,7 +227,8 @@ played_if false talk = talk
 
 -- the last so many games of it
 abbrev pub games_of : Shortening → List Said → List CheckCommand
-games_of how talk = from_game (start_of how.games talk) how.is_whole talk
+games_of how talk =
+    let start = start_of how.games talk in from_game start (cut_of how.kept start talk) how.is_whole talk
 
 -- the shorter conversation
 abbrev pub shortened : Shortening → List Said → List CheckCommand
@@ -165,16 +238,23 @@ shortened how talk = games_of how (played_if how.is_played talk)
 
 abbrev pub last_games : ℕ → ℕ → Bool → Shortening
 last_games games more_than whole =
-    record { games = games; more_than = more_than; is_whole = whole; is_played = false }
+    record { games = games; more_than = more_than; is_whole = whole; is_played = false; kept = None }
+
+-- the last so many commands, flat or whole, on the board as it stood before them
+abbrev pub standing_before : ℕ → Bool → Shortening
+standing_before kept whole =
+    record { games = 1; more_than = 0; is_whole = whole; is_played = true; kept = Some kept }
 
 -- with the moves that the engine chose in place of the questions for them
 abbrev pub with_plays : Shortening → Shortening
 with_plays how = record how { is_played = true }
 
--- They are tried in this order: ever more games, flat or whole, and first with the moves that the engine chose in place
--- of the questions for them. Each is for conversations with more games than those before could have.
+-- They are tried in this order: at first ever more of the last commands, on the board as it stood before them. Then
+-- ever more games, flat or whole, and first with the moves that the engine chose in place of the questions for them.
+-- Each of these is for conversations with more games than those before could have.
 abbrev pub shortenings : List Shortening
 shortenings =
+    standing_before 1 false ∷ standing_before 8 true ∷ standing_before 64 false ∷ standing_before 256 false ∷
     with_plays (last_games 1 0 false) ∷ last_games 1 0 false ∷ with_plays (last_games 1 0 true) ∷
     last_games 1 0 true ∷ with_plays (last_games 2 1 false) ∷ last_games 2 1 true ∷
     with_plays (last_games 4 2 false) ∷ last_games 4 2 true ∷ last_games 16 4 false ∷ last_games 16 4 true ∷

@@ -4,10 +4,12 @@ ghost use Rattle.std.specs.List.{list_any};
 ghost use Rattle.gtp_check_shortening.specs.Shortening.{command_role, commands_of, flat, games_as, games_in, last_such};
 ghost use Rattle.gtp_check_shortening.specs.Shortening.{games_of, last_games, listed, with_plays};
 ghost use Rattle.gtp_check_shortening.specs.Shortening.{match_role, needed_for, needs, role_of, settings, shortened};
-ghost use Rattle.gtp_check_shortening.specs.Shortening.{shortenings};
+ghost use Rattle.gtp_check_shortening.specs.Shortening.{set_up_if, shortenings, standing_before};
+ghost use Rattle.gtp_check_shortening.specs.Shortening.{cut_of, has_cut};
 ghost use Rattle.gtp_check_shortening.specs.Shortening.{start_of, stays, taken_by, with_needed, is_clear, is_size, is_komi};
 
 use crate::played::played;
+use crate::standing::set_up;
 use crate::talk::Said;
 use gtp_check_judge::{CheckCommand, Known};
 use gtp_wire::Command;
@@ -27,6 +29,8 @@ pub struct Shortening {
     pub is_whole: bool,
     /// Whether each `genmove` becomes the `play` of what the engine chose.
     pub is_played: bool,
+    /// How many of the last commands stay, if not all: of the moves before them those stay whose stones still stand.
+    pub kept: Option<usize>,
 }
 
 /// What a command is to a game.
@@ -49,10 +53,14 @@ pub enum Role {
 }
 
 /// The shortenings that are tried, in this order.
-pub fn shortenings() -> [Shortening; 12]
+pub fn shortenings() -> [Shortening; 16]
     ensures { result ≡ shortenings }
 {
     [
+        standing_before(1, false),
+        standing_before(8, true),
+        standing_before(64, false),
+        standing_before(256, false),
         with_plays(last_games(1, 0, false)),
         last_games(1, 0, false),
         with_plays(last_games(1, 0, true)),
@@ -77,6 +85,21 @@ pub fn last_games(games: usize, more_than: usize, is_whole: bool) -> Shortening
         more_than,
         is_whole,
         is_played: false,
+        kept: None,
+    }
+}
+
+/// The shortening to the last so many commands, flat or whole, on the board as it stood before them: with the moves of
+/// the last game whose stones still stood then.
+pub fn standing_before(kept: usize, is_whole: bool) -> Shortening
+    ensures { result ≡ standing_before kept is_whole }
+{
+    Shortening {
+        games: 1,
+        more_than: 0,
+        is_whole,
+        is_played: true,
+        kept: Some(kept),
     }
 }
 
@@ -90,8 +113,9 @@ pub fn with_plays(shortening: Shortening) -> Shortening
     }
 }
 
-/// The last games of a conversation, flat or whole, with what is in force before them. The last command is the one that
-/// was answered wrongly. Before them come the `known_command` that they need.
+/// The last games of a conversation, flat or whole, with what is in force before them. The last command is the one
+/// that was answered wrongly. Before them come the `known_command` that they need. Where only the last commands are
+/// kept, the board is set up for them by the moves whose stones still stand.
 ///
 /// # Errors
 ///
@@ -116,10 +140,48 @@ fn last_of(alloc: Global, talk: &[Said], shortening: Shortening) -> Result<Comma
         ≡ games_of shortening talk.now) }
 {
     let start = start_of(talk, shortening.games);
+    let cut = cut_of(shortening.kept, start, talk);
     let mut commands = settings(alloc, &talk[..start])?;
-    let games = games_as(alloc, shortening.is_whole, &talk[start..])?;
+    let front = set_up_if(alloc, start, &talk[..cut])?;
+    let games = games_as(alloc, shortening.is_whole, &talk[cut..])?;
+    commands.extend_from_slice(front.as_slice())?;
     commands.extend_from_slice(games.as_slice())?;
     with_needed(alloc, commands.as_slice())
+}
+
+/// Where the games that stay as they are begin, the first of which begins at this place: there, or before the last
+/// commands that are kept.
+fn cut_of(kept: Option<usize>, start: usize, talk: &[Said]) -> usize
+    requires { start ≤ length talk.now }
+    ensures cut { result ≡ cut_of kept start talk.now }
+    ensures after { start ≤ result }
+    ensures within { result ≤ length talk.now }
+{
+    match kept {
+        None => start,
+        Some(kept) => talk.len().saturating_sub(kept).max(start),
+    }
+}
+
+/// Whether there are commands in the last games before those that are kept.
+pub fn has_cut(shortening: Shortening, talk: &[Said]) -> bool
+    ensures { result ≡ has_cut shortening talk.now }
+{
+    match shortening.kept {
+        None => true,
+        Some(kept) => start_of(talk, shortening.games) < talk.len().saturating_sub(kept),
+    }
+}
+
+/// The board is set up by the commands from this place on, if there are any.
+fn set_up_if(alloc: Global, start: usize, talk: &[Said]) -> Result<Commands, AllocError>
+    requires { start ≤ length talk.now }
+    ensures { IfOk result (λ commands. commands.items ≡ set_up_if start talk.now) }
+{
+    if start < talk.len() {
+        return set_up(alloc, start, talk);
+    }
+    Ok(Vec::new(alloc))
 }
 
 /// How many games begin in a conversation.
@@ -190,7 +252,10 @@ fn add(commands: &mut Commands, command: CheckCommand) -> Result<(), AllocError>
 }
 
 /// A command is added, if there is one.
-fn add_if(commands: &mut Commands, command: Option<CheckCommand>) -> Result<(), AllocError>
+pub(crate) fn add_if(
+    commands: &mut Commands,
+    command: Option<CheckCommand>,
+) -> Result<(), AllocError>
     ensures { OnOk result (commands.new.items ≡ commands.old.items ++ listed command) }
 {
     match command {
@@ -229,7 +294,7 @@ pub fn commands_of(alloc: Global, talk: &[Said]) -> Result<Commands, AllocError>
 }
 
 /// The commands that stay in flat games.
-fn flat(alloc: Global, talk: &[Said]) -> Result<Commands, AllocError>
+pub(crate) fn flat(alloc: Global, talk: &[Said]) -> Result<Commands, AllocError>
     ensures { IfOk result (λ commands. commands.items ≡ flat talk.now) }
 {
     let mut commands = Vec::new(alloc);
@@ -248,7 +313,7 @@ fn flat(alloc: Global, talk: &[Said]) -> Result<Commands, AllocError>
 }
 
 /// Whether a command of this role stays, where those after it take so many moves back.
-fn stays(role: Role, after: usize) -> bool
+pub(crate) fn stays(role: Role, after: usize) -> bool
     ensures { result ≡ stays role after }
 {
     match role {
@@ -259,7 +324,7 @@ fn stays(role: Role, after: usize) -> bool
 }
 
 /// How many moves are taken back that were made before it.
-fn taken_by(role: Role, after: usize) -> usize
+pub(crate) fn taken_by(role: Role, after: usize) -> usize
     requires { after ≤ 9223372036854775807 }
     ensures taken { result ≡ taken_by role after }
     ensures few { result ≤ after + 1 }
@@ -312,7 +377,7 @@ fn needs(command: &CheckCommand, known: Known) -> bool
 }
 
 /// What a command is to a game.
-fn role_of(said: &Said) -> Role
+pub(crate) fn role_of(said: &Said) -> Role
     ensures { result ≡ role_of said.now }
 {
     match said.command {

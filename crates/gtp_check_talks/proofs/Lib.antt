@@ -4,6 +4,7 @@ mod Fruitless
 mod Illegal
 mod Kept
 mod Noted
+mod NotedSince
 mod Pieces
 mod Rules
 mod Sent

@@ -35,7 +35,7 @@ use Rattle.gtp_check_talks.specs.Counts.{with_more}
 use Rattle.gtp_check_talks.specs.declared.notes.Notes.{Notes}
 use Rattle.gtp_check_talks.specs.Dialogues.{AreHeard, Converses, Dialogue, IsExchanged, IsRead, begun_with}
 use Rattle.gtp_check_talks.specs.Dialogues.{last_move, noted_of_read, owed_purpose, purpose_of}
-use Rattle.gtp_check_talks.specs.Laws.{AsksForMove, IsMoveAnswered, MovesAreNotedOnceAnswered}
+use Rattle.gtp_check_talks.specs.Laws.{AsksForMove, IsMoveAnswered}
 use Rattle.gtp_check_talks.specs.Notes.{asks_for_move, noted, noted_in, with_lesson}
 use Rattle.gtp_check_talks.proofs.Kept.{noted_keeps}
 use Rattle.gtp_check_talks.proofs.Talks.{converses_talk}
@@ -122,9 +122,9 @@ among_in lesson other entry notes is = by (asks_for_move entry.command) refl is
 -- ---- what was taken off
 
 -- no reply was read, and nothing was answered; or the oldest command was
-data Takes (read : Option (Result Reply ReplyFault)) (old new : List Asked) : Type 0 where
+pub data Takes (read : Option (Result Reply ReplyFault)) (old new : List Asked) : Type 0 where
   nothing : read ≡ None → new ≡ old → Takes read old new
-  oldest_one : (entry : Asked) → old ≡ entry ∷ new → Takes read old new
+  oldest_one : (entry : Asked) (reply : Reply) → read ≡ Some (Ok reply) → old ≡ entry ∷ new → Takes read old new
 
 judged_takes : (exam : Exam) (entry : Asked) (later : List Asked) (got : Judgement) → exam.unanswered ≡ entry ∷ later
     → None ≡ finding_of entry got → (after_judged exam got).unanswered ≡ later
@@ -146,11 +146,11 @@ reply_takes : (exam : Exam) (list : List Asked) (reply : Reply) (new : Exam) →
     → ReplyLeaves exam (oldest list) reply None new → Takes (Some (Ok reply)) list new.unanswered
 reply_takes exam [] reply new is h = absurd (cc (h.0))
 reply_takes exam (entry ∷ later) reply new is h =
-    Takes.oldest_one entry
+    Takes.oldest_one entry reply refl
     (ap (λ (rest : List Asked). entry ∷ rest) (sym (id_takes exam entry later reply (has_id reply.id entry.id) new is
     h)))
 
-leaves_takes : (old : Exam) (rest : List ℕ) (read : Option (Result Reply ReplyFault)) (new : Exam)
+pub leaves_takes : (old : Exam) (rest : List ℕ) (read : Option (Result Reply ReplyFault)) (new : Exam)
     → Leaves (with_rest old rest) read None new → Takes read old.unanswered new.unanswered
 leaves_takes old rest None new h = Takes.nothing refl (ap (λ (e : Exam). e.unanswered) h.1)
 leaves_takes old rest (Some (Err shown)) new h = absurd (cc (h.0))
@@ -159,11 +159,11 @@ leaves_takes old rest (Some (Ok reply)) new h = reply_takes (with_rest old rest)
 -- ---- what is owed
 
 -- The last of what was asked isn't answered.
-record Owes (talk : List Said) (unanswered : List Asked) : Type 0 where
-  front : List Said
-  back : List Said
-  all : talk ≡ front ++ back
-  same : commands_of back ≡ map (λ (one : Asked). one.command) unanswered
+pub record Owes (talk : List Said) (unanswered : List Asked) : Type 0 where
+  pub front : List Said
+  pub back : List Said
+  pub all : talk ≡ front ++ back
+  pub same : commands_of back ≡ map (λ (one : Asked). one.command) unanswered
 
 owes_more : (talk : List Said) (unanswered : List Asked) (said : Said) (entry : Asked) → said.command ≡ entry.command
     → Owes talk unanswered → Owes (talk ++ said ∷ []) (unanswered ++ entry ∷ [])
@@ -178,11 +178,11 @@ owes_more talk unanswered said entry is owes = record {
 }
 
 -- the oldest of it
-record IsOldest (talk : List Said) (entry : Asked) (later : List Asked) : Type 0 where
-  said : Said
-  owed : slice_get talk (length talk - length (entry ∷ later)) ≡ Some said
-  command : said.command ≡ entry.command
-  rest : Owes talk later
+pub record IsOldest (talk : List Said) (entry : Asked) (later : List Asked) : Type 0 where
+  pub said : Said
+  pub owed : slice_get talk (length talk - length (entry ∷ later)) ≡ Some said
+  pub command : said.command ≡ entry.command
+  pub rest : Owes talk later
 
 oldest_in : (talk front back : List Said) (entry : Asked) (later : List Asked) → talk ≡ front ++ back
     → commands_of back ≡ map (λ (one : Asked). one.command) (entry ∷ later) → IsOldest talk entry later
@@ -207,7 +207,7 @@ oldest_in talk front (said ∷ back) entry later all same =
       };
     }
 
-oldest_of : (talk : List Said) (old : List Asked) (entry : Asked) (new : List Asked) → old ≡ entry ∷ new
+pub oldest_of : (talk : List Said) (old : List Asked) (entry : Asked) (new : List Asked) → old ≡ entry ∷ new
     → Owes talk old → IsOldest talk entry new
 oldest_of talk old entry new is owes =
     oldest_in talk owes.front owes.back entry new owes.all
@@ -216,7 +216,7 @@ oldest_of talk old entry new is owes =
 owes_less : (talk : List Said) (read : Option (Result Reply ReplyFault)) (old new : List Asked) → Takes read old new
     → Owes talk old → Owes talk new
 owes_less talk read old new (Takes.nothing none is) owes = subst (Owes talk) (sym is) owes
-owes_less talk read old new (Takes.oldest_one entry is) owes = (oldest_of talk old entry new is owes).rest
+owes_less talk read old new (Takes.oldest_one entry reply came is) owes = (oldest_of talk old entry new is owes).rest
 
 -- ---- what is noted of what was heard
 
@@ -257,7 +257,7 @@ now_answered : (talk : List Said) (old new : Exam) (other : Lesson) (read : Opti
     → Owes talk old.unanswered → Takes read old.unanswered new.unanswered
     → IsNotedNow (owed_purpose talk old).lesson other old.unanswered read → IsMoveAnswered other talk old new
 now_answered talk old new other read owes (Takes.nothing none same) now = absurd (cc (none, now.is))
-now_answered talk old new other read owes (Takes.oldest_one entry is) now =
+now_answered talk old new other read owes (Takes.oldest_one entry reply came is) now =
     let count : length old.unanswered ≡ length (entry ∷ new.unanswered) = ap (λ (list : List Asked). length list) is in
     let first = oldest_of talk old.unanswered entry new.unanswered is owes in
     let owed : slice_get talk (length talk - length old.unanswered) ≡ Some first.said =
@@ -352,11 +352,11 @@ module _ {P : Type 0} (known : Ghosts P) where
       read_owes (record before { process = next; waiting = [] }) after up owes read
 
   module _ (rule : KoRule) (process : P) (first : Notes) where
-    is_up : {now : Dialogue P} → Converses known (begun_with (begun rule true) process first) now
+    pub is_up : {now : Dialogue P} → Converses known (begun_with (begun rule true) process first) now
         → now.exam.up ≡ true
     is_up converses = (converses_talk known rule process first converses).goes.up
 
-    converses_owes : {now : Dialogue P}
+    pub converses_owes : {now : Dialogue P}
         → Converses known (begun_with (begun rule true) process first) now → Owes now.talk now.exam.unanswered
     converses_owes Converses.begins = record { front = []; back = []; all = refl; same = refl }
     converses_owes
@@ -380,12 +380,11 @@ module _ {P : Type 0} (known : Ghosts P) where
         subst (λ (talk : List Said). Owes talk after.exam.unanswered) (sym (exchanged_talk known before exchanged))
         (exchanged_owes before after (is_up more) (converses_owes more) exchanged)
 
-  pub are_noted : MovesAreNotedOnceAnswered known
-  are_noted = record {
-    at_first = refl;
-    starts = λ notes. refl;
-    asked = λ purpose before command after asked. ap (λ (d : Dialogue P). d.notes.answered) asked.joins;
-    heard = λ rule process first before fault after other converses exchanged among.
-        exchanged_noted before other (is_up rule process first converses)
-        (converses_owes rule process first converses) exchanged among;
-  }
+  pub noted_once : (rule : KoRule) (process : P) (first : Notes) (before : Dialogue P) (fault : Option Fault)
+      (after : Dialogue P) (lesson : Lesson) → Converses known (begun_with (begun rule true) process first) before
+      → IsExchanged known before fault after → is_among after.notes.answered.items lesson ≡ true
+      → (is_among before.notes.answered.items lesson ≡ true)
+      ⊎ ((fault ≡ None) × IsMoveAnswered lesson before.talk before.exam after.exam)
+  noted_once rule process first before fault after other converses exchanged among =
+      exchanged_noted before other (is_up rule process first converses)
+      (converses_owes rule process first converses) exchanged among

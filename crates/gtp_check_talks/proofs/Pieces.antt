@@ -2,7 +2,8 @@
 use Rattle.std.proofs.Common.{◌≡◌, ◌∙◌, ◌<◌, ◌-◌, ap, subst, ℕ, Bool, true, false, List, [], ◌∷◌, length, take, drop}
 use Rattle.std.proofs.Common.{refl, arith}
 use Rattle.gtp_process.specs.declared.starter.Process.{Ghosts}
-use Rattle.gtp_check_talks.specs.Dialogues.{AreTaken, IsSent, IsTaken, IsTakenInPart, no_piece, part, two_pieces, whole}
+use Rattle.gtp_check_talks.specs.Dialogues.{AreTaken, IsSent, IsTaken, IsTakenInPart, later_bytes, no_piece, part}
+use Rattle.gtp_check_talks.specs.Dialogues.{two_pieces, whole}
 
 -- one piece, which the process took whole or in part
 pub one_piece : {P : Type 0} (known : Ghosts P) (piece : List ℕ) (before after : P) (is_whole : Bool)
@@ -26,20 +27,20 @@ pub none_sent : {P : Type 0} (known : Ghosts P) (in_pieces : Bool) (lines : List
 none_sent known in_pieces [] before none = no_piece
 none_sent known in_pieces (byte ∷ more) before none = absurd (omega (arith, none))
 
-module _ {P : Type 0} (known : Ghosts P) (lines first second : List ℕ) (at : ℕ) (is-at : at ≡ length lines - 2)
+module _ {P : Type 0} (known : Ghosts P) (lines first second : List ℕ) (at : ℕ) (is-at : at ≡ length lines - later_bytes)
     (is-first : first ≡ take at lines) where
   -- the first piece was taken in part
   pub cut_in_first : (before after : P) → IsTakenInPart known first before after
       → AreTaken known (two_pieces lines) before after
   cut_in_first before after cut =
-      subst (λ (one : List ℕ). AreTaken known (one ∷ drop (length lines - 2) lines ∷ []) before after)
+      subst (λ (one : List ℕ). AreTaken known (one ∷ drop (length lines - later_bytes) lines ∷ []) before after)
       (is-first ∙ ap (λ (n : ℕ). take n lines) is-at) (part first cut)
 
   -- the first piece was taken whole, and the second sent
   pub both_sent : (before mid after : P) → second ≡ drop at lines → IsTaken known first before mid
       → AreTaken known (second ∷ []) mid after → AreTaken known (two_pieces lines) before after
   both_sent before mid after is-second taken more =
-      subst (λ (one : List ℕ). AreTaken known (one ∷ drop (length lines - 2) lines ∷ []) before after)
+      subst (λ (one : List ℕ). AreTaken known (one ∷ drop (length lines - later_bytes) lines ∷ []) before after)
       (is-first ∙ ap (λ (n : ℕ). take n lines) is-at)
       (whole first taken
       (subst (λ (two : List ℕ). AreTaken known (two ∷ []) mid after)

@@ -4,10 +4,9 @@ use Rattle.std.proofs.Common.{List, [], ◌∷◌, ◌++◌, length, take, drop,
 use Rattle.std.proofs.Common.{Option, None, Some}
 use Rattle.std.specs.List.{concat}
 use Rattle.std.specs.Option.{option_map_or}
-use Rattle.std.proofs.lemmas.List.{append-nil, length-append, take-append-le}
+use Rattle.std.proofs.lemmas.List.{append-nil, length-append, length-drop, take-append-le}
 use Rattle.std.proofs.Math.Seq.{take-append_seam, take-length}
-use Rattle.std.specs.Io.KnownBytes.{Appends, Keeps}
-use Rattle.std.proofs.KnownBytes.{Appends-kept, Appends-nil, Appends-trans}
+use Rattle.std.specs.Io.KnownBytes.{Keeps}
 use Rattle.gtp_process.specs.declared.starter.Process.{Ghosts}
 use Rattle.gtp_check_judge.specs.declared.asking.CheckCommand.{CheckCommand}
 use Rattle.gtp_check_judge.specs.declared.exam.Exam.{Exam}
@@ -18,7 +17,8 @@ use Rattle.gtp_check_texts.specs.declared.fault.Fault.{Fault}
 use Rattle.gtp_check_talks.specs.declared.notes.Notes.{Notes}
 use Rattle.gtp_check_talks.specs.Dialogues.{AreHeard, AreTaken, Converses, Dialogue, EndsSo, IsAsked, IsExchanged}
 use Rattle.gtp_check_talks.specs.Dialogues.{IsRead}
-use Rattle.gtp_check_talks.specs.Dialogues.{IsSent, begun_with, ends_in_pieces, last_move, pieces_of, went_out}
+use Rattle.gtp_check_talks.specs.Dialogues.{IsSent, begun_with, ends_in_pieces, last_move, later_bytes, pieces_of}
+use Rattle.gtp_check_talks.specs.Dialogues.{went_out}
 use Rattle.gtp_check_talks.specs.Laws.{IsHanded, IsSentSoFar, lines_end}
 use Rattle.gtp_check_talks.proofs.Trials.{at_back}
 
@@ -29,42 +29,40 @@ joined_pieces : (in_pieces : Bool) (lines : List ℕ) → concat (pieces_of in_p
 joined_pieces in_pieces [] = refl
 joined_pieces false (byte ∷ more) = append-nil (byte ∷ more)
 joined_pieces true (byte ∷ more) =
-    ap (λ (last : List ℕ). take (length (byte ∷ more) - 2) (byte ∷ more) ++ last)
-    (append-nil (drop (length (byte ∷ more) - 2) (byte ∷ more)))
-    ∙ take-append-drop (length (byte ∷ more) - 2) (byte ∷ more)
+    ap (λ (last : List ℕ). take (length (byte ∷ more) - later_bytes) (byte ∷ more) ++ last)
+    (append-nil (drop (length (byte ∷ more) - later_bytes) (byte ∷ more)))
+    ∙ take-append-drop (length (byte ∷ more) - later_bytes) (byte ∷ more)
 
-module _ {P : Type 0} (known : Ghosts P) (process : P) where
-  -- more was handed to it
-  more_handed : (bytes more : List ℕ) (mid now : P) → IsHanded known process bytes mid
-      → (Appends (known.taken process) (known.taken mid) bytes → IsHanded known process (bytes ++ more) now)
-      → IsHanded known process (bytes ++ more) now
-  more_handed bytes more mid now (IsHanded.taken took) then = then took
-  more_handed bytes more mid now (IsHanded.cut_off {mid = at} {after = after} before piece later is took cut) then =
-      IsHanded.cut_off before piece (later ++ more)
-      (ap (λ (all : List ℕ). all ++ more) is ∙ append_assoc before (piece ++ later) more
-      ∙ ap (λ (all : List ℕ). before ++ all) (append_assoc piece later more))
-      took cut
+-- what comes after the first of these pieces has two bytes at most
+abbrev FewLater : List (List ℕ) → Type 0
+FewLater [] = Unit {0}
+FewLater (piece ∷ later) = length (concat later) ≤ 2
 
-  -- after these bytes it was handed pieces
-  pieces_handed : (bytes : List ℕ) {pieces : List (List ℕ)} {mid now : P} → AreTaken known pieces mid now
-      → Appends (known.taken process) (known.taken mid) bytes → IsHanded known process (bytes ++ concat pieces) now
-  pieces_handed bytes (AreTaken.no_piece {before = mid}) took =
-      subst (λ (all : List ℕ). IsHanded known process all mid) (sym (append-nil bytes)) (IsHanded.taken took)
-  pieces_handed bytes
-      (AreTaken.whole {pieces = pieces} {before = mid} {mid = next} {after = now} piece taken more) took =
-      subst (λ (all : List ℕ). IsHanded known process all now) (append_assoc bytes piece (concat pieces))
-      (pieces_handed (bytes ++ piece) more
-      (Appends-trans (known.taken process) (known.taken mid) (known.taken next) bytes piece took taken.taken))
-  pieces_handed bytes (AreTaken.part {pieces = pieces} piece cut) took =
-      IsHanded.cut_off bytes piece (concat pieces) refl took cut
+few_later : (pieces : List (List ℕ)) → length (concat pieces) ≤ 2 → FewLater pieces
+few_later [] few = tt
+few_later (piece ∷ later) few = omega (arith, few, length-append piece (concat later))
 
-  -- nothing more was handed to it
-  same_handed : (bytes : List ℕ) (mid now : P) → Keeps (known.taken mid) (known.taken now)
-      → IsHanded known process bytes mid → IsHanded known process bytes now
-  same_handed bytes mid now kept (IsHanded.taken took) =
-      IsHanded.taken (Appends-kept (known.taken process) (known.taken mid) (known.taken now) bytes took kept)
-  same_handed bytes mid now kept (IsHanded.cut_off before piece later is took cut) =
-      IsHanded.cut_off before piece later is took cut
+-- so it is of the pieces in which lines are sent
+few_of_lines : (in_pieces : Bool) (lines : List ℕ) → FewLater (pieces_of in_pieces lines)
+few_of_lines in_pieces [] = tt
+few_of_lines false (byte ∷ more) = omega arith
+few_of_lines true (byte ∷ more) =
+    let lines = byte ∷ more in
+    let last = drop (length lines - later_bytes) lines in
+    omega (arith, length-append last [], length-drop (length lines - later_bytes) lines)
+
+-- after these bytes a process was handed pieces
+pieces_handed : {P : Type 0} (known : Ghosts P) (process : P) (bytes : List ℕ) {pieces : List (List ℕ)} {mid now : P}
+    → AreTaken known pieces mid now → FewLater pieces → IsHanded known process bytes mid
+    → IsHanded known process (bytes ++ concat pieces) now
+pieces_handed known process bytes (AreTaken.no_piece {before = mid}) few so =
+    subst (λ (all : List ℕ). IsHanded known process all mid) (sym (append-nil bytes)) so
+pieces_handed known process bytes
+    (AreTaken.whole {pieces = pieces} {before = mid} {mid = next} {after = now} piece taken more) few so =
+    subst (λ (all : List ℕ). IsHanded known process all now) (append_assoc bytes piece (concat pieces))
+    (pieces_handed known process (bytes ++ piece) more (few_later pieces few) (IsHanded.took piece so taken.taken))
+pieces_handed known process bytes (AreTaken.part {pieces = pieces} piece cut) few so =
+    IsHanded.cut_off piece (concat pieces) so cut few
 
 -- ---- a conversation
 
@@ -139,8 +137,8 @@ module _ {P : Type 0} (known : Ghosts P) (process : P) (first : Notes) (exam : E
     handed = subst (λ (all : List ℕ). IsHanded known process all next)
         (ap (λ (all : List ℕ). so.front ++ all) (joined_pieces (ends_in_pieces before.talk) before.waiting)
         ∙ sym so.lines)
-        (more_handed known process so.front (concat (pieces_of (ends_in_pieces before.talk) before.waiting))
-        before.process next so.handed (pieces_handed known process so.front sent));
+        (pieces_handed known process so.front sent (few_of_lines (ends_in_pieces before.talk) before.waiting)
+        so.handed);
   }
 
   -- what was heard leaves the lines
@@ -159,7 +157,7 @@ module _ {P : Type 0} (known : Ghosts P) (process : P) (first : Notes) (exam : E
     count = so.count;
     few = so.few;
     whole = so.whole;
-    handed = same_handed known process so.front before.process next kept so.handed;
+    handed = IsHanded.kept so.handed kept;
   }
 
   read_sent : (before : Dialogue P) {fault : Option Fault} {after : Dialogue P}
@@ -190,7 +188,7 @@ module _ {P : Type 0} (known : Ghosts P) (process : P) (first : Notes) (exam : E
     count = 0;
     few = omega arith;
     whole = refl;
-    handed = IsHanded.taken (Appends-nil (known.taken process));
+    handed = IsHanded.nothing;
   }
   converses_sent
       (Converses.asks {before = before} {after = after} purpose command more asked) =

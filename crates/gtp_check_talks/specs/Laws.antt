@@ -1,8 +1,9 @@
 -- What is complained of is wrong, what a right engine writes is never complained of. (Own.)
-use Rattle.std.specs.Prelude.{◌≡◌, ◌⊎◌, ◌+◌, ◌-◌, ◌≤◌, ◌<◌, ℕ, true, List, [], ◌++◌, length, take, slice_get}
+use Rattle.std.specs.Prelude.{◌≡◌, ◌==◌, ◌⊎◌, ◌+◌, ◌-◌, ◌≤◌, ◌<◌, ℕ, true, List, [], ◌++◌, length, take, slice_get}
 use Rattle.std.specs.Prelude.{Option, None, Some, Result}
+use Rattle.std.specs.List.{IsDistinct}
 use Rattle.std.specs.Option.{option_map_or}
-use Rattle.std.specs.Io.KnownBytes.{Appends}
+use Rattle.std.specs.Io.KnownBytes.{Appends, Keeps}
 use Rattle.go_base.specs.declared.colours.Colour.{Colour}
 use Rattle.go_base.specs.declared.moves.Move.{Move}
 use Rattle.go_board.specs.declared.rules.KoRule.{KoRule}
@@ -155,8 +156,13 @@ pub record IsMoveAnswered (lesson : Lesson) (talk : List Said) (old new : Exam) 
   pub asks : AsksForMove said.command
   pub answered : length new.unanswered + 1 ≡ length old.unanswered
 
--- A lesson is noted only where a `play` or a `genmove` that was asked in it was answered rightly: nothing was found then.
--- At first none is noted. By a start, and by a command that is asked, no lesson is noted.
+-- no lesson is noted twice
+abbrev pub AreNotedOnce : Notes → Type 0
+AreNotedOnce notes = IsDistinct (λ one other. number_of one == number_of other) notes.answered.items
+
+-- A lesson is noted just where a `play` or a `genmove` that was asked in it was answered rightly: nothing was found
+-- then. At first none is noted. By a start, and by a command that is asked, no lesson is noted. Each is noted once, and
+-- stays so, whatever is heard.
 pub record MovesAreNotedOnceAnswered {P : Type 0} (known : Ghosts P) : Type 0 where
   pub at_first : nothing_noted.answered.items ≡ []
   pub starts : (notes : Notes) → (started notes).answered ≡ notes.answered
@@ -169,6 +175,15 @@ pub record MovesAreNotedOnceAnswered {P : Type 0} (known : Ghosts P) : Type 0 wh
       → IsExchanged known before fault after → is_among after.notes.answered.items lesson ≡ true
       → (is_among before.notes.answered.items lesson ≡ true)
       ⊎ ((fault ≡ None) × IsMoveAnswered lesson before.talk before.exam after.exam)
+  pub answered : (rule : KoRule) (process : P) (first : Notes) (before after : Dialogue P) (lesson : Lesson)
+      → Converses known (begun_with (begun rule true) process first) before → AreNotedOnce before.notes
+      → IsExchanged known before None after → IsMoveAnswered lesson before.talk before.exam after.exam
+      → is_among after.notes.answered.items lesson ≡ true
+  pub once : (before : Dialogue P) (fault : Option Fault) (after : Dialogue P) → IsExchanged known before fault after
+      → AreNotedOnce before.notes → AreNotedOnce after.notes
+  pub stays : (before : Dialogue P) (fault : Option Fault) (after : Dialogue P) (lesson : Lesson)
+      → IsExchanged known before fault after → is_among before.notes.answered.items lesson ≡ true
+      → is_among after.notes.answered.items lesson ≡ true
 
 -- ---- what was sent
 
@@ -176,13 +191,17 @@ pub record MovesAreNotedOnceAnswered {P : Type 0} (known : Ghosts P) : Type 0 wh
 abbrev pub lines_end : List Said → ℕ
 lines_end talk = option_map_or (λ said. said.end) (slice_get talk (length talk - 1)) 0
 
--- A process was handed these bytes. It took them all. Or it was cut off while it took a piece of them, and had taken
--- all before that.
-pub data IsHanded {P : Type 0} (known : Ghosts P) (process : P) (bytes : List ℕ) (now : P) : Type 0 where
-  taken : Appends (known.taken process) (known.taken now) bytes → IsHanded known process bytes now
-  cut_off : {mid after : P} (before piece later : List ℕ) → bytes ≡ before ++ (piece ++ later)
-      → Appends (known.taken process) (known.taken mid) before → IsTakenInPart known piece mid after
-      → IsHanded known process bytes now
+-- A process was handed these bytes, a piece after the other, and between two pieces it took nothing. It took a piece
+-- whole. Or it was cut off in one, and took a beginning of that alone. Then up to two bytes more count, which it was not
+-- handed: the end of a line that was to come in two pieces. It may be handed more pieces after that.
+pub data IsHanded {P : Type 0} (known : Ghosts P) (process : P) : List ℕ → P → Type 0 where
+  nothing : IsHanded known process [] process
+  took : {bytes : List ℕ} {mid now : P} (piece : List ℕ) → IsHanded known process bytes mid
+      → Appends (known.taken mid) (known.taken now) piece → IsHanded known process (bytes ++ piece) now
+  cut_off : {bytes : List ℕ} {mid now : P} (piece later : List ℕ) → IsHanded known process bytes mid
+      → IsTakenInPart known piece mid now → length later ≤ 2 → IsHanded known process (bytes ++ (piece ++ later)) now
+  kept : {bytes : List ℕ} {mid now : P} → IsHanded known process bytes mid
+      → Keeps (known.taken mid) (known.taken now) → IsHanded known process bytes now
 
 -- What counts as sent of the lines that an engine was asked are all but those that wait. These are the lines of the first
 -- commands, so many, and its process was handed them.

@@ -58,7 +58,8 @@ pub fn what_counts_as_sent_was_handed<P: Process>()
     ensures { WhatCountsAsSentWasHanded P.Process }
 {}
 
-/// A lesson is noted only where a `play` or a `genmove` that was asked in it was answered rightly.
+/// A lesson is noted just where a `play` or a `genmove` that was asked in it was answered rightly, and then it stays
+/// noted.
 pub fn moves_are_noted_once_answered<P: Process>()
     ensures { MovesAreNotedOnceAnswered P.Process }
 {}

@@ -16,11 +16,13 @@ use Rattle.gtp_check_texts.specs.Answers.{before_rule, right_answer}
 use Rattle.gtp_check_texts.specs.Colours.{told_after}
 use Rattle.gtp_check_texts.specs.Rules.{rule_text}
 use Rattle.gtp_check_texts.specs.Board.{drawn_board}
+use Rattle.gtp_check_texts.specs.RunOn.{run_on_line, runs_on}
 use Rattle.gtp_check_texts.specs.Reasons.{reason}
 use Rattle.go_board.specs.Game.{GameRecord}
 use Rattle.gtp_check_shortening.specs.declared.talk.Said.{Said}
 use Rattle.gtp_check_texts.specs.Conversation.{after_lines, asked_line, before_lines, faulty_line}
 use Rattle.gtp_check_texts.specs.LastGame.{last_game_lines}
+use Rattle.gtp_check_texts.specs.Reasons.{in_a_row_line}
 use Rattle.gtp_check_texts.specs.declared.complaint.Complaint.{Complaint}
 use Rattle.gtp_check_texts.specs.declared.last_game.Shown.{Shown}
 use Rattle.gtp_check_texts.specs.declared.last_game.Shown.TheVariants.{LastGame, Whole}
@@ -83,10 +85,17 @@ rule_of complaint false =
 abbrev pub answer_of : Complaint → List ℕ
 answer_of complaint = right_answer complaint.fault (faulty_said complaint)
 
+-- that moves of one colour in a row are legal, where such a one was refused in a known game
+abbrev pub in_a_row : Option (Bor GameRecord) → Fault → Option CheckCommand → List ℕ
+in_a_row (Some game) (Wrote kind) (Some command) = in_a_row_line game.now command kind
+in_a_row _ _ _ = []
+
+-- what is right, and a line more on the colour of a move
 abbrev pub rule_line : Complaint → List ℕ
 rule_line complaint =
     codes "# right: " ++ (before_rule (answer_of complaint)
-    ++ (rule_of complaint (is_within complaint.fault complaint.wrote.now) ++ codes "\n"))
+    ++ (rule_of complaint (is_within complaint.fault complaint.wrote.now)
+    ++ (codes "\n" ++ in_a_row complaint.game complaint.fault (told complaint))))
 
 -- the board before the command, where it is known
 abbrev pub board_lines : Option (Bor GameRecord) → List ℕ
@@ -111,6 +120,11 @@ abbrev pub pieces_line : Option Said → List ℕ
 pieces_line None = []
 pieces_line (Some said) = pieces_text (is_in_pieces said.purpose.lesson said.purpose.part)
 
+-- whether an answer may have run on into the next one
+abbrev pub may_run_on : Complaint → Bool
+may_run_on complaint =
+    runs_on complaint.fault complaint.answered (length complaint.talk.now) complaint.wrote.now
+
 -- that the refusal is right under the other ko rule
 abbrev pub ko_line : Bool → List ℕ
 ko_line true = codes "# under positional ko the refusal is right: try --ko positional\n"
@@ -127,9 +141,9 @@ asked_lines complaint =
     shown_before complaint complaint.shown
     ++ (board_lines complaint.game ++ (asked_line complaint ++ pieces_line (faulty_said complaint)))
 
--- The block of a complaint: its head, what the engine was asked, what it wrote then, what is right, what was on its way,
--- a hint, and an empty line.
+-- The block of a complaint: its head, what the engine was asked, what it wrote then, what is right, a hint of how answers
+-- end, what was on its way, a hint of the ko rule, and an empty line.
 abbrev pub complaint_lines : Complaint → List ℕ
 complaint_lines complaint = concat (
     head_line complaint ∷ asked_lines complaint ∷ wrote_line complaint.wrote.now ∷ rule_line complaint ∷
-    ahead_lines (after_lines complaint) ∷ ko_line complaint.is_positional ∷ codes "\n" ∷ [])
+    run_on_line (may_run_on complaint) ∷ ahead_lines (after_lines complaint) ∷ ko_line complaint.is_positional ∷ codes "\n" ∷ [])

@@ -13,5 +13,6 @@ pub mod Listing
 pub mod Plays
 pub mod Reasons
 pub mod Rules
+pub mod RunOn
 pub mod Sentences
 pub mod Texts

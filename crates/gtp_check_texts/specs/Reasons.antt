@@ -1,5 +1,5 @@
 -- What decides that an answer is wrong, in one line without a newline. (Own.)
-use Rattle.std.specs.Prelude.{ℕ, List, [], ◌∷◌, codes, Option, Some, None}
+use Rattle.std.specs.Prelude.{ℕ, Bool, true, false, List, [], ◌∷◌, codes, Option, Some, None}
 use Rattle.std.specs.List.{concat}
 use Rattle.go_base.specs.Vertex.{written_vertex}
 use Rattle.go_base.specs.declared.colours.Colour.{Colour}
@@ -7,6 +7,7 @@ use Rattle.go_base.specs.declared.colours.Colour.TheVariants.{Black, White}
 use Rattle.go_base.specs.declared.moves.Move.{Move}
 use Rattle.go_base.specs.declared.vertices.Vertex.{Vertex}
 use Rattle.go_board.specs.Game.{GameRecord}
+use Rattle.go_board.specs.Taken.{same_colour}
 use Rattle.gtp_check_judge.specs.declared.asking.CheckCommand.{CheckCommand}
 use Rattle.gtp_check_judge.specs.declared.asking.CheckCommand.TheVariants.{Match, FinalScore, Name, Version}
 use Rattle.gtp_check_judge.specs.declared.asking.CheckCommand.TheVariants.{KnownCommand, PlayInFull, GenmoveInFull}
@@ -85,3 +86,23 @@ reason game command (kind.Took (BadMove fault)) chosen = illegal_text game (move
 reason game command (kind.Unlawful fault) chosen = illegal_text game (move_of command chosen) fault
 reason game command kind.NoMove chosen = no_move_sentence command
 reason game command other chosen = kind_sentence other
+
+-- ---- moves of one colour in a row
+
+-- whether both are known and of one colour
+abbrev pub are_of_one_colour : Option Move → Option Move → Bool
+are_of_one_colour (Some last) (Some move) = same_colour last.colour move.colour
+are_of_one_colour (Some last) None = false
+are_of_one_colour None move = false
+
+-- That the colour of a move is no reason to refuse it, where the last one had the same. (The standard's topic play: by
+-- the protocol, moves of one colour in a row are legal.)
+abbrev pub in_a_row_text : Bool → List ℕ
+in_a_row_text true = codes "# the last move was of the same colour: moves of one colour in a row are legal\n"
+in_a_row_text false = []
+
+-- The line for a command in this game, by what was wrong: there is one where a move was refused, be its colour a letter
+-- or in full, and the last move of the game had its colour.
+abbrev pub in_a_row_line : GameRecord → CheckCommand → Kind → List ℕ
+in_a_row_line game command kind.Refused = in_a_row_text (are_of_one_colour (last_move game) (move_of command None))
+in_a_row_line game command other = []

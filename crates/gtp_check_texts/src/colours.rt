@@ -51,7 +51,7 @@ fn is_spelled_alike(one: &CheckCommand, other: &CheckCommand) -> bool
 }
 
 /// Whether it is the same colour.
-fn is_same(one: Colour, other: Colour) -> bool
+pub(crate) fn is_same(one: Colour, other: Colour) -> bool
     ensures { result ≡ same_colour one other }
 {
     one == other

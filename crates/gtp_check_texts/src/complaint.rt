@@ -5,14 +5,16 @@ ghost use Rattle.go_base.specs.Bytes.{newline, space};
 ghost use Rattle.std.specs.Io.BufRead.{strip_last};
 ghost use Rattle.gtp_process.specs.Shown.{quoted};
 ghost use Rattle.gtp_wire.specs.Replies.{most_shown};
+ghost use Rattle.gtp_check_texts.specs.Complaints.{in_a_row};
 ghost use Rattle.gtp_check_texts.specs.Answers.{before_rule};
 ghost use Rattle.gtp_check_texts.specs.Complaints.{ahead_lines, ahead_text, answer_of, asked_lines, board_lines};
 ghost use Rattle.gtp_check_texts.specs.Complaints.{complaint_lines, ended_text, faulty_said, head_line, is_within};
-ghost use Rattle.gtp_check_texts.specs.Complaints.{ko_line, pieces_line, pieces_text, rule_line, rule_of, shown_before, told};
+ghost use Rattle.gtp_check_texts.specs.Complaints.{ko_line, may_run_on, pieces_line, pieces_text, rule_line, rule_of, shown_before, told};
 ghost use Rattle.gtp_check_texts.specs.Complaints.{within_text, wrote_line};
 ghost use Rattle.gtp_check_texts.specs.Conversation.{after_lines, asked_line, before_lines, faulty_line, line_end};
 ghost use Rattle.gtp_check_texts.specs.Conversation.{line_of, line_start, lines_to};
 ghost use Rattle.gtp_check_texts.specs.Rules.{rule_text};
+ghost use Rattle.gtp_check_texts.specs.RunOn.{run_on_line};
 
 use crate::answers::{ANSWER_ROOM, right_answer};
 use crate::board::add_board;
@@ -20,8 +22,9 @@ use crate::colours::told_after;
 use crate::fault::Fault;
 use crate::kinds::fault_text;
 use crate::last_game::{Shown, add_last_game};
-use crate::reasons::add_reason;
+use crate::reasons::{add_reason, in_a_row_line};
 use crate::rules::rule_text;
+use crate::run_on::{run_on_line, runs_on};
 use crate::texts::add_all;
 use arrayvec::ArrayVec;
 use go_base::write_int;
@@ -76,6 +79,7 @@ pub fn complaint_text(alloc: Global, complaint: &Complaint<'_>) -> Result<Vec<u8
     add_asked(alloc, &mut text, complaint)?;
     add_wrote(&mut text, complaint.wrote)?;
     add_rule(&mut text, complaint)?;
+    add_run_on(&mut text, complaint)?;
     add_ahead(&mut text, complaint.after_lines())?;
     add_ko(&mut text, complaint.is_positional)?;
     text.extend_from_slice(b"\n")?;
@@ -177,11 +181,28 @@ impl<'t> Complaint<'t> {
         }
     }
 
+    /// Whether an answer may have run on into the next one.
+    fn may_run_on(&self) -> bool
+        ensures { result ≡ may_run_on self.now }
+    {
+        runs_on(self.fault, self.answered, self.talk.len(), self.wrote)
+    }
+
     /// The rule that says what is right, in whatever game.
     fn rule(&self) -> &'static [u8]
         ensures { result.now ≡ rule_text self.now.fault self.now.ending (told self.now) }
     {
         rule_text(self.fault, self.ending, self.told())
+    }
+
+    /// That moves of one colour in a row are legal, where such a one was refused in a known game.
+    fn in_a_row(&self) -> &'static [u8]
+        ensures { result.now ≡ in_a_row self.now.game self.now.fault (told self.now) }
+    {
+        match (self.game, self.fault, self.told()) {
+            (Some(game), Fault::Wrote(kind), Some(command)) => in_a_row_line(game, &command, kind),
+            _ => b"",
+        }
     }
 
     /// The command for which it is said what is right, if there is one.
@@ -341,14 +362,15 @@ fn add_board_if(text: &mut Vec<u8>, game: Option<&Game>) -> Result<(), AllocErro
     }
 }
 
-/// The line of what is right.
+/// The line of what is right, and a line more on the colour of a move where there is one.
 fn add_rule(text: &mut Vec<u8>, complaint: &Complaint<'_>) -> Result<(), AllocError>
     ensures { OnOk result (text.new.items ≡ text.old.items ++ rule_line complaint.now) }
 {
     text.extend_from_slice(b"# right: ")?;
     add_answer(text, &complaint.answer())?;
     add_decided(text, complaint)?;
-    text.extend_from_slice(b"\n")
+    text.extend_from_slice(b"\n")?;
+    text.extend_from_slice(complaint.in_a_row())
 }
 
 /// What is right, as far as no answer is shown.
@@ -375,6 +397,14 @@ fn add_answer(text: &mut Vec<u8>, answer: &[u8]) -> Result<(), AllocError>
         return Ok(());
     }
     add_all(text, &[answer, b"; "])
+}
+
+/// The line of an answer that may have run on into the next one, where one may.
+fn add_run_on(text: &mut Vec<u8>, complaint: &Complaint<'_>) -> Result<(), AllocError>
+    ensures { OnOk result (text.new.items
+        ≡ text.old.items ++ run_on_line (may_run_on complaint.now)) }
+{
+    text.extend_from_slice(run_on_line(complaint.may_run_on()))
 }
 
 /// What was asked after the faulty command, before that was answered, where there is any.

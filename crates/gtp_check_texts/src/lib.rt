@@ -16,6 +16,7 @@ pub mod listing;
 mod plays;
 mod reasons;
 mod rules;
+mod run_on;
 mod sentences;
 pub mod texts;
 
@@ -23,3 +24,4 @@ pub use board::add_board;
 pub use junk::first_line;
 pub use lines::line_len;
 pub use reasons::add_reason;
+pub use run_on::runs_on;

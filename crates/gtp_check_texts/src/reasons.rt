@@ -1,8 +1,9 @@
 //! What decides that an answer is wrong.
 ghost use Rattle.std.specs.Prelude.{◌≡◌, ◌∷◌, [], ◌++◌, OnOk};
 ghost use Rattle.gtp_check_texts.specs.Reasons.{chosen_by, colour_letter, move_of, reason, refused_match, refused_text};
-ghost use Rattle.gtp_check_texts.specs.Reasons.{undo_text};
+ghost use Rattle.gtp_check_texts.specs.Reasons.{are_of_one_colour, in_a_row_line, in_a_row_text, undo_text};
 
+use crate::colours::is_same;
 use crate::illegal::{add_illegal, last_move};
 use crate::plays::add_legal;
 use crate::sentences::{command_sentence, kind_sentence, no_move_sentence, other_sentence};
@@ -111,4 +112,35 @@ fn chosen_by(colour: Colour, chosen: Option<Vertex>) -> Option<Move>
 {
     let vertex = chosen?;
     Some(Move { colour, vertex })
+}
+
+/// That moves of one colour in a row are legal, where a move was refused and the last one had its colour.
+pub(crate) fn in_a_row_line(game: &Game, command: &CheckCommand, kind: Kind) -> &'static [u8]
+    ensures { result.now ≡ in_a_row_line game.now command.now kind }
+{
+    match kind {
+        Kind::Refused => in_a_row_text(are_of_one_colour(last_move(game), move_of(command, None))),
+        _ => b"",
+    }
+}
+
+/// Whether both moves are known and of one colour.
+fn are_of_one_colour(last: Option<Move>, made: Option<Move>) -> bool
+    ensures { result ≡ are_of_one_colour last made }
+{
+    match (last, made) {
+        (Some(last), Some(made)) => is_same(last.colour, made.colour),
+        _ => false,
+    }
+}
+
+/// The line where they are.
+fn in_a_row_text(are_of_one_colour: bool) -> &'static [u8]
+    ensures { result.now ≡ in_a_row_text are_of_one_colour }
+{
+    if are_of_one_colour {
+        b"# the last move was of the same colour: moves of one colour in a row are legal\n"
+    } else {
+        b""
+    }
 }

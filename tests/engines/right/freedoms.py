@@ -3,6 +3,7 @@
 The standard's floats are those that 32 bits can hold. An `undo` may fail where a history is kept in part and used up. A score is an
 opinion: how stones are counted, and what an unfinished game is worth, is the engine's. Rules of suicide differ.
 """
+import math
 import struct
 
 from right import Engine, Failure
@@ -98,6 +99,23 @@ class EstimatesWholePoints(Estimates):
         return super().opinion() + 0.25
 
 
+class EstimatesInSingles(Estimates):
+    """A score is an estimate, which is summed up in floats of 32 bits, a point of the board after the other, and komi at last. It is written
+    with six digits."""
+
+    digits = 6
+
+    def opinion(self):
+        return super().opinion() - 0.11 + math.pi / 100
+
+    def do_final_score(self, arguments):
+        points = self.size**2
+        lead = 0.0
+        for _ in range(points):
+            lead = single(lead + single(self.opinion() / points))
+        return self.written(single(lead - self.komi / 2))
+
+
 class EstimatesByChance(Estimates):
     """A score is an estimate that is drawn anew each time, as by some games that are played out."""
 
@@ -144,6 +162,25 @@ class KeepsAnEstimate(EstimatesByChance):
     def keep_if(self, is_same):
         """Keeps the estimate where nothing has changed."""
         self.kept = self.kept if is_same else None
+
+
+class WritesAsStreams(Engine):
+    """A score is written as C++'s streams write a float: six digits at most, and an exponent where that is too few, as `W+8.38861e+06`."""
+
+    form = ".6g"
+
+    def write_score(self, halves):
+        lead = format(abs(halves) / 2, self.form)
+        return f"{'B' if halves > 0 else 'W'}+{lead}" if halves else lead
+
+
+class WritesExponents(WritesAsStreams):
+    """A score is written with an exponent always, as C's `%e` and `%E` do, an even one too."""
+
+    form = ".6e"
+
+    def write_score(self, halves):
+        return super().write_score(halves) if self.random.random() < 0.5 else super().write_score(halves).replace("e", "E")
 
 
 class CountsTerritory(Engine):

@@ -19,7 +19,9 @@ FIRST = re.compile(r'check: (?:".*"|an engine without a name), version (?:".*"|u
 HEAD = re.compile(r'# (\d+) (\w+): "(.*)": (.*)')
 LAST = re.compile(r"check: (\d+) commands?, (\d+) starts?, (\d+) complaints?")
 HIDDEN = re.compile(r"check: \w+: more complaints, of kinds that were shown three times: (\d+)")
+IN_A_ROW = "# the last move was of the same colour: moves of one colour in a row are legal"
 PIECES = "# that line came in two pieces: a right engine waits for its newline"
+RAN_ON = "# an answer may have run on into the next: does each end with an empty line, a failure too?"
 LEFT_OUT = re.compile(r"# earlier lines left out: ([1-9]\d*) \(--trials 0 shows them\); this block alone may not show the mistake")
 
 
@@ -37,6 +39,9 @@ class Complaint:
     in_pieces: bool = False  # whether that line came in two
     left_out: int = 0  # how many lines before are said to be left out
     chosen: tuple = ()  # pairs of a line and what the engine chose then
+    in_a_row: bool = False  # whether the last move is said to be of the same colour
+    ran_on: bool = False  # whether an answer is said to have run on
+    ahead: tuple = ()  # the lines that were sent before the answer was read
 
 
 @dataclass(frozen=True)
@@ -105,7 +110,9 @@ def block_read(lines):
     rest = lines[end:]
     if len(rest) < 2 or not re.fullmatch('# it wrote: ".*"', rest[0]) or not rest[1].startswith("# right: "):
         return f"other lines at the end of a complaint: {rest}"
-    more = rest[2:-1] if rest[-1].startswith("# under positional ko") else rest[2:]
+    in_a_row = IN_A_ROW in rest[2:3]
+    ran_on = RAN_ON in rest[2 + in_a_row : 3 + in_a_row]
+    more = rest[2 + in_a_row + ran_on : len(rest) - rest[-1].startswith("# under positional ko")]
     if more and (more[0] != "# asked before this answer was read:" or len(more) == 1 or any(it.startswith("#") for it in more[1:])):
         return f"other lines at the end of a complaint: {rest}"
     asked = [it for it in talk[:-1] if " genmove " in it]
@@ -113,7 +120,7 @@ def block_read(lines):
         return f"the engine chose {chosen}, and was asked {asked}"
     count = int(left_out[1]) if left_out else 0
     parts = (int(head[1]), head[2], head[3], head[4], tuple(talk), quoted(rest[0][13:-1]), rest[1][9:], bool(pieces))
-    return Complaint(*parts, count, chosen)
+    return Complaint(*parts, count, chosen, in_a_row, ran_on, tuple(more[1:]))
 
 
 def read(output):

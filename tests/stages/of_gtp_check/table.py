@@ -85,7 +85,7 @@ OTHERS = {
         # right after a handicap `undo` has nothing to take back
         "handicap_is_undone undo_forgets_the_handicap undo_sets_komi_back passes_stay_at_undo",
         # scores after a handicap, by many komis
-        "score_has_a_comma score_has_six_digits whites_lead_is_floored even_score_is_a_word",
+        "score_has_a_comma whites_lead_is_floored even_score_is_a_word",
     ),
     ("genmoves",): (
         # the third of five genmoves is of the colour that moved last
@@ -135,6 +135,7 @@ UNNOTICED = {
     "whole_komi_alone": WITHIN_A_UNIT,
     "komi_of_four_characters": WITHIN_A_UNIT,
     "empty_board_is_blacks": "a score of an empty board is an opinion",
+    "score_has_six_digits": "a score may end with an exponent",
     "no_reply_to_an_unknown_command": NOT_ASKED,
     "id_at_multiple_lines": "in a list further words are the names of other commands",
     "quit_has_no_reply": "the answer to `quit` isn't judged",

@@ -14,8 +14,15 @@ OF_A_SUBJECT = 8  # bugs that ./test tries of each subject, at most
 ENGINE = PYTHON + " tests/engines/wrong/engine"
 PIECES = PYTHON + " tests/engines/wrong/pieces"
 LATE = PYTHON + " tests/engines/wrong/late"
+UNENDED = PYTHON + " tests/engines/wrong/unended"
+# which answers end by one newline, and a lesson in which one does that more is asked after
+UNENDED_IN = [(kind, lesson) for kind in ("failures", "refusal") for lesson in ("start", "ko", "captures", "suicide", "drawn")]
+FEW = 30  # commands that are shown of such a lesson at most, in place of hundreds
 # lessons of which a command is the first that is answered wrongly, by its id, and whether its last game alone is shown: of more than forty
 LATELY = (("ko", 40, False), ("ko", 41, True), ("games", 300, True), ("genmoves", 90, True))
+# how many commands a conversation has that no shorter one shows, and how often engines are started at least and at most. Of twelve none is
+# left out. Of 150 at most 149 are tried at once: each of these can't be left out alone within 20,000, and 134 trials have 19,852 at least.
+TRIED = ((12, 1, 1), (13, 2, 1001), (150, 135, 1001))
 QUICKLY = ("--only", "start", "--only", "komi", "--only", "games", "--only", "restarts")  # for the unnoticed ones, where not all are tried
 
 
@@ -48,6 +55,21 @@ def pasted(words, lines, folder):
     return output[at:], done.returncode
 
 
+def is_in_a_row(words, lines):
+    """Whether the last of these lines is a play of the colour of the last move before it, by what the right engine answers."""
+    right = answers(lines, words)
+    moves = []
+    for line in lines[:-1]:
+        name, *arguments = line.split()[1:]
+        if name in ("boardsize", "clear_board") and not right[line].startswith("?"):
+            moves = []
+        elif name == "play" and not right[line].startswith("?"):
+            moves.append(arguments[0][0])
+        elif name == "undo" and not right[line].startswith("?"):
+            moves.pop()
+    return moves[-1:] == [lines[-1].split()[2][0]]
+
+
 def ending(status):
     """How a process ended, as a complaint says it."""
     return f"signal {-status}" if status < 0 else f"exit status {status}"
@@ -65,6 +87,9 @@ def is_real(complaint, name, folder):
         return f"pasted, the engine writes {wrote!r} and ends by {ending(status)}"
     if any("genmove" in line for line in complaint.lines[:-1]):
         return None  # the right engine may choose another move
+    is_again = complaint.fault == "it was refused" and complaint.command.split()[1] == "play" and is_in_a_row(words, complaint.lines)
+    if complaint.in_a_row != is_again:
+        return f"{complaint.in_a_row} is said of whether the last move had the same colour, and not {is_again}"
     if complaint.fault == "a score that doesn't differ from its others as the komis do":
         return None  # which of the two scores is the wrong one isn't said
     right, _ = pasted(words, complaint.lines, tempfile.gettempdir())
@@ -139,10 +164,31 @@ def pieces():
     return None if found == [("start", "a reply without the id of the command", True)] else f"{found}: {result.output}"
 
 
-def answers(lines):
-    """What the right engine answers to these lines, by the line, where all of them are pasted into it."""
+def unended(row):
+    """What is odd about the complaint of an answer that ends by one newline: the check ends, its block is short and names the empty line,
+    and what is shown is so, pasted into one more process."""
+    kind, lesson = row
+    command = f"{UNENDED} {kind}"
+    result = checked(("--only", lesson, "--restarts", "0"), command)
+    report = read(result.output)
+    if isinstance(report, str) or (result.status, result.errors, len(report.complaints)) != (1, "", 1):
+        return f"{report}: {result}"
+    (found,) = report.complaints
+    if not found.ran_on or found.left_out or len(found.lines) > FEW:
+        return f"{found}"
     how = dict(cwd=TOP, env=environment(tempfile.gettempdir()), capture_output=True, timeout=LIMIT)
-    done = subprocess.run(ENGINE.split(), input=("\n".join(lines) + "\n").encode(), **how)
+    lines = "".join(f"{it}\n" for it in (*found.lines, *found.ahead)).encode()
+    wrong, right = (subprocess.run(it.split(), input=lines, **how).stdout.decode("latin-1") for it in (command, ENGINE))
+    wrote = "\n\n".join(wrong.split("\n\n")[len(found.lines) - 1 :])
+    if not wrote.startswith(found.wrote):
+        return f"pasted, the engine writes {wrote!r}, and not {found.wrote!r}"
+    return None if right.count("\n\n") == len(found.lines) + len(found.ahead) else f"the right engine writes {right!r}"
+
+
+def answers(lines, words=ENGINE.split()):
+    """What the right engine answers to these lines, by the line, where all of them are pasted into it. A failure begins with `?`."""
+    how = dict(cwd=TOP, env=environment(tempfile.gettempdir()), capture_output=True, timeout=LIMIT)
+    done = subprocess.run(words, input=("\n".join(lines) + "\n").encode(), **how)
     texts = [re.sub(r"^=\d+ ?", "", it) for it in done.stdout.decode("latin-1").split("\n\n")]
     return dict(zip(lines, texts))
 
@@ -170,6 +216,14 @@ def late(row):
     found = (list(shown.lines), shown.left_out, shown.chosen, shown.command, shown.fault, shown.wrote)
     same = (wanted, len(whole.lines) - len(wanted), chosen, whole.command, whole.fault, whole.wrote)
     return None if found == same else f"{found}, and not {same}"
+
+
+def tried(row):
+    """What is odd about how many engines are started for a mistake that no shorter conversation shows."""
+    first, least, most = row
+    report = read(checked(("--only", "ko", "--restarts", "0", "--trials", "1000"), f"{LATE} {first}").output)
+    same = not isinstance(report, str) and report.count == 1 and least <= report.starts <= most
+    return None if same else report
 
 
 def odd_table():

@@ -1,5 +1,5 @@
 -- Where a score or any text is due: what is judged right is a right answer.
-use Rattle.std.proofs.Common.{◌≡◌, ℕ, ◌<◌, max, Bool, true, false, List, Option, Some, None, refl, sym, ◌∙◌, ap, subst}
+use Rattle.std.proofs.Common.{◌≡◌, ℕ, ◌<◌, Bool, true, false, List, Option, Some, None, refl, sym, ◌∙◌, ap, subst}
 use Rattle.std.proofs.Common.{arith}
 use Rattle.std.specs.Prelude.{◌==◌, ◌&&◌, nat_le, ℤ, pos, ◌+ℤ◌, ◌*ℤ◌, if◌then◌else◌}
 use Rattle.std.proofs.lemmas.Bool.Decides.{nat_tests}
@@ -22,7 +22,7 @@ use Rattle.gtp_check_judge.specs.declared.scores.SaidScore.TheVariants.{Number, 
 use Rattle.gtp_check_judge.specs.declared.unanswered.Asked.{Asked}
 use Rattle.gtp_check_judge.specs.Komis.{is_near_komi}
 use Rattle.gtp_check_judge.specs.Scores.{score_of_text}
-use Rattle.gtp_check_judge.specs.Opinions.{agrees, agrees_with, differ_as_komis, distance, opinion_said, opinion_with}
+use Rattle.gtp_check_judge.specs.Opinions.{agrees, agrees_with, allowed, distance, differ_as_komis, opinion_said, opinion_with}
 use Rattle.gtp_check_judge.specs.Opinions.{view_of}
 use Rattle.gtp_check_judge.specs.RightEngine.{RightEngine, is_empty, none_made, opinion_after, view_in, view_read}
 use Rattle.gtp_check_judge.specs.Dues.{IsDue, IsFresh, after_check, engine_after}
@@ -101,7 +101,7 @@ pub record Differs (opinion : Opinion) (new : View) : Type 0 where
   pub old : View
   pub stands : opinion ≡ Twice old
   pub size : old.size ≡ new.size
-  pub far : max old.unit new.unit < distance old.lead new.lead
+  pub far : allowed old.unit new.unit < distance old.lead new.lead
 
 same_number : (a b : ℕ) → (a == b) ≡ true → a ≡ b
 same_number a b e = grind (arith, nat_tests)
@@ -122,7 +122,7 @@ differs_so (Twice old) new e = by (old.size == new.size) (differ_as_komis old ne
       old = old;
       stands = refl;
       size = same_number old.size new.size size;
-      far = less_far (distance old.lead new.lead) (max old.unit new.unit) far;
+      far = less_far (distance old.lead new.lead) (allowed old.unit new.unit) far;
     }
 
 differs_from : (before : RightEngine) (command : CheckCommand) (text : List ℕ) (s : ℕ) (k : ℤ) (said : SaidScore)
@@ -139,9 +139,9 @@ differs_from before command text s k said new is is_said view e =
       score = v.score;
       said = is_said ∙ ap Some v.said_is;
       far =
-          subst (λ (z : ℤ). max d.old.unit v.score.unit < distance d.old.lead (v.score.millionths +ℤ (pos 500000 *ℤ z)))
+          subst (λ (z : ℤ). allowed d.old.unit v.score.unit < distance d.old.lead (v.score.millionths +ℤ (pos 500000 *ℤ z)))
           is.komi_is
-          (subst (λ (w : View). max d.old.unit w.unit < distance d.old.lead w.lead) v.new_is d.far);
+          (subst (λ (w : View). allowed d.old.unit w.unit < distance d.old.lead w.lead) v.new_is d.far);
     }
 
 -- ---- what is judged of a score

@@ -1,5 +1,5 @@
 -- What is found of a score, and what the opinion is by what was said.
-use Rattle.std.proofs.Common.{◌≡◌, ℕ, ◌≤◌, ◌<◌, max, suc, Bool, true, false, List, [], ◌∷◌, ◌++◌, Option, Some, None}
+use Rattle.std.proofs.Common.{◌≡◌, ℕ, ◌≤◌, ◌<◌, suc, Bool, true, false, List, [], ◌∷◌, ◌++◌, Option, Some, None}
 use Rattle.std.proofs.Common.{refl, sym, ◌∙◌, ap, subst, arith, append_assoc}
 use Rattle.std.specs.Prelude.{ℤ, pos, negsuc, neg_ℤ, ◌+ℤ◌, ◌-ℤ◌, ◌*ℤ◌, ◌≤ℤ◌, ◌==◌, ◌&&◌, nat_le, unsigned_abs, Ok}
 use Rattle.std.specs.Prelude.{if◌then◌else◌}
@@ -24,7 +24,7 @@ use Rattle.gtp_check_judge.specs.declared.scores.SaidScore.TheVariants.{Number}
 use Rattle.gtp_check_judge.specs.declared.unanswered.Asked.{Asked}
 use Rattle.gtp_check_judge.specs.Komis.{is_near_komi}
 use Rattle.gtp_check_judge.specs.Scores.{score_of_text}
-use Rattle.gtp_check_judge.specs.Opinions.{agrees, differ_as_komis, distance, is_same, opinion_with, view_of}
+use Rattle.gtp_check_judge.specs.Opinions.{agrees, allowed, differ_as_komis, distance, is_same, opinion_with, view_of}
 use Rattle.gtp_check_judge.specs.Judging.{Judged, said_score_judged, score_judged, view_judged}
 use Rattle.gtp_check_judge.specs.Exam.{Hears, IdLeaves, ReplyLeaves, after_judged, finding_of, hearing, reply_to}
 use Rattle.gtp_check_judge.specs.Exam.{with_rest}
@@ -124,17 +124,17 @@ if_both : (b x : Bool) → x ≡ true → (if b then x else true) ≡ true
 if_both true x e = e
 if_both false x e = refl
 
-pub agrees_far : (one other : View) → other.size ≡ one.size → max one.unit other.unit < distance one.lead other.lead
+pub agrees_far : (one other : View) → other.size ≡ one.size → allowed one.unit other.unit < distance one.lead other.lead
     → agrees (Twice one) other ≡ false
 agrees_far one other size far =
     if_so (one.size == other.size) (differ_as_komis one other) true (same_is one.size other.size (sym size))
-    ∙ far_is (distance one.lead other.lead) (max one.unit other.unit) far
+    ∙ far_is (distance one.lead other.lead) (allowed one.unit other.unit) far
 
-pub agrees_near : (one other : View) → distance one.lead other.lead ≤ max one.unit other.unit
+pub agrees_near : (one other : View) → distance one.lead other.lead ≤ allowed one.unit other.unit
     → agrees (Twice one) other ≡ true
 agrees_near one other near =
     if_both (one.size == other.size) (differ_as_komis one other)
-    (close_is (distance one.lead other.lead) (max one.unit other.unit) near)
+    (close_is (distance one.lead other.lead) (allowed one.unit other.unit) near)
 
 pub agrees_free : (opinion : Opinion) (other : View)
     → ((one : View) → opinion ≡ Twice one → other.size ≡ one.size → ⊥) → agrees opinion other ≡ true

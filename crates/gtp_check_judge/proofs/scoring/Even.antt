@@ -1,5 +1,5 @@
 -- An engine that scores an empty board by komi alone agrees with itself.
-use Rattle.std.proofs.Common.{◌≡◌, ℕ, ◌≤◌, max, Bool, true, false, List, [], ◌∷◌, Option, Some, None, refl, sym, ◌∙◌}
+use Rattle.std.proofs.Common.{◌≡◌, ℕ, ◌≤◌, Bool, true, false, List, [], ◌∷◌, Option, Some, None, refl, sym, ◌∙◌}
 use Rattle.std.proofs.Common.{ap, subst, arith, suc}
 use Rattle.std.specs.Prelude.{ℤ, pos, negsuc, neg_ℤ, ◌+ℤ◌, ◌*ℤ◌, ◌==◌, nat_le, if◌then◌else◌}
 use Rattle.std.proofs.lemmas.Bool.{and_parts}
@@ -17,7 +17,7 @@ use Rattle.gtp_check_judge.specs.declared.scores.SaidScore.{SaidScore}
 use Rattle.gtp_check_judge.specs.declared.scores.SaidScore.TheVariants.{Number, Long}
 use Rattle.gtp_check_judge.specs.Komis.{is_near_komi}
 use Rattle.gtp_check_judge.specs.Scores.{score_of_text}
-use Rattle.gtp_check_judge.specs.Opinions.{agrees, agrees_with, differ_as_komis, distance, is_same, opinion_said}
+use Rattle.gtp_check_judge.specs.Opinions.{agrees, agrees_with, allowed, distance, differ_as_komis, is_same, opinion_said}
 use Rattle.gtp_check_judge.specs.Opinions.{opinion_with, view_of}
 use Rattle.gtp_check_judge.specs.RightEngine.{RightEngine, is_empty, none_made, view_in, view_read}
 use Rattle.gtp_check_judge.specs.Dues.{IsFresh}
@@ -55,9 +55,9 @@ even_agrees (Twice old) new h e = by (old.size == new.size)
   where
     near : differ_as_komis old new ≡ true
     near =
-        ap (λ (z : ℤ). nat_le (distance z new.lead) (max old.unit new.unit)) h
-        ∙ ap (λ (z : ℤ). nat_le (distance (pos 0) z) (max old.unit new.unit)) e
-        ∙ never_less (max old.unit new.unit)
+        ap (λ (z : ℤ). nat_le (distance z new.lead) (allowed old.unit new.unit)) h
+        ∙ ap (λ (z : ℤ). nat_le (distance (pos 0) z) (allowed old.unit new.unit)) e
+        ∙ never_less (allowed old.unit new.unit)
 
     by : (b : Bool) → (if b then differ_as_komis old new else true) ≡ true
     by true = near

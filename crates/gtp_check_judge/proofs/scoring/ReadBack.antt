@@ -6,6 +6,7 @@ use Rattle.std.specs.Str.Parse.{AllDigits, digits_value}
 use Rattle.std.proofs.lemmas.Bool.Decides.{nat_tests}
 use Rattle.std.proofs.lemmas.Fmt.{decimal_digit, decimal_is_IsNumeral, length-decimal-le}
 use Rattle.std.proofs.lemmas.Int.{ints}
+use Rattle.std.proofs.lemmas.List.{append-nil}
 use Rattle.go_base.specs.Int.{written_int}
 use Rattle.go_base.specs.Komi.{IsKomi, most_half_points}
 use Rattle.go_base.specs.HalfPoints.{written_points, score_text}
@@ -20,11 +21,12 @@ use Rattle.gtp_check_judge.specs.declared.scores.SaidScore.{SaidScore}
 use Rattle.gtp_check_judge.specs.declared.scores.SaidScore.TheVariants.{Number}
 use Rattle.gtp_check_judge.specs.Dues.{IsFresh}
 use Rattle.gtp_check_judge.specs.Scores.{are_only_zeros, negated, score_of_words, score_of_text}
-use Rattle.gtp_check_judge.specs.AnswerLaws.{FollowsDigits, IsScoreOf, SpellsPoints}
+use Rattle.gtp_check_judge.specs.AnswerLaws.{FollowsDigits, IsScoreOf, SaysWith, SpellsPlainPoints, SpellsPoints}
 use Rattle.gtp_wire.proofs.texts.ReadBack.{words_of_joined}
 use Rattle.gtp_wire.specs.declared.commands.Command.TheVariants as command
 use Rattle.gtp_check_judge.proofs.scoring.EmptyBoard.{score_fresh}
-use Rattle.gtp_check_judge.proofs.scoring.Texts.{spelled_points, zero_read}
+use Rattle.gtp_check_judge.proofs.scoring.Exponents.{spelled_points}
+use Rattle.gtp_check_judge.proofs.scoring.Texts.{zero_read}
 
 -- this number of half points, written with so many digits
 abbrev pub halves : ℤ → ℕ → SaidScore
@@ -69,9 +71,9 @@ half_scored n whole false is few value =
     (let same : 1000000 * digits_value 10 whole + 1000000 * 0 ≡ 500000 * n =
     ap (λ (w : ℕ). 1000000 * w + 1000000 * 0) value ∙ even_halves n is in omega (arith, ints, same))
 
-points_spelled : (n : ℕ) → n ≤ most_half_points
-    → SpellsPoints (halves (pos n) (half_unit (n % 2 == 1))) (written_points n)
-points_spelled n most =
+plain_spelled : (n : ℕ) → n ≤ most_half_points
+    → SpellsPlainPoints (halves (pos n) (half_unit (n % 2 == 1))) (written_points n)
+plain_spelled n most =
     let numeral = decimal_is_IsNumeral (n / 2) (omega arith) in
     record {
       whole = written_int (n / 2);
@@ -86,6 +88,18 @@ points_spelled n most =
           half_scored n (written_int (n / 2)) (n % 2 == 1) refl
           (length-decimal-le 9 (n / 2) (omega arith) (omega arith) (omega arith)) numeral.1;
     }
+
+-- our engine writes no exponent
+abbrev points_spelled : (n : ℕ) → n ≤ most_half_points
+    → SpellsPoints (halves (pos n) (half_unit (n % 2 == 1))) (written_points n)
+points_spelled n most = record {
+  number = written_points n;
+  exponent = [];
+  shape = sym (append-nil (written_points n));
+  plain = halves (pos n) (half_unit (n % 2 == 1));
+  spelled = plain_spelled n most;
+  value = SaysWith.no_exponent;
+}
 
 points_word : (n : ℕ) → n ≤ most_half_points → IsWord (written_points n)
 points_word n most =

@@ -1,10 +1,12 @@
 //! Texts of a check, its options and its counts, as they are written by hand.
 mod ahead;
+mod colours;
 mod complaints;
 mod counts;
 mod options;
 mod progress;
 mod reductions;
+mod run_on;
 mod shorter;
 mod texts;
 mod worked_texts;

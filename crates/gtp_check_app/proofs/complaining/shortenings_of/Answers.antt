@@ -1,4 +1,4 @@
-use Rattle.std.proofs.Common.{◌≡◌, ◌∙◌, ap, arith, false, sym, length, take, [], List}
+use Rattle.std.proofs.Common.{◌≡◌, ◌∙◌, ap, arith, false, sym, length, take, [], List, None}
 use Rattle.std.proofs.lemmas.List.{length-take, take_all}
 use Rattle.gtp_check_shortening.specs.declared.flat.Shortening.{Shortening}
 use Rattle.gtp_check_shortening.specs.Shortening.{shortenings}
@@ -17,7 +17,7 @@ loop-shortening-init c = c.new-tried.ensures.items ∙ sym (take_all c.args.tria
 
 pub loop-shortening-preserved : goal.loop-shortening-preserved
 loop-shortening-preserved c =
-    let other : Shortening = record { games = 0; more_than = 0; is_whole = false; is_played = false } in
+    let other : Shortening = record { games = 0; more_than = 0; is_whole = false; is_played = false; kept = None } in
     let talk = c.args.talk.now in
     let index = c.loop-shortening.shortening-index in
     let tried = c.loop-shortening.tried.items in

@@ -1,4 +1,4 @@
-use Rattle.gtp_check_talks.proofs.Noted.{are_noted}
+use Rattle.gtp_check_talks.proofs.NotedSince.{are_noted}
 use Rattle.gtp_check_talks.proofs.laws.moves_are_noted_once_answered.Goals as goal
 
 pub returns : goal.returns

@@ -1,7 +1,8 @@
 use Rattle.std.proofs.Common.{◌≡◌, ◌∙◌, ◌++◌, ap, append_assoc, List, [], ◌∷◌, ℕ}
-use Rattle.gtp_check_texts.specs.Complaints.{ahead_lines, asked_lines, head_line, ko_line, rule_line}
+use Rattle.gtp_check_texts.specs.Complaints.{ahead_lines, asked_lines, head_line, ko_line, may_run_on, rule_line}
 use Rattle.gtp_check_texts.specs.Complaints.{wrote_line}
 use Rattle.gtp_check_texts.specs.Conversation.{after_lines}
+use Rattle.gtp_check_texts.specs.RunOn.{run_on_line}
 use Rattle.gtp_check_texts.proofs.complaint.complaint_text.Goals as goal
 
 -- a text that was added to those before comes before the rest
@@ -9,27 +10,29 @@ added : (before part rest next : List ℕ) → next ≡ before ++ part → next 
 added before part rest next is = ap (λ (text : List ℕ). text ++ rest) is ∙ append_assoc before part rest
 
 -- texts that are added one after the other
-joined : (head talk wrote rule ahead ko end : List ℕ) (one two three four five six all : List ℕ)
-    → one ≡ [] ++ head → two ≡ one ++ talk → three ≡ two ++ wrote → four ≡ three ++ rule → five ≡ four ++ ahead
-    → six ≡ five ++ ko → all ≡ six ++ (end ++ [])
-    → all ≡ head ++ (talk ++ (wrote ++ (rule ++ (ahead ++ (ko ++ (end ++ []))))))
-joined head talk wrote rule ahead ko end one two three four five six all b c d e f g h =
+joined : (head talk wrote rule ran ahead ko end : List ℕ) (one two three four five six seven all : List ℕ)
+    → one ≡ [] ++ head → two ≡ one ++ talk → three ≡ two ++ wrote → four ≡ three ++ rule → five ≡ four ++ ran
+    → six ≡ five ++ ahead → seven ≡ six ++ ko → all ≡ seven ++ (end ++ [])
+    → all ≡ head ++ (talk ++ (wrote ++ (rule ++ (ran ++ (ahead ++ (ko ++ (end ++ [])))))))
+joined head talk wrote rule ran ahead ko end one two three four five six seven all b c d e f g h i =
     let last = end ++ [] in
-    h ∙ added five ko last six g
-    ∙ added four ahead (ko ++ last) five f
-    ∙ added three rule (ahead ++ (ko ++ last)) four e
-    ∙ added two wrote (rule ++ (ahead ++ (ko ++ last))) three d
-    ∙ added one talk (wrote ++ (rule ++ (ahead ++ (ko ++ last)))) two c
-    ∙ added [] head (talk ++ (wrote ++ (rule ++ (ahead ++ (ko ++ last))))) one b
+    i ∙ added six ko last seven h
+    ∙ added five ahead (ko ++ last) six g
+    ∙ added four ran (ahead ++ (ko ++ last)) five f
+    ∙ added three rule (ran ++ (ahead ++ (ko ++ last))) four e
+    ∙ added two wrote (rule ++ (ran ++ (ahead ++ (ko ++ last)))) three d
+    ∙ added one talk (wrote ++ (rule ++ (ran ++ (ahead ++ (ko ++ last))))) two c
+    ∙ added [] head (talk ++ (wrote ++ (rule ++ (ran ++ (ahead ++ (ko ++ last)))))) one b
 
 pub returns : goal.returns
 returns c =
     joined (head_line c.args.complaint.now) (asked_lines c.args.complaint.now)
     (wrote_line c.args.complaint.now.wrote.now)
-    (rule_line c.args.complaint.now) (ahead_lines (after_lines c.args.complaint.now))
-    (ko_line c.args.complaint.now.is_positional) (10 ∷ []) _ _ _ _ _ _ _
+    (rule_line c.args.complaint.now) (run_on_line (may_run_on c.args.complaint.now))
+    (ahead_lines (after_lines c.args.complaint.now))
+    (ko_line c.args.complaint.now.is_positional) (10 ∷ []) _ _ _ _ _ _ _ _
     (c.in_ok-add_head.ensures ∙ ap (λ (text : List ℕ). text ++ head_line c.args.complaint.now) c.new-text.ensures.items)
-    c.in_ok-add_asked.ensures c.in_ok-add_wrote.ensures c.in_ok-add_rule.ensures
+    c.in_ok-add_asked.ensures c.in_ok-add_wrote.ensures c.in_ok-add_rule.ensures c.in_ok-add_run_on.ensures
     (c.in_ok-add_ahead.ensures
-    ∙ ap (λ (lines : List ℕ). c.add_rule.new.text.items ++ ahead_lines lines) c.after_lines.ensures)
+    ∙ ap (λ (lines : List ℕ). c.add_run_on.new.text.items ++ ahead_lines lines) c.after_lines.ensures)
     c.in_ok-add_ko.ensures c.in_ok-extend_from_slice.ensures.items

@@ -215,6 +215,7 @@ static ROWS: [Row; 15] = [
 3 play black D3
 # it wrote: \"?3 no\\n\\n\"
 # right: legal: the point is empty, the stone's chain has a liberty then, and no ko forbids it
+# the last move was of the same colour: moves of one colour in a row are legal
 
 ",
     },
@@ -360,6 +361,7 @@ static ROWS: [Row; 15] = [
 4 play w A2
 # it wrote: \"?4 no\\n\\n\"
 # right: legal: it captures 1 stone of black: A1
+# the last move was of the same colour: moves of one colour in a row are legal
 # asked before this answer was read:
 5 name
 

@@ -103,3 +103,31 @@ fn numbers_have_limits(rt: HostRuntime) {
         assert_true_for(&rt, *words, options.is_err());
     }
 }
+
+/// The first and the last number that each option may have: the size, the seed, the restarts and the trials.
+static WITHIN: [([&str; 4], (u32, u32, u32, u32)); 2] = [
+    (
+        ["--size=5", "--seed=0", "--restarts=0", "--trials=0"],
+        (5, 0, 0, 0),
+    ),
+    (
+        [
+            "--size=25",
+            "--seed=4294967295",
+            "--restarts=1000",
+            "--trials=1000",
+        ],
+        (25, 4_294_967_295, 1000, 1000),
+    ),
+];
+
+#[test]
+fn numbers_at_their_limits_are_taken(rt: HostRuntime) -> Result<(), Fail> {
+    for ([size, seed, restarts, trials], numbers) in &WITHIN {
+        let words = ["gtp_check", "engine", size, seed, restarts, trials];
+        let options = read_options(rt.alloc(), words.as_slice())?;
+        let read = (options.size, options.seed, options.restarts, options.trials);
+        assert_equal(&rt, read, *numbers);
+    }
+    Ok(())
+}

@@ -2,7 +2,9 @@
 use super::talk_of;
 use crate::asserts::{assert_equal, assert_equal_for, assert_true, some};
 use crate::tests::commands::command;
-use gtp_check_shortening::flat::{games_in, last_games, shortened, shortenings};
+use gtp_check_shortening::flat::{
+    games_in, has_cut, last_games, shortened, shortenings, standing_before,
+};
 use gtp_check_shortening::superko::is_positional;
 use std::test::Fail;
 
@@ -91,6 +93,103 @@ fn the_last_games_are_flat_or_whole_and_ever_more_are_tried(rt: HostRuntime) -> 
         last = one.games;
     }
     assert_equal(&rt, last, 256);
+    Ok(())
+}
+
+/// A game, with how many moves there are before each command. Black takes A1, plays there, and takes E1. White's C4 and D4
+/// are taken back, and its B1 is refused, since a stone is there.
+static CAPTURES: [(&str, usize); 18] = [
+    ("boardsize 5", 0),
+    ("komi 6.5", 0),
+    ("clear_board", 0),
+    ("play b A2", 0),
+    ("play w A1", 1),
+    ("play b B1", 2),
+    ("play w E1", 3),
+    ("play b D1", 4),
+    ("play b A1", 5),
+    ("play b E2", 6),
+    ("play w C4", 7),
+    ("undo", 8),
+    ("play w B1", 7),
+    ("play b pass", 7),
+    ("play w E5", 8),
+    ("play w D4", 9),
+    ("undo", 10),
+    ("genmove b", 9),
+];
+
+/// How many of the last commands are kept, and whether they are whole, and not flat; and the commands that stay after
+/// those that set the board up.
+static KEPT: [(usize, bool, &[&str]); 5] = [
+    (1, false, &["play w E5", "genmove b"]),
+    (4, false, &["play w E5", "genmove b"]),
+    (4, true, &["play w E5", "play w D4", "undo", "genmove b"]),
+    // The stone that is taken back stood when these began.
+    (2, true, &["play w E5", "play w D4", "undo", "genmove b"]),
+    (
+        8,
+        true,
+        &[
+            "play w C4",
+            "undo",
+            "play w B1",
+            "play b pass",
+            "play w E5",
+            "play w D4",
+            "undo",
+            "genmove b",
+        ],
+    ),
+];
+
+/// What sets the board up: neither the stones that were taken are in it, nor the pass.
+static SET_UP: [&str; 8] = [
+    "boardsize 5",
+    "komi 6.5",
+    "clear_board",
+    "play b A2",
+    "play b B1",
+    "play b D1",
+    "play b A1",
+    "play b E2",
+];
+
+#[test]
+fn the_last_commands_stay_on_the_board_as_it_stood(rt: HostRuntime) -> Result<(), Fail> {
+    let mut talk = talk_of(&rt, 5, &CAPTURES);
+    for index in 0..talk.len() {
+        let said = some(&rt, talk.get_mut(index));
+        said.moves = said.end;
+        said.is_illegal = index == 12;
+    }
+    for (kept, is_whole, texts) in &KEPT {
+        let mut wanted = Vec::new(rt.alloc());
+        if *is_whole {
+            wanted.push(command(&rt, "known_command undo"))?;
+        }
+        for text in &SET_UP {
+            wanted.push(command(&rt, text))?;
+        }
+        for text in *texts {
+            wanted.push(command(&rt, text))?;
+        }
+        let shortening = standing_before(*kept, *is_whole);
+        let commands = shortened(rt.alloc(), talk.as_slice(), shortening)?;
+        assert_equal_for(&rt, *texts, commands.as_slice(), wanted.as_slice());
+    }
+    // The game has 16 commands.
+    for (kept, is_so) in [
+        (1, true),
+        (15, true),
+        (16, false),
+        (17, false),
+        (256, false),
+    ] {
+        let shortening = standing_before(kept, false);
+        assert_equal_for(&rt, kept, has_cut(shortening, talk.as_slice()), is_so);
+    }
+    assert_true(&rt, has_cut(last_games(1, 0, true), talk.as_slice()));
     Ok(())
 }
 

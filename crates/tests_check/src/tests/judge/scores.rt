@@ -6,7 +6,7 @@ use gtp_check_judge::{Kind, Opinion};
 /// Lines that are asked one after the other, each with the reply to it, and what is found at the last.
 type Row = (&'static [(&'static str, &'static str)], Option<Kind>);
 
-static SCORES: [Row; 15] = [
+static SCORES: [Row; 28] = [
     // The first score is compared with nothing, whatever it is, nor is one that comes out otherwise than the one before.
     (
         &[
@@ -80,6 +80,27 @@ static SCORES: [Row; 15] = [
         ],
         None,
     ),
+    // A hundredth of a point may lie between them, however many digits are written. Here 3.641593 less 999.5 is -995.858407.
+    (
+        &[
+            ("6 komi 0.5\n", "=6\n\n"),
+            ("7 final_score\n", "=7 B+3.141593\n\n"),
+            ("8 final_score\n", "=8 B+3.141593\n\n"),
+            ("9 komi 999.5\n", "=9\n\n"),
+            ("10 final_score\n", "=10 W+995.848407\n\n"),
+        ],
+        None,
+    ),
+    (
+        &[
+            ("6 komi 0.5\n", "=6\n\n"),
+            ("7 final_score\n", "=7 B+3.141593\n\n"),
+            ("8 final_score\n", "=8 B+3.141593\n\n"),
+            ("9 komi 999.5\n", "=9\n\n"),
+            ("10 final_score\n", "=10 W+995.848406\n\n"),
+        ],
+        Some(Kind::OtherScore),
+    ),
     // A failure is right at any time, and a komi beyond a thousand points is compared with nothing.
     (
         &[
@@ -141,6 +162,92 @@ static SCORES: [Row; 15] = [
         &[
             ("6 komi 6.5\n", "=6\n\n"),
             ("7 final_score\n", "=7 W+.\n\n"),
+        ],
+        Some(Kind::NoScore),
+    ),
+    // A number may end with an exponent. It isn't read, so such a score is compared with nothing, and changes nothing.
+    (
+        &[
+            ("6 komi 0.5\n", "=6\n\n"),
+            ("7 final_score\n", "=7 B+3.5\n\n"),
+            ("8 final_score\n", "=8 B+3.5\n\n"),
+            ("9 final_score\n", "=9 W+8.38861e+06\n\n"),
+            ("10 final_score\n", "=10 B+1E7\n\n"),
+            ("11 final_score\n", "=11 W+.5e-1\n\n"),
+            ("12 final_score\n", "=12 B+3.e0\n\n"),
+            ("13 final_score\n", "=13 B+5\n\n"),
+        ],
+        Some(Kind::OtherScore),
+    ),
+    // A zero is one without a letter, too, whatever its exponent.
+    (
+        &[
+            ("6 komi 6.5\n", "=6\n\n"),
+            ("7 final_score\n", "=7 0e0\n\n"),
+            ("8 final_score\n", "=8 0.000000e+00\n\n"),
+            ("9 final_score\n", "=9 .0E-5\n\n"),
+            ("10 final_score\n", "=10 1e0\n\n"),
+        ],
+        Some(Kind::NoScore),
+    ),
+    // An exponent has digits and nothing else, and a digit stands before it.
+    (
+        &[
+            ("6 komi 6.5\n", "=6\n\n"),
+            ("7 final_score\n", "=7 B+1e\n\n"),
+        ],
+        Some(Kind::NoScore),
+    ),
+    (
+        &[
+            ("6 komi 6.5\n", "=6\n\n"),
+            ("7 final_score\n", "=7 B+e5\n\n"),
+        ],
+        Some(Kind::NoScore),
+    ),
+    (
+        &[
+            ("6 komi 6.5\n", "=6\n\n"),
+            ("7 final_score\n", "=7 B+1e+\n\n"),
+        ],
+        Some(Kind::NoScore),
+    ),
+    (
+        &[
+            ("6 komi 6.5\n", "=6\n\n"),
+            ("7 final_score\n", "=7 B+1e5.5\n\n"),
+        ],
+        Some(Kind::NoScore),
+    ),
+    (
+        &[
+            ("6 komi 6.5\n", "=6\n\n"),
+            ("7 final_score\n", "=7 B+.e5\n\n"),
+        ],
+        Some(Kind::NoScore),
+    ),
+    (
+        &[
+            ("6 komi 6.5\n", "=6\n\n"),
+            ("7 final_score\n", "=7 B+1e5e5\n\n"),
+        ],
+        Some(Kind::NoScore),
+    ),
+    (
+        &[
+            ("6 komi 6.5\n", "=6\n\n"),
+            ("7 final_score\n", "=7 B+1e+-5\n\n"),
+        ],
+        Some(Kind::NoScore),
+    ),
+    (
+        &[("6 komi 6.5\n", "=6\n\n"), ("7 final_score\n", "=7 e5\n\n")],
+        Some(Kind::NoScore),
+    ),
+    (
+        &[
+            ("6 komi 6.5\n", "=6\n\n"),
+            ("7 final_score\n", "=7 B+1f5\n\n"),
         ],
         Some(Kind::NoScore),
     ),

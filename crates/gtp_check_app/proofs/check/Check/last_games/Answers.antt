@@ -1,4 +1,4 @@
-use Rattle.std.proofs.Common.{◌≡◌, ◌∙◌, ap, arith, false, length, refl, List}
+use Rattle.std.proofs.Common.{◌≡◌, ◌∙◌, ap, arith, false, length, refl, List, None}
 use Rattle.std.proofs.lemmas.Result.{err_from_is_err_and}
 use Rattle.gtp_process.specs.Starts.{program_line}
 use Rattle.gtp_check_shortening.specs.declared.talk.Said.{Said}
@@ -56,7 +56,7 @@ returns-in-Some-clause-shortens g c =
     (c.deref-shortening-items.ensures.value ∙ c.in_ok-all.ensures.those
     ∙ ap (λ (talk : List Said). shortenings_of c.args.plan.now.trials talk) c.conversation-talk.ensures)
     c.conversation-talk.ensures c.loop-shortening.invariant.tried c.loop-shortening.invariant.missed
-    (record { games = 0; more_than = 0; is_whole = false; is_played = false }) c.as_slice.result.now
+    (record { games = 0; more_than = 0; is_whole = false; is_played = false; kept = None }) c.as_slice.result.now
     (c.as_slice.ensures.value ∙ c.in_ok-commands.ensures) c.loop-shortening-test.true
     (rw c.in-Some.is at c.in_ok-ended.ensures.tries)
 
@@ -71,7 +71,7 @@ loop-shortening-preserved g c = record {
       (c.deref-shortening-items.ensures.value ∙ c.in_ok-all.ensures.those
       ∙ ap (λ (talk : List Said). shortenings_of c.args.plan.now.trials talk) c.conversation-talk.ensures)
       c.conversation-talk.ensures c.loop-shortening.invariant.tried c.loop-shortening.invariant.missed
-      (record { games = 0; more_than = 0; is_whole = false; is_played = false }) c.as_slice.result.now
+      (record { games = 0; more_than = 0; is_whole = false; is_played = false; kept = None }) c.as_slice.result.now
       (c.as_slice.ensures.value ∙ c.in_ok-commands.ensures) c.loop-shortening-test.true
       (rw c.in_default.is at c.in_ok-ended.ensures.tries);
   tried = omega (arith, c.loop-shortening.invariant.tried);

@@ -2,7 +2,7 @@ use Rattle.std.proofs.Common.{sym, ◌∙◌, subst}
 use Rattle.std.specs.Str.Parse.{AllDigits}
 use Rattle.go_base.proofs.general.Fronts.{digits_model}
 use Rattle.go_base.proofs.numbers.Komis.{front_digits_are}
-use Rattle.gtp_check_judge.proofs.scores.read_points.Goals as goal
+use Rattle.gtp_check_judge.proofs.scores.read_plain_points.Goals as goal
 
 pub score_of_digits-requires-clause-before : goal.score_of_digits-requires-clause-before
 score_of_digits-requires-clause-before c =

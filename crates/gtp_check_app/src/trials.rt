@@ -1,0 +1,126 @@
+//! What a shorter conversation is asked, where an answer may have run on into the next one.
+ghost use Rattle.std.specs.Prelude.{◌≡◌, ◌++◌, ◌∷◌, [], IfOk, OnOk};
+ghost use Rattle.gtp_check_talks.specs.Dialogues.{wrong_of};
+ghost use Rattle.gtp_check_app.specs.Trials.{asked_for, left_after, match_may_wait, may_wait, most_between, needs_names};
+ghost use Rattle.gtp_check_app.specs.Trials.{ran_on, spaced, with_names, with_names_before};
+
+use gtp_check_judge::CheckCommand;
+use gtp_check_talks::trial::Tried;
+use gtp_check_texts::runs_on;
+use gtp_wire::Command;
+use std::alloc::{AllocError, Global};
+
+/// So many commands are asked at most between two `name` and the next two: with these they are eight.
+const MOST_BETWEEN: usize = 6;
+
+/// What is asked where these commands are tried in place of the conversation that was found: they alone, but with `name`
+/// wherever answers may be waited for, where an answer may have run on.
+pub(crate) fn asked_for(
+    alloc: Global,
+    found: &Tried,
+    commands: &[CheckCommand],
+) -> Result<Vec<CheckCommand>, AllocError>
+    ensures { IfOk result (λ asked. asked.items ≡ asked_for (wrong_of found.now) commands.now) }
+{
+    if ran_on(found) {
+        return with_names(alloc, commands);
+    }
+    let mut asked = Vec::new(alloc);
+    asked.extend_from_slice(commands)?;
+    Ok(asked)
+}
+
+/// Whether an answer may have run on into the next one, where a conversation ended so.
+fn ran_on(found: &Tried) -> bool
+    ensures { result ≡ ran_on (wrong_of found.now) }
+{
+    let said = &found.said;
+    runs_on(
+        found.fault,
+        found.answered,
+        said.talk.len(),
+        said.wrote.as_slice(),
+    )
+}
+
+/// Commands with two `name` wherever answers may be waited for.
+fn with_names(alloc: Global, commands: &[CheckCommand]) -> Result<Vec<CheckCommand>, AllocError>
+    ensures { IfOk result (λ all. all.items ≡ with_names commands.now) }
+{
+    let mut all = Vec::new(alloc);
+    add_spaced(&mut all, commands)?;
+    all.extend_from_slice(&[CheckCommand::Name, CheckCommand::Name])?;
+    Ok(all)
+}
+
+/// These commands are added, with two `name` between them wherever answers may be waited for.
+fn add_spaced(all: &mut Vec<CheckCommand>, commands: &[CheckCommand]) -> Result<(), AllocError>
+    ensures { OnOk result (all.new.items ≡ all.old.items ++ spaced most_between commands.now) }
+{
+    let mut left = MOST_BETWEEN;
+    for command in commands {
+        add_with_names(all, command, left)?;
+        left = left_after(command, left);
+    }
+    Ok(())
+}
+
+/// A command is added, after two `name` where it needs them.
+fn add_with_names(
+    all: &mut Vec<CheckCommand>,
+    command: &CheckCommand,
+    left: usize,
+) -> Result<(), AllocError>
+    ensures { OnOk result (all.new.items ≡ all.old.items ++ with_names_before command.now left) }
+{
+    if needs_names(command, left) {
+        all.extend_from_slice(&[CheckCommand::Name, CheckCommand::Name])?;
+    }
+    add(all, *command)
+}
+
+/// A command is added.
+fn add(all: &mut Vec<CheckCommand>, command: CheckCommand) -> Result<(), AllocError>
+    ensures { OnOk result (all.new.items ≡ all.old.items ++ command ∷ []) }
+{
+    all.extend_from_slice(&[command])
+}
+
+/// Whether two `name` are asked before a command.
+fn needs_names(command: &CheckCommand, left: usize) -> bool
+    ensures { result ≡ needs_names command.now left }
+{
+    left < MOST_BETWEEN && (may_wait(command) || left == 0)
+}
+
+/// How many commands may be asked after this one before the next two `name`.
+fn left_after(command: &CheckCommand, left: usize) -> usize
+    ensures { result ≡ left_after command.now left }
+{
+    if needs_names(command, left) {
+        MOST_BETWEEN - 1
+    } else {
+        left.saturating_sub(1)
+    }
+}
+
+/// Whether a command may be one that is asked only where no answer is waited for.
+fn may_wait(command: &CheckCommand) -> bool
+    ensures { result ≡ may_wait command.now }
+{
+    match command {
+        CheckCommand::Match(command) => match_may_wait(command),
+        CheckCommand::FinalScore | CheckCommand::GenmoveInFull(_) => true,
+        _ => false,
+    }
+}
+
+/// The same of a command of a match.
+fn match_may_wait(command: &Command) -> bool
+    ensures { result ≡ match_may_wait command.now }
+{
+    matches!(
+        command,
+        Command::Boardsize(_) | Command::Genmove(_) | Command::Undo
+    )
+}
