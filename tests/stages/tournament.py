@@ -7,12 +7,14 @@ The stage finds all processes that a script started by a word in their environme
   moments. No process may be left, and the results have to be those of one that nobody stopped. Some engines can only be killed, also
   under a timeout of their own. A process of a game that is killed costs that game alone.
 - The disk is full: on a file system of 64 kB, where one may be mounted, and by ulimit -f 0 everywhere. The run ends, and says what to
-  do, and what was played has to be whole. A result that is cut at any byte is none, in each command.
+  do, and what was played has to be whole. A result that is cut at any byte is none, in each command, and so is one that can't be read.
 - What stands between twogtp and an engine is tried by itself: its bytes, its time, and how an engine ends. The notes of games that are
   played are compared with their records, and those of games that are stopped have who was waited for. Engines are late.
 - Openings are refused that can't be played, by rules that are compared with a plain reference. Games begin with openings, and engines
   crash, refuse and wait there.
-- Engines are tried that can't be started, or can't do something, and others that don't start in the middle of a run.
+- Engines are tried that can't be started, or can't do something, and others that don't start in the middle of a run. Those that try them
+  are killed, two of them at one moment. What an engine can't do is kept, and processes that wait for a trial take its outcome.
+- Engines send signals to their process group. A shell that becomes the run has children, which live on.
 - Folders go on that the scripts left which were written in bash, and a game of theirs may be played at the same time.
 - What a game costs beside twogtp, and what each command costs in a folder with 100,000 results, is little.
 - The tally is compared with results that were counted by hand, and the interval of pairs is worked out in another way.
@@ -24,7 +26,7 @@ The stage finds all processes that a script started by a word in their environme
   gtp_engine.
 - The same games are played by xargs, by the script for Slurm without Slurm, and by GNU Parallel on two machines, for which a
   script plays ssh. The results have to be the same. Machines leave that can't be reached, or have no engine. Each lock fails.
-- Each process that watches over a game is killed, and no engine may be left. Silent engines are tried as docs/tournaments.md says.
+- Each process that watches over a game is killed, and two of them at one moment, and no engine may be left. Silent engines are tried as docs/tournaments.md says.
 """
 import sys
 from pathlib import Path
@@ -34,32 +36,38 @@ sys.path[0] = str(Path(__file__).resolve().parents[2])
 
 from tests.shared import checks  # noqa: E402
 from tests.stages.of_tournament import rooms  # noqa: E402
-from tests.stages.of_tournament.stops import AllKilled, Full, Interrupted, Killed, Limited, OneKilled, Sessions, Silent  # noqa: E402, F401
-from tests.stages.of_tournament.stops import Stopped, Stubborn, Whole  # noqa: E402, F401
+from tests.stages.of_tournament.apart import AskedToEnd, Children, Groups, MayNot, Substituted  # noqa: E402, F401
+from tests.stages.of_tournament.stops import AllKilled, BothKilled, Full, Interrupted, Killed, Limited  # noqa: E402, F401
+from tests.stages.of_tournament.stops import OneKilled, Sessions, Silent, Stopped, Stubborn, Whole  # noqa: E402, F401
 from tests.stages.of_tournament.drawn import Drawn, Two, Unread  # noqa: E402, F401
-from tests.stages.of_tournament.plans import CutAtSpaces, Lost, NoResults, Plans  # noqa: E402, F401
+from tests.stages.of_tournament.plans import CutAtSpaces, Lost, NoNotes, NoResults, Plans, Vanished  # noqa: E402, F401
 from tests.stages.of_tournament.machines import Arrays, Elsewhere, Leaving, Locks  # noqa: E402, F401
 from tests.stages.of_tournament.asked import Forms, Helps, Python, Said, SaidByTally  # noqa: E402, F401
 from tests.stages.of_tournament.gauntlets import Gauntlets, Same, Warned  # noqa: E402, F401
-from tests.stages.of_tournament.exports import ByGnuGo, Exported, Opened, Page, Versions  # noqa: E402, F401
-from tests.stages.of_tournament.progressed import Lines, Times  # noqa: E402, F401
+from tests.stages.of_tournament.exports import ByGnuGo, Exported, Opened, Page, Records, Versions  # noqa: E402, F401
+from tests.stages.of_tournament.progressed import Abandoned, Lines, Times  # noqa: E402, F401
 from tests.stages.of_tournament.numbers import Errors, Mutants, PairsOfTwo, Tests, Values, Year  # noqa: E402, F401
 from tests.stages.of_tournament.damaged import Cut, Damages, Old  # noqa: E402, F401
-from tests.stages.of_tournament.costs import Many, OneGame  # noqa: E402, F401
+from tests.stages.of_tournament.damaged import Unread as UnreadResults  # noqa: E402, F401
+from tests.stages.of_tournament.costs import Dear, Many, OneGame  # noqa: E402, F401
 from tests.stages.of_tournament.counted import Intervals, Tallies, Wrong  # noqa: E402, F401
 from tests.stages.of_tournament.between import InTime, Late, Passing  # noqa: E402, F401
-from tests.stages.of_tournament.noted import Limits, Noted  # noqa: E402, F401
+from tests.stages.of_tournament.noted import LateOnes, Limits, Noted, Thought  # noqa: E402, F401
 from tests.stages.of_tournament.noted import Stopped as StoppedNotes  # noqa: E402, F401
 from tests.stages.of_tournament.openings import Folders, Refused, Rules, Taken  # noqa: E402, F401
 from tests.stages.of_tournament.opened import Answers, Crashes, Refusals, Talks  # noqa: E402, F401
 from tests.stages.of_tournament.opened import Times as OpenedTimes  # noqa: E402, F401
 from tests.stages.of_tournament.opened import Games as OpenedGames  # noqa: E402, F401
-from tests.stages.of_tournament.tries import InARow, NotStarted, Tried, Unable  # noqa: E402, F401
+from tests.stages.of_tournament.tries import Added, InARow, NotStarted, Tried, Unable  # noqa: E402, F401
+from tests.stages.of_tournament.trials import Kept, Noticed, Quits, TrialKilled  # noqa: E402, F401
 from tests.stages.of_tournament.beside import Died, Games, Sample, Taps  # noqa: E402, F401
 
 PARSER = checks.Parser(__doc__)
 PARSER.add_argument("--programs", metavar="FOLDER", default=rooms.Room.programs, type=Path, help="where both programs are; else bin/")
+PARSER.add_argument("--kills", metavar="N", default=Drawn.kills, type=checks.at_least_one,
+                    help=f"how many kills at drawn moments; else {Drawn.kills}")  # fmt: skip
 OPTIONS = PARSER.options(__name__)
+Drawn.kills = OPTIONS.kills
 rooms.Room.programs = OPTIONS.programs.resolve()
 
 

@@ -1,4 +1,4 @@
-"""The processes below this one: how an engine is started, and how all of them are ended. It imports little, since each start of an engine
+"""The processes below this one: how a program is started, and how all of them are ended. It imports little, since each start of an engine
 waits for it."""
 import os
 
@@ -47,25 +47,27 @@ def be_called(name):
     prctl(NAME, os.fsencode(name)[:15], 0, 0, 0)
 
 
-def start(words, folder, reads, writes, errors=2):
-    """Starts an engine in a folder, with these streams. It ends with this process. Returns its process, and why it can't be started, if it
-    can't."""
+def start(words, folder, streams, as_before=AS_BEFORE):
+    """Starts a program in a folder, with these three streams. It ends with this process, has no signal blocked, and a process group of its
+    own: what it sends that doesn't come here. Returns its process, and why it can't be started, if it can't."""
     own, (failed, fails) = os.getpid(), os.pipe()
     process = os.fork()
     if not process:
-        become(words, folder, (reads, writes, errors), own, fails)
+        become(words, folder, streams, as_before, (own, fails))
     os.close(fails)
     why = os.read(failed, 4096)  # nothing, once the engine is there
     os.close(failed)
     return process, os.fsdecode(why)
 
 
-def become(words, folder, streams, parent, fails):
-    """Becomes the engine, in a new process. What is in the way is written into the pipe."""
-    where, code = folder, NO_START
+def become(words, folder, streams, as_before, ties):
+    """Becomes the program, in a new process. The ties are its parent, and a pipe, into which is written what is in the way."""
+    where, code, (parent, fails) = folder, NO_START, ties
     try:
-        for number in AS_BEFORE:
+        for number in as_before:
             signal.signal(number, signal.SIG_DFL)
+        signal.pthread_sigmask(signal.SIG_SETMASK, ())
+        os.setpgid(0, 0)
         if end_with(parent, signal.SIGKILL):
             os._exit(NO_START)
         for number, stream in enumerate(streams):
@@ -94,11 +96,19 @@ def children_of(process):
 
 
 def end_all():
-    """Ends all children, and theirs, which this process adopts then."""
+    """Ends all children, and theirs, which this process adopts then. One that it may not end, as `sudo`, is left: it ends where nobody gives
+    it any input, once this process has ended."""
+    spared = set()
     try:
         while True:
-            for child in children_of(os.getpid()):
-                os.kill(child, signal.SIGKILL)
+            children = children_of(os.getpid())
+            for child in children:
+                try:
+                    os.kill(child, signal.SIGKILL)
+                except PermissionError:
+                    spared.add(child)
+            if spared and spared.issuperset(children):
+                return
             os.waitpid(-1, 0)
     except ChildProcessError:
         pass

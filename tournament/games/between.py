@@ -3,10 +3,12 @@
 The file of the game has parts with a zero byte between two: `notes FILE`, `folder FOLDER`, and of the colour
 `black WORD` for each word of the command. There may be `limit SECONDS`, which is of each answer but that of a genmove, `move-limit
 SECONDS`, which is of that, and `opening MOVE ..`: then the engine is told the moves with which the game begins by `play`, in place of
-`genmove`. The notes get the moves as they are played, and how the engine ended.
+`genmove`. The notes get the moves as they are played, and how the engine ended. `held FILE NUMBER` is a pipe that the game's process
+holds, and the number of its inode. twogtp gives an engine three streams alone, so the pipe is opened by its name.
 
 An engine that was late is ended with all that it started, and no other start of it in this game gets any time. The engine ends with this
-process; what it started then is ended by that of the game. This one goes on as long as somebody has the engine's output.
+process; what it started then is ended by that of the game. This one goes on as long as somebody has the engine's output, and the game's
+process lives: where that has ended, all that is below this one is ended at once.
 
 status: the engine's, or the signal that ended it; 124 where an answer was late; 125 where the notes can't be written, or the game is over;
         126 or 127 where the engine can't be started
@@ -20,7 +22,7 @@ from .below import signal
 from .talk import Talk
 
 ROOM = 65536  # bytes that are read at once
-LATE, NO_NOTES = 124, 125
+LATE, OVER = 124, 125
 PAUSE = 0.2  # seconds in which an engine may end whose output has ended
 GONE = 5  # seconds in which one may end that nobody writes to or reads any more
 SAME = 0.5  # seconds in which twogtp ends, where it was asked to as the engine was
@@ -42,7 +44,7 @@ class Game:
     """What the file of the game says of this colour's engine."""
 
     def __init__(self, text, colour):
-        parts = {"notes": [], "folder": [], "limit": [], "move-limit": [], "opening": [], colour: []}
+        parts = {"notes": [], "folder": [], "held": [], "limit": [], "move-limit": [], "opening": [], colour: []}
         for part in os.fsdecode(text).split("\0"):
             key, _, value = part.partition(" ")
             parts.get(key, []).append(value)
@@ -50,7 +52,16 @@ class Game:
         self.limits = [float(parts[it][0]) if parts[it] else None for it in ("limit", "move-limit")]
         self.opening = [it.upper().encode() for line in parts["opening"] for it in line.split()]
         self.notes = os.open(self.place, os.O_RDWR | os.O_APPEND | os.O_CLOEXEC)
+        self.held = [end for it in parts["held"] for end in opened(*it.split(" "))]
         self.colour = colour
+
+    def heed(self, seconds, reads=(), writes=()):
+        """Waits until one of these can be read or written, so many seconds at most, and returns those that can be read. Where the game's
+        process has ended, so does this one."""
+        readable, _, _ = select.select([*reads, *self.held], writes, [], seconds)
+        if any(it in readable for it in self.held):
+            raise Ended(OVER)
+        return readable
 
     def was_late(self):
         """Was an engine of this colour late in the game?"""
@@ -71,7 +82,19 @@ class Game:
         except OSError:
             pass
         say(self.colour, f"{self.place} can't be written: {why}")
-        raise Ended(NO_NOTES)
+        raise Ended(OVER)
+
+
+def opened(place, inode):
+    """The pipe that the game's process holds; none where this system lets nobody open it. FileNotFoundError where that process has ended,
+    also if its number is another one's by now."""
+    try:
+        held = os.open(place, os.O_RDONLY | os.O_NONBLOCK | os.O_CLOEXEC)
+    except PermissionError:
+        return []
+    if os.fstat(held).st_ino != int(inode):
+        raise FileNotFoundError
+    return [held]
 
 
 class Engine:
@@ -79,7 +102,7 @@ class Engine:
 
     def __init__(self, game):
         (from_caller, self.given), (self.taken, from_engine) = os.pipe(), os.pipe()
-        self.number, self.failure = below.start(game.words, game.folder, from_caller, from_engine)
+        self.number, self.failure = below.start(game.words, game.folder, (from_caller, from_engine, 2))
         os.close(from_caller)
         os.close(from_engine)
         os.set_blocking(self.given, False)
@@ -99,8 +122,8 @@ class Engine:
 class Relay:
     """The bytes that are passed both ways."""
 
-    def __init__(self, talk, engine):
-        self.talk, self.engine = talk, engine
+    def __init__(self, game, talk, engine):
+        self.game, self.talk, self.engine = game, talk, engine
         self.to_engine = self.to_caller = b""
         self.reads = {0, engine.taken}
         self.left = None  # since when twogtp is gone
@@ -117,7 +140,7 @@ class Relay:
                 pause = PAUSE if pause is None else min(PAUSE, pause)
                 self.end_if_left()
             writes = [end for end, text in ((self.engine.given, self.to_engine), (1, self.to_caller)) if text]
-            readable, _, _ = select.select(self.reads if len(self.to_caller) < ROOM else self.reads - {taken}, writes, [], pause)
+            readable = self.game.heed(pause, self.reads if len(self.to_caller) < ROOM else self.reads - {taken}, writes)
             if 0 in readable:
                 self.hear_caller()
             if taken in readable:
@@ -203,16 +226,18 @@ def end_as(status):
 
 def play(game, colour):
     """Starts the engine of a game and passes the bytes, until it has ended. Ends with its status."""
+    talk = Talk(colour, game.limits, game.opening, game.note)
     if game.was_late():
+        talk.tell("stays ended")
+        say(colour, "it was late, and isn't started again")
         raise Ended(LATE)
     below.adopt()
-    talk = Talk(colour, game.limits, game.opening, game.note)
     engine = Engine(game)
     if engine.failure:
         talk.tell(f"not started: {engine.failure}")
         say(colour, f"not started: {engine.failure}")
         end_as(engine.ended())
-    relay = Relay(talk, engine)
+    relay = Relay(game, talk, engine)
     if relay.run():
         if 0 in relay.reads:
             talk.cut("late")
@@ -226,7 +251,9 @@ def play(game, colour):
         talk.cut("ended", how(status))
     if status is None:
         os.close(1)
-        status = engine.ended()
+        while status is None:
+            game.heed(PAUSE)
+            status = engine.ended(0)
     end_as(status)
 
 
@@ -238,12 +265,12 @@ def main(text, colour):
         game = Game(text, colour)
     except FileNotFoundError:
         say(colour, "the game is over")
-        return NO_NOTES
+        return OVER
     try:
         below.be_called(f"between {colour}")
         play(game, colour)
     except Ended as end:
-        if end.args[0] == NO_NOTES:
+        if end.args[0] == OVER:
             below.end_all()
         return end.args[0]
     return 0

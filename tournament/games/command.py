@@ -9,7 +9,7 @@ from .help import HELP
 from .output import Mistake
 from .plan import Plan, number, seconds, share, time_left
 from .program import find_twogtp, try_options
-from .words import Words, processors
+from .words import OF_PLAY, Words, processors
 
 
 def asked_plan(words):
@@ -29,8 +29,8 @@ def asked_plan(words):
     return plan, bool(plan.engines) or words.after is not None
 
 
-def make_plan(words):
-    """The plan of the folder, which is made or looked at, and the program twogtp."""
+def plan_of(words):
+    """The plan that the folder is to have, the program twogtp, and what is to be said of games that are the same."""
     asked, is_given = asked_plan(words)
     openings = words.last("--openings", read_openings) or []
     asked.openings = [it.text() for it in openings]
@@ -42,10 +42,14 @@ def make_plan(words):
     try_options(twogtp, plan.options)
     if openings and plan is asked:
         look_at_openings(openings, plan.options)
+    return plan, twogtp, "" if plan.same_games() == before else plan.same_games()
+
+
+def write(plan, folder, said):
+    """Writes the plan into its folder, and says what is to be said of it."""
     write_plan(plan, folder)
-    if plan.same_games() not in ("", before):
-        output.complain(plan.same_games())
-    return plan, twogtp
+    if said:
+        output.complain(said)
 
 
 def read_openings(_, place):
@@ -64,16 +68,30 @@ def look_at_openings(openings, options):
 
 def do_play(words):
     """tournament play"""
-    from .play import play_all
+    from .play import Play
+    from .run import Run
 
-    plan, twogtp = make_plan(words)
+    (folder,), (plan, twogtp, said) = words.places, plan_of(words)
     task, left = words.last("--task", share), words.last("--time-left", time_left)
-    return play_all(plan, words.places[0], twogtp, words.last("--jobs", number) or processors(), words.has("--again"), task, left)
+    play = Play(Run(plan, folder, twogtp), plan, words.last("--jobs", number) or processors(), task, left)
+    if plan.had:
+        output.complain(plan.had)
+    status = play.try_added()
+    if status is not None:
+        return status
+    write(plan, folder, said)
+    return play.all(words.has("--again"))
 
 
 def do_plan(words):
     """tournament plan"""
-    make_plan(words)
+    plan, _, said = plan_of(words)
+    if plan.had:
+        raise Mistake(plan.had.replace("all of it is played", "a plan may get more, but not less"))
+    write(plan, words.places[0], said)
+    unkept = [it for it in OF_PLAY if words.has(it)]
+    if unkept:
+        output.complain(f"a plan doesn't keep {' and '.join(unkept)}: give {'them' if unkept[1:] else 'it'} to tournament play")
     return 0
 
 
@@ -134,6 +152,7 @@ def show(number, text, status):
 def run(name, main_of, words):
     """Runs the main function of a command, and returns its status. A mistake and an error are reported."""
     output.hold_streams()
+    output.program[0] = name
     signal.signal(signal.SIGCHLD, signal.SIG_DFL)  # whoever started it may ignore the ends of processes
     try:
         return main_of(words)
@@ -141,10 +160,10 @@ def run(name, main_of, words):
         for printed in mistake.args[1:]:
             with contextlib.suppress(OSError):
                 output.write(2, printed)
-        output.complain(mistake.args[0], name)
+        output.complain(mistake.args[0])
         return 2
     except BrokenPipeError:
         return 128 + signal.SIGPIPE
     except OSError as problem:
-        output.complain(output.in_words(problem), name)
+        output.complain(output.in_words(problem))
         return 1

@@ -1,7 +1,7 @@
 """How games ended, for the tally and for exports: who won, and who is to blame where nobody did."""
 from typing import NamedTuple, Optional
 
-from . import notes, results
+from . import notes
 from .output import Mistake
 
 FORFEITS = [f"forfeit ({it})" for it in ("illegal move", "no vertex", "no move", "refused play")]
@@ -35,18 +35,21 @@ class Ends:
         self.games, self.folder, self.losing, self.is_direct = plan.games(), folder, losing, plan.is_direct
         self.known = {}  # of a verdict, how the game ended
         self.unknown = 0  # games in which a side was abandoned, of which it isn't known whether it was late
+        self.restarts = (0, 0)  # of both sides in the last game, without those that started no engine
 
     def of(self, game, parts):
         """How the game of this number ended, by the parts of its result."""
         end = self.known.get(parts[1]) or self.known.setdefault(parts[1], end_of(parts[1]))
+        self.restarts = (0, 0) if parts[3] == parts[4] == b"0" else (int(parts[3]), int(parts[4]))
         return self.abandoned(game, parts, end) if end.way == "abandoned" else end
 
     def abandoned(self, game, parts, end):
         """How a game ended in which a side was abandoned, by its notes if they are of this result."""
-        found = None if self.is_direct else notes.read(f"{self.folder}/notes/{self.games.name(game)}")
-        is_known = found is not None and found.result == results.line_of(parts)
-        self.unknown += not is_known
-        way = "late" if is_known and found.late[end.blamed] else "abandoned"
+        found = None if self.is_direct else notes.late_in(self.folder, self.games.name(game), parts[0][8:-1])
+        self.unknown += found is None
+        if found:
+            self.restarts = tuple(count - ignored for count, ignored in zip(self.restarts, found.ignored))
+        way = "late" if found and found.late[end.blamed] else "abandoned"
         return End(1 - end.blamed if way in self.losing else None, end.blamed, way)
 
 

@@ -1,4 +1,5 @@
 """The command `tournament export`: the results for programs of others, such as those that rate players."""
+import contextlib
 import csv
 import io
 import json
@@ -53,14 +54,11 @@ class Exports:
 
     def noted(self, name, parts):
         """The machine on which a game was played, and how long both sides thought, by the notes if they are of this result."""
-        try:
-            with open(f"{self.folder}/notes/{name}", encoding="latin-1") as file:
-                text = file.read()
-        except FileNotFoundError:
+        data = notes.bytes_for(self.folder, name, parts[0][8:-1])
+        if data is None:
             return None, (None, None)
+        text = data.decode("latin-1")
         found = notes.Notes(text)
-        if found.result != results.line_of(parts):
-            return None, (None, None)
         return text.partition("\n")[0].partition(" on ")[2], tuple(round(it, 3) for it in found.thought)
 
     def versions_on(self, host):
@@ -111,12 +109,21 @@ def quoted(value):
 
 
 def write_records(games, plan, folder):
-    """Writes a file for each game into a folder."""
-    os.makedirs(folder, exist_ok=True)
-    board = sgf.Board(plan.options)
-    for row, end, moves in games:
-        with open(f"{folder}/{row['game']}.sgf", "w", encoding="utf-8") as file:
-            file.write(board.record(row, end, moves))
+    """Writes a file for each game into a folder, which is new or empty. Where one can't be written, none is left."""
+    is_there, board, places = os.path.isdir(folder), sgf.Board(plan.options), []
+    if is_there and os.listdir(folder):
+        raise Mistake(f"{folder} isn't empty: name a new folder for --sgf")
+    try:
+        os.makedirs(folder, exist_ok=True)
+        for row, end, moves in games:
+            places.append(f"{folder}/{row['game']}.sgf")
+            with open(places[-1], "x", encoding="utf-8") as file:
+                file.write(board.record(row, end, moves))
+    except OSError as problem:
+        for remove, place in [*((os.unlink, it) for it in places), *([] if is_there else [(os.rmdir, folder)])]:
+            with contextlib.suppress(OSError):
+                remove(place)
+        raise OSError(problem.errno, f"no file of --sgf is left: {problem.strerror}", folder) from None
 
 
 def export(words):

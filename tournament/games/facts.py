@@ -16,7 +16,7 @@ def text_of(counts, test=None):
         "winners": counts.with_winner(),
         "black_won": counts.won_by(0),
         "white_won": counts.won_by(1),
-        "ended": {way: counts.ended(way) for way in sorted({end.way for ends in counts.ends for end in ends})},
+        "ended": {way: counts.ended(way) for way in sorted({end.way for end in counts.all_ends})},
         "engines": [of_engine(sums, it) for it in sums.order],
         "pairs": [of_two(sums, *it) for it in sums.two()],
         "same": [[name(game) for game in group] for group in same],
@@ -43,9 +43,8 @@ def of_two(sums, one, other):
 
 
 def of_row(row):
-    """How some games ended."""
-    nobody = row.all - row.decided - row.drawn
-    return {"games": row.all, "won": row.won, "lost": row.decided - row.won, "drawn": row.drawn, "nobody": nobody}
+    """How some games ended: won, lost, or without a winner, as drawn ones did."""
+    return {"games": row.all, "won": row.won, "lost": row.decided - row.won, "no_winner": row.all - row.decided, "drawn": row.drawn}
 
 
 def of_pairs(found):
@@ -70,4 +69,5 @@ def of_test(test):
     """What a sequential test says."""
     said = {None: "go on", 0: "elo0", 1: "elo1"}[test.decision]
     elo0, elo1 = test.differences
-    return {"elo0": elo0, "elo1": elo1, "accepted": said, "pairs": test.counts, "ratio": test.ratio, "bound": scores.BOUND}
+    return {"engines": test.engines, "elo0": elo0, "elo1": elo1, "accepted": said, "pairs": test.counts,
+            "ratio": test.ratio, "exact": test.exact, "bound": scores.BOUND}

@@ -21,6 +21,26 @@ def adopt():
         raise OSError(0, "/proc of this system doesn't list the children of a process")
 
 
+def stand_apart(ending):
+    """Where this process has children by now, it never started them: a shell did, before it became this one by `exec`. Then a fork goes on
+    in its place, so that they, and all that they start, are none of those below. This process passes on these signals, and ends as it."""
+    if not children_of(os.getpid()):
+        return
+    signal.pthread_sigmask(signal.SIG_BLOCK, [signal.SIGCHLD, *ending])
+    own, process = os.getpid(), os.fork()
+    if not process:
+        if below.end_with(own, signal.SIGTERM):
+            os._exit(128 + signal.SIGTERM)
+        return
+    ended = 0
+    while not ended:
+        came = signal.sigwait([signal.SIGCHLD, *ending])
+        if came != signal.SIGCHLD:
+            send(came, [process])
+        ended, status = os.waitpid(process, os.WNOHANG)
+    os._exit(below.code(status))
+
+
 def send(number, processes):
     """Sends these processes a signal; one may have ended."""
     for process in processes:

@@ -13,12 +13,13 @@ def read_plan(folder):
     place = f"{folder}/plan"
     try:
         with open(place, "rb") as file:
-            lines = os.fsdecode(file.read()).split("\n")
+            text = file.read()
     except FileNotFoundError:
         raise Mistake(f"there is no {place}: tournament plan makes it") from None
     except OSError as problem:
         raise Mistake(f"{place} can't be read: {problem.strerror}") from None
-    plan = Plan()
+    plan, lines = Plan(), os.fsdecode(text).split("\n")
+    plan.before = text
     for line in lines if lines[-1] else lines[:-1]:
         plan.add_line(line, place)
     if len(plan.engines) < 2 or not plan.seeds or not plan.limit:
@@ -31,30 +32,63 @@ def read_plan(folder):
 
 def plan_for(asked, is_given, folder):
     """The plan of a folder, with what is asked for: other seeds or other limits. Engines and options, where they are given, have to be
-    the same. A folder without a plan gets what is asked for."""
+    the same, or a part of the engines. A folder without a plan gets what is asked for."""
     if os.path.exists(f"{folder}/plan"):
         plan = read_plan(folder)
         asked.folder = plan.folder
         look_at_limits(plan, asked, folder)
         look_at_pairing(plan, asked, folder)
+        had = whole(plan, asked, is_given)
         if is_given and not asked.goes_on(plan):
-            old, new = "\n".join(plan.players()), "\n".join(asked.players())
-            raise Mistake(f"{folder} was begun with other engines or options. It has\n{old}\nand not\n{new}\nTake another folder.")
+            text = f"{difference(plan, asked)}\n{advice(plan, asked, folder)}"
+            raise Mistake(f"{folder} was begun with other engines or options. It has\n{text}")
         if is_given and plan.openings and not asked.openings:
             raise Mistake(f"{folder} was begun with openings: write --openings with the same ones, or leave out engines and options, too")
-        if asked.seeds and asked.seeds < plan.seeds:
-            raise Mistake(f"{folder} was begun with {plan.seeds} seeds: there may be more, but not fewer")
+        plan.had = had and f"{folder} has more than the command: {', '.join(had)}; all of it is played"
+        plan.added = [it for it in asked.engines if it not in plan.engines]
         plan.engines, plan.made = asked.engines if is_given else plan.engines, None
     elif len(asked.engines) < 2:
         raise Mistake(TWO_ENGINES if asked.engines else f"there is no {folder}/plan, so {TWO_ENGINES}")
     else:
         plan = asked
-        plan.folder, plan.is_new = os.getcwd(), True
+        plan.folder, plan.is_new, plan.added = os.getcwd(), True, list(plan.engines)
         plan.start_limit = plan.start_limit or (None if plan.is_direct else START_LIMIT)
     plan.seeds, plan.limit = asked.seeds or plan.seeds or SEEDS, asked.limit or plan.limit or LIMIT
     plan.start_limit = asked.start_limit or plan.start_limit
     plan.look_at()
     return plan
+
+
+def whole(plan, asked, is_given):
+    """What the plan has more of than is asked for, which is asked for with it: engines, and seeds."""
+    more = []
+    if is_given and asked.is_part_of(plan):
+        more = [name for name in plan.engines if name not in asked.engines]
+        asked.engines = dict(plan.engines)
+    if asked.seeds and asked.seeds < plan.seeds:
+        more.append(f"{plan.seeds} seeds")
+        asked.seeds = plan.seeds
+    return more
+
+
+def advice(plan, asked, folder):
+    """What to write where a folder has other engines or options."""
+    new = [name for name in asked.engines if name not in plan.engines]
+    old = all(plan.engines[name] == command for name, command in asked.engines.items() if name in plan.engines)
+    if new and old and (not asked.options or asked.options == plan.options):
+        return "To add an engine, repeat the whole command with the new one behind the others. Else take another folder."
+    return f"Take another folder, or write tournament play {folder} alone, which goes on with what it has."
+
+
+def difference(plan, asked):
+    """The lines that differ of a plan and of what is asked for."""
+    import difflib  # which isn't needed elsewhere
+
+    old, new = plan.shown(), asked.shown()
+    blocks = [it for it in difflib.SequenceMatcher(None, old, new, False).get_opcodes() if it[0] != "equal"]
+    had = [line for _, begin, end, _, _ in blocks for line in old[begin:end]]
+    wanted = [line for _, _, _, begin, end in blocks for line in new[begin:end]]
+    return "\n".join([*(had or ["nothing"]), "where the command has", *(wanted or ["nothing"])])
 
 
 def look_at_limits(plan, asked, folder):
@@ -93,8 +127,11 @@ def write_plan(plan, folder):
     text = os.fsencode(plan.text())
     if os.path.exists(place):
         with open(place, "rb") as file:
-            if file.read() == text:
-                return
+            found = file.read()
+        if found == text:
+            return
+        if plan.before not in (None, found):  # the trial of an engine takes its time
+            raise Mistake(f"{place} was changed by another run at the same time: give the command again")
     try:
         with open(aside, "wb") as file:
             file.write(text)

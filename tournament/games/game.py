@@ -1,7 +1,7 @@
 """One game, in a process of its own: it starts twogtp, waits for its end, ends all that is left of it, and leaves the result.
 
 The process is a fork of the run, which costs less than a start. It has a session of its own, adopts what the engines start, and gets TERM
-where the run ends. Where it is killed itself, the run ends what it leaves.
+where the run ends. Where it is killed itself, twogtp is killed with it, each `between` ends its engine, and the run ends what is left.
 """
 import contextlib
 import os
@@ -19,6 +19,7 @@ GRACE = 2  # seconds that engines have to end by themselves after their game, an
 SAME = 0.2  # seconds within which TERM reaches this process, where all processes get it
 STOPPING = 1  # seconds in which all gets TERM at a stop, before it is killed
 ENDING = (signal.SIGTERM, signal.SIGINT, signal.SIGHUP)
+NO_OLD, NO_NEW = "no result", "no new result, and the old one stays"
 
 
 class Game:
@@ -40,12 +41,13 @@ class Game:
             return TAKEN
         except OSError as problem:
             return self.no_result(output.in_words(problem), NO_ROOM)
-        words = self.match.words(self.name)
+        words, folder = self.match.words(self.name), self.match.folder if self.match.is_direct else program.HERE
         try:
-            os.chdir(self.match.folder if self.match.is_direct else program.HERE)
-            twogtp = program.start(words, self.result, self.log, self.noted and self.noted.environment)
+            twogtp, failure = program.start(words, folder, self.result, self.log)
         except OSError as problem:
-            return self.no_result(f"{words[0]} can't be started: {output.in_words(problem)}")
+            failure = output.in_words(problem)
+        if failure:
+            return self.no_result(f"twogtp can't be started: {failure}")
         self.family.awaited.add(twogtp)
         self.wait_for(twogtp)
         return self.leave(self.family.ended.get(twogtp, -signal.SIGKILL))
@@ -85,7 +87,9 @@ class Game:
             is_full = status in (0, 1, 2, 3) and output.why_no_room(self.places.at)
             return self.no_result(self.why(status, found), NO_ROOM if is_full else NONE, found)
         if self.noted and not found:
-            return self.no_result(f"{self.places.notes} can't be written", NO_ROOM)
+            if output.why_no_room(self.places.at):
+                return self.no_result(f"{self.noted.place} can't be written", NO_ROOM)
+            return self.no_result(f"{self.noted.place} is gone: somebody removed it, or there was no room for it")
         side = results.side_abandoned(parts)
         if side is not None and (found is None or not found.started[side]):
             why = found.why(side) if found else why_not_started(self.places.new_log, side)
@@ -103,8 +107,7 @@ class Game:
             os.fsync(self.result)
             if not is_file(self.result, self.places.new_result):
                 return TAKEN
-            self.places.keep_log()
-            os.rename(self.places.new_result, self.places.result)
+            self.places.put()
         except OSError as problem:
             return self.no_result(f"its result was not written: {problem.strerror}", NO_ROOM)
         self.places.remove()
@@ -132,19 +135,22 @@ class Game:
         if found:
             with contextlib.suppress(OSError):
                 self.noted.close(found, f"no result: {'stopped' if self.is_stopped else why}")
-        if not self.is_stopped:
-            report(self.name, self.places, why)
+        if self.is_stopped:
+            return STOPPED  # the run may have to add to its log
+        report(self.name, self.places, why)
         self.places.remove()
-        return STOPPED if self.is_stopped else outcome
+        return outcome
 
 
 def report(name, places, why):
-    """Reports why a game has no result, on standard error and in its log."""
+    """Reports why a game has no result, or no new one, on standard error and in its log."""
+    said = f"{NO_NEW if places.has_old else NO_OLD}: {why}"
     try:
-        places.add_to_log(why)
-    except OSError:
-        why += "; its log is not written"
-    output.complain(f"{name}: no result: {why}")
+        places.add_to_log(said if places.has_old else why)
+    except OSError as problem:
+        cause = "" if problem.strerror in why else f"{problem.strerror}: "
+        said = f"{NO_NEW if places.has_old else NO_OLD}: {cause}{why}; so its log isn't written either"
+    output.complain(f"{name}: {said}")
 
 
 def play_here(name, places, match, parent):
@@ -157,6 +163,6 @@ def play_here(name, places, match, parent):
         family.adopt()
         outcome = STOPPED if below.end_with(parent, signal.SIGTERM) else Game(name, places, match).play()
     except BaseException as problem:  # this process may not go on as the run
-        output.complain(f"{name}: no result: {type(problem).__name__}: {problem}")
+        output.complain(f"{name}: {NO_NEW if places.has_old else NO_OLD}: {type(problem).__name__}: {problem}")
     finally:
         os._exit(outcome)

@@ -31,7 +31,8 @@ PLAN = """\
 """
 PLAY = """\
   --jobs N           how many games at once [as many as processors]
-  --again            games with an unfit or abandoned side are played again
+  --again            games with an unfit or abandoned side are played again, and
+                     their engines tried
   --task K/T         plays the games K, K+T, K+2T .. of all
   --time-left TIME   begins no game that this time doesn't hold, as Slurm writes
                      it: 1-00:30:00, 30:00, or 90 for seconds
@@ -46,11 +47,13 @@ error, if anything did. TWOGTP names the program where it is neither beside
 these scripts nor in PATH.
 """
 STATUS = """\
-status: 0  each game has a result, and no side was unfit or abandoned
-        1  some game has none, or a side was so
+status: 0  each game has a result, or with --task another process plays it,
+           and no side was unfit or abandoned
+        1  some game has none, a side was so, or nothing can be written
         2  a mistake in the arguments; nothing was played
         69  an engine can't be started on this machine
         130, 143  stopped by Ctrl-C; by TERM or HUP
+        141  nobody reads what it prints
 """
 LOSSES = """\
   --abandoned loses  a side that was abandoned loses
@@ -69,8 +72,9 @@ usage: tournament play FOLDER --engine NAME=CMD --engine NAME=CMD ..
 Plays all games of FOLDER that have no result; a damaged one is none. The
 same command goes on where it was stopped. What isn't given is taken from
 FOLDER/plan, which has to have the same engines and options; there may be more
-engines behind the others. A line on standard error says each minute how far
-it is, and in a terminal each ten seconds.
+engines behind the others, and where it has more, all are played. A plan gets
+new engines only where each can be started on this machine. A line on standard
+error says each minute how far it is, and in a terminal each ten seconds.
 """, PLAN + PLAY + OPTION, FILES, STATUS]),
     "plan": "\n".join(["""\
 usage: tournament plan FOLDER --engine NAME=CMD --engine NAME=CMD ..
@@ -79,9 +83,9 @@ usage: tournament plan FOLDER --engine NAME=CMD --engine NAME=CMD ..
            [--start-limit SECONDS] [--openings FILE] [--direct]
            [-- OPTION ..]
 
-Makes FOLDER and FOLDER/plan, and plays nothing. It takes the words of
-tournament play. Where there is a plan it may have more seeds, more engines
-behind the others, or another limit.
+Makes FOLDER and FOLDER/plan, plays nothing, and tries no engine. It takes the
+words of tournament play. Where there is a plan it may have more seeds, more
+engines behind the others, or another limit.
 """, PLAN + OPTION, """\
 status: 0  FOLDER/plan is what was asked for
         1  it can't be written
@@ -95,7 +99,10 @@ order. A damaged result is none.
 
   --all  all games of FOLDER/plan
 
-status: 0, or 2 for a mistake in the arguments
+status: 0  the games are printed
+        1  a folder can't be read, or nothing can be written
+        2  a mistake in the arguments
+        141  nobody reads what it prints
 """,
     "game": "\n".join(["""\
 usage: tournament game FOLDER GAME
@@ -112,13 +119,19 @@ Writes the results of FOLDER in the plan's order, for other programs.
   --pgn              a game of PGN each, without moves, for rating programs
   --csv              a table with a header
   --jsonl            a line of JSON each
-  --sgf RECORDS      a file of SGF each, RECORDS/GAME.sgf
+  --sgf RECORDS      a file of SGF each, RECORDS/GAME.sgf, in a new folder
 """ + LOSSES + """
-status: 0, or 2 for a mistake in the arguments
+The versions are what an engine said in its last trial on the game's machine:
+not in the game, if the engine was replaced or tried again since.
+
+status: 0  the games that have a result are written
+        1  they can't be read or written, and no file of --sgf is left
+        2  a mistake in the arguments, or RECORDS isn't empty
+        141  nobody reads what it prints
 """,
     "tally": """\
 usage: tally FOLDER [--abandoned loses] [--late loses] [--no-winner half|out]
-           [--sprt ELO0 ELO1] [--json]
+           [--sprt ELO0 ELO1 [--between NAME NAME]] [--json]
 
 Counts the results of a folder that tournament made.
 
@@ -126,13 +139,18 @@ Counts the results of a folder that tournament made.
   --no-winner half   in pairs a game that nobody won is half a point
   --no-winner out    pairs with such a game aren't counted, but for drawn ones
   --sprt ELO0 ELO1   says which of two differences in Elo is accepted, of the
-                     first engine of two to the second
+                     plan's first engine to its second: from -800 to 800, the
+                     lower one first
+  --between NAME NAME
+                     of --sprt: the test is of these two engines, of the first
+                     one here to the second; so with more than two engines
   --json             for other programs
 
 status: 0  each game of its plan has a result; of --sprt: ELO1 is accepted
-        1  some game has none, or a file that is no result
+        1  some game has none, or a damaged file
         2  a mistake in the arguments
         3  of --sprt: ELO0 is accepted
         4  of --sprt: more pairs are wanted
+        141  nobody reads what it prints
 """,
 }

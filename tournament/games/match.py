@@ -5,7 +5,6 @@ import re
 import sys
 
 from . import notes, output, program
-from .places import new_file
 
 NAMES = ("black", "white")  # of both sides
 MODULES = ("below", "talk", "between")  # what `between` needs, in the order in which one needs another
@@ -41,10 +40,10 @@ class Match:
             black, white = (f"{self.between} {it}" for it in NAMES)
         return [self.twogtp, "--why", "--record", *self.plan.options, "--black", black, "--white", white]
 
-    def file(self, game, place):
-        """What the file of a game has, whose notes are in this place."""
+    def file(self, game, place, held):
+        """What the file of a game has, whose notes are in this place, and whose process holds this pipe."""
         seed, *engines = game.split("_")
-        parts = [f"notes {place}", f"folder {self.folder}"]
+        parts = [f"notes {place}", f"folder {self.folder}", f"held /proc/{os.getpid()}/fd/{held} {os.fstat(held).st_ino}"]
         parts += [f"limit {it}" for it in [self.plan.start_limit] if it] + [f"move-limit {it}" for it in [self.plan.move_limit] if it]
         parts += [f"opening {it}" for it in [self.plan.opening(int(seed))] if it]
         for colour, engine in zip(NAMES, engines):
@@ -67,12 +66,13 @@ class Noted:
     so what an earlier one left can't write into the notes."""
 
     def __init__(self, name, places, match):
-        self.place, game = places.notes, f"{places.at}/game.{os.getpid()}"
-        self.notes = new_file(places.notes)
+        game = f"{places.at}/game.{os.getpid()}"
+        self.notes, self.place = places.new_notes()
         output.write(self.notes, f"{name} on {os.uname().nodename}\n")
+        held, self.holds = os.pipe()  # whose end is that of this process, of which alone it is held
         with open(game, "wb") as file:
-            file.write(match.file(name, places.notes))
-        self.environment = {**os.environ, "TOURNAMENT_GAME": game}
+            file.write(match.file(name, self.place, held))
+        os.environ["TOURNAMENT_GAME"] = game
 
     def read(self):
         """What the notes say; None where `between` removed them, since they couldn't be written."""

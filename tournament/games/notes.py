@@ -9,11 +9,16 @@ FOLDER/notes/GAME has a line for the game, and then one for each note, which beg
     2 white failed 0.004                the genmove failed, or its answer is `no-vertex`
     3 black thinks                      the genmove isn't answered yet
     3 black late 5.001: 12 genmove b    no answer came in time; or `ended`, or `waited` where it was twogtp that ended
+    0 black stays ended                 twogtp started it again, but it was late before
     0 black not started: engine: No such file or directory
     3 black refuses the opening         a move of the opening, its own or the other side's
 
 At the end come the times that both thought, and the result.
 """
+import contextlib
+
+from . import results
+
 COLOURS = ("black", "white")
 CUT = ("late", "ended", "waited", "not")
 NOTHING = "nothing was asked"
@@ -25,6 +30,7 @@ class Notes:
     def __init__(self, text):
         self.started = [False, False]  # was any command answered?
         self.late = [False, False]
+        self.ignored = [0, 0]  # restarts that were none, since the engine was late before
         self.thought = [0.0, 0.0]  # seconds
         self.end = ["", ""]  # how the last start ended that did before its time
         self.waited = None  # the side that was waited for at the end, and the text of that
@@ -45,6 +51,7 @@ class Notes:
             self.thought[side] += seconds_of(words[3])
         self.started[side] = self.started[side] or what == "started"
         self.late[side] = self.late[side] or what == "late"
+        self.ignored[side] += what == "stays"
         self.waited = (side, rest) if what in ("waited", "thinks") else None
 
     def times(self):
@@ -77,10 +84,48 @@ def seconds_of(word):
         return 0.0
 
 
+class Late:
+    """The same of a game in which a side was abandoned, by the bytes of its notes: of both sides, whether it was late, and how many
+    restarts were none. A tally may want it of very many games."""
+
+    def __init__(self, text):
+        late, self.ignored = (counts_of(text, what) for what in (b" late ", b" stays "))
+        self.late = [count > 0 for count in late]
+
+
+def counts_of(text, what):
+    """How many notes of each side say this."""
+    found, at = [0, 0], text.find(what)
+    while at >= 0:
+        number, _, colour = text[text.rfind(b"\n", 0, at) + 1:at].decode("latin-1").partition(" ")
+        if number.isdigit() and colour in COLOURS:
+            found[COLOURS.index(colour)] += 1
+        at = text.find(what, at + 1)
+    return found
+
+
+def bytes_for(folder, name, line):
+    """The notes of a game, where they are of a result with this line; else None. For a moment, or where its process was killed in it, those of
+    a game that was played again still lie beside its lock."""
+    place, end = f"{folder}/notes/{name}", b"\nresult: %b\n" % line
+    for each in (place, f"{folder}/running/{name}/notes", place):
+        with contextlib.suppress(OSError):
+            text = results.bytes_of(each)
+            if text.endswith(end):
+                return text
+    return None
+
+
+def late_in(folder, name, line):
+    """Who was late in a game; None where its notes aren't of a result with this line."""
+    text = bytes_for(folder, name, line)
+    return None if text is None else Late(text)
+
+
 def read(place):
-    """The notes of a game, or None where there are none."""
+    """The notes of a game, or None where there are none, or they can't be read."""
     try:
         with open(place, encoding="latin-1") as file:
             return Notes(file.read())
-    except FileNotFoundError:
+    except OSError:
         return None

@@ -3,7 +3,9 @@ import contextlib
 import errno
 import os
 
+program = ["tournament"]  # its name, in what it says of itself
 NO_ROOM = (errno.ENOSPC, errno.EDQUOT, errno.EFBIG)  # the errors of a disk that is full
+FEWER = (errno.EAGAIN, errno.ENOMEM, errno.EMFILE, errno.ENFILE)  # errors of which no file is the cause, but many games at once
 ROOM = 65536  # bytes by which it is tried whether there is room: more than a game begins with
 
 
@@ -32,10 +34,10 @@ def read_lines(file):
     return os.fsdecode(text).split("\n")
 
 
-def complain(text, by="tournament"):
+def complain(text):
     """Writes a line on standard error. Where nobody reads that, it is lost."""
     with contextlib.suppress(OSError):
-        write(2, f"{by}: {text}\n")
+        write(2, f"{program[0]}: {text}\n")
 
 
 def write_all(number, lines, at_once=5000):

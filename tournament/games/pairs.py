@@ -97,8 +97,8 @@ class Found:
 
     def add(self, other):
         """Adds other pairs."""
-        self.every = [sum(it) for it in zip(self.every, other.every)]
-        self.new = [sum(it) for it in zip(self.new, other.new)]
+        self.every = [one + more for one, more in zip(self.every, other.every)]
+        self.new = [one + more for one, more in zip(self.new, other.new)]
 
     def turned(self):
         """The same pairs, as the other engine sees them."""
@@ -115,6 +115,8 @@ class Found:
 
 def has_twice(moves):
     """Is the same number there twice, but for 0?"""
+    if len(moves) < 2:
+        return False
     played = [it for it in moves if it]
     return len(set(played)) < len(played)
 
@@ -130,5 +132,7 @@ def counts_of(ends):
 
 def without(counts, first, second, seeds):
     """The counts but for the pairs of these seeds."""
+    if not seeds:
+        return counts
     left = counts_of((first[it], second[it]) for it in seeds)
     return [all_of - some for all_of, some in zip(counts, left)]

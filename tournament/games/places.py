@@ -3,11 +3,19 @@
 FOLDER/running/GAME/lock is locked (`flock`) by who plays a game. Beside it `result` and `log` are written, which become
 FOLDER/games/GAME and FOLDER/logs/GAME; then that folder is removed, under the lock. FOLDER/notes/GAME is written in its place, so that it
 is there also of a game that is killed.
+
+Where the game has an old result, that stays with its notes and its log until there is a new one: the new notes are written beside the lock,
+too. Then the result is moved first, and its notes and log after it. Where the process is killed between, who looks for the notes also finds
+them beside the lock, and the next run moves them.
 """
 import contextlib
 import fcntl
 import os
+import time
 
+from . import output, results
+
+PIECE = 65536
 TRIES = 100  # to make a file in a folder that others remove
 
 
@@ -15,13 +23,19 @@ class Taken(Exception):
     """Another process plays the game."""
 
 
+class InTheWay(Exception):
+    """Something lies where the result of a game belongs, which can be neither read nor replaced."""
+
+
 class Places:
     """Where the files of a game lie."""
 
     def __init__(self, folder, name):
         self.result, self.log, self.notes = (f"{folder}/{kind}/{name}" for kind in ("games", "logs", "notes"))
-        self.at = f"{folder}/running/{name}"
+        self.name, self.at = name, f"{folder}/running/{name}"
         self.new_result, self.new_log, self.lock = f"{self.at}/result", f"{self.at}/log", f"{self.at}/lock"
+        self.has_old = False  # is the game played again, whose old result stays until there is a new one?
+        self.again_notes, self.again_log = f"{self.at}/notes", f"{self.at}/log.whole"  # of such a game, the log once it has ended
 
     def take(self):
         """Takes the lock, whose descriptor it returns. Raises Taken where another process has it."""
@@ -50,22 +64,79 @@ class Places:
         """Makes both files anew, and returns their descriptors."""
         return [new_file(place) for place in (self.new_result, self.new_log)]
 
-    def keep_log(self):
-        """Leaves what was written on standard error, if anything was."""
-        if os.stat(self.new_log).st_size:
-            os.rename(self.new_log, self.log)
+    def new_notes(self):
+        """The same of the notes, whose folder is made again where somebody removed it: the descriptor, and the place."""
+        if self.has_old:
+            return new_file(self.again_notes), self.again_notes
+        try:
+            return new_file(self.notes), self.notes
+        except FileNotFoundError:
+            with contextlib.suppress(FileExistsError):
+                os.mkdir(os.path.dirname(self.notes))
+            return new_file(self.notes), self.notes
+
+    def is_replaceable(self):
+        """Can another file be moved to the place of the result?"""
+        is_folder = os.path.isdir(self.result) and not os.path.islink(self.result)
+        return not is_folder and os.access(os.path.dirname(self.result), os.W_OK | os.X_OK)
+
+    def put(self):
+        """Moves the new result to its place, and its log. The old one, and what was written of it, is gone then."""
+        if self.has_old:
+            os.rename(self.new_log, self.again_log)
+        else:
+            self.keep_log(self.new_log)
+        os.rename(self.new_result, self.result)
+        if self.has_old:
+            self.follow()
+
+    def follow(self):
+        """Moves the notes and the log of a game that was played again to their places, where its result is in its own by now. Where it isn't,
+        they are those of a game that was killed before."""
+        is_put = not os.path.exists(self.new_result)
+        with contextlib.suppress(OSError):
+            if notes_are_of(self.again_notes, self.result) and (is_put or not notes_are_of(self.notes, self.result)):
+                os.makedirs(os.path.dirname(self.notes), exist_ok=True)
+                os.rename(self.again_notes, self.notes)
+        with contextlib.suppress(OSError):
+            if is_put:
+                self.keep_log(self.again_log)
+        for place in () if is_put else (self.again_notes, self.again_log):
+            with contextlib.suppress(OSError):
+                os.unlink(place)
+
+    def keep_log(self, new):
+        """Leaves what was written on standard error, if anything was: it is in this place now."""
+        if os.stat(new).st_size:
+            os.rename(new, self.log)
         else:
             with contextlib.suppress(FileNotFoundError):
                 os.unlink(self.log)
 
     def add_to_log(self, line):
-        """Leaves what was written on standard error, with a last line."""
+        """Leaves what was written on standard error, with a last line: of a game with an old result below the log of that."""
         with open(self.new_log, "ab") as file:
             file.write(os.fsencode(f"tournament: {line}\n"))
-        self.keep_log()
+        if self.has_old:
+            self.append_log()
+        else:
+            self.keep_log(self.new_log)
+
+    def append_log(self):
+        """Adds the new log to the old one, below a line that says when; nothing where there is no room for all of it."""
+        with open(self.log, "ab", buffering=0) as old, open(self.new_log, "rb") as new:
+            before = old.seek(0, os.SEEK_END)
+            try:
+                output.write(old.fileno(), f"tournament: played again until {time.strftime('%Y-%m-%d %H:%M:%S')}:\n")
+                while piece := new.read(PIECE):
+                    output.write_bytes(old.fileno(), piece)
+            except OSError:
+                os.ftruncate(old.fileno(), before)
+                raise
 
     def remove(self):
         """Removes what lies beside the lock, the lock, and the folder. Only who has the lock may do so."""
+        self.follow()
         found = []
         with contextlib.suppress(OSError):
             found = [f"{self.at}/{name}" for name in os.listdir(self.at) if name != "lock"]
@@ -79,6 +150,15 @@ def new_file(place):
     with contextlib.suppress(FileNotFoundError):
         os.unlink(place)
     return os.open(place, os.O_RDWR | os.O_CREAT | os.O_EXCL | os.O_APPEND, 0o666)
+
+
+def notes_are_of(notes, result):
+    """Do these notes end with the line of this result?"""
+    try:
+        line = results.bytes_of(result).partition(b"\n")[0]
+        return results.bytes_of(notes).endswith(b"\nresult: %b\n" % line[8:])
+    except OSError:
+        return False
 
 
 def is_file(descriptor, place):

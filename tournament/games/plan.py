@@ -79,6 +79,9 @@ class Plan:
         self.openings = []  # the moves of each, with spaces between them
         self.made = None  # the games, once they are asked for
         self.is_new = False  # had the folder no plan?
+        self.before = None  # what that was, where it had one
+        self.added = []  # the engines that it hadn't
+        self.had = ""  # what is said where it had more than is asked for
 
     def add_engine(self, name, command):
         """Adds an engine."""
@@ -138,6 +141,17 @@ class Plan:
         engines = [f"engine {name} {command}" for name, command in self.engines.items()]
         return engines + [f"option {it}" for it in self.options] + self.pairing() + self.between()
 
+    def shown(self):
+        """The same lines for people: an option and its value are one."""
+        lines = []
+        for line in self.players():
+            is_value = line.startswith("option ") and not line.startswith("option --")
+            if is_value and lines and lines[-1].startswith("option "):
+                lines[-1] += line[len("option"):]
+            else:
+                lines.append(line)
+        return lines
+
     def pairing(self):
         """The line that says who plays whom."""
         return [f"gauntlet {self.gauntlet}"] if self.gauntlet else []
@@ -146,6 +160,12 @@ class Plan:
         """Does it have all of an older plan that may not change? There may be more engines behind the others."""
         have, had = list(self.engines.items()), list(old.engines.items())
         return have[: len(had)] == had and self.players()[len(have):] == old.players()[len(had):]
+
+    def is_part_of(self, whole):
+        """Has it some engines of another plan, in the same order, and all else that may not change?"""
+        names = [name for name in whole.engines if name in self.engines]
+        is_so = names == list(self.engines) and all(whole.engines[name] == command for name, command in self.engines.items())
+        return bool(names) and is_so and self.players()[len(names):] == whole.players()[len(whole.engines):]
 
     def text(self):
         """All lines."""

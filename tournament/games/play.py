@@ -1,6 +1,5 @@
 """All games of a plan that have no result, or one of them."""
 import contextlib
-import errno
 import os
 import signal
 import time
@@ -8,9 +7,10 @@ from array import array
 from collections import Counter
 
 from . import output, results
-from .game import NO_BLACK, NO_WHITE, STOPPED, TAKEN
+from .folder import make_folders
+from .game import NO_BLACK, NO_NEW, NO_OLD, NO_WHITE, STOPPED, TAKEN
 from .output import NoStart
-from .places import Places, Taken, clear_running
+from .places import InTheWay, Places, Taken, clear_running
 from .progress import Progress
 from .run import Run
 from .tried import Tried
@@ -19,7 +19,6 @@ AGAIN = 3  # seconds for which games are tried that another process holds, which
 PAUSE = 0.2  # seconds between two such tries
 SHORT = 0.6  # seconds for which one game is tried that another process holds, perhaps to look at it
 SPARE = 10  # seconds beside its limit that a game may take, and the end of the run
-FEWER = (errno.EAGAIN, errno.ENOMEM, errno.EMFILE, errno.ENFILE)  # errors of which more games at once are the cause
 NO_START = 69  # the status where an engine can't be started
 IN_A_ROW = 10  # games in which an engine isn't started, after which the run ends
 
@@ -32,9 +31,10 @@ class Play:
         self.until = None if left is None else time.monotonic() + left
         self.games = plan.games()
         self.own = share.of(self.games.count) if share else range(self.games.count)
-        self.kinds = results.kinds_of(plan, run.folder, share=share)
+        self.kinds = results.kinds_of(plan, run.folder, share=share, is_quiet=True)  # a file is reported where its game begins
         self.count, self.total = self.with_result(), len(self.own)
         self.later = array("Q")  # games that another process plays
+        self.old = {}  # of a game that is played again: the inode of its old result, until there is a new one
         self.tried = Tried(run, plan)
         self.not_started = Counter()  # of an engine, in how many games in a row it wasn't
         self.is_unable = False  # were these too many, or can an engine not be started at all?
@@ -54,22 +54,27 @@ class Play:
         return (game for game in self.own if self.kinds[game] in (results.NONE, results.DAMAGED))
 
     def forget_lost(self):
-        """Removes the results of games in which a side was unfit or abandoned."""
+        """Takes the results of games in which a side was unfit or abandoned for none. Each stays until there is a new one."""
         for game in self.own:
             if self.kinds[game] == results.LOST:
                 with contextlib.suppress(FileNotFoundError):
-                    os.unlink(Places(self.run.folder, self.games.name(game)).result)
+                    self.old[game] = os.stat(Places(self.run.folder, self.games.name(game)).result).st_ino
                 self.kinds[game] = results.NONE
+                self.tried.anew.update(self.games.name(game).split("_")[1:])
         self.count = self.with_result()
 
     def tell(self, line):
-        """Writes a line. Nobody may read it any more, which stops the run as it would stop other programs."""
+        """Writes a line. Nobody may read it any more, which stops the run as it would stop other programs. Where it can't be written else, the
+        run ends, too."""
         try:
             output.write(1, f"{line}\n")
         except BrokenPipeError:
             self.run.stop(signal.SIGPIPE)
-        except OSError:
-            self.is_written = False
+        except OSError as problem:
+            if self.is_written:
+                output.complain(f"standard output can't be written to: {problem.strerror}: no other game is begun here")
+            self.is_written, self.run.no_room = False, True
+            self.run.stop()
 
     def is_over(self):
         """Is no other game to be begun?"""
@@ -83,21 +88,29 @@ class Play:
         """Takes note of a game's result."""
         self.kinds[game] = results.LOST if results.is_lost(parts) else results.WHOLE
         self.count += 1
+        self.old.pop(game, None)
 
     def begin(self, game):
         """Begins a game. False where others have to end before."""
         try:
-            parts = self.run.begin(self.games.name(game))
+            parts = self.run.begin(self.games.name(game), self.old.get(game))
             if parts:
                 self.note(game, parts)
         except Taken:
             self.later.append(game)
+        except InTheWay as problem:
+            self.progress.failed += 1
+            output.complain(f"{self.games.name(game)}: {self.none_of(game)}: {problem.args[0]}")
         except OSError as problem:
-            if problem.errno in FEWER and self.run.playing:
+            if problem.errno in output.FEWER and self.run.playing:
                 return False
-            output.complain(f"{self.games.name(game)}: no result: {output.in_words(problem)}")
+            output.complain(f"{self.games.name(game)}: {self.none_of(game)}: {output.in_words(problem)}")
             self.run.has_no_room(problem)
         return True
+
+    def none_of(self, game):
+        """What is said of a game that fails: it has no result, or no new one."""
+        return NO_NEW if game in self.old else NO_OLD
 
     def await_some(self):
         """Waits until a game has ended, and writes its line; or until it is time to say how far the run is."""
@@ -113,6 +126,7 @@ class Play:
             elif outcome in (NO_BLACK, NO_WHITE):
                 self.note_not_started(engines[outcome - NO_BLACK])
             self.progress.failed += not parts and outcome not in (TAKEN, STOPPED)
+        self.progress.lost = self.of_kind(results.LOST)
         self.progress.look(self.count)
 
     def note_not_started(self, engine):
@@ -123,15 +137,27 @@ class Play:
             self.is_unable = True
             output.complain(f"{engine} wasn't started in {IN_A_ROW} games in a row: no other game is begun here")
 
-    def try_engines(self):
-        """Tries the engines. Where one can't be started no game is begun."""
+    def try_engines(self, names):
+        """Tries these engines. Where one can't be started no game is begun."""
         try:
-            self.tried.try_all(self.plan.engines)
+            self.tried.try_all(names)
         except NoStart as problem:
             self.is_unable = True
             output.complain(problem.args[0])
         except OSError as problem:
             self.run.has_no_room(problem)
+
+    def try_added(self):
+        """Tries the engines that the plan in the folder hasn't. Returns the status where that plan is to stay as it is, since one can't be
+        started, or the run is stopped."""
+        if self.plan.added:
+            make_folders(self.run.folder)
+            self.try_engines(self.plan.added)
+        if self.is_unable:
+            again = "give the command again with what can be started, or make the plan by tournament plan, which tries no engine"
+            output.complain(f"{self.run.folder}/plan {'is not made' if self.plan.is_new else 'stays as it was'}: {again}")
+            return NO_START
+        return self.status() if self.run.stopped or self.run.no_room else None
 
     def play_these(self, games):
         """Plays these games, so many at once, until all have ended or the run is stopped."""
@@ -146,7 +172,7 @@ class Play:
         """Plays all that are missing, once each engine was tried here. Those that another process plays are tried again at the end, some
         seconds long."""
         if self.count < self.total and not self.has_no_time():
-            self.try_engines()
+            self.try_engines(self.plan.engines)
         self.progress = Progress(self.count, self.total)
         self.play_these(self.missing())
         until = time.monotonic() + AGAIN
@@ -159,8 +185,17 @@ class Play:
                 self.run.wait(PAUSE)
         self.run.family.end()
         if self.count < self.total:
-            results.kinds_of(self.plan, self.run.folder, self.kinds, self.share)
+            results.kinds_of(self.plan, self.run.folder, self.kinds, self.share, is_quiet=True)
             self.count = self.with_result()
+
+    def all(self, again):
+        """Plays all that are missing, and again those in which a side was unfit or abandoned where that is asked. Returns the status."""
+        if again:
+            self.forget_lost()
+        if not self.share:
+            clear_running(self.run.folder)
+        self.play()
+        return self.status()
 
     def counted(self):
         """How many games have a result, and of a share how many are missing."""
@@ -174,28 +209,18 @@ class Play:
         if self.run.stopped:
             output.complain(f"stopped: {counted}; the same command goes on")
             return self.run.stop_status()
-        if self.count < self.total and self.has_no_time():
+        if (self.count < self.total or self.old) and self.has_no_time():
             output.complain(f"the time left doesn't hold another game of {self.plan.limit} seconds; the same command goes on")
         if self.later and not self.run.no_room:
             output.complain(f"games that another process plays: {len(self.later)}")
         self.tell(counted)
+        if not self.is_written:
+            output.complain(f"{counted}; the same command goes on")
         if self.is_unable:
             return NO_START
         others = len(self.later) if self.share else 0  # of a task that was submitted twice
         is_good = self.count + others >= self.total and not self.of_kind(results.LOST) and self.is_written and not self.run.stopped
         return 0 if is_good else 1
-
-
-def play_all(plan, folder, twogtp, jobs, again=False, share=None, left=None):
-    """Plays all games that have no result, or those of a share, and returns the status."""
-    run = Run(plan, folder, twogtp)
-    play = Play(run, plan, jobs, share, left)
-    if again:
-        play.forget_lost()
-    if not share:
-        clear_running(folder)
-    play.play()
-    return play.status()
 
 
 class One:
@@ -222,6 +247,9 @@ class One:
         except NoStart as problem:
             output.complain(f"{self.name}: {problem.args[0]}")
             return NO_START
+        except InTheWay as problem:
+            output.complain(f"{self.name}: no result: {problem.args[0]}")
+            return 1
         except OSError as problem:
             output.complain(f"{self.name}: no result: {output.in_words(problem)}")
             self.run.has_no_room(problem)

@@ -3,11 +3,13 @@ import os
 import signal
 import sys
 
+from . import below
 from .output import Mistake
 
 HERE = os.path.dirname(os.path.dirname(os.path.realpath(__file__)))
 BESIDE = ("../bin", "../../bin")  # where it lies beside these scripts, in a clone and in an archive
-AS_BEFORE = (signal.SIGTERM, signal.SIGINT, signal.SIGHUP, signal.SIGPIPE)  # signals that do in it what they do where nobody asked
+AS_BEFORE = (signal.SIGTERM, signal.SIGINT, signal.SIGHUP, signal.SIGPIPE)  # signals that do in it what they do where nobody asked; not
+# SIGXFSZ: a file that is too long is reported
 
 
 def is_program(place):
@@ -26,11 +28,11 @@ def find_twogtp():
     return os.path.abspath(found)
 
 
-def start(words, result, log, environment=None):
-    """Starts a program that reads nothing and writes into these files, and returns its process."""
-    files = [(os.POSIX_SPAWN_OPEN, 0, os.devnull, os.O_RDONLY, 0), (os.POSIX_SPAWN_DUP2, result, 1), (os.POSIX_SPAWN_DUP2, log, 2)]
-    environment = os.environ if environment is None else environment
-    return os.posix_spawn(words[0], words, environment, file_actions=files, setsigmask=(), setsigdef=AS_BEFORE)
+def start(words, folder, result, log):
+    """Starts twogtp, which reads nothing and writes into these files. It ends with this process. Returns its process, and why it can't be
+    started, if it can't."""
+    with open(os.devnull, "rb") as nothing:
+        return below.start(words, folder, (nothing.fileno(), result, log), AS_BEFORE)
 
 
 def between():
@@ -47,7 +49,8 @@ def version_of(twogtp):
 def printed_by(words):
     """What a program prints, and its status."""
     reads, writes = os.pipe()
-    process = start(words, writes, writes)
+    files = [(os.POSIX_SPAWN_OPEN, 0, os.devnull, os.O_RDONLY, 0), *((os.POSIX_SPAWN_DUP2, writes, it) for it in (1, 2))]
+    process = os.posix_spawn(words[0], words, os.environ, file_actions=files, setsigmask=(), setsigdef=AS_BEFORE)
     os.close(writes)
     with open(reads, "rb") as file:
         printed = os.fsdecode(file.read())

@@ -13,6 +13,7 @@ class Progress:
     def __init__(self, count, total, is_terminal=None, clock=time.monotonic):
         self.before, self.total, self.clock, self.began = count, total, clock, clock()
         self.failed = 0  # games that ended without a result
+        self.lost = 0  # results in which a side was unfit or abandoned
         is_terminal = os.isatty(2) if is_terminal is None else is_terminal
         self.step = OFTEN if is_terminal else SELDOM
         self.next = self.began + (AT_ONCE if is_terminal else SELDOM)
@@ -32,7 +33,8 @@ class Progress:
         minutes = (self.clock() - self.began) / 60
         rate = (count - self.before) / minutes if minutes > 0 else 0
         left = shown((self.total - count) / rate) if rate else "unknown time"
-        return f"{count} of {self.total} games have a result, {self.failed} failed; {rate:.1f} games a minute, {left} left"
+        lost = f", {self.lost} of them unfit or abandoned" if self.lost else ""
+        return f"{count} of {self.total} games have a result{lost}, {self.failed} failed; {rate:.1f} games a minute, {left} left"
 
 
 def shown(minutes):

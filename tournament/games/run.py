@@ -1,11 +1,12 @@
 """A run: it begins games, each in a process of its own, waits for their ends, and ends what is left of them where it is stopped."""
 import os
 import signal
+import time
 
 from . import below, family, output, results
-from .game import BROKEN, DONE, ENDING, NO_ROOM, play_here, report
+from .game import BROKEN, DONE, ENDING, NO_ROOM, NONE, SAME, STOPPED, play_here, report
 from .match import Match
-from .places import Places
+from .places import InTheWay, Places
 
 
 class Run:
@@ -13,39 +14,57 @@ class Run:
 
     def __init__(self, plan, folder, twogtp):
         self.folder, self.at, self.match = folder, os.path.abspath(folder), Match(plan, twogtp)
-        self.playing = {}  # of the process of each game: its name, its places and its lock
+        self.playing = {}  # of the process of each game: its name, its places, its lock, and the result that it is to replace
         self.family = family.Family()
         self.stopped = None  # the signal that stopped it
         self.no_room = False  # can nothing be written?
         self.ending = [it for it in ENDING if signal.getsignal(it) != signal.SIG_IGN]  # nohup ignores one
+        family.stand_apart(self.ending)
         family.adopt()
         below.be_called("tournament")
         signal.pthread_sigmask(signal.SIG_BLOCK, [signal.SIGCHLD, *self.ending])
 
-    def result(self, name):
-        """The parts of a game's result, or None. A damaged one is reported."""
+    def read(self, places, old=None):
+        """The parts of a game's result, or None where it is damaged. FileNotFoundError where there is none but the old one, which is to be
+        replaced."""
+        if old is not None and os.stat(places.result).st_ino == old:
+            raise FileNotFoundError
+        return results.read(places.result, self.match.has_board)
+
+    def result(self, places, old):
+        """The same, but None where there is none. A damaged one is reported, and so is one that can't be read. Raises InTheWay where another
+        one can't be put in its place."""
         try:
-            parts = results.read(Places(self.at, name).result, self.match.has_board)
+            parts, why = self.read(places, old), "is damaged"
         except FileNotFoundError:
             return None
+        except OSError as problem:
+            if problem.errno in output.FEWER:
+                raise
+            parts, why = None, f"can't be read: {problem.strerror}"
+            if not places.is_replaceable():
+                raise InTheWay(f"{places.result} can't be read, nor be replaced: {problem.strerror}") from None
         if parts is None:
-            output.complain(f"{name}: its file is damaged, and it is played again")
+            output.complain(f"{places.name}: its file {why}, and it is played again")
         return parts
 
     def has_result(self, name):
         """Has a game a whole result?"""
         try:
-            return results.read(Places(self.at, name).result, self.match.has_board) is not None
-        except FileNotFoundError:
+            return self.read(Places(self.at, name)) is not None
+        except OSError:
             return False
 
-    def begin(self, name):
-        """Begins a game. Returns the parts of its result where it has one by now. Raises Taken where another process plays it, and OSError
-        where it can't be begun."""
+    def begin(self, name, old=None):
+        """Begins a game, whose old result stays until there is a new one: its inode is given. Returns the parts of its result where it has
+        one by now. Raises Taken where another process plays it, InTheWay where it can have no result, and OSError where no game can be
+        begun."""
         places = Places(self.at, name)
+        places.has_old = old is not None
         lock = places.take()
         try:
-            parts = self.result(name)
+            places.follow()
+            parts = self.result(places, old)
             if parts:
                 places.remove()
                 return parts
@@ -56,8 +75,11 @@ class Run:
                 self.close_others()
                 play_here(name, places, self.match, own)
             self.family.awaited.add(process)
-            self.playing[process] = (name, places, lock)
+            self.playing[process] = (name, places, lock, old)
             lock = None
+        except InTheWay:
+            places.remove()
+            raise
         finally:
             if lock is not None:
                 os.close(lock)
@@ -65,7 +87,7 @@ class Run:
 
     def close_others(self):
         """Closes the locks of the other games, in the process of one."""
-        for _, _, lock in self.playing.values():
+        for _, _, lock, _ in self.playing.values():
             os.close(lock)
 
     def has_no_room(self, cause=None):
@@ -88,6 +110,13 @@ class Run:
         self.stopped = self.stopped or number
         family.send(signal.SIGTERM, self.playing)
 
+    def is_ending(self, seconds=0):
+        """Were all games asked to end, or are they in so many seconds, as where all processes get a signal?"""
+        until = time.monotonic() + seconds
+        while not self.stopped and not self.no_room and time.monotonic() < until:
+            self.heed(until - time.monotonic())
+        return bool(self.stopped or self.no_room)
+
     def stop_status(self):
         """The status of a run that was stopped."""
         return 128 + (self.stopped if self.stopped in (signal.SIGINT, signal.SIGPIPE) else signal.SIGTERM)
@@ -107,19 +136,23 @@ class Run:
         return [self.after(process) for process in list(self.playing) if process in self.family.ended]
 
     def after(self, process):
-        """What came of the game of a process that has ended. Where it was killed or broke, what it left is ended."""
-        name, places, lock = self.playing.pop(process)
+        """What came of the game of a process that has ended. Where it was killed or broke, what it left is ended. One that was asked to end,
+        and not by this run, is reported: else nobody would know why it has no result."""
+        name, places, lock, old = self.playing.pop(process)
         outcome = self.family.ended.pop(process)
         has_left = outcome < 0 or outcome == BROKEN
         if has_left:
             self.family.end(self.playing)
         try:
-            parts = results.read(places.result, self.match.has_board)
-        except FileNotFoundError:
+            parts = self.read(places, old)
+        except OSError:
             parts = None
-        if has_left:
-            if outcome < 0 and not parts and not self.stopped:
+        if has_left or outcome == STOPPED:
+            if outcome < 0 and not parts and not self.is_ending():
                 report(name, places, f"its process was ended by signal {-outcome}")
+            elif outcome == STOPPED and not self.is_ending(SAME):
+                report(name, places, "its process was asked to end, and not by this run")
+                outcome = NONE
             places.remove()
         os.close(lock)
         if outcome == NO_ROOM:

@@ -7,8 +7,10 @@ import math
 
 Z = 1.959963984540054  # of a 95 % interval
 BOUND = math.log(19)  # of the log likelihood ratio, where both errors are to be 5 %: ln(0.95 / 0.05)
-FEWEST = 48  # pairs from which on a test says anything: the variance of fewer is often too small, and with 16 errors are up to 8 %
+FEWEST = 16  # pairs from which on a test says anything
+FEWEST_OTHERS = 10  # of them that aren't of the most frequent outcome: before, their variance isn't known
 ADDED = 0.001  # to each count in a test, so that there is a variance
+HALVINGS = 60  # which find a number to the last digits
 
 
 def moments(counts):
@@ -44,9 +46,39 @@ def ratio(counts, elo0, elo1):
     return sum(counts) * (second - first) * (2 * mean - first - second) / (2 * variance)
 
 
+def shares(counts, mean):
+    """The shares of the five outcomes that explain pairs best, of all that have this mean: of each count divided by 1 + lean * (outcome -
+    mean), where the lean is such that they have it."""
+    low, high = -1 / (1 - mean), 1 / mean  # between these no share is below 0
+    for _ in range(HALVINGS):
+        lean = (low + high) / 2
+        found = [count / (1 + lean * (at / 4 - mean)) for at, count in enumerate(counts)]
+        off = sum(it * (at / 4 - mean) for at, it in enumerate(found))
+        low, high = (lean, high) if off > 0 else (low, lean)
+    return tuple(it / sum(found) for it in found)
+
+
+def exact_ratio(counts, elo0, elo1):
+    """The same ratio without a variance: how much likelier the outcomes are by the shares that explain them best with the second one."""
+    counts = [count + ADDED for count in counts]
+    first, second = (shares(counts, expected(it)) for it in (elo0, elo1))
+    return sum(count * math.log(more / less) for count, less, more in zip(counts, first, second))
+
+
+def others(counts):
+    """How many pairs aren't of the most frequent outcome."""
+    return sum(counts) - max(counts)
+
+
 def decision(counts, elo0, elo1):
-    """Which of two differences a sequential test accepts, 0 or 1; None where it wants more pairs."""
-    if sum(counts) < FEWEST:
+    """Which of two differences a sequential test accepts, 0 or 1; None where it wants more pairs. Both ratios have to say so: the first one
+    takes the mean of pairs for normal and the variance for known, and errs where outcomes are rare or differences great."""
+    if sum(counts) < FEWEST or others(counts) < FEWEST_OTHERS:
         return None
-    found = ratio(counts, elo0, elo1)
+    found = accepted(ratio(counts, elo0, elo1))
+    return found if found is not None and accepted(exact_ratio(counts, elo0, elo1)) == found else None
+
+
+def accepted(found):
+    """Which difference a ratio accepts; None where it is between the bounds."""
     return 1 if found >= BOUND else 0 if found <= -BOUND else None

@@ -1,9 +1,10 @@
 """The command `tally`: counts the results of a tournament."""
 import contextlib
+import gc
 import math
 import os
-import re
 from collections import Counter
+from functools import lru_cache
 
 from . import output, results, scores
 from .ends import FORFEITS, Ends, losing_ways
@@ -11,6 +12,7 @@ from .folder import read_plan
 from .help import HELP
 from .output import Mistake
 from .pairs import Found, Pairs
+from .sequential import Test, asked_of
 from .words import Words
 
 HAS_LOG = 4  # a game without a result, of which there is a log
@@ -25,7 +27,7 @@ class Counts:
     def __init__(self, plan, folder, losing=(), is_out=False):
         self.plan, self.games, self.folder, self.losing = plan, plan.games(), folder, losing
         self.kinds = bytearray(self.games.count)
-        self.ends = [Counter() for _ in self.games.sides]  # of two engines with these colours: how often a game ended so
+        self.ends = [{} for _ in self.games.sides]  # of two engines with these colours: how often a game ended so
         self.restarts = Counter()  # of an engine
         self.restarted = 0  # games
         self.pairs = Pairs(plan, is_out)
@@ -34,10 +36,14 @@ class Counts:
             self.kinds[game] = results.WHOLE if parts else results.DAMAGED
             if parts:
                 sides, end = game % len(self.ends), how.of(game, parts)
-                self.ends[sides][end] += 1
+                self.ends[sides][end] = self.ends[sides].get(end, 0) + 1
                 self.pairs.add(game, end, parts)
-                if parts[3] != b"0" or parts[4] != b"0":
-                    self.count_restarts(sides, int(parts[3]), int(parts[4]))
+                if any(how.restarts):
+                    self.count_restarts(sides, *how.restarts)
+        self.all_ends = Counter()
+        for ends in self.ends:
+            for end, count in ends.items():
+                self.all_ends[end] += count
         self.unknown = how.unknown
         self.have = self.kinds.count(results.WHOLE)
         self.find_logs()
@@ -57,21 +63,20 @@ class Counts:
             self.restarts[engine] += count
 
     def sum(self, is_so):
-        """The number of results of which this is so: it is given the engines, Black's first, and how a game of theirs ended."""
-        pairs = zip(self.games.sides, self.ends)
-        return sum(count for engines, ends in pairs for end, count in ends.items() if is_so(engines, end))
+        """The number of results of which this is so: it is given how a game ended."""
+        return sum(count for end, count in self.all_ends.items() if is_so(end))
 
     def ended(self, *ways):
         """The number of games that ended in one of these ways."""
-        return self.sum(lambda _, end: end.way in ways)
+        return self.sum(lambda end: end.way in ways)
 
     def with_winner(self, way=None):
         """The number of games that have a winner, or of those that ended in this way."""
-        return self.sum(lambda _, end: way in (end.way, None) and end.winner is not None)
+        return self.sum(lambda end: way in (end.way, None) and end.winner is not None)
 
     def won_by(self, side):
         """The number of games that this side won."""
-        return self.sum(lambda _, end: end.winner == side)
+        return self.sum(lambda end: end.winner == side)
 
 
 class Row:
@@ -177,14 +182,15 @@ class Table:
         """A line for each two engines, and before them one for each engine that has more than one opponent."""
         several = [it for it in self.sums.order if sum((it, other) in self.sums.found for other in self.sums.order) > 1]
         keys = [*((it,) for it in several), *self.sums.two()]
-        name, counted = 2 * self.width + 3, max(4, *(len(str(it)) for key in keys for it in self.sums.found[key].every))
+        name, counted = 2 * self.width + 3, max(4, *(len(str(max(self.sums.found[key].every))) for key in keys))
         won = max(5, *(len(self.sums.rows[key].record()) for key in keys))
         outcomes = " ".join(f"{it:>{counted}}" for it in ("0", "0.5", "1", "1.5", "2"))
-        yield f"{'pair':{name}}  {'won':>{won}}  nobody   {outcomes}  score  95 % interval   Elo  95 % interval"
+        yield f"{'pair':{name}}  {'won':>{won}}  no winner   {outcomes}  score  95 % interval   Elo  95 % interval"
         for key in keys:
             row, found = self.sums.rows[key], self.sums.found[key]
-            counts = " ".join(f"{it:{counted}}" for it in found.every)
-            yield f"{' - '.join([*key, 'all'][:2]):{name}}  {row.record():>{won}}  {row.all - row.decided:6}   {counts}  {of_score(found)}"
+            counts = " ".join([f"{it:{counted}}" for it in found.every])
+            score = of_score(tuple(found.every), tuple(found.new))
+            yield f"{' - '.join([*key, 'all'][:2]):{name}}  {row.record():>{won}}  {row.all - row.decided:9}   {counts}  {score}"
 
     def of_all(self):
         """What is said of all games together."""
@@ -215,8 +221,10 @@ class Table:
                 yield f"  and so on: {len(groups)} such games were played again"
 
 
-def of_score(found):
+@lru_cache(maxsize=4096)  # of many engines with few seeds most are the same
+def of_score(every, new):
     """The score of pairs in percent, and the difference in Elo, each with its interval."""
+    found = Found(every, new)
     score, interval = found.score(), found.interval()
     if score is None:
         return "    -  -                 -"
@@ -231,48 +239,17 @@ def in_elo(score):
 
 
 def without_result(counts):
-    """The games whose file is damaged, and those whose log says why they have no result: the name of each, and why."""
+    """The games whose file is damaged or can't be read, and those whose log says why they have no result: the name of each, and why."""
     for game, kind in enumerate(counts.kinds):
         if kind == results.DAMAGED:
-            yield counts.games.name(game), "its file has no result"
+            name = counts.games.name(game)
+            why = results.why_unread(f"{counts.folder}/games/{name}")
+            yield name, f"its file can't be read: {why}" if why else "its file is damaged"
         elif kind == HAS_LOG:
             name = counts.games.name(game)
             why = results.last_line(f"{counts.folder}/logs/{name}")
             if why.startswith("tournament: "):
                 yield name, why[12:]
-
-
-class Test:
-    """A sequential test of two differences in Elo, of the first engine of a plan to the second."""
-
-    def __init__(self, counts, differences):
-        (one, other, *numbers), = counts.pairs.engines()
-        self.engines, self.differences = f"{one} - {other}", differences
-        self.counts = counts.pairs.in_order(*numbers)
-        self.decision = scores.decision(self.counts, *differences)
-        self.ratio = scores.ratio(self.counts, *differences) if any(self.counts) else 0.0
-
-    def line(self):
-        """What it says."""
-        low, high = (f"{it:g} Elo" for it in self.differences)
-        said = {None: "go on", 0: f"{low} accepted, not {high}", 1: f"{high} accepted, not {low}"}[self.decision]
-        bounds = f"{-scores.BOUND:.2f} to {scores.BOUND:.2f}"
-        few = f" (not below {scores.FEWEST})" if sum(self.counts) < scores.FEWEST else ""
-        return f"{self.engines}: {said}: {sum(self.counts)} pairs{few}, log likelihood ratio {self.ratio:.2f} of {bounds}"
-
-    def status(self):
-        """The status: 0 and 3 where the second or the first difference is accepted, 4 where more pairs are wanted."""
-        return {1: 0, 0: 3, None: 4}[self.decision]
-
-
-def differences(name, values):
-    """The two differences in Elo that an option has, the lower one first."""
-    if not all(re.fullmatch(r"[+-]?[0-9]{1,4}(\.[0-9]{1,3})?", it) for it in values):
-        raise Mistake(f"{name} wants two differences in Elo, such as {name} 0 10, and not '{' '.join(values)}'")
-    low, high = map(float, values)
-    if low >= high:
-        raise Mistake(f"{name} wants the lower difference first, such as {name} 0 10")
-    return low, high
 
 
 def half_or_out(name, value):
@@ -288,13 +265,12 @@ def main(arguments):
     if words.is_help:
         output.write(1, HELP["tally"])
         return 0
+    gc.disable()  # nothing here has cycles, and with many engines the search for them takes half the time
     folder, = words.places
     plan = read_plan(folder)
-    tested, is_out = words.last("--sprt", differences), words.last("--no-winner", half_or_out)
-    if tested and len(plan.engines) > 2:
-        raise Mistake(f"--sprt is of two engines, and {folder} has {len(plan.engines)}")
+    asked, is_out = asked_of(words, plan), words.last("--no-winner", half_or_out)
     counts = Counts(plan, folder, losing_ways(words, plan), is_out)
-    test = Test(counts, tested) if tested else None
+    test = Test(counts.pairs, *asked) if asked else None
     if words.has("--json"):
         from .facts import text_of  # which isn't needed elsewhere
 

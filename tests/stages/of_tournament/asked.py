@@ -4,7 +4,7 @@ import re
 
 from tests.shared import checks
 
-from .rooms import RANDOM, SCRIPTS, SMALL, Case, room, two_engines
+from .rooms import RANDOM, SCRIPTS, SMALL, Case, results, room, two_engines
 
 COMMANDS = ("play", "plan", "list", "game", "export")
 PLAN = ["--engine", f"one={RANDOM} %s", "--engine", "two=cat", "--seeds", "3", "--limit", "20"]
@@ -45,6 +45,9 @@ SAID = {
     ("play", "all", "--time-left", "soon"): "--time-left wants a time such as 1-00:30:00, 30:00 or 90, and not 'soon'",
     ("play", "x", "--again=yes"): "--again has no value: write --again",
     ("play", "x", "--engine=cat"): "--engine wants NAME=CMD, and not 'cat'",
+    ("play", "", *PLAN[:4]): "FOLDER is empty, perhaps by a variable that isn't set: write tournament play FOLDER ..",
+    ("list", ""): "FOLDER is empty, perhaps by a variable that isn't set: write tournament list FOLDER",
+    ("game", "all", ""): "GAME is empty, perhaps by a variable that isn't set: write tournament game FOLDER GAME",
     ("play",): "FOLDER is missing: write tournament play FOLDER ..",
     ("game", "all"): "GAME is missing: write tournament game FOLDER GAME",
     ("game", "all", "one"): "all/plan has no game 'one': a game is named SEED_BLACK_WHITE, and tournament list --all prints them",
@@ -61,6 +64,15 @@ SAID = {
     ("list", "all", "more"): "'more' is a word too many: write tournament list FOLDER",
     ("list", "x"): "there is no x/plan: tournament plan makes it",
     ("paly", "x"): "there is no command 'paly': write tournament play, plan, list, game or export",
+    ("play", "x", "--seeds", "--limit", "5"): "--seeds wants a number after it, such as --seeds 10",
+    ("play", "x", "--engine", "--seeds", "5"): f"--engine wants NAME=CMD after it, such as {QUOTED}",
+    ("play", "x", *PLAN[:4], "--gauntlet", "--seeds", "5"): "--gauntlet wants an engine's NAME after it, such as --gauntlet new",
+    ("play", "x", *PLAN[:4], "--gauntlet", "--", "--size", "9"): "--gauntlet wants an engine's NAME after it, such as --gauntlet new",
+    ("play", "x", *PLAN[:4], "--gauntlet"): "--gauntlet wants an engine's NAME after it, such as --gauntlet new",
+    ("export", "all", "--sgf", "--late", "loses"): "--sgf wants a new FOLDER after it, such as --sgf records",
+    ("play", "x", *PLAN[:4], "--", "--size", "--komi", "6.5"): "--size wants a value after it, such as --size 9",
+    ("play", "x", *PLAN[:4], "--", "--record", "--max-moves"): "--max-moves wants a value after it, such as --max-moves 400",
+    ("play", "x", *PLAN[:4], "--", "--size", "9", "--komi", "-3.5"): "--komi wants a value after it, such as --komi=-3.5",
     ("play", "x", *PLAN[:4], "--seeds", "9999999", "--engine", "a=cat", *[f"--engine=e{it}=cat" for it in range(20)]):
         "9999999 seeds are 5059999494 games, which are too many",
 }
@@ -69,11 +81,23 @@ SAID = {
 # the same of the tally
 SAID_BY_TALLY = {
     ("all", "--sprt", "0"): "--sprt wants two differences in Elo after it, such as --sprt 0 10",
+    ("all", "--sprt", "0", "--json"): "--sprt wants two differences in Elo after it, such as --sprt 0 10",
     ("all", "--sprt", "0", "ten"): "--sprt wants two differences in Elo, such as --sprt 0 10, and not '0 ten'",
-    ("all", "--sprt=10", "0"): "--sprt wants the lower difference first, such as --sprt 0 10",
-    ("three", "--sprt", "0", "10"): "--sprt is of two engines, and three has 3",
+    ("all", "--sprt=10", "0"): "--sprt wants the lower difference first: write --sprt 0 10",
+    ("all", "--sprt", "-5", "-5"): "--sprt wants two different differences, such as --sprt 0 10",
+    ("all", "--sprt", "0", "800.001"): "--sprt wants differences from -800 to 800 Elo, such as --sprt 0 10: beyond, it wasn't tried",
+    ("all", "--sprt", "0", "-801"): "--sprt wants differences from -800 to 800 Elo, such as --sprt 0 10: beyond, it wasn't tried",
+    ("three", "--sprt", "0", "10"):
+        "--sprt is of two engines, and the plan has 3: name two that play each other, such as --between one two",
+    ("one", "--sprt", "0", "10", "--between", "three", "two"):
+        "--between wants two engines that play each other, such as --between one two, and not 'three two'",
+    ("three", "--sprt", "0", "10", "--between", "one", "one"):
+        "--between wants two engines that play each other, such as --between one two, and not 'one one'",
+    ("all", "--sprt", "0", "10", "--between", "one"): "--between wants two engines' NAMEs after it, such as --between new old",
+    ("three", "--between", "three", "one"): "--between is for a test: write --sprt 0 10 --between three one",
     ("all", "--no-winner", "loses"): "--no-winner wants half or out after it, and not 'loses'",
     ("all", "--abandoned", "lose"): "--abandoned wants the word loses after it, and not 'lose'",
+    ("",): "FOLDER is empty, perhaps by a variable that isn't set: write tally FOLDER",
     ("all", "--jsn"): "tally has no option --jsn: is it --json?",
 }
 
@@ -86,6 +110,7 @@ class SaidByTally(Case):
         with room() as here:
             here.run("tournament", "plan", *two_engines("all"), *SMALL)
             here.run("tournament", "plan", *two_engines("three"), "--engine", "three=cat", *SMALL)
+            here.run("tournament", "plan", *two_engines("one"), "--engine", "three=cat", "--gauntlet", "one", *SMALL)
             self.same((2, "", f"tally: {SAID_BY_TALLY[words]}\n"), here.run("tally", *words))
 
 
@@ -115,6 +140,16 @@ class Forms(Case):
                 self.check(f"options {what}: the plan", (0, "", "", plan), (*came, (here.at / "all/plan").read_text()))
                 self.check(f"options {what}: the same plan again", (0, "", ""), here.run("tournament", "plan", *words, "--", "--size=5"))
 
+    def test_not_kept(self):
+        """What a plan doesn't keep is said by `plan`, and is no part of it."""
+        with room() as here:
+            rows = {("--jobs", "2"): "--jobs: give it", ("--again", "--jobs=2"): "--jobs and --again: give them", (): None}
+            for more, said in rows.items():
+                came = here.run("tournament", "plan", "all", *PLAN, *more, "--", "--size=5")
+                wanted = f"tournament: a plan doesn't keep {said} to tournament play\n" if said else ""
+                self.check(f"plan {' '.join(more)}", (0, "", wanted), came)
+                self.check(f"plan {' '.join(more)}: the plan", False, "jobs" in (here.at / "all/plan").read_text())
+
     def test_play(self):
         """Options of play that are joined."""
         with room() as here:
@@ -136,16 +171,20 @@ class Helps(Case):
                 is_own = said.startswith(f"usage: tournament {command} FOLDER")
                 self.check(f"tournament {command} --help: its own, with its statuses", (True, True), (is_own, "\nstatus: 0" in said))
                 self.check(f"tournament {command} --help: its options", OPTIONS_OF[command], options_in(said))
+                statuses = re.findall(r"^(?:status:| {7}) (\d+(?:, \d+)?)  ", said, re.MULTILINE)
+                self.check(f"tournament {command} --help: its statuses", STATUSES_OF[command], statuses)
             whole = here.run("tournament", "--help")
             self.check("tournament --help has all options of play", OPTIONS_OF["play"], options_in(whole.output))
             came = here.run("tally", "--help")
             usage = "usage: tally FOLDER [--abandoned loses] [--late loses] [--no-winner half|out]\n"
             self.check("tally --help", (0, usage, ""), shown(came))
-            self.check("tally --help: its options", [*OF_LOSSES, "--no-winner", "--no-winner", "--sprt", "--json"], options_in(came.output))
+            self.check("tally --help: its options", [*OF_LOSSES, "--no-winner", "--no-winner", "--sprt", "--between", "--json"], options_in(came.output))
             said = whole.output + came.output + "".join(here.run("tournament", it, "--help").output for it in COMMANDS)
             self.check("each line of help fits 80 columns", [], [line for line in said.splitlines() if len(line) > 80])
 
 
+OF_GAMES = ["0", "1", "2", "69", "130, 143", "141"]
+STATUSES_OF = {"play": OF_GAMES, "plan": ["0", "1", "2"], "list": ["0", "1", "2", "141"], "game": OF_GAMES, "export": ["0", "1", "2", "141"]}
 OF_PLAN = ["--engine", "--seeds", "--gauntlet", "--limit", "--move-limit", "--start-limit", "--openings", "--direct"]
 OF_LOSSES = ["--abandoned", "--late"]
 OPTIONS_OF = {"play": [*OF_PLAN, "--jobs", "--again", "--task", "--time-left"], "plan": OF_PLAN, "list": ["--all"], "game": [],
@@ -185,12 +224,12 @@ class Python(Case):
         """Closed standard streams."""
         with room() as here:
             here.run("tournament", "plan", *two_engines("all"), *SMALL)
-            came = here.run("bash", "-c", "exec tournament play all <&- >&- 2>&-")
-            what = "without any standard stream it plays all, and its status says that its lines are lost"
-            self.check(what, (1, 8), (came.status, len(here.games("all"))))
+            came = here.run("bash", "-c", "exec tournament play all --jobs 1 <&- >&- 2>&-")
+            what = "without any standard stream it ends once a line is lost, and its status says so"
+            self.check(what, (1, {"1_one_two": results()["1_one_two"]}), (came.status, here.games("all")))
 
 
-STANDARD = {"__future__", "array", "collections", "contextlib", "csv", "ctypes", "difflib", "errno", "fcntl", "io", "itertools", "json", "marshal",
+STANDARD = {"__future__", "array", "collections", "contextlib", "csv", "ctypes", "difflib", "errno", "fcntl", "functools", "gc", "io", "itertools", "json", "marshal",
             "math", "os", "random", "re", "select", "shlex", "signal", "sys", "time", "typing"}  # fmt: skip
 IN_C = {"_ctypes", "_signal"}  # what is in C of a module, in place of which the whole one is imported where it isn't there
 

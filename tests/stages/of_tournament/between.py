@@ -129,6 +129,37 @@ class Passing(Case):
                 gone = here.until(lambda: not running_state(engine), 5)
             self.check("the engine ends with what stands between", (True, ["0 black started S"]), (gone, alone.lines()))
 
+    def test_game_ends(self):
+        """Where the game's process has ended, the engine is ended at once with all that it started, whatever twogtp does."""
+        engines = {"one that hangs": "printf '=\\n\\n'; setsid sleep 91 & trap '' TERM; sleep 92; sleep 93",
+                   "one that has closed its output": "printf '=\\n\\n'; exec 1>&-; trap '' TERM; sleep 94; sleep 95"}  # fmt: skip
+        for what, text in engines.items():
+            with room() as here:
+                held, holds = os.pipe()
+                alone = Alone(here, "sh", "-c", text, held=f"/proc/{os.getpid()}/fd/{held} {os.fstat(held).st_ino}")
+                with running.started([*QUICK, "black"], stdin=subprocess.PIPE, env=here.environment) as between:
+                    between.stdin.write(b"name\n")
+                    between.stdin.flush()
+                    self.check(f"the game's process lives, {what}: it answers", b"=\n\n", between.stdout.read(3))
+                    goes_on = here.until(lambda: any("sleep 9" in line for line in here.left())) and not wait_for(between, 0.5)
+                    os.close(holds)
+                    came = (goes_on, wait_for(between, 15), between.poll(), here.left())
+                    self.check(f"the game's process has ended, {what}: so does all", (True, True, 125, []), came)
+                os.close(held)
+                came = alone.run("name\n")
+                said = "between: black: the game is over\n"
+                self.check(f"the game's process has ended, {what}: nothing is started", (125, "", said), came)
+
+    def test_another_game(self):
+        """A pipe of another process with the number of the game's isn't the game's."""
+        with room() as here:
+            held, holds = os.pipe()
+            alone = Alone(here, "touch", "started", held=f"/proc/{os.getpid()}/fd/{held} {os.fstat(held).st_ino + 1}")
+            came = alone.run("name\n")
+            for end in (held, holds):
+                os.close(end)
+            self.same((125, "between: black: the game is over\n", False), (came.status, came.errors, (here.at / "started").exists()))
+
     def test_input_ends(self):
         """Where twogtp ends, the engine has the end of its input, and may end by itself."""
         with room() as here:
@@ -187,6 +218,15 @@ class Passing(Case):
                 self.check(f"a command takes less than 100 microseconds there: {name}: {1e6 * more:.0f}", True, more < 100e-6)
 
 
+def wait_for(process, seconds):
+    """Does it end in so many seconds?"""
+    try:
+        process.wait(seconds)
+    except subprocess.TimeoutExpired:
+        return False
+    return True
+
+
 def running_state(process):
     """Is the process there, and no zombie?"""
     try:
@@ -238,7 +278,9 @@ class Late(Case):
             seconds = float(alone.notes.read_text().splitlines()[-1].split()[3].rstrip(":"))
             self.check(f"{row} is late: after the seconds of its limit, which are 1", True, 1 <= seconds < 20)
             again = alone.run(text)
-            self.check(f"{row} is late: another start ends at once", (124, "", ""), again)
+            said = "between: black: it was late, and isn't started again\n"
+            self.check(f"{row} is late: another start ends at once, and says why", (124, "", said), again)
+            self.check(f"{row} is late: so do the notes", [*noted, "0 black stays ended"], alone.lines())
             self.check(f"{row} is late: the engine was started once", "\n", (here.at / "starts").read_text())
 
 

@@ -7,7 +7,8 @@ from tests.shared import checks
 
 from .rooms import Case, room
 
-AT_ONCE = ["--engine", "one=gtp_engine", "--engine", "two=gtp_engine", "--jobs", "1"]
+TWO = ["all", "--engine", "one=gtp_engine", "--engine", "two=gtp_engine"]
+AT_ONCE = [*TWO[1:], "--jobs", "1"]
 OPTIONS = ["--size", "1", "--max-moves", "1"]  # a game ends at once
 MATCH = ["--why", "--record", *OPTIONS, "--black", "gtp_engine", "--white", "gtp_engine"]
 GAMES = 40
@@ -16,6 +17,7 @@ GAMES = 40
 MOST = {"--direct": (0.010, 5, 1), None: (0.060, 20, 3)}
 MANY, SECONDS = 100_000, 3.0  # results, and processor time
 READINGS = 5  # or so many times what it takes to read all files
+TALLIED = 2  # the same of a tally that is dear by itself
 # In a namespace of its own each process has the next number: how many a command starts, itself among them.
 COUNT = """\
 before=$(bash -c 'echo $$')
@@ -129,8 +131,62 @@ class Many(Case):
                 one.write_text(f"game 1: {winner}+6.5 moves 30 restarts 0 0\n{'D4 ' * 29}{one.name}\n")
             for name in ("one_two", "two_one"):
                 os.link(one, place / f"{seed}_{name}")
-        began = own_seconds()
-        for file in os.scandir(place):
+        return seconds_to_read(place)
+
+
+def seconds_to_read(*folders):
+    """The processor time in which all files of these folders are read, one after the other."""
+    began = own_seconds()
+    for folder in folders:
+        for file in os.scandir(folder):
             with open(file.path, "rb") as read:
                 read.read()
-        return own_seconds() - began
+    return own_seconds() - began
+
+
+class Dear(Case):
+    """Results that could be dear to the tally: 100,000 abandoned ones, of which the notes are wanted, and those of 317 engines."""
+
+    def test_late(self):
+        """In each game of an even seed Black was late, and in each other one it crashed."""
+        with room() as here:
+            here.run("tournament", "plan", *TWO, "--seeds", str(MANY // 2), "--", "--size", "1")
+            line = "abandoned black moves 60 restarts 2 0"
+            moves = "".join(f"{at} {('white', 'black')[at % 2]} D4 0.123\n" for at in range(1, 61))
+            ends = ("61 black late 5.000: 12 genmove b\n0 black stays ended\n0 black stays ended\n", "61 black ended 0.1: 12 genmove b: signal 11\n")
+            for seed in range(1, MANY // 2 + 1):
+                written = {"games": f"game 1: {line}\n{'D4 ' * 59}{'ABCDEFGH'[seed // 2 % 8]}1\n",
+                           "notes": f"1_one_two on here\n{moves}{ends[seed % 2]}thought: black 1.0, white 1.0\nresult: {line}\n"}  # fmt: skip
+                for kind, text in written.items():
+                    one = here.at / f"{kind}{seed % 16}"  # one of 16 files, which have many names
+                    if not one.exists():
+                        one.write_text(text)
+                    for name in ("one_two", "two_one"):
+                        os.link(one, here.at / f"all/{kind}/{seed}_{name}")
+            self.look_at(here, "abandoned", f"{MANY} of {MANY} games have a result, 0 have a winner",
+                         ["abandoned: 25000", "late: 25000", "restarts: 50000"])  # fmt: skip
+
+    def test_engines(self):
+        """317 engines with one seed."""
+        with room() as here:
+            names = [f"e{it}" for it in range(1, 318)]
+            (here.at / "all/games").mkdir(parents=True)
+            (here.at / "all/plan").write_text("".join(f"engine {it} x\n" for it in names) + "option --size\noption 1\nseeds 1\nlimit 600\n")
+            for at, one in enumerate(names):
+                result = here.at / f"one{at // 100}"  # of four, since a file can't have so many names
+                if not result.exists():
+                    result.write_text(f"game 1: B+6.5 moves 30 restarts 0 0\n{'D4 ' * 29}D4\n")
+                for other in names[:at] + names[at + 1 :]:
+                    os.link(result, here.at / f"all/games/1_{one}_{other}")
+            self.look_at(here, "of 317 engines", "100172 of 100172 games have a result, 100172 have a winner", ["  "])
+
+    def look_at(self, here, what, first, parts):
+        """What the tally says of the first engine, and what it costs."""
+        came = here.run("tally", "all")
+        said = [line for line in came.output.splitlines() if line.startswith(("  one: ", "e317  "))]
+        are_there = len(said) == len(parts) and all(part in line for part, line in zip(parts, said))
+        self.check(f"100,000 results {what}: the tally", (0, first, True, ""), (came.status, came.output.split("\n")[0], are_there, came.errors))
+        reading = seconds_to_read(*filter(os.path.isdir, (here.at / "all/games", here.at / "all/notes")))
+        spent = min(seconds_of(here, "tally", "all") for _ in range(2))
+        said = f"100,000 results {what}: at most {SECONDS} s of processor time for the tally: {spent:.2f}, and {reading:.2f} to read them"
+        self.check(said, True, spent <= max(SECONDS, TALLIED * reading))

@@ -1,4 +1,5 @@
 """The tally beside results that were counted by hand."""
+import json
 import math
 import random
 import re
@@ -33,8 +34,8 @@ engine  points    won  percent   with Black     with White
 b          6.5      6     75.0   3 of 4         3 of 4
 a          2.5      2     25.0   1 of 4         1 of 4
 
-pair               won  nobody      0  0.5    1  1.5    2  score  95 % interval   Elo  95 % interval
-b - a              6-2       6      1    0    2    2    2   64.3  36.3 to 88.7   +102  -98 to +358
+pair               won  no winner      0  0.5    1  1.5    2  score  95 % interval   Elo  95 % interval
+b - a              6-2          6      1    0    2    2    2   64.3  36.3 to 88.7   +102  -98 to +358
 
 Black won 4, White 4; 2 by resignation, 4 by forfeit
 no winner: 1 drawn, 1 at the limit of moves, 2 unfit, 2 abandoned
@@ -50,14 +51,14 @@ to look into:
   b: restarts: 1
 no result: 6
   8_a_b: not over in 600 seconds
-  9_b_a: its file has no result
+  9_b_a: its file is damaged
 """
 # The same where a loses that is abandoned: seed 7 is 1 + 1, so 1 0 1 2 3, 10 of 14. Where games don't count that nobody won, but for drawn
 # ones, the seeds 3, 6 and 7 are left out: 1 0 0 1 2, 5.5 of 8. The intervals are worked out below in another way.
 OTHERWISE = {
-    ("--abandoned", "loses"): "b - a              8-2       4      1    0    1    2    3   71.4  41.4 to 96.1   +159  -61 to +559",
-    ("--no-winner", "out"): "b - a              6-2       6      1    0    0    1    2   68.8  22.3 to 100.0  +137  -217 to +inf",
-    ("--no-winner", "half"): "b - a              6-2       6      1    0    2    2    2   64.3  36.3 to 88.7   +102  -98 to +358",
+    ("--abandoned", "loses"): "b - a              8-2          4      1    0    1    2    3   71.4  41.4 to 96.1   +159  -61 to +559",
+    ("--no-winner", "out"): "b - a              6-2          6      1    0    0    1    2   68.8  22.3 to 100.0  +137  -217 to +inf",
+    ("--no-winner", "half"): "b - a              6-2          6      1    0    2    2    2   64.3  36.3 to 88.7   +102  -98 to +358",
 }
 # Three engines, two seeds. a - b: a won all four. a - c: a won 1_a_c and 2_c_a, c won 1_c_a, 2_a_c was drawn. b - c: c won 1_b_c and
 # 1_c_b, 2_b_c was at the limit, 2_c_b was drawn. Points: a 4 + 2 + 0.5, c 1 + 2 + 0.5 + 0.5, b 0.5.
@@ -74,17 +75,22 @@ a          6.5      6     85.7   3 of 3         3 of 4
 c            4      3     60.0   2 of 3         1 of 2
 b          0.5      0      0.0   0 of 3         0 of 3
 
-pair               won  nobody      0  0.5    1  1.5    2  score  95 % interval   Elo  95 % interval
-a - all            6-1       1      0    0    1    1    2   81.2  44.0 to 100.0  +255  -42 to +inf
-c - all            3-2       3      0    1    2    0    1   56.2  22.5 to 87.5    +44  -215 to +338
-b - all            0-6       2      3    0    1    0    0   12.5  0.0 to 52.5    -338  -inf to +17
-a - c              2-1       1      0    0    1    1    0   62.5  15.1 to 100.0   +89  -300 to +inf
-a - b              4-0       0      0    0    0    0    2  100.0  31.7 to 100.0  +inf  -133 to +inf
-c - b              2-0       2      0    0    1    0    1   75.0  15.0 to 100.0  +191  -301 to +inf
+pair               won  no winner      0  0.5    1  1.5    2  score  95 % interval   Elo  95 % interval
+a - all            6-1          1      0    0    1    1    2   81.2  44.0 to 100.0  +255  -42 to +inf
+c - all            3-2          3      0    1    2    0    1   56.2  22.5 to 87.5    +44  -215 to +338
+b - all            0-6          2      3    0    1    0    0   12.5  0.0 to 52.5    -338  -inf to +17
+a - c              2-1          1      0    0    1    1    0   62.5  15.1 to 100.0   +89  -300 to +inf
+a - b              4-0          0      0    0    0    0    2  100.0  31.7 to 100.0  +inf  -133 to +inf
+c - b              2-0          2      0    0    1    0    1   75.0  15.0 to 100.0  +191  -301 to +inf
 
 Black won 5, White 4; 3 by resignation, 0 by forfeit
 no winner: 2 drawn, 1 at the limit of moves, 0 unfit, 0 abandoned
 """
+
+
+# Four engines in the order d c a b: a and b won a game each, c drew two games, and b and d one each.
+FOUR = {"1_a_b": "B+1", "1_b_a": "B+1", "1_c_d": "0", "1_d_c": "limit", "1_b_c": "0", "1_c_b": "limit"}
+FOUR_COUNTED = [("b", "1.5", "1"), ("c", "1", "0"), ("a", "1", "1"), ("d", "0.5", "0")]
 
 
 def results_of(here, folder, engines, seeds, verdicts):
@@ -125,6 +131,15 @@ def by_hand(here):
 
 class Tallies(Case):
     """The tally beside results that were counted by hand."""
+
+    def test_order(self):
+        """The order of engines: by points, and with equal points as in the plan."""
+        with room() as here:
+            results_of(here, "four", "dcab", 1, {game: f"{verdict} moves 30 restarts 0 0" for game, verdict in FOUR.items()})
+            rows = re.findall(r"^([a-d]) +(\d+\.?5?) +(\d+) ", here.run("tally", "four").output, re.MULTILINE)
+            self.check("four engines, two of which have one win, and two one point", FOUR_COUNTED, rows)
+            found = json.loads(here.run("tally", "four", "--json").output)["engines"]
+            self.check("the same as JSON", [name for name, _, _ in FOUR_COUNTED], [it["name"] for it in found])
 
     def test_by_hand(self):
         """The tournaments that were counted by hand."""

@@ -1,4 +1,5 @@
 """What is a result: a file that is cut at any byte is none, in each command, and is played again."""
+import os
 import re
 import sys
 
@@ -54,7 +55,7 @@ class Cut(Case):
             status, tally, _ = here.run("tally", "all")
             counted = f"{len(files)} of {2 * len(files)} games have a result"
             self.check(f"{what}: the tally's first line, and its status", (1, counted), (status, tally[: len(counted)]))
-            said = [f"  {name}: its file has no result" for name in names]
+            said = [f"  {name}: its file is damaged" for name in names]
             self.check(f"{what}: the tally says so of each", said, tally[tally.index("no result:") :].splitlines()[1:])
             came = here.run("tournament", "play", "all", "--jobs", "2")
             self.check(f"{what}: all are played again", (0, {text.decode()}), (came.status, set(here.games("all").values())))
@@ -81,7 +82,7 @@ class Damages(Case):
             listed = here.run("tournament", "list", "all").output.splitlines()
             tally = here.run("tally", "all").output
             for name, what in zip(names, DAMAGES):
-                found = (name in listed, tally.count(f"  {name}: its file has no result\n"))
+                found = (name in listed, tally.count(f"  {name}: its file is damaged\n"))
                 self.check(f"{what}: it is in the list, and in the tally", (True, 1), found)
                 line, said = f"{name}: limit moves 3 restarts 0 0\n", f"tournament: {name}: its file is damaged, and it is played again\n"
                 self.check(f"{what}: game plays it", (0, line, said), here.run("tournament", "game", "all", name))
@@ -107,10 +108,71 @@ class Damages(Case):
             cut.write_bytes(cut.read_bytes()[:-1])
             status, output, errors = here.run("tournament", "play", "all")
             unable = "tournament: one: it ended at 'genmove b': exit status 4"
-            said = [unable, "tournament: 1_one_two: its file is damaged, and it is played again"]
+            tried = f"{unable}; tried before: to try again, remove all/tried/{os.uname().nodename}/passed"
+            said = [tried, "tournament: 1_one_two: its file is damaged, and it is played again"]
             self.check("a cut game with an abandoned side is played again", (1, 2, said), (status, len(output.splitlines()), errors.splitlines()))
             came = here.run("tournament", "play", "all", "--again")
             self.check("--again plays both", (1, 3, f"{unable}\n"), (came.status, len(came.output.splitlines()), came.errors))
+
+
+class Unread(Case):
+    """A result that can't be read is none: each command names it and goes on, and it is played again where it can be replaced."""
+
+    def test_unread(self):
+        """A link to itself, and a folder, for which root has no permission either."""
+        with room() as here:
+            text = first_of(here, "one", TINY)
+            made_of(here, "all", text, [text] * 3)
+            for name in ("1_one_two", "2_one_two"):
+                (here.at / "all/games" / name).unlink()
+            (here.at / "all/games/1_one_two").symlink_to("1_one_two")
+            (here.at / "all/games/2_one_two").mkdir()
+            why = {"1_one_two": "Too many levels of symbolic links", "2_one_two": "Is a directory"}
+            said = [f": all/games/{name} can't be read, and so is no result: {it}" for name, it in why.items()]
+            status, output, errors = here.run("tournament", "list", "all")
+            wanted = (0, [*why], [f"tournament{it}" for it in said])
+            self.check("list has both games, and names the files", wanted, (status, output.splitlines(), lines(errors)))
+            status, output, errors = here.run("tally", "all")
+            wanted = (1, ["no result: 2", *(f"  {name}: its file can't be read: {it}" for name, it in why.items())], [f"tally{it}" for it in said])
+            self.check("tally counts the others", wanted, (status, output.splitlines()[-3:], lines(errors)))
+            status, output, errors = here.run("tournament", "export", "all", "--csv")
+            missing = "tournament: without a result, and so not exported: 2 of 6 games"
+            wanted = (0, 5, sorted([*(f"tournament{it}" for it in said), missing]))
+            self.check("export writes the others", wanted, (status, len(output.splitlines()), lines(errors)))
+            in_the_way = f"tournament: 2_one_two: no result: {here.at}/all/games/2_one_two can't be read, nor be replaced: Is a directory"
+            again = f"tournament: 1_one_two: its file can't be read: {why['1_one_two']}, and it is played again"
+            status, output, errors = here.run("tournament", "play", "all")
+            wanted = (1, "5 of 6 games have a result", [again, in_the_way])
+            self.check("play plays the one again that it can replace", wanted, (status, output.splitlines()[-1], lines(errors)))
+            self.check("then that is whole", text, (here.at / "all/games/1_one_two").read_bytes())
+            self.check("game says the same of the other", (1, "", f"{in_the_way}\n"), here.run("tournament", "game", "all", "2_one_two"))
+            self.check("nothing is left beside", [], list((here.at / "all/running").iterdir()))
+
+    def test_many(self):
+        """Of very many the first are named."""
+        with room() as here:
+            made_of(here, "all", first_of(here, "one", TINY), [b""] * 12)
+            for place in (here.at / "all/games").glob("*_one_two"):
+                place.unlink()
+                place.mkdir()
+            said = here.run("tournament", "list", "all").errors.splitlines()
+            self.same((11, "tournament: files in all/games that can't be read: 12"), (len(said), said[-1]))
+
+    def test_beside(self):
+        """Notes and logs that can't be read are as none."""
+        with room() as here:
+            engines = ["--engine", "one=gtp_engine --fault stop:1", "--engine", "two=gtp_engine", "--seeds", "1"]
+            here.run("tournament", "play", "all", *engines, "--", "--size", "2")
+            (here.at / "all/games/1_one_two").unlink()
+            for kind in ("notes", "logs"):
+                for name in ("1_one_two", "1_two_one"):
+                    (here.at / f"all/{kind}/{name}").unlink()
+                    (here.at / f"all/{kind}/{name}").mkdir()
+            came = here.run("tally", "all", "--late", "loses")
+            said = "abandoned, and perhaps late, since there are no notes: 1"
+            self.check("tally", (1, True, ""), (came.status, said in came.output, came.errors))
+            came = here.run("tournament", "export", "all", "--csv")
+            self.check("export", (0, 2), (came.status, len(came.output.splitlines())))
 
 
 # another process removes the folder of a game between the two steps in which this one takes the lock

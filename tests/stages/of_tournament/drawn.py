@@ -7,7 +7,6 @@ import time
 
 from .rooms import LIMIT, SLOW, SMALL, Case, results, room, tried, two_engines
 
-KILLS = 12
 UNSEEN = {"stdout": subprocess.DEVNULL, "stderr": subprocess.DEVNULL}
 
 
@@ -20,12 +19,14 @@ def slow_engines(here, folder):
 class Drawn(Case):
     """Whatever is killed, and whenever, no result is lost or torn, none is left running, and the same command goes on."""
 
+    kills = 12
+
     def test_drawn(self):
         """Some processes of a run are killed at drawn moments, until it is whole."""
         drawn = random.Random(8)
         with room() as here:
             kills = folders = 0
-            while kills < KILLS:
+            while kills < self.kills:
                 folders += 1
                 words = ["tournament", "play", *slow_engines(here, f"all{folders}"), "--jobs", "2", *SMALL]
                 for _ in range(4):

@@ -22,7 +22,7 @@ sys.path.insert(0, str(SCRIPTS))
 
 from games import sgf  # noqa: E402
 
-GNUGO = shutil.which("gnugo") or "/usr/games/gnugo"
+GNUGO, EXTRACT = (shutil.which(it) or f"/usr/games/{it}" for it in ("gnugo", "pgn-extract"))
 HEAD = "game,black,white,seed,opening,verdict,winner,moves,black_seconds,white_seconds,host,black_version,white_version,twogtp_version"
 # games as they are written by hand: the line, and the moves; how each is exported: the winner, and SGF's and PGN's result
 WRITTEN = {
@@ -115,21 +115,21 @@ class Exported(Case):
     def test_reader(self):
         """pgn-extract reads all games, and finds those of a result and of a player."""
         what = "PGN: pgn-extract finds the games of each result"
-        if not shutil.which("pgn-extract"):
+        if not Path(EXTRACT).exists():
             self.skip(what, "there is no pgn-extract (apt-get install pgn-extract)")
             return
         with room() as here:
             written(here)
             (here.at / "all.pgn").write_text(here.run("tournament", "export", "all", "--pgn", "--abandoned", "loses").output)
-            came = here.run("pgn-extract", "-r", "all.pgn")
+            came = here.run(EXTRACT, "-r", "all.pgn")
             read = sum(came.errors.count(f" all {host} ") for host in ("far", "?"))
             self.check("PGN: pgn-extract finds no mistake", (0, 8, True), (came.status, read, "8 games matched" in came.errors))
             for result, count in (("0-1", 3), ("1-0", 2), ("1/2-1/2", 1), ("*", 2)):
                 (here.at / "tags").write_text(f'Result "{result}"\n')
-                came = here.run("pgn-extract", "-s", "-ttags", "all.pgn")
+                came = here.run(EXTRACT, "-s", "-ttags", "all.pgn")
                 self.check(f"{what}: {result}", count, came.output.count("[Event "))
             (here.at / "tags").write_text('White "a"\nResult "1-0"\n')
-            found = here.run("pgn-extract", "-s", "-ttags", "all.pgn").output
+            found = here.run(EXTRACT, "-s", "-ttags", "all.pgn").output
             self.check("PGN: and a's games with White that it won", ["W+R"], re.findall(r'Verdict "(.*)"', found))
 
 
@@ -165,6 +165,36 @@ class Versions(Case):
             self.check("the opening of each game, where there are none", {None}, {row["opening"] for row in rows})
             seconds = [row[it] for row in rows for it in ("black_seconds", "white_seconds")]
             self.check("the seconds of each game", {float}, {type(it) for it in seconds})
+
+
+class Records(Case):
+    """The folder of --sgf."""
+
+    def test_not_empty(self):
+        """A folder that isn't empty is refused, and an empty one is taken."""
+        with room() as here:
+            written(here)
+            (here.at / "records").mkdir()
+            (here.at / "records/9_a_b.sgf").write_text("of others")
+            came = here.run("tournament", "export", "all", "--sgf", "records")
+            said = "tournament: records isn't empty: name a new folder for --sgf\n"
+            self.check("a folder with a file", (2, "", said, ["9_a_b.sgf"]), (*came, [it.name for it in (here.at / "records").iterdir()]))
+            (here.at / "empty").mkdir()
+            came = here.run("tournament", "export", "all", "--sgf", "empty")
+            self.check("an empty folder", (0, "", 8), (*came[:2], len(list((here.at / "empty").iterdir()))))
+
+    def test_full(self):
+        """Where a file can't be written whole none is left, and no folder that was made."""
+        with room() as here:
+            written(here)
+            (here.at / "all/games/2_a_b").write_text(f"game 1: 0 moves 360 restarts 0 0\n{' '.join(['A1'] * 360)}\n")
+            (here.at / "empty").mkdir()
+            for place in ("deep/records", "empty"):
+                came = here.run("bash", "-c", 'ulimit -f 1; tournament export all --sgf "$1"', "-", place)
+                said = f"tournament: {place}: no file of --sgf is left: File too large\n"
+                self.check(f"a full disk, {place}", (1, "", said), came)
+            self.check("no file is left, and no folder that was made", ([], [], False),
+                       (list((here.at / "deep").iterdir()), list((here.at / "empty").iterdir()), (here.at / "deep/records").exists()))  # fmt: skip
 
 
 class Opened(Case):

@@ -2,11 +2,16 @@
 import os
 import re
 import signal
+import sys
 
 from tests.shared import checks
 
 from .between import without_seconds
-from .rooms import HANGS, LIMIT, RANDOM, SMALL, Case, lines, room, tried, two_engines
+from .rooms import HANGS, LIMIT, RANDOM, SCRIPTS, SMALL, Case, lines, room, tried, two_engines
+
+sys.path.insert(0, str(SCRIPTS))
+
+from games import notes  # noqa: E402
 
 ONE_GAME = ["--seeds", "1", "--jobs", "1", "--", "--size", "9"]
 
@@ -25,6 +30,48 @@ def record_of(notes):
             number = int(found[1]) - 1
             moves[number:] = [] if found[3] == "undone" else [found[3]]
     return moves
+
+
+# a note, and the seconds of thought that it adds: to Black's, and to White's
+THOUGHT = {
+    "2 white E5 0.5": (0, 0.5),
+    "3 black failed 0.25": (0.25, 0),
+    "5 black late 5.5: 12 genmove b": (5.5, 0),
+    "5 white waited 2.5: 12 genmove w": (0, 2.5),
+    "5 black ended 1.5: 12 genmove b: exit status 3": (1.5, 0),
+    "5 black late 5.5: 12 play black D4": (0, 0),
+    "5 black late 5.5: 12 known_command genmove": (0, 0),
+    "5 black ended 1.5: 12 clear_board: signal 11": (0, 0),
+    "0 black started 0.5": (0, 0),
+    "1 black D4 opening": (0, 0),
+}
+
+
+@checks.table(THOUGHT, lambda it: f"how long both thought, by this note: {it}")
+class Thought(checks.Case):
+    """What of the notes is thought: each move, and a genmove that has no answer."""
+
+    def row(self, line):
+        self.same(list(THOUGHT[line]), notes.Notes(f"1_a_b on here\n{line}\n").thought)
+
+
+# notes, and what they say of both sides where one was abandoned: who was late, and how many restarts started nothing
+LATE = {
+    "3 black late 5.0: 12 genmove b\n0 black stays ended\n0 black stays ended": ([True, False], [2, 0]),
+    "12 white late 5.0: 12 genmove w\n0 white stays ended": ([False, True], [0, 1]),
+    "3 black ended 1.5: 12 genmove b: signal 11\n3 black ended 1.5: 12 genmove b: signal 11": ([False, False], [0, 0]),
+    "0 black not started: /a black late engine: No such file or directory": ([False, False], [0, 0]),
+    "3 black waited 5.0: 12 x white late 1 black stays ended": ([False, False], [0, 0]),
+}
+
+
+@checks.table(LATE, lambda it: f"who was late, by these notes: {it}".replace("\n", "; "))
+class LateOnes(checks.Case):
+    """Who was late is found in the bytes of notes as in their lines."""
+
+    def row(self, text):
+        both = notes.Late(f"1_a_b on here\n{text}\n".encode()), notes.Notes(f"1_a_b on here\n{text}\n")
+        self.same([LATE[text]] * 2, [(it.late, it.ignored) for it in both])
 
 
 class Noted(Case):
@@ -144,8 +191,16 @@ class Limits(Case):
             said = (here.at / "all/logs/1_one_two").read_text()
             self.check("late: the log says at what", "between: black: no answer in time to '8 genmove b'\n", said[: said.index("\n") + 1])
             notes = [without_seconds(it) for it in notes_of(here, "1_one_two")[-4:]]
-            wanted = ["5 black late S: 8 genmove b", "thought: black S, white S", "result: abandoned black moves 4 restarts 2 0"]
-            self.check("late: the notes", wanted, notes[-3:])
+            wanted = ["thought: black S, white S", "result: abandoned black moves 4 restarts 2 0"]
+            self.check("late: the notes", wanted, notes[-2:])
+            notes = [without_seconds(it) for it in notes_of(here, "1_one_two")[-5:-2]]
+            self.check("late: the notes of its restarts", ["5 black late S: 8 genmove b", *["0 black stays ended"] * 2], notes)
+            page = (SCRIPTS.parent / "docs/losses.md").read_text().replace("4 genmove b", "8 genmove b")
+            shown = [line for line in said.splitlines() if "8 genmove b" in line]
+            shown[1] = shown[1].partition("twogtp: game 1: black: ")[2]
+            self.check("late: docs/losses.md has both lines", [True, True], [f"`{line}`" in page for line in shown])
+            self.check("late: so does the log", 2, said.count("between: black: it was late, and isn't started again\n"))
+            self.check("late: the tally counts no restarts that started nothing", False, "restart" in here.run("tally", "all").output)
             self.check("late: the tally", ("", "0 abandoned, 2 late", "  one: late: 2"), self.tally(here))
             for words in (["--late", "loses"], ["--abandoned=loses"], ["--late=loses", "--abandoned", "loses"]):
                 came = (", 2 late", "0 abandoned", "  one: late: 2")

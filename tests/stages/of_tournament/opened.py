@@ -304,8 +304,9 @@ class Times(Case):
             self.check("late in an opening: the result", "game 1: abandoned black moves 2 restarts 2 0", line)
             said = (here.at / "all/logs/1_one_two").read_text().splitlines()[0]
             self.check("late in an opening: the log", "between: black: no answer in time to '6 play b G7'", said)
-            notes = [without_seconds(it) for it in notes_of(here, "1_one_two")[-4:-1]]
-            self.check("late in an opening: the notes", ["3 black thinks", "3 black late S: 6 play b G7", "thought: black S, white S"], notes)
+            notes = [without_seconds(it) for it in notes_of(here, "1_one_two")[-6:-1]]
+            late = ["3 black thinks", "3 black late S: 6 play b G7", *["0 black stays ended"] * 2]
+            self.check("late in an opening: the notes", [*late, "thought: black S, white S"], notes)
 
     def test_stopped(self):
         """A game that is stopped there has its moves, and who was waited for."""

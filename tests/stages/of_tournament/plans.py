@@ -1,7 +1,11 @@
 """What a folder was begun with, and what a command is."""
+import os
 import re
 import shutil
+import signal
+import subprocess
 import sys
+import time
 
 from tests.shared import checks
 
@@ -27,6 +31,31 @@ CHANGED = {
     "one engine more, and another command": ["--engine", f"one={RANDOM} 5", *ONE_AND_TWO[2:], "--engine", "three=cat", *SMALL],
     "another size": [*ONE_AND_TWO, "--", "--size", "7", "--komi", "0.5"],
     "no options": ONE_AND_TWO,
+    "one engine more, alone": ["--engine", "three=cat", *SMALL],
+    "one engine more, alone without options": ["--engine", "three=cat"],
+    "both in another order": [*ONE_AND_TWO[2:], *ONE_AND_TWO[:2], *SMALL],
+}
+# what is printed of each: the lines that differ
+DIFFERS = {
+    "another command": f"engine one {RANDOM} %s\nwhere the command has\nengine one {RANDOM} 5",
+    "another name": f"engine two {RANDOM} 10%s\nwhere the command has\nengine three {RANDOM} 10%s",
+    "one engine more, before the others": "nothing\nwhere the command has\nengine three cat",
+    "one engine more, and another command": f"engine one {RANDOM} %s\nwhere the command has\nengine one {RANDOM} 5\nengine three cat",
+    "another size": "option --size 5\nwhere the command has\noption --size 7",
+    "no options": "option --size 5\noption --komi 0.5\nwhere the command has\nnothing",
+    "one engine more, alone": f"engine one {RANDOM} %s\nengine two {RANDOM} 10%s\nwhere the command has\nengine three cat",
+    "one engine more, alone without options":
+        f"engine one {RANDOM} %s\nengine two {RANDOM} 10%s\noption --size 5\noption --komi 0.5\nwhere the command has\nengine three cat",
+    "both in another order": f"engine two {RANDOM} 10%s\nwhere the command has\nengine two {RANDOM} 10%s",
+}
+TO_ADD = "To add an engine, repeat the whole command with the new one behind the others. Else take another folder.\n"
+ELSE = "Take another folder, or write tournament play all alone, which goes on with what it has.\n"
+ADDS = ("another name", "one engine more, before the others", "one engine more, alone", "one engine more, alone without options")
+# what a command may have less of than the folder, and what is said then
+PARTS = {
+    "fewer seeds": (["--seeds", "3"], "4 seeds"),
+    "one engine less": ([*ONE_AND_TWO[:2], *SMALL], "two"),
+    "the second engine alone, and fewer seeds": ([*ONE_AND_TWO[2:], "--seeds", "1", *SMALL], "one, 4 seeds"),
 }
 WRONG = {
     "no arguments": [],
@@ -62,10 +91,21 @@ class Plans(Case):
                 status, output, errors = here.run("tournament", "play", "all", *arguments)
                 said = "tournament: all was begun with other engines or options. It has"
                 self.check(f"{what} in the same folder is refused", (2, "", said), (status, output, errors.partition("\n")[0]))
-            said = "tournament: all was begun with 4 seeds: there may be more, but not fewer\n"
-            self.check("fewer seeds are refused", (2, "", said), here.run("tournament", "play", "all", "--seeds", "3"))
+                self.check(f"{what}: what differs is printed", f"{DIFFERS[what]}\n{TO_ADD if what in ADDS else ELSE}", errors.partition("\n")[2])
+            for what, (arguments, more) in PARTS.items():
+                said = f"tournament: all has more than the command: {more}; a plan may get more, but not less\n"
+                self.check(f"{what}: plan refuses it", (2, "", said), here.run("tournament", "plan", "all", *arguments))
             came = ((here.at / "all/plan").read_text(), here.games("all"))
             self.check("then the plan is as it was, and nothing was played", (plan, {}), came)
+            for what, (arguments, more) in PARTS.items():
+                said = f"tournament: all has more than the command: {more}; all of it is played\n"
+                status, output, errors = here.run("tournament", "play", "all", *arguments)
+                wanted = (0, "8 of 8 games have a result", said, plan)
+                self.check(f"{what}: all is played", wanted, (status, output.splitlines()[-1], errors, (here.at / "all/plan").read_text()))
+            here.run("tournament", "plan", "all", *ONE_AND_TWO, "--engine", "three=gtp_engine", *SMALL)
+            came = here.run("tournament", "play", "all", *ONE_AND_TWO, "--seeds", "5", *SMALL)
+            wanted = (0, "tournament: all has more than the command: three; all of it is played\n", "30 of 30 games have a result")
+            self.check("an older command with more seeds: all engines get them", wanted, (came.status, came.errors, came.output.splitlines()[-1]))
 
     def test_wrong(self):
         """Mistakes on the command line, help, and no twogtp."""
@@ -115,6 +155,119 @@ class Lost(Case):
             self.check("--again plays them", (0, ""), here.run("tournament", "play", "all", "--again")[::2])
             self.check("--again: the old logs are gone", [], list((here.at / "all/logs").iterdir()))
 
+    def test_kept(self):
+        """Each old result stays with --again, and its notes, until there is a new one."""
+        with room() as here:
+            two = here.script("two", "#!/bin/bash\nexec gtp_engine --fault stop:1\n")
+            engines = ["--engine", f"one={RANDOM} %s", "--engine", "two=./two %s"]
+            here.run("tournament", "play", "all", *engines, "--seeds", "2", "--", "--size", "5", "--restarts", "0")
+            before = kept_in(here)
+            self.check("four games with an abandoned side", 4, sum("abandoned" in text for text in here.games("all").values()))
+            logs = logs_in(here)
+            os.unlink(two)
+            came = here.run("tournament", "play", "all", "--again")
+            wanted = (69, "4 of 4 games have a result\n", before, logs)
+            self.check("an engine can't be started: all is as it was", wanted, (came.status, came.output, kept_in(here), logs_in(here)))
+            here.script("two", IN_ITS_TRIAL.format("exit 3"))
+            came = here.run("tournament", "play", "all", "--again", "--jobs", "1")
+            self.check("it isn't started in a game: the results are as they were", (1, "4 of 4 games have a result", before),
+                       (came.status, came.output.splitlines()[-1], kept_in(here)))  # fmt: skip
+            said = re.findall(r"^tournament: (\w+): no new result, and the old one stays: two wasn't started: it ended ", came.errors, re.MULTILINE)
+            self.check("it isn't started in a game: it says that each old one stays", sorted(before[0]), sorted(said))
+            added = {game: text[len(logs[game]):] for game, text in logs_in(here).items() if text.startswith(logs[game])}
+            self.check("each old log stays, too", sorted(logs), sorted(added))
+            for game, text in sorted(added.items()):
+                first, last = text.splitlines()[0], text.splitlines()[-1]
+                is_so = re.fullmatch(r"tournament: played again until \d{4}-\d\d-\d\d \d\d:\d\d:\d\d:", first) is not None
+                begins = last.startswith("tournament: no new result, and the old one stays: two wasn't started: ")
+                self.check(f"{game}: below it is why there is no new one", (True, True), (is_so, begins))
+            came = here.run("tournament", "play", "all", "--again", "--time-left", "10")
+            said = "tournament: the time left doesn't hold another game of 600 seconds; the same command goes on\n"
+            self.check("the time left is too short: all is as it was", (1, said, before), (came.status, came.errors, kept_in(here)))
+            here.script("two", "#!/bin/bash\nexec sleep 1000\n")
+            self.stop_at(here, before, "in the trial", "trial two", signal.SIGTERM)
+            here.script("two", IN_ITS_TRIAL.format("exec sleep 1000"))
+            self.stop_at(here, before, "in a game", "sleep", signal.SIGTERM)
+            self.stop_at(here, before, "by KILL", "sleep", signal.SIGKILL)
+            logs = logs_in(here)
+            self.stop_at(here, before, "of a game's process", "sleep", signal.SIGKILL, "game 1_one_two")
+            said = "tournament: no new result, and the old one stays: its process was ended by signal 9"
+            log = logs_in(here)["1_one_two"]
+            self.check("a game's process is killed: the old log stays", (True, said), (log.startswith(logs["1_one_two"]), log.splitlines()[-1]))
+            here.script("two", f'#!/bin/bash\nexec {RANDOM} "$@"\n')
+            came = here.run("tournament", "play", "all", "--again")
+            self.check("then all are played", (0, "", 5), (came.status, came.errors, len(came.output.splitlines())))
+            last = [(here.at / "all/notes" / game).read_text().splitlines()[-1] for game in sorted(here.games("all"))]
+            wanted = [f"result: {text.splitlines()[0][8:]}" for _, text in sorted(here.games("all").items())]
+            self.check("then the notes are of the new results", wanted, last)
+
+    def stop_at(self, here, before, what, name, number, game=None):
+        """Stops a run by this signal once a process has this name, or sends it to the process of a game, and then stops the run: all is as it
+        was, also while it plays."""
+        process = here.start("tournament", "play", "all", "--again", stdout=subprocess.DEVNULL, stderr=subprocess.DEVNULL)
+        is_there = here.until(lambda: here.named(name) and here.named(game or name))
+        self.check(f"before a stop {what}: all is as it was", before, kept_in(here))
+        if game:
+            os.kill(here.named(game)[0], number)
+            here.until(lambda: not here.named(game))
+            time.sleep(0.5)
+        process.send_signal(signal.SIGTERM if game else number)
+        process.wait(100)
+        here.until(lambda: not here.left(), 20)
+        self.check(f"after a stop {what}: all is as it was", before, kept_in(here))
+        here.run("tournament", "play", "all")
+        self.check(f"a stop {what}, and then a run: all is as it was", (True, before), (bool(is_there), kept_in(here)))
+
+    def test_meanwhile(self):
+        """While games are played again, and after a kill, the tally and the table say the same of the old ones."""
+        with room() as here:
+            here.script("two", "#!/bin/bash\nfor it in 1 2 3; do read -r n c; echo =$n; echo; done\nexec sleep 1000\n")
+            engines = ["--engine", f"one={RANDOM} %s", "--engine", "two=./two %s", "--move-limit", "0.5"]
+            here.run("tournament", "play", "all", *engines, "--seeds", "1", "--", "--size", "5", "--restarts", "0")
+            before = counted(here)
+            self.check("both games have a late side", (0, True), (before[0].status, all(row[8] and row[10] for row in before[2])))
+            here.script("two", IN_ITS_TRIAL.format("exec sleep 1000"))
+            process = here.start("tournament", "play", "all", "--again", stdout=subprocess.DEVNULL, stderr=subprocess.DEVNULL)
+            self.check("they are played again", True, here.until(lambda: len(here.named("game 1_one_two")) and here.named("sleep")))
+            self.check("meanwhile all is as it was", before, counted(here))
+            process.kill()
+            process.wait(100)
+            here.until(lambda: not here.left(), 20)
+            self.check("after a kill all is as it was", before, counted(here))
+
+    def test_between(self):
+        """Where a process is killed once the new result is in its place, its notes are found, and the next run moves them and its log."""
+        with room() as here:
+            here.run("tournament", "plan", *ONE_OF_TWO)
+            new, old = (f"abandoned {it} moves 0 restarts 0 0" for it in ("white", "black"))
+            for kind, text in {"games": f"game 1: {new}\n\n", "notes": noted(old, "0.250"), "logs": "old\n"}.items():
+                (here.at / "all" / kind / "1_one_two").write_text(text)
+            beside = here.at / "all/running/1_one_two"
+            beside.mkdir()
+            for name, text in {"notes": noted(new, "0.750"), "log": "new\n", "log.whole": "new\n", "result": ""}.items():
+                (beside / name).write_text(text)
+            (beside / "result").unlink()
+            rows = [line.split(",")[5:10] for line in here.run("tournament", "export", "all", "--csv").output.splitlines()]
+            self.check("between: the table has the new notes", ["abandoned white", "", "0", "0.75", "0.0"], rows[1])
+            here.run("tournament", "play", "all", "--time-left", "1")
+            came = [(here.at / "all" / kind / "1_one_two").read_text() for kind in ("notes", "logs")]
+            self.check("between: the next run moves them", ([noted(new, "0.750"), "new\n"], False), (came, beside.exists()))
+
+    def test_before(self):
+        """Where a process is killed before the new result is in its place, the old notes and log stay, also if both have the same line."""
+        with room() as here:
+            here.run("tournament", "plan", *ONE_OF_TWO)
+            line = "abandoned white moves 0 restarts 0 0"
+            for kind, text in {"games": f"game 1: {line}\n\n", "notes": noted(line, "0.250"), "logs": "old\n"}.items():
+                (here.at / "all" / kind / "1_one_two").write_text(text)
+            beside = here.at / "all/running/1_one_two"
+            beside.mkdir()
+            for name, text in {"notes": noted(line, "0.750"), "log.whole": "new\n", "result": f"game 1: {line}\n\n"}.items():
+                (beside / name).write_text(text)
+            here.run("tournament", "play", "all", "--time-left", "1")
+            came = [(here.at / "all" / kind / "1_one_two").read_text() for kind in ("notes", "logs")]
+            self.check("before: the old ones stay", ([noted(line, "0.250"), "old\n"], False), (came, beside.exists()))
+
     def test_direct(self):
         """An engine that isn't there, without what stands between."""
         with room() as here:
@@ -137,6 +290,33 @@ class Lost(Case):
             played = {text.splitlines()[0] for text in here.games("all").values()}
             wanted = {"game 1: abandoned white moves 0 restarts 0 2", "game 1: abandoned black moves 0 restarts 2 0"}
             self.check("directly, an engine that answers once: it is abandoned", (1, wanted, ""), (came.status, played, came.errors))
+
+
+# An engine that plays in its trial, and then does this.
+IN_ITS_TRIAL = '#!/bin/bash\n[[ $(< /proc/$PPID/comm) == asks* ]] || {}\nexec gtp_engine\n'
+ONE_OF_TWO = ["all", "--engine", "one=gtp_engine", "--engine", "two=gtp_engine", "--seeds", "1"]
+
+
+def noted(line, seconds):
+    """The notes of a game with this result, in which Black thought once."""
+    return f"1_one_two on here\n1 black A1 {seconds}\nthought: black {seconds}, white 0.000\nresult: {line}\n"
+
+
+def counted(here):
+    """What the tally says, also where a late side loses, and the table without versions, which a new trial may change."""
+    said = [here.run(*it) for it in (["tally", "all"], ["tally", "all", "--late", "loses"])]
+    table = here.run("tournament", "export", "all", "--csv").output.splitlines()
+    return [*said, [line.split(",")[:11] for line in table]]
+
+
+def logs_in(here):
+    """The logs."""
+    return {place.name: place.read_text() for place in (here.at / "all/logs").iterdir()}
+
+
+def kept_in(here):
+    """The results, and their notes."""
+    return here.games("all"), {place.name: place.read_text() for place in (here.at / "all/notes").iterdir()}
 
 
 def again(here):
@@ -164,6 +344,51 @@ class NoResults(Case):
             here.environment["TWOGTP"] = here.script("stand_in", STAND_IN + ENDS[what])
             status, output, _ = here.run("tournament", "play", *two_engines("all"), "--seeds", "1", *SMALL)
             self.same((1, "0 of 2 games have a result", {}), (status, output.splitlines()[-1], here.games("all")))
+
+
+# It takes the options, and can't be started any more then.
+VANISHES = """\
+#!/bin/bash
+[[ $* != *"--black true"* ]] || { chmod -x "$0"; echo "game 1: abandoned black moves 0 restarts 2 0"; exit 1; }
+"""
+
+
+class Vanished(Case):
+    """A twogtp that can't be started any more."""
+
+    def test_vanished(self):
+        """Each game says so, and nothing is left."""
+        with room() as here:
+            here.run("tournament", "plan", *two_engines("all"), *SMALL)
+            tried(here, "all")
+            here.environment["TWOGTP"] = place = here.script("vanishes", VANISHES)
+            came = here.run("tournament", "play", "all", "--jobs", "1")
+            said = {line.partition(": no result: ")[2] for line in came.errors.splitlines()}
+            wanted = (1, "0 of 8 games have a result\n", {f"twogtp can't be started: {place}: Permission denied"}, [])
+            self.same(wanted, (came.status, came.output, said, list((here.at / "all/running").iterdir())))
+
+
+class NoNotes(Case):
+    """The folder of notes is removed during a run."""
+
+    def test_removed(self):
+        """It is made again for the next game, and one that is played has no result."""
+        with room() as here:
+            here.script("slow", "#!/bin/bash\n[ $1 != 1 ] || until [ -e go ]; do sleep 0.1; done\nexec gtp_engine\n")
+            engines = ["--engine", "one=./slow %s", "--engine", "two=gtp_engine", "--seeds", "2", "--", "--size", "2", "--max-moves", "2"]
+            here.run("tournament", "plan", "all", *engines)
+            tried(here, "all")
+            process = here.start("tournament", "play", "all", "--jobs", "1")
+            here.until(lambda: here.named("slow"))
+            shutil.rmtree(here.at / "all/notes")
+            (here.at / "go").touch()
+            output, errors = process.communicate(timeout=100)
+            why = f"{here.at}/all/notes/1_one_two is gone: somebody removed it, or there was no room for it"
+            wanted = (1, "3 of 4 games have a result", f"tournament: 1_one_two: no result: {why}\n")
+            self.check("the game that is played then", wanted, (process.returncode, output.splitlines()[-1], errors))
+            noted = sorted(place.name for place in (here.at / "all/notes").iterdir())
+            self.check("the others have notes again", ["1_two_one", "2_one_two", "2_two_one"], noted)
+            self.check("it is gone on with", (0, ""), here.run("tournament", "play", "all")[::2])
 
 
 class CutAtSpaces(Case):

@@ -2,16 +2,17 @@
 
 By hand, from the top of the repository:
 
-    python3 -m tests.stages.of_tournament.simulated errors 20000     error rates, of so many runs each: some minutes
+    python3 -m tests.stages.of_tournament.simulated errors 20000     error rates, of so many runs each: an hour
     python3 -m tests.stages.of_tournament.simulated year FOLDER 641  40 engines and so many seeds, 999,960 games: some minutes, 4 GB
 """
 import json
+import math
 import random
 import resource
 import subprocess
 import sys
 import time
-from itertools import accumulate, combinations
+from itertools import accumulate, combinations, product
 from pathlib import Path
 
 from .rooms import SCRIPTS
@@ -50,38 +51,69 @@ def by_seed(score):
     return [(whole + part) / 2 for whole, part in zip((1 - score, 0, 0, 0, score), independent(score))]
 
 
-KINDS = (independent, drawish, by_colour, by_seed)
+def by_colour_alone(score):
+    """The stronger engine wins all games with one colour, and few with the other, which its opponent never does."""
+    more = abs(2 * score - 1)
+    return [0, 0, 1 - more, 0, more] if score >= 0.5 else [more, 0, 1 - more, 0, 0]
 
 
-def accepted(likely, differences, drawn):
+def hardly_decided(score):
+    """Of a hundred pairs 99 are 1-1, or as many as the score allows, and one engine wins both games of the others."""
+    decided = max(0.01, abs(2 * score - 1))
+    won = (decided + 2 * score - 1) / 2
+    return [decided - won, 0, 1 - decided, 0, won]
+
+
+def hardly_lost(score):
+    """An engine that seldom loses a game loses both, and else many pairs are a win and a draw."""
+    lost = 0.02
+    even = 3 - 3 * lost - 4 * score
+    return [lost, 0, even, 1 - lost - even, 0]
+
+
+KINDS = (independent, drawish, by_colour, by_seed, by_colour_alone, hardly_decided, hardly_lost)
+
+
+def by_ratio(counts, elo0, elo1):
+    """What a test accepts by the ratio of a mean and a variance alone, from 48 pairs on."""
+    return scores.accepted(scores.ratio(counts, elo0, elo1)) if sum(counts) >= 48 else None
+
+
+def end_of(likely, differences, drawn, decide):
     """Which difference a run accepts, whose pairs are drawn one after the other, and how many there were."""
     counts, outcomes, sums = [0] * 5, range(5), list(accumulate(likely))
     for number in range(1, MOST):
         counts[drawn.choices(outcomes, cum_weights=sums)[0]] += 1
-        decision = scores.decision(counts, *differences)
+        decision = decide(counts, *differences)
         if decision is not None:
             return decision, number
     raise AssertionError(f"no decision in {MOST} pairs")
 
 
-def error_rates(kind, differences, runs, seed=1):
+def error_rates(kind, differences, runs, decide=scores.decision):
     """How often each of two differences isn't accepted that is the true one, and how many pairs that takes."""
-    drawn, found = random.Random(seed), []
+    drawn, found = random.Random(1), []
     for right, true in enumerate(differences):
         likely = kind(scores.expected(true))
-        ends = [accepted(likely, differences, drawn) for _ in range(runs)]
+        ends = [end_of(likely, differences, drawn, decide) for _ in range(runs)]
         found.append((sum(it != right for it, _ in ends) / runs, sum(number for _, number in ends) / runs))
     return found
 
 
+def most(runs):
+    """The highest rate that so many runs may come to where it is 6 %: two standard errors above."""
+    return 0.06 + 2 * math.sqrt(0.06 * 0.94 / runs)
+
+
 def print_errors(runs):
-    """Prints the error rates of all kinds and some differences."""
-    for differences in ((0, 10), (0, 20), (0, 50), (0, 100), (-10, 10), (-50, 50), (0, 200)):
-        for kind in KINDS:
-            few = max(1000, runs // 8) if differences[1] <= 10 else runs
-            found = error_rates(kind, differences, few)
-            rates = ", ".join(f"{100 * rate:.1f} % in {pairs:.0f} pairs" for rate, pairs in found)
-            print(f"{differences[0]:4} {differences[1]:4}  {kind.__name__:12} {rates}", flush=True)
+    """Prints the error rates of all kinds and some differences, also by the mean and the variance alone. A kind may lack a score."""
+    tests = [(0, 10), (0, 20), (0, 50), (0, 100), (-10, 10), (-50, 50), (0, 200), (50, 60), (100, 150), (300, 400), (700, 800)]
+    for differences, kind in product(tests, KINDS):
+        if all(min(it) > -1e-9 and max(it) < 1 for it in (kind(scores.expected(it)) for it in differences)):
+            few = min(runs, max(1000, runs // 8)) if differences[1] - differences[0] <= 10 else runs
+            rates = [", ".join(f"{100 * rate:.1f} % in {pairs:.0f} pairs" for rate, pairs in error_rates(kind, differences, few, decide))
+                     for decide in (scores.decision, by_ratio)]
+            print(f"{differences[0]:4} {differences[1]:4}  {kind.__name__:15} {rates[0]}; by the variance alone {rates[1]}", flush=True)
 
 
 # ---- many engines

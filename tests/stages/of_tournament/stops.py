@@ -209,6 +209,43 @@ class AllKilled(Case):
             self.check("all killed: none is left", True, here.until(lambda: not here.left(), 20))
 
 
+# another program of the name that starts twogtp, and isn't replaced by it
+WRAPPED = """\
+#!/bin/bash
+{twogtp} "$@"
+exit $?
+"""
+# who of both is killed first, the engine, and how twogtp is started
+BOTH = [(first, name, "as ever") for first in ("run", "game") for name in ("hangs", "stubborn")]
+BOTH += [("game", "stubborn", "by a script"), ("run", "hangs", "with --direct"), ("game", "stubborn", "with --direct")]
+
+
+@checks.table(BOTH, lambda it: f"the run and the game's process are killed at one moment, the {it[0]} first, '{it[1]}', twogtp {it[2]}")
+class BothKilled(Case):
+    """The run and the process of a game are killed at one moment, and nobody kills twogtp or an engine that hangs: none of them is left."""
+
+    def row(self, row):
+        first, name, how = row
+        with room() as here:
+            if how == "by a script":
+                here.environment["TWOGTP"] = here.script("wrapped", WRAPPED.format(twogtp=here.environment["TWOGTP"]))
+            engine = here.script(name, {"hangs": HANGS, "stubborn": STUBBORN}[name])
+            direct = ["--direct"] if how == "with --direct" else []
+            engines = ["--engine", f"one={engine} 2", "--engine", f"two={engine} 2"]
+            here.run("tournament", "plan", "all", *engines, "--seeds", "1", *direct, "--", "--size", "9")
+            tried(here, "all")
+            run = here.start("tournament", "play", "all", "--jobs", "1", stdout=subprocess.DEVNULL, stderr=subprocess.DEVNULL)
+            is_there = here.until(lambda: here.named("sleep") and here.named("twogtp"))
+            game, = here.named("game 1_one_two")
+            both = [run.pid, game] if first == "run" else [game, run.pid]
+            for number in (signal.SIGSTOP, signal.SIGKILL):
+                for pid in both:
+                    os.kill(pid, number)
+            run.wait(LIMIT)
+            left = (lambda: here.named("twogtp")) if direct else here.left
+            self.same((True, True), (bool(is_there), here.until(lambda: not left(), 15)))
+
+
 class OneKilled(Case):
     """A process of a game that is killed costs that game alone."""
 
@@ -308,7 +345,8 @@ class Silent(Case):
             engines = ["--engine", f"one={deaf}", "--engine", "two=gtp_engine"]
             status, _, errors = here.run("tournament", "play", "all", *engines, "--seeds", "1", "--limit", "3", "--", "--size", "1")
             came = (status, errors, set(here.games("all").values()))
-            self.check("and under the limit of a tournament", (0, "", {f"{line}pass pass\n"}), came)
+            said = "tournament: one: it doesn't answer 'quit' in 2 seconds: each of its games waits for that, up to 3 seconds\n"
+            self.check("and under the limit of a tournament, and its trial says so", (0, said, {f"{line}pass pass\n"}), came)
 
 
 class Full(Case):
@@ -369,13 +407,14 @@ class Limited(Case):
             self.check("no room for a trial: what is reported", (1, "", said), (status, output, errors[: len(said)]))
             tried(here, "all")
             status, output, errors = here.run("bash", "-c", "ulimit -f 0; tournament game all 1_one_two")
-            said = "tournament: 1_one_two: no result: File too large; its log is not written\ntournament: all can't be written to: File too large"
+            said = "tournament: 1_one_two: no result: File too large; so its log isn't written either\n"
+            said += "tournament: all can't be written to: File too large"
             self.check("no room for a result: what is reported", (1, "", said), (status, output, errors[: len(said)]))
             self.check("no room for a result: none is there", {}, here.games("all"))
             here.run("tournament", "plan", *two_engines("direct"), "--direct", *SMALL)
             tried(here, "direct")
             status, output, errors = here.run("bash", "-c", "ulimit -f 0; tournament game direct 1_one_two")
-            said = errors.startswith("tournament: 1_one_two: no result: status 3 of twogtp: is the disk full?")
+            said = errors.startswith("tournament: 1_one_two: no result: File too large: status 3 of twogtp: is the disk full?; so its log isn't")
             self.check("no room for a result, directly: what is reported", (1, "", True), (status, output, said))
             came = here.run("bash", "-c", "ulimit -f 0; tournament list all | xargs -r -n 1 -P 4 tournament game all")
             reported = sorted(re.findall(r"^tournament: (\w+): no result: ", came.errors, re.MULTILINE))
@@ -383,4 +422,16 @@ class Limited(Case):
             self.check("no room for any result: none is there", {}, here.games("all"))
             self.check("with room they are played", 0, here.run("tournament", "play", "all")[0])
             self.check("with room the results are the same", wanted, here.games("all"))
-            self.check("no output: the status", 1, here.run("bash", "-c", "tournament play all > /dev/full")[0])
+            for where, why in (("> /dev/full", "No space left on device"), (">&-", "Bad file descriptor")):
+                said = f"tournament: standard output can't be written to: {why}: no other game is begun here\n"
+                counted = "tournament: {} of {} games have a result; the same command goes on\n"
+                before = here.games("all")
+                came = here.run("bash", "-c", f"tournament play all --seeds {len(before) // 2} {where}")
+                self.check(f"no output, {where}: it says why", (1, "", said + counted.format(len(before), len(before))), came)
+                came = here.run("bash", "-c", f"tournament play all --seeds 40 --jobs 1 {where}")
+                after = here.games("all")
+                wanted = (1, "", said + counted.format(len(after), 80), 1)
+                self.check(f"no output, {where}: the run ends after a game", wanted, (*came, len(after) - len(before)))
+                for game in [it for it in after if int(it.split("_")[0]) > 4]:
+                    (here.at / "all/games" / game).unlink()
+                (here.at / "all/plan").write_text((here.at / "all/plan").read_text().replace("seeds 40", "seeds 4"))

@@ -15,6 +15,8 @@ UNABLE = {
     "ends at its move": ("exec gtp_engine --fault stop:1", "it ended at 'genmove b': exit status 4"),
     "doesn't move in time": ("for it in 1 2 3; do read -r n c; echo =$n; echo; done; exec sleep 1000", "it doesn't answer 'genmove b' in 1 seconds"),
     "answers no move": ('while read -r n c; do echo "=$n D4 and more"; echo; done', "its answer to 'genmove b' is no move: '=4 D4 and more'"),
+    "answers too much": ("for it in 1 2 3; do read -r n c; echo =$n; echo; done; printf '=4 %09000d\\n\\n' 0; cat > /dev/null",
+                         f"its answer to 'genmove b' has more than 8192 bytes; it wrote '=4 {77 * '0'}'"),  # fmt: skip
     "leaves out the number": ("while read -r n c; do echo =; echo; done", "its answer to '1 boardsize 5' has another number: '='"),
 }
 # of those that answer nothing
@@ -26,6 +28,9 @@ NOT_STARTED = {
     "it crashes": ("kill -SEGV $$", "it ended at 'boardsize 5': signal 11"),
     "a greeting": ("echo 'Welcome!'; echo; exec sleep 1000", "what it answers to 'boardsize 5' is no answer: 'Welcome!'"),
     "no answer": ("exec sleep 1000", "it doesn't answer 'boardsize 5' in 1 seconds"),
+    "it writes without pause": ("exec yes", f"what it answers to 'boardsize 5' is no answer: '{40 * 'y.n'}'".replace(".", "\\")),
+    "its answer has no end": ("exec yes = =", f"its answer to 'boardsize 5' has more than 8192 bytes; it wrote '{20 * '= =.'}'".replace(".", "\\n")),
+    "it writes empty lines without pause": ("exec yes ''", "it doesn't answer 'boardsize 5' in 1 seconds"),
     "half an answer": ("echo '=1'; exit", "it ended at 'boardsize 5': exit status 0; it wrote '=1\\n'"),
     "what it says": ("echo one >&2; echo no library >&2; exit 1",
                      "it ended at 'boardsize 5': exit status 1; the last line of all/tried/HOST/bad.log is: no library"),  # fmt: skip
@@ -66,12 +71,92 @@ class NotStarted(Case):
         with room() as here:
             script_of(here, text)
             said = f"tournament: bad can't be started here: {why}\n"
-            came = here.run("tournament", "play", "all", "--engine", "good=gtp_engine", "--engine", "bad=./engine", *LIMITS)
+            here.run("tournament", "plan", "all", "--engine", "good=gtp_engine", "--engine", "bad=./engine", *LIMITS)
+            came = here.run("tournament", "play", "all")
             wanted = (69, "0 of 2 games have a result\n", f"{said}tournament: no game is begun here\n", {})
             self.check(f"{row}: play", wanted, (came.status, came.output, without_host(came.errors), here.games("all")))
             came = here.run("tournament", "game", "all", "1_good_bad")
             wanted = (69, "", f"{said}tournament: 1_good_bad: no game is begun here\n", [])
             self.check(f"{row}: game, and none is left", wanted, (came.status, came.output, without_host(came.errors), here.left()))
+
+
+TWO = ["all", "--engine", f"good={RANDOM} %s", "--engine", f"two={RANDOM} 1%s"]
+THREE = [*TWO, "--engine", "three=./engine"]
+ONE_BY_ONE = ["--seeds", "1", "--jobs", "1", "--", "--size", "2"]
+NO_FILE = "tournament: {} can't be started here: ./engine: No such file or directory\ntournament: no game is begun here\n"
+AGAIN = "give the command again with what can be started, or make the plan by tournament plan, which tries no engine\n"
+
+
+class Added(Case):
+    """`play` tries the engines that a plan hasn't yet, and writes it only where each can be started."""
+
+    def test_new(self):
+        """A new plan with an engine that can't be started isn't made, and the right command makes it."""
+        with room() as here:
+            engines = ["all", "--engine", "good=gtp_engine", "--engine", "bad=./engine"]
+            came = here.run("tournament", "play", *engines, *ONE_BY_ONE)
+            said = NO_FILE.format("bad") + f"tournament: all/plan is not made: {AGAIN}"
+            self.check("a new plan with a typo: it says what to do", (69, "", said), came)
+            self.check("a new plan with a typo isn't made", False, (here.at / "all/plan").exists())
+            came = here.run("tournament", "play", *engines[:3], "--engine", "bad=gtp_engine --ko positional", *ONE_BY_ONE)
+            self.check("the right command makes it, and plays", (0, "", 2), (*came[::2], len(here.games("all"))))
+
+    def test_added(self):
+        """An engine that can't be started isn't added, and the folder goes on as it was."""
+        with room() as here:
+            here.run("tournament", "play", *TWO, *ONE_BY_ONE)
+            plan, played = (here.at / "all/plan").read_text(), here.games("all")
+            came = here.run("tournament", "play", *THREE, *ONE_BY_ONE)
+            said = NO_FILE.format("three") + f"tournament: all/plan stays as it was: {AGAIN}"
+            self.check("an engine more with a typo: it says what to do", (69, "", said), came)
+            self.check("an engine more with a typo: the plan and the results are as they were", (plan, played), left_in(here))
+            more = here.run("tournament", "play", "all", "--seeds", "2", "--jobs", "1")
+            self.check("then the folder goes on", (0, "", 4), (*more[::2], len(here.games("all"))))
+            here.script("engine", HEARD)
+            came = here.run("tournament", "play", *THREE, "--seeds", "2", *ONE_BY_ONE[2:])
+            starts = (here.at / "heard").read_text().splitlines().count("start")
+            self.check("where it can be started it is added, and was tried once", (0, "", 12, 9), (*came[::2], len(here.games("all")), starts))
+
+    def test_plan(self):
+        """`plan` tries nothing: its machine may have no engine."""
+        with room() as here:
+            self.check("plan makes it", (0, "", ""), here.run("tournament", "plan", *THREE[:3], *THREE[5:], "--seeds", "1", "--", "--size", "2"))
+            came = here.run("tournament", "play", "all")
+            self.check("play says what it can't start", (69, NO_FILE.format("three")), came[::2])
+
+    def test_unable(self):
+        """What an engine can't do that is added is said once, and it is added."""
+        with room() as here:
+            script_of(here, UNABLE["ends at its move"][0])
+            here.run("tournament", "plan", *TWO, *LIMITS)
+            came = here.run("tournament", "play", *THREE, *LIMITS)
+            self.same((1, "tournament: three: it ended at 'genmove b': exit status 4\n", 6), (came.status, came.errors, len(here.games("all"))))
+
+    def test_meanwhile(self):
+        """While an engine is tried the run is stopped, or the plan is changed: the plan stays as it is then."""
+        with room() as here:
+            here.run("tournament", "plan", *TWO, *ONE_BY_ONE)
+            here.script("engine", "#!/bin/bash\nuntil [ -e go ]; do sleep 0.1; done\nexec gtp_engine\n")
+            plan = (here.at / "all/plan").read_text()
+            process = here.start("tournament", "play", *THREE, *ONE_BY_ONE)
+            is_there = here.until(lambda: here.named("trial three"))
+            process.send_signal(signal.SIGTERM)
+            _, errors = process.communicate(timeout=LIMIT)
+            said = "tournament: stopped: 0 of 6 games have a result; the same command goes on\n"
+            self.check("it is stopped", (True, 143, said, (plan, {})), (bool(is_there), process.returncode, errors, left_in(here)))
+            process = here.start("tournament", "play", *THREE, *ONE_BY_ONE)
+            here.until(lambda: here.named("trial three"))
+            here.run("tournament", "plan", "all", "--seeds", "5")
+            (here.at / "go").touch()
+            _, errors = process.communicate(timeout=LIMIT)
+            said = "tournament: all/plan was changed by another run at the same time: give the command again\n"
+            plan = plan.replace("seeds 1", "seeds 5")
+            self.check("another run changes the plan", (2, said, (plan, {})), (process.returncode, errors, left_in(here)))
+
+
+def left_in(here):
+    """The plan and the results."""
+    return (here.at / "all/plan").read_text(), here.games("all")
 
 
 class Tried(Case):

@@ -1,0 +1,157 @@
+"""The trial of an engine where it is killed, and what is kept and said of it."""
+import contextlib
+import itertools
+import os
+import signal
+import subprocess
+import time
+
+from tests.shared import checks
+
+from .rooms import LIMIT, STUBBORN, Case, room
+
+ONE_SEED = ["--seeds", "1", "--jobs", "1"]
+WHO = ("tournament", "trial one", "asks one")  # the run, and both processes of a trial
+KILLED = [it for count in (1, 2) for it in itertools.permutations(WHO, count)]
+
+
+@checks.table(KILLED, lambda it: f"in a trial '{' and '.join(it)}' are killed at one moment, in this order")
+class TrialKilled(Case):
+    """Whoever of those that try an engine is killed, and whichever two at one moment: nothing that the engine started is left."""
+
+    def row(self, row):
+        with room() as here:
+            engine = here.script("stubborn", STUBBORN)
+            unseen = {"stdout": subprocess.DEVNULL, "stderr": subprocess.DEVNULL}  # which the engine may hold
+            plan = ["all", "--engine", f"one=timeout 300 {engine}", "--engine", "two=gtp_engine"]
+            process = here.start("tournament", "play", *plan, *ONE_SEED, **unseen)
+            is_there = here.until(lambda: len([it for it in here.left() if f"bash {engine}" in it and "timeout" not in it]) == 2)
+            engines = {line for line in here.left() if engine in line and "--engine" not in line}
+            found = [here.named(who) for who in row]
+            self.same((True, [1] * len(row)), (is_there, list(map(len, found))))
+            for number in (signal.SIGSTOP, signal.SIGKILL):
+                for pid, in found:
+                    with contextlib.suppress(ProcessLookupError):  # the run ends the second one where the first has ended
+                        os.kill(pid, number)
+            gone = here.until(lambda: not engines & set(here.left()), 15)
+            process.terminate()
+            process.wait(LIMIT)
+            self.same((True, True), (gone, here.until(lambda: not here.left(), 15)))
+
+
+# It answers each command but `quit`, by what it does then.
+QUITS = """\
+#!/bin/bash
+while read -r number command _; do
+    case $number$command in
+        quit) {} ;;
+        *genmove) echo "=$number D4" ;;
+        *) echo "=$number one" ;;
+    esac
+    echo
+done
+"""
+# of each, whether it is named
+ENDS = {"exec sleep 1000": True, "exec 1>&-; exec sleep 1000": False, "echo =; echo; exec sleep 1000": False, "exit 3": False,
+        "echo '? no'": False, "exec yes no": False, "sleep 0.5; exit": False}  # fmt: skip
+
+
+@checks.table(ENDS, lambda it: f"an engine whose end is '{it}'")
+class Quits(Case):
+    """An engine that doesn't answer `quit` is named by its trial, since that costs each game up to the limit; its version is known all the same."""
+
+    def row(self, row):
+        with room() as here:
+            here.script("engine", QUITS.format(row))
+            words = ["--engine", "one=./engine", "--engine", "two=gtp_engine", "--start-limit", "4", *ONE_SEED]
+            came = here.run("tournament", "play", "all", *words, "--", "--size", "9", "--max-moves", "1")
+            said = "tournament: one: it doesn't answer 'quit' in 2 seconds: each of its games waits for that, up to 4 seconds\n"
+            versions = (next((here.at / "all/tried").iterdir()) / "versions").read_text()
+            self.same((0, said if ENDS[row] else "", True), (came.status, came.errors, "engine one one one\n" in versions))
+
+
+# An engine that refuses each komi, and one that ends at once when it may; both write down who starts them.
+REFUSES = """\
+#!/bin/bash
+cat /proc/$PPID/comm >> starts
+while read -r number command _; do
+    case $command in komi) printf '?%s no komi\\n\\n' "$number" ;; *) printf '=%s\\n\\n' "$number" ;; esac
+done
+"""
+ENDS_LATE = """\
+#!/bin/bash
+cat /proc/$PPID/comm >> starts
+until [ -e go ]; do sleep 0.1; done
+exit 3
+"""
+EIGHT = ["all", "--engine", "bad=./engine", "--engine", "two=gtp_engine", "--seeds", "4", "--", "--size", "2", "--max-moves", "1"]
+XARGS = "tournament list all | xargs -n 1 -P 8 tournament game all"
+
+
+class Kept(Case):
+    """What came of a trial is kept: the engine isn't tried again by each game."""
+
+    def trials(self, here):
+        """How many trials there were."""
+        return (here.at / "starts").read_text().splitlines().count("asks bad")
+
+    def test_unable(self):
+        """What an engine can't do is said again without a trial, as long as the limits are the same and the file is there."""
+        why = "tournament: bad: it refuses 'komi 6.5': '?2 no komi'"
+        with room() as here:
+            here.script("engine", REFUSES)
+            here.run("tournament", "plan", *EIGHT)
+            came = here.run("bash", "-c", XARGS)
+            passed = next((here.at / "all/tried").iterdir()) / "passed"
+            again = f"{why}; tried before: to try again, remove all/{passed.relative_to(here.at / 'all')}"
+            self.check("eight games at once: one trial, and each says it", (123, sorted([why, *[again] * 7]), 8, 1),
+                       (came.status, sorted(came.errors.splitlines()), len(here.games("all")), self.trials(here)))  # fmt: skip
+            came = here.run("tournament", "play", "all", "--seeds", "5")
+            self.check("a run says it once, and plays", (1, f"{again}\n", 10, 1), (*came[::2], len(here.games("all")), self.trials(here)))
+            came = here.run("tournament", "play", "all", "--seeds", "6", "--start-limit", "50")
+            self.check("with another limit it is tried again", (1, f"{why}\n", 2), (*came[::2], self.trials(here)))
+            passed.unlink()
+            came = here.run("tournament", "play", "all", "--seeds", "7")
+            self.check("and so it is without the file", (1, f"{why}\n", 3), (*came[::2], self.trials(here)))
+            with open(passed, "a") as file:
+                file.write("unable\nunstarted x\nunable x\t")
+            came = here.run("tournament", "play", "all", "--seeds", "8")
+            self.check("a line that was cut does no harm", (1, f"{again}\n", 3), (*came[::2], self.trials(here)))
+            came = here.run("tournament", "play", "all", "--again")
+            self.check("--again tries it again", (1, f"{why}\n", 4), (*came[::2], self.trials(here)))
+
+    def test_not_started(self):
+        """Those that wait for a trial of an engine that can't be started take what came of it, and later ones try it again."""
+        why = "tournament: bad can't be started here: it ended at 'boardsize 2': exit status 3"
+        with room() as here:
+            here.script("engine", ENDS_LATE)
+            here.run("tournament", "plan", *EIGHT)
+            games = here.run("tournament", "list", "all").output.splitlines()
+            process = here.start("bash", "-c", XARGS)
+            are_there = here.until(lambda: len(here.named("tournament")) == 8)
+            time.sleep(0.5)
+            (here.at / "go").touch()
+            _, errors = process.communicate(timeout=LIMIT)
+            said = sorted([*[why] * 8, *(f"tournament: {it}: no game is begun here" for it in games)])
+            self.check("eight games at once: one trial", (True, said, 1), (are_there, sorted(errors.splitlines()), self.trials(here)))
+            came = here.run("tournament", "game", "all", "1_bad_two")
+            self.check("the next game tries it again", (69, 2), (came.status, self.trials(here)))
+            came = here.run("tournament", "play", "all")
+            self.check("and so does the next run", (69, f"{why}\ntournament: no game is begun here\n", 3), (*came[::2], self.trials(here)))
+            here.script("engine", "#!/bin/bash\nexec gtp_engine\n")
+            self.check("where it can be started it is", (0, ""), here.run("tournament", "game", "all", "1_bad_two")[::2])
+
+
+class Noticed(Case):
+    """Where a trial takes long it is said what is waited for."""
+
+    def test_long(self):
+        """Both the run that tries an engine and another one that waits for it say so, once."""
+        with room() as here:
+            here.script("engine", "#!/bin/bash\nsleep 12\nexec gtp_engine\n")
+            here.run("tournament", "plan", *EIGHT[:6], "1", "--limit", "100", *EIGHT[7:])
+            one, other = (here.start("tournament", *words) for words in (("play", "all", "--jobs", "1"), ("game", "all", "1_bad_two")))
+            errors = [line for process in (one, other) for line in process.communicate(timeout=LIMIT)[1].splitlines()]
+            said = ["tournament: another process tries engines on this machine, and this one waits for it",
+                    "tournament: bad is tried: its start and each answer may take 60 seconds, and its move 100"]  # fmt: skip
+            self.same(said, sorted(line for line in errors if not line.endswith("another process plays it")))
