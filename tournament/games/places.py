@@ -38,27 +38,34 @@ class Places:
         self.again_notes, self.again_log = f"{self.at}/notes", f"{self.at}/log.whole"  # of such a game, the log once it has ended
 
     def take(self):
-        """Takes the lock, whose descriptor it returns. Raises Taken where another process has it."""
+        """Takes the lock, which is made where there is none, and returns its descriptor. Raises Taken where another process has it."""
         for _ in range(TRIES):
             try:
                 with contextlib.suppress(FileExistsError):
                     os.mkdir(self.at)
-                lock = os.open(self.lock, os.O_WRONLY | os.O_CREAT | os.O_APPEND, 0o666)
+                lock = self.take_file(os.O_CREAT)
             except FileNotFoundError:  # of another process, which has removed the folder
                 if not os.path.isdir(os.path.dirname(self.at)):
                     raise
                 continue
-            try:
-                fcntl.flock(lock, fcntl.LOCK_EX | fcntl.LOCK_NB)
-            except OSError as problem:
-                os.close(lock)
-                if isinstance(problem, BlockingIOError):
-                    raise Taken from None
-                raise OSError(problem.errno, f"{problem.strerror}: the folder has to be on a file system with locks", self.lock) from None
-            if is_file(lock, self.lock):
+            if lock is not None:
                 return lock
-            os.close(lock)
         raise Taken
+
+    def take_file(self, how=0):
+        """Takes the lock in its file, and returns its descriptor; None where that was removed meanwhile."""
+        lock = os.open(self.lock, os.O_WRONLY | os.O_APPEND | how, 0o666)
+        try:
+            fcntl.flock(lock, fcntl.LOCK_EX | fcntl.LOCK_NB)
+        except OSError as problem:
+            os.close(lock)
+            if isinstance(problem, BlockingIOError):
+                raise Taken from None
+            raise OSError(problem.errno, f"{problem.strerror}: the folder has to be on a file system with locks", self.lock) from None
+        if is_file(lock, self.lock):
+            return lock
+        os.close(lock)
+        return None
 
     def new_files(self):
         """Makes both files anew, and returns their descriptors."""
@@ -136,13 +143,38 @@ class Places:
 
     def remove(self):
         """Removes what lies beside the lock, the lock, and the folder. Only who has the lock may do so."""
+        self.empty()
+        for remove, place in ((os.unlink, self.lock), (os.rmdir, self.at)):
+            with contextlib.suppress(OSError):
+                remove(place)
+
+    def empty(self):
+        """Removes what lies beside the lock. Only who has the lock may do so."""
         self.follow()
         found = []
         with contextlib.suppress(OSError):
             found = [f"{self.at}/{name}" for name in os.listdir(self.at) if name != "lock"]
-        for remove, place in [*((os.unlink, it) for it in found), (os.unlink, self.lock), (os.rmdir, self.at)]:
+        for place in found:
             with contextlib.suppress(OSError):
-                remove(place)
+                os.unlink(place)
+
+    def clear(self):
+        """Removes what a game left that was killed, unless a process has its lock. A game without a result may begin at this moment: an
+        earlier script makes the folder, opens the lock and takes it, and never looks whether it is still there. So both stay until there is
+        a result."""
+        if not os.path.lexists(self.lock):
+            self.remove_ended()
+            return
+        lock = self.take_file()
+        if lock is not None:
+            (self.remove if os.path.lexists(self.result) else self.empty)()
+            os.close(lock)
+
+    def remove_ended(self):
+        """Removes the folder of a game that has a result, where nothing lies in it any more: who plays it may be about to do that, too."""
+        if os.path.lexists(self.result):
+            with contextlib.suppress(OSError):
+                os.rmdir(self.at)
 
 
 def new_file(place):
@@ -172,11 +204,8 @@ def is_file(descriptor, place):
 
 
 def clear_running(folder):
-    """Removes what games left that were killed: each folder that nobody holds."""
+    """Removes what games left that were killed."""
     with contextlib.suppress(FileNotFoundError), os.scandir(f"{folder}/running") as found:
         for name in [it.name for it in found if it.is_dir()]:
-            places = Places(folder, name)
             with contextlib.suppress(Taken, FileNotFoundError):
-                lock = places.take()
-                places.remove()
-                os.close(lock)
+                Places(folder, name).clear()

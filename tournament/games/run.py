@@ -48,12 +48,16 @@ class Run:
             output.complain(f"{places.name}: its file {why}, and it is played again")
         return parts
 
+    def whole(self, places, old=None):
+        """The same, but None wherever there is no whole result."""
+        try:
+            return self.read(places, old)
+        except OSError:
+            return None
+
     def has_result(self, name):
         """Has a game a whole result?"""
-        try:
-            return self.read(Places(self.at, name)) is not None
-        except OSError:
-            return False
+        return self.whole(Places(self.at, name)) is not None
 
     def begin(self, name, old=None):
         """Begins a game, whose old result stays until there is a new one: its inode is given. Returns the parts of its result where it has
@@ -61,6 +65,8 @@ class Run:
         begun."""
         places = Places(self.at, name)
         places.has_old = old is not None
+        if not os.path.lexists(places.lock) and (parts := self.whole(places, old)):
+            return parts  # where another process has ended it, and is about to remove its folder, no lock is made
         lock = places.take()
         try:
             places.follow()
@@ -143,10 +149,7 @@ class Run:
         has_left = outcome < 0 or outcome == BROKEN
         if has_left:
             self.family.end(self.playing)
-        try:
-            parts = self.read(places, old)
-        except OSError:
-            parts = None
+        parts = self.whole(places, old)
         if has_left or outcome == STOPPED:
             if outcome < 0 and not parts and not self.is_ending():
                 report(name, places, f"its process was ended by signal {-outcome}")

@@ -1,11 +1,16 @@
 """What is a result: a file that is cut at any byte is none, in each command, and is played again."""
 import os
 import re
+import shutil
 import sys
 
 from tests.shared import checks
 
-from .rooms import LIMIT, RANDOM, SCRIPTS, Case, lines, results, room, tried, two_engines
+from .rooms import LIMIT, RANDOM, SCRIPTS, SMALL, Case, lines, results, room, tried, two_engines
+
+sys.path.insert(0, str(SCRIPTS))
+
+from games import places  # noqa: E402
 
 TINY = ["--size", "2", "--max-moves", "3"]
 # what a whole file becomes, which then is damaged
@@ -193,6 +198,17 @@ fcntl.flock = remove_first
 lock = place.take()
 print(len(calls), os.path.samestat(os.fstat(lock), os.stat(place.lock)))
 """
+# What lies in the folder of a game that nobody plays, whether it has a result, and what of that stays where such folders are cleared; None
+# where the folder is gone. An earlier script makes the folder and then the lock, takes it, and never looks whether both are still there.
+LEFT = {
+    "an empty folder of a game without a result": ((), False, ()),
+    "a lock alone": (("lock",), False, ("lock",)),
+    "what was written of a killed game": (("lock", "log", "notes", "result"), False, ("lock",)),
+    "an empty folder of a game with a result": ((), True, None),
+    "a lock alone of a game with a result": (("lock",), True, None),
+    "what was written of a game with a result": (("lock", "log", "result"), True, None),
+    "a log whose lock was just removed": (("log",), True, ("log",)),
+}
 # a game as the scripts played it that were written in bash: the same lock, the same files
 OLD = """\
 #!/bin/bash
@@ -219,6 +235,12 @@ option 0.5
 seeds 4
 limit 600
 """
+
+
+def after_clearing(here, beside):
+    """What lies in a game's folder once what killed games left is cleared; None where it is gone."""
+    places.clear_running(here.at / "all")
+    return tuple(sorted(it.name for it in beside.iterdir())) if beside.exists() else None
 
 
 class Old(Case):
@@ -284,6 +306,29 @@ class Old(Case):
             here.run("tournament", "plan", *two_engines("all"))
             came = here.run(sys.executable, "-c", REMOVED, str(SCRIPTS))
             self.check("a lock whose file was removed meanwhile is taken anew", (0, "2 True\n", ""), came)
+
+    def test_left(self):
+        """What a run clears before it begins."""
+        with room() as here:
+            here.run("tournament", "plan", *two_engines("all"))
+            for what, (names, has_result, stays) in LEFT.items():
+                beside, result = here.at / "all/running/1_one_two", here.at / "all/games/1_one_two"
+                beside.mkdir()
+                for place in [*(beside / name for name in names), *([result] if has_result else [])]:
+                    place.touch()
+                self.check(f"{what}: what stays of it is {stays}", stays, after_clearing(here, beside))
+                result.unlink(missing_ok=True)
+                shutil.rmtree(beside, ignore_errors=True)
+
+    def test_ended(self):
+        """A game that another process has ended, and whose folder that removes: no lock is made there."""
+        with room() as here:
+            here.run("tournament", "plan", *two_engines("all"), *SMALL)
+            (here.at / "all/games/1_one_two").write_text(results()["1_one_two"])
+            (here.at / "all/running/1_one_two").mkdir()
+            line = results()["1_one_two"].partition("\n")[0].replace("game 1: ", "1_one_two: ")
+            came = here.run("tournament", "game", "all", "1_one_two")
+            self.check("a game that has ended", (0, "", "", []), (*came, list((here.at / "all/running/1_one_two").iterdir())))
 
     def test_both(self):
         """Both play at once."""

@@ -244,9 +244,8 @@ class Lost(Case):
                 (here.at / "all" / kind / "1_one_two").write_text(text)
             beside = here.at / "all/running/1_one_two"
             beside.mkdir()
-            for name, text in {"notes": noted(new, "0.750"), "log": "new\n", "log.whole": "new\n", "result": ""}.items():
+            for name, text in {"lock": "", "notes": noted(new, "0.750"), "log": "new\n", "log.whole": "new\n"}.items():
                 (beside / name).write_text(text)
-            (beside / "result").unlink()
             rows = [line.split(",")[5:10] for line in here.run("tournament", "export", "all", "--csv").output.splitlines()]
             self.check("between: the table has the new notes", ["abandoned white", "", "0", "0.75", "0.0"], rows[1])
             here.run("tournament", "play", "all", "--time-left", "1")
@@ -262,7 +261,7 @@ class Lost(Case):
                 (here.at / "all" / kind / "1_one_two").write_text(text)
             beside = here.at / "all/running/1_one_two"
             beside.mkdir()
-            for name, text in {"notes": noted(line, "0.750"), "log.whole": "new\n", "result": f"game 1: {line}\n\n"}.items():
+            for name, text in {"lock": "", "notes": noted(line, "0.750"), "log.whole": "new\n", "result": f"game 1: {line}\n\n"}.items():
                 (beside / name).write_text(text)
             here.run("tournament", "play", "all", "--time-left", "1")
             came = [(here.at / "all" / kind / "1_one_two").read_text() for kind in ("notes", "logs")]
