@@ -16,7 +16,7 @@ The stage finds all processes that a script started by a word in their environme
   are killed, two of them at one moment. What an engine can't do is kept, and processes that wait for a trial take its outcome.
 - Engines send signals to their process group. A shell that becomes the run has children, which live on.
 - Folders go on that the scripts left which were written in bash, and a game of theirs may be played at the same time.
-- What a game costs beside twogtp, and what each command costs in a folder with 100,000 results, is little.
+- What a game costs beside twogtp, and what each command costs in a folder with 20,000 results, is little; with --whole, 100,000.
 - The tally is compared with results that were counted by hand, and the interval of pairs is worked out in another way.
 - The formulas are compared with values worked out by hand and by R, and each slip in one is noticed. Tests of two engines are simulated,
   and so is a tournament of engines whose differences are known.
@@ -49,7 +49,7 @@ from tests.stages.of_tournament.progressed import Abandoned, Lines, Times  # noq
 from tests.stages.of_tournament.numbers import Errors, Mutants, PairsOfTwo, Tests, Values, Year  # noqa: E402, F401
 from tests.stages.of_tournament.damaged import Cut, Damages, Old  # noqa: E402, F401
 from tests.stages.of_tournament.damaged import Unread as UnreadResults  # noqa: E402, F401
-from tests.stages.of_tournament.costs import Dear, Many, OneGame  # noqa: E402, F401
+from tests.stages.of_tournament.costs import Dear, Folders, Many, OneGame  # noqa: E402, F401
 from tests.stages.of_tournament.counted import Intervals, Tallies, Wrong  # noqa: E402, F401
 from tests.stages.of_tournament.between import InTime, Late, Passing  # noqa: E402, F401
 from tests.stages.of_tournament.noted import LateOnes, Limits, Noted, Thought  # noqa: E402, F401
@@ -58,16 +58,20 @@ from tests.stages.of_tournament.openings import Folders, Refused, Rules, Taken  
 from tests.stages.of_tournament.opened import Answers, Crashes, Refusals, Talks  # noqa: E402, F401
 from tests.stages.of_tournament.opened import Times as OpenedTimes  # noqa: E402, F401
 from tests.stages.of_tournament.opened import Games as OpenedGames  # noqa: E402, F401
+from tests.stages.of_tournament.replayed import Begun, Followed, InTheWay, Looks, Put  # noqa: E402, F401
 from tests.stages.of_tournament.tries import Added, InARow, NotStarted, Tried, Unable  # noqa: E402, F401
-from tests.stages.of_tournament.trials import Kept, Noticed, Quits, TrialKilled  # noqa: E402, F401
+from tests.stages.of_tournament.trials import Broken, Kept, Noticed, Pauses, Quits, TrialKilled  # noqa: E402, F401
 from tests.stages.of_tournament.beside import Died, Games, Sample, Taps  # noqa: E402, F401
 
 PARSER = checks.Parser(__doc__)
 PARSER.add_argument("--programs", metavar="FOLDER", default=rooms.Room.programs, type=Path, help="where both programs are; else bin/")
 PARSER.add_argument("--kills", metavar="N", default=Drawn.kills, type=checks.at_least_one,
                     help=f"how many kills at drawn moments; else {Drawn.kills}")  # fmt: skip
+PARSER.add_argument("--whole", action="store_true",
+                    help="200 kills at drawn moments, and folders with 100,000 results; some 20 minutes longer")  # fmt: skip
 OPTIONS = PARSER.options(__name__)
-Drawn.kills = OPTIONS.kills
+Drawn.kills = max(OPTIONS.kills, 200 if OPTIONS.whole else 0)
+Folders.whole = OPTIONS.whole
 rooms.Room.programs = OPTIONS.programs.resolve()
 
 

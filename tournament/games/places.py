@@ -88,29 +88,27 @@ class Places:
         return not is_folder and os.access(os.path.dirname(self.result), os.W_OK | os.X_OK)
 
     def put(self):
-        """Moves the new result to its place, and its log. The old one, and what was written of it, is gone then."""
+        """Moves the new result to its place, and its log. Those of an old one stay until the result is there, and `follow` is called."""
         if self.has_old:
             os.rename(self.new_log, self.again_log)
         else:
             self.keep_log(self.new_log)
         os.rename(self.new_result, self.result)
-        if self.has_old:
-            self.follow()
 
     def follow(self):
         """Moves the notes and the log of a game that was played again to their places, where its result is in its own by now. Where it isn't,
         they are those of a game that was killed before."""
-        is_put = not os.path.exists(self.new_result)
+        if os.path.exists(self.new_result):
+            for place in (self.again_notes, self.again_log):
+                with contextlib.suppress(OSError):
+                    os.unlink(place)
+            return
         with contextlib.suppress(OSError):
-            if notes_are_of(self.again_notes, self.result) and (is_put or not notes_are_of(self.notes, self.result)):
+            if notes_are_of(self.again_notes, self.result):
                 os.makedirs(os.path.dirname(self.notes), exist_ok=True)
                 os.rename(self.again_notes, self.notes)
         with contextlib.suppress(OSError):
-            if is_put:
-                self.keep_log(self.again_log)
-        for place in () if is_put else (self.again_notes, self.again_log):
-            with contextlib.suppress(OSError):
-                os.unlink(place)
+            self.keep_log(self.again_log)
 
     def keep_log(self, new):
         """Leaves what was written on standard error, if anything was: it is in this place now."""
@@ -186,11 +184,8 @@ def new_file(place):
 
 def notes_are_of(notes, result):
     """Do these notes end with the line of this result?"""
-    try:
-        line = results.bytes_of(result).partition(b"\n")[0]
-        return results.bytes_of(notes).endswith(b"\nresult: %b\n" % line[8:])
-    except OSError:
-        return False
+    line = results.bytes_of(result).partition(b"\n")[0]
+    return results.bytes_of(notes).endswith(b"\nresult: %b\n" % line[8:])
 
 
 def is_file(descriptor, place):

@@ -1,6 +1,7 @@
 """What is asked for on the command line: both forms of an option, the help of each command, and what a mistake is answered by."""
 import ast
 import re
+import shutil
 
 from tests.shared import checks
 
@@ -102,28 +103,43 @@ SAID_BY_TALLY = {
 }
 
 
+def files_in(place):
+    """The files in a folder and below, with what is in each, and the folders."""
+    return {str(it): it.is_file() and it.read_text() for it in sorted(place.rglob("*"))}
+
+
 @checks.table(SAID_BY_TALLY, lambda it: f"tally {' '.join(it)}: it says what to write")
 class SaidByTally(Case):
     """A mistake in the arguments of the tally."""
 
+    @classmethod
+    def setUpClass(cls):
+        super().setUpClass()
+        cls.here = cls.shared_room()
+        cls.here.run("tournament", "plan", *two_engines("all"), *SMALL)
+        cls.here.run("tournament", "plan", *two_engines("three"), "--engine", "three=cat", *SMALL)
+        cls.here.run("tournament", "plan", *two_engines("one"), "--engine", "three=cat", "--gauntlet", "one", *SMALL)
+
     def row(self, words):
-        with room() as here:
-            here.run("tournament", "plan", *two_engines("all"), *SMALL)
-            here.run("tournament", "plan", *two_engines("three"), "--engine", "three=cat", *SMALL)
-            here.run("tournament", "plan", *two_engines("one"), "--engine", "three=cat", "--gauntlet", "one", *SMALL)
-            self.same((2, "", f"tally: {SAID_BY_TALLY[words]}\n"), here.run("tally", *words))
+        self.same((2, "", f"tally: {SAID_BY_TALLY[words]}\n"), self.here.run("tally", *words))
 
 
 @checks.table(SAID, lambda it: f"tournament {' '.join(it)[:90]}: it says what to write")
 class Said(Case):
     """A mistake is answered by a line that says what to write, with status 2, and nothing is made."""
 
+    @classmethod
+    def setUpClass(cls):
+        super().setUpClass()
+        cls.here = cls.shared_room()
+        cls.here.run("tournament", "plan", *two_engines("all"), *SMALL)
+        cls.here.run("tournament", "plan", *two_engines("direct"), "--direct", *SMALL)
+        cls.made = files_in(cls.here.at)
+
     def row(self, words):
-        with room() as here:
-            here.run("tournament", "plan", *two_engines("all"), *SMALL)
-            here.run("tournament", "plan", *two_engines("direct"), "--direct", *SMALL)
-            came = here.run("tournament", *words)
-            self.same((2, "", f"tournament: {SAID[words]}\n", False), (*came, (here.at / "x").exists()))
+        came, made = self.here.run("tournament", *words), files_in(self.here.at)
+        shutil.rmtree(self.here.at / "x", ignore_errors=True)
+        self.same((2, "", f"tournament: {SAID[words]}\n", self.made), (*came, made))
 
 
 class Forms(Case):

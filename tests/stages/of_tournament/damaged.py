@@ -27,10 +27,10 @@ DAMAGES = {
 }
 
 
-def made_of(here, folder, text, files, options=TINY):
+def made_of(here, folder, text, files, options=TINY, how=()):
     """A folder whose plan has a seed for each of these files, and two games with each: the first has the file, the other this text."""
     seeds = len(files)
-    words = [folder, "--engine", f"one={RANDOM} 1", "--engine", f"two={RANDOM} 2", "--seeds", str(seeds), "--", *options]
+    words = [folder, "--engine", f"one={RANDOM} 1", "--engine", f"two={RANDOM} 2", "--seeds", str(seeds), *how, "--", *options]
     here.run("tournament", "plan", *words)
     for seed, file in enumerate(files, 1):
         (here.at / folder / f"games/{seed}_one_two").write_bytes(file)
@@ -54,7 +54,7 @@ class Cut(Case):
             text = first_of(here, "one", options)
             files = [text[:count] for count in range(len(text))]
             self.check(f"{what}: there are many", True, len(files) > (60 if show else 40))
-            made_of(here, "all", text, files, options)
+            made_of(here, "all", text, files, options, ["--direct"])  # so that a game takes little time
             names = [f"{seed}_one_two" for seed in range(1, len(files) + 1)]
             self.check(f"{what}: the list has each", (0, names), as_lines(here.run("tournament", "list", "all")))
             status, tally, _ = here.run("tally", "all")

@@ -91,7 +91,7 @@ class Warned(Case):
                 self.check(f"{what}: it names {who}", (0, "", said_of(who)), came)
                 came = here.run("tournament", "plan", what, *named, *words, "--limit", "99", *SMALL)
                 self.check(f"{what}: with another limit it says nothing again", (0, "", ""), came)
-                came = here.run("tournament", "play", what, "--seeds", "3")
+                came = here.run("tournament", "play" if what == "one seed" else "plan", what, "--seeds", "3")
                 said = "".join(f"{it}\n" for it in came.errors.splitlines() if "%s" in it)
                 self.check(f"{what}: with more seeds it says only what is new", said_of("a and b" if what == "one seed" else None), said)
 

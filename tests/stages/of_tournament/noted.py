@@ -62,6 +62,7 @@ LATE = {
     "3 black ended 1.5: 12 genmove b: signal 11\n3 black ended 1.5: 12 genmove b: signal 11": ([False, False], [0, 0]),
     "0 black not started: /a black late engine: No such file or directory": ([False, False], [0, 0]),
     "3 black waited 5.0: 12 x white late 1 black stays ended": ([False, False], [0, 0]),
+    "thought: black late 5.0, black stays 1.0": ([False, False], [0, 0]),
 }
 
 

@@ -382,10 +382,10 @@ ENGINE = {"name": "b", "points": 6.5, "games": 14, "won": 6, "lost": 2, "no_winn
 # ---- what simulations come to
 
 # two differences, how the pairs end, and how many runs there are of each
-SIMULATED = [((0, 100), simulated.independent, 1000), ((0, 100), simulated.by_colour, 1000), ((-50, 50), simulated.drawish, 1000)]
+SIMULATED = [((0, 100), simulated.independent, 400), ((0, 100), simulated.by_colour, 400), ((-50, 50), simulated.drawish, 400)]
 # of these the ratio of a mean and a variance alone errs more often, though from 48 pairs on
-HARD = [((0, 3), simulated.hardly_decided, 150), ((5, 25), simulated.by_colour_alone, 300), ((150, 170), simulated.hardly_lost, 150),
-        ((300, 400), simulated.by_seed, 250), ((400, 450), simulated.by_colour, 150), ((700, 800), simulated.independent, 100)]  # fmt: skip
+HARD = [((0, 3), simulated.hardly_decided, 40), ((5, 25), simulated.by_colour_alone, 100), ((150, 170), simulated.hardly_lost, 60),
+        ((300, 400), simulated.by_seed, 250), ((400, 450), simulated.by_colour, 150), ((700, 800), simulated.independent, 50)]  # fmt: skip
 
 
 @checks.table(SIMULATED + HARD, lambda it: f"a test of {it[0][0]} and {it[0][1]} Elo errs in at most 6 % at both: pairs {it[1].__name__}")

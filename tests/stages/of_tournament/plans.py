@@ -123,7 +123,7 @@ class Plans(Case):
 
     def test_at_once(self):
         """Of two runs that begin a folder with other options at once, one makes it; with the same ones both have it."""
-        for sizes in [("5", "7")] * 10 + [("5", "5")]:
+        for sizes in [("5", "7")] * 5 + [("5", "5")]:
             with room() as here:
                 begun = [here.start("tournament", "plan", "all", *ONE_AND_TWO, "--", "--size", size) for size in sizes]
                 ended = sorted((process.communicate(timeout=100) and process.returncode) for process in begun)

@@ -11,7 +11,7 @@ import time
 from functools import lru_cache
 from pathlib import Path
 
-from tests.shared import checks, running
+from tests.shared import alone, checks, running
 
 SCRIPTS = running.TOP / "tournament"
 LIMIT = 120  # seconds that one run may take, on a machine with other work
@@ -25,11 +25,24 @@ class Case(checks.Case):
     def setUpClass(cls):
         running.need("twogtp", "gtp_engine", folder=Room.programs)
 
+    @classmethod
+    def shared_room(cls):
+        """A room for all tests of the case, for its setUpClass."""
+        stack = contextlib.ExitStack()
+        cls.addClassCleanup(stack.close)
+        return stack.enter_context(room())
+
 
 def heed():
     """Each signal that the tests send does again what it does where nobody asked otherwise."""
     for number in (signal.SIGHUP, signal.SIGINT, signal.SIGTERM):
         signal.signal(number, signal.SIG_DFL)
+
+
+def read(place):
+    """What is in a file, as bytes. It is asked of each process very often."""
+    with open(place, "rb", buffering=0) as file:
+        return file.read()
 
 
 class Room:
@@ -41,8 +54,7 @@ class Room:
         self.at = folder
         self.mark = f"TOURNAMENT_ROOM={secrets.token_hex(8)}"
         name, value = self.mark.split("=")
-        self.environment = {**os.environ, name: value, "TWOGTP": str(self.programs / "twogtp"),
-                            "PATH": f"{SCRIPTS}:{self.programs}:{os.environ['PATH']}"}
+        self.environment = {**alone.environment(SCRIPTS, self.programs), name: value, "TWOGTP": str(self.programs / "twogtp")}
         self.environment.pop("TOURNAMENT", None)
 
     def start(self, *words, **more):
@@ -62,11 +74,11 @@ class Room:
 
     def left(self):
         """The processes that live and were started here: pid and command line."""
-        found = []
-        for place in Path("/proc").glob("[0-9]*"):
+        found, mark = [], self.mark.encode()
+        for name in filter(str.isdigit, os.listdir("/proc")):
             with contextlib.suppress(OSError):
-                if self.mark.encode() in (place / "environ").read_bytes().split(b"\0"):
-                    found.append(f"{place.name} {(place / 'cmdline').read_bytes().replace(bytes(1), b' ').decode()}")
+                if mark in read(f"/proc/{name}/environ").split(b"\0"):
+                    found.append(f"{name} {read(f'/proc/{name}/cmdline').replace(bytes(1), b' ').decode()}")
         return found
 
     def named(self, name):

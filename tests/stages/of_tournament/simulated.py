@@ -12,6 +12,7 @@ import resource
 import subprocess
 import sys
 import time
+from bisect import bisect
 from itertools import accumulate, combinations, product
 from pathlib import Path
 
@@ -81,9 +82,9 @@ def by_ratio(counts, elo0, elo1):
 
 def end_of(likely, differences, drawn, decide):
     """Which difference a run accepts, whose pairs are drawn one after the other, and how many there were."""
-    counts, outcomes, sums = [0] * 5, range(5), list(accumulate(likely))
+    counts, sums, draw = [0] * 5, list(accumulate(likely)), drawn.random
     for number in range(1, MOST):
-        counts[drawn.choices(outcomes, cum_weights=sums)[0]] += 1
+        counts[bisect(sums, draw() * sums[-1], 0, 4)] += 1
         decision = decide(counts, *differences)
         if decision is not None:
             return decision, number

@@ -4,11 +4,17 @@ import itertools
 import os
 import signal
 import subprocess
+import sys
 import time
+from unittest import mock
 
 from tests.shared import checks
 
-from .rooms import LIMIT, STUBBORN, Case, room
+from .rooms import LIMIT, RANDOM, SCRIPTS, STUBBORN, Case, room
+
+sys.path.insert(0, str(SCRIPTS))
+
+from games import trial  # noqa: E402
 
 ONE_SEED = ["--seeds", "1", "--jobs", "1"]
 WHO = ("tournament", "trial one", "asks one")  # the run, and both processes of a trial
@@ -70,10 +76,12 @@ class Quits(Case):
             self.same((0, said if ENDS[row] else "", True), (came.status, came.errors, "engine one one one\n" in versions))
 
 
-# An engine that refuses each komi, and one that ends at once when it may; both write down who starts them.
+# An engine that refuses each komi, of which it also says something with a tab, and one that ends at once when it may; both write down who
+# starts them.
 REFUSES = """\
 #!/bin/bash
 cat /proc/$PPID/comm >> starts
+printf 'komi\\tfails\\n' >&2
 while read -r number command _; do
     case $command in komi) printf '?%s no komi\\n\\n' "$number" ;; *) printf '=%s\\n\\n' "$number" ;; esac
 done
@@ -97,13 +105,14 @@ class Kept(Case):
 
     def test_unable(self):
         """What an engine can't do is said again without a trial, as long as the limits are the same and the file is there."""
-        why = "tournament: bad: it refuses 'komi 6.5': '?2 no komi'"
         with room() as here:
             here.script("engine", REFUSES)
             here.run("tournament", "plan", *EIGHT)
             came = here.run("bash", "-c", XARGS)
             passed = next((here.at / "all/tried").iterdir()) / "passed"
-            again = f"{why}; tried before: to try again, remove all/{passed.relative_to(here.at / 'all')}"
+            name = f"all/{passed.relative_to(here.at / 'all')}"
+            why = f"tournament: bad: it refuses 'komi 6.5': '?2 no komi'; the last line of {name[:-6]}bad.log is: komi\tfails"
+            again = why.replace("\t", " ") + f"; tried before: to try again, remove {name}"
             self.check("eight games at once: one trial, and each says it", (123, sorted([why, *[again] * 7]), 8, 1),
                        (came.status, sorted(came.errors.splitlines()), len(here.games("all")), self.trials(here)))  # fmt: skip
             came = here.run("tournament", "play", "all", "--seeds", "5")
@@ -140,6 +149,62 @@ class Kept(Case):
             self.check("and so does the next run", (69, f"{why}\ntournament: no game is begun here\n", 3), (*came[::2], self.trials(here)))
             here.script("engine", "#!/bin/bash\nexec gtp_engine\n")
             self.check("where it can be started it is", (0, ""), here.run("tournament", "game", "all", "1_bad_two")[::2])
+
+
+    def test_again(self):
+        """Of two runs that play lost games again at once, the second one takes what came of the first one's trial."""
+        with room() as here:
+            here.script("engine", ENDS_LATE)
+            here.run("tournament", "plan", *EIGHT)
+            (here.at / "all/games/1_bad_two").write_text("game 1: abandoned black moves 0 restarts 0 0\n\n")
+            runs = [here.start("tournament", "play", "all", "--again") for _ in range(2)]
+            are_there = here.until(lambda: len(here.named("tournament")) == 2 and (here.at / "starts").exists())
+            time.sleep(0.5)
+            (here.at / "go").touch()
+            said = "tournament: bad can't be started here: it ended at 'boardsize 2': exit status 3\ntournament: no game is begun here\n"
+            errors = [run.communicate(timeout=LIMIT)[1] for run in runs]
+            self.same((True, [said] * 2, [69] * 2, 1), (are_there, errors, [run.returncode for run in runs], self.trials(here)))
+
+
+# It never answers in its trial, and plays in its games.
+WAITS = '#!/bin/bash\n[[ $(< /proc/$PPID/comm) != asks* ]] || exec sleep 1000\nexec gtp_engine\n'
+
+
+class Broken(Case):
+    """A trial that is killed says nothing of the engine."""
+
+    def test_broken(self):
+        """It is said, and isn't kept, and the games are played."""
+        with room() as here:
+            here.script("engine", WAITS)
+            for seeds, who in enumerate(("trial bad", "asks bad"), 1):
+                words = [*EIGHT[:4], f"two={RANDOM} %s", "--seeds", str(seeds), *EIGHT[7:]]
+                process = here.start("tournament", "play", *words)
+                is_there = here.until(lambda: here.named("sleep") and here.named("trial bad"))
+                for pid in here.named(who):
+                    os.kill(pid, signal.SIGKILL)
+                _, errors = process.communicate(timeout=LIMIT)
+                wanted = (True, 0, "tournament: bad: its trial was ended\n", 2 * seeds, [])
+                came = (bool(is_there), process.returncode, errors, len(here.games("all")), here.left())
+                self.check(f"'{who}' is killed in a trial: that is said, and the games are played", wanted, came)
+
+
+class Pauses(checks.Case):
+    """The limit of an answer, whatever an engine writes."""
+
+    def test_no_pause(self):
+        """An engine that writes empty lines without any pause is late as others."""
+        engine, until = trial.Asked.__new__(trial.Asked), time.monotonic() + 10
+        engine.read, engine.taken, engine.given = b"", 0, os.open(os.devnull, os.O_WRONLY)
+
+        def read(*_):
+            assert time.monotonic() < until, "it is waited for beyond its limit"
+            return b"\n"
+
+        with mock.patch.object(trial.select, "select", lambda *_: ([0], [], [])), mock.patch.object(trial.os, "read", read):
+            with self.assertRaises(trial.Late):
+                engine.ask(1, "name", 0.1)
+        os.close(engine.given)
 
 
 class Noticed(Case):
