@@ -164,7 +164,7 @@ skip_over turn asked.Kill is takes = absurd is
 -- ---- a turn
 
 module _ (turn : Turn) (question : Question) (of : IsTurnOf turn question) where
-  taken : Takes (call turn.lesson turn.old turn.exam) question turn.action turn.new
+  pub taken : Takes (call turn.lesson turn.old turn.exam) question turn.action turn.new
   taken =
       let has = of.is.asks of.opened of.due in
       subst (λ (q : Question). Takes (call turn.lesson turn.old turn.exam) q turn.action turn.new)

@@ -3,6 +3,7 @@ ghost use Rattle.gtp_check_questions.specs.Laws.{EveryCourseIsBounded, EachScene
 ghost use Rattle.gtp_check_questions.specs.Laws.{ColoursAreInFull, ListIsAskedFor, UsualFormComesFirst};
 ghost use Rattle.gtp_check_questions.specs.Laws.{EachClearedBoardIsProbed, EachLackIsAskedFor, EachKomiIsExact};
 ghost use Rattle.gtp_check_questions.specs.Laws.{EachKoIsAnswered, EachSizeIsSought, NoSuicideIsAsked, PiecesAreSent};
+ghost use Rattle.gtp_check_questions.specs.Order.{EachStepComesInOrder};
 ghost use Rattle.gtp_check_questions.specs.Parting.{ScoresAreParted};
 ghost use Rattle.gtp_check_questions.specs.Posing.{EachQuestionIsAsked};
 
@@ -28,6 +29,15 @@ pub fn each_step_asks_one_question()
 /// step comes.
 pub fn each_question_is_asked()
     ensures { EachQuestionIsAsked }
+{}
+
+/// Each step of the course comes in its order, and none is passed over or comes twice. After a command that was asked,
+/// the `undo` of a probe, a step that is passed over and the end of an engine the first step comes that still comes.
+/// These are all later ones. But where a size was refused or something found, the rest of the part is left. After ten
+/// findings or three losses the other parts of the lesson are. The course stays at its step while the engine is waited
+/// for, opened or started, and while the `undo` of a probe is due.
+pub fn each_step_comes_in_order()
+    ensures { EachStepComesInOrder }
 {}
 
 /// In each part of a lesson of scenes the moves of the scene are asked, then `clear_board`, and then a probe of each of
