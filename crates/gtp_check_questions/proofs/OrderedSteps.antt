@@ -189,7 +189,7 @@ opens_after turn at command after Done opens = opens
 at_first : (lessons : List Lesson) (scene_size : Option ℕ) (seed : ℕ) (suicide : Suicide)
     → IsAtFirst lessons (begun lessons scene_size seed suicide)
 at_first lessons scene_size seed suicide = record {
-  lessons = refl;
+  has = refl;
   is = some (slice_get_cases lessons 0).1;
   first = λ place is before. omega (arith, before);
   fresh = refl;

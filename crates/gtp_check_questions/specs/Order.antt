@@ -74,7 +74,7 @@ pub record IsNext (is_left : Bool) (scene_size : Option ℕ) (old new : Course) 
 
 -- the course is at the first step of all, or there is none
 pub record IsAtFirst (lessons : List Lesson) (course : Course) : Type 0 where
-  pub lessons : course.lessons ≡ lessons
+  pub has : course.lessons ≡ lessons
   pub is : IsStepAt lessons course.place ⊎ (length lessons ≤ course.place.lesson)
   pub first : (place : Place) → IsStepAt lessons place → ¬ IsBefore place course.place
   pub fresh : course.place.undoing ≡ false
