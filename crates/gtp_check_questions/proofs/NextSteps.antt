@@ -1,6 +1,7 @@
 -- The next step is the first that still comes.
-use Rattle.std.specs.Prelude.{◌≢◌, ◌&&◌, nat_lt, if◌then◌else◌, ◌==◌}
-use Rattle.std.proofs.Common.{◌≡◌, ◌∙◌, ◌+◌, ◌<◌, ◌≤◌, ◌⊎◌, inl, inr, arith, refl, sym, ap, subst, Bool, true, false, ℕ, zero, suc}
+use Rattle.std.specs.Prelude.{◌&&◌, nat_lt, if◌then◌else◌, ◌==◌}
+use Rattle.std.proofs.Common.{◌≡◌, ◌∙◌, ◌+◌, ◌<◌, ◌≤◌, ◌⊎◌, inl, inr, arith, refl, sym, ap, subst}
+use Rattle.std.proofs.Common.{Bool, true, false, ℕ, zero, suc}
 use Rattle.std.proofs.Common.{get_or, List, [], ◌∷◌, Option, None, Some, length, slice_get}
 use Rattle.std.proofs.lemmas.Bool.Decides.{nat_tests}
 use Rattle.std.proofs.lemmas.Option.{slice_get_cases, slice_get_within}
@@ -9,8 +10,8 @@ use Rattle.gtp_check_questions.specs.declared.lessons.Lesson.TheVariants as less
 use Rattle.gtp_check_questions.specs.declared.places.Place.{Place}
 use Rattle.gtp_check_questions.specs.declared.stretches.Stretch.{Stretch}
 use Rattle.gtp_check_questions.specs.Course.{Course, part_over, step_over}
-use Rattle.gtp_check_questions.specs.Lessons.{in_full_stretches, list_stretches, parts_of, pieces_stretches, start_stretches}
-use Rattle.gtp_check_questions.specs.Lessons.{stretches_of}
+use Rattle.gtp_check_questions.specs.Lessons.{in_full_stretches, list_stretches, parts_of, pieces_stretches}
+use Rattle.gtp_check_questions.specs.Lessons.{start_stretches, stretches_of}
 use Rattle.gtp_check_questions.specs.Order.{AreOfOnePart, IsBefore, IsEnough, IsNext, IsStepAt, StillComes}
 use Rattle.gtp_check_questions.specs.Places.{next_lesson, next_part, next_step, next_stretch}
 use Rattle.gtp_check_questions.specs.Stretches.{steps_if, steps_of}

@@ -1,5 +1,5 @@
 -- Each step comes in its order.
-use Rattle.std.proofs.Common.{◌≡◌, ◌∙◌, ◌+◌, ◌<◌, ◌≤◌, ◌⊎◌, inl, inr, arith, refl, sym, ap, subst, Bool, true, false, ℕ}
+use Rattle.std.proofs.Common.{◌≡◌, ◌<◌, ◌≤◌, ◌⊎◌, inl, inr, arith, refl, sym, subst, Bool, true, false, ℕ}
 use Rattle.std.proofs.Common.{get_or, List, Option, None, Some, length, slice_get}
 use Rattle.std.proofs.lemmas.Option.{slice_get_cases}
 use Rattle.go_base.specs.declared.moves.Move.{Move}
@@ -12,13 +12,13 @@ use Rattle.gtp_check_questions.specs.declared.lessons.Lesson.{Lesson}
 use Rattle.gtp_check_questions.specs.declared.openings.Opening.{Opening}
 use Rattle.gtp_check_questions.specs.declared.places.Place.{Place}
 use Rattle.gtp_check_questions.specs.declared.suicides.Suicide.{Suicide}
-use Rattle.gtp_check_questions.specs.Asking.{Call, Finds, HasTaken, Kills, Opens, Poses, Probes, Renews, Sees, Takes}
+use Rattle.gtp_check_questions.specs.Asking.{Call, Finds, Kills, Opens, Poses, Probes, Renews, Sees, Takes}
 use Rattle.gtp_check_questions.specs.Asking.{Tries, call, undo}
 use Rattle.gtp_check_questions.specs.Course.{Course, begun, part_over, step_over, with_finding}
 use Rattle.gtp_check_questions.specs.Order.{After, AfterOpening, CountsOnce, EachStepComesInOrder, IsAtFirst, IsAtStep}
 use Rattle.gtp_check_questions.specs.Order.{IsEnough, IsNext, IsSettled, IsStepAt, NextComes, StillComes}
 use Rattle.gtp_check_questions.specs.Places.{first_place}
-use Rattle.gtp_check_questions.specs.Posing.{IsTurnOf, IsTaken, Turn, play_of}
+use Rattle.gtp_check_questions.specs.Posing.{IsTaken, Turn, play_of}
 use Rattle.gtp_check_questions.proofs.NextSteps.{ends, first_step, full, on, some_parts}
 use Rattle.gtp_check_questions.proofs.PosedQuestions.{taken}
 
@@ -29,7 +29,8 @@ call_of turn = call turn.lesson turn.old turn.exam
 
 comes : (turn : Turn) → IsAtStep turn → turn.new ≡ step_over turn.lesson turn.old → NextComes turn
 comes turn at is =
-    subst (λ (c : Course). IsNext false turn.old.scene_size turn.old c) (sym is) (on turn.lesson turn.old at.lesson at.is)
+    subst (λ (c : Course). IsNext false turn.old.scene_size turn.old c) (sym is)
+    (on turn.lesson turn.old at.lesson at.is)
 
 -- the same steps come whatever the size of scenes is
 abbrev sized : Course → ℕ → Course

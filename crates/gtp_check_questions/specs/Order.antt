@@ -1,7 +1,6 @@
 -- In which order the steps of a course come, and which comes next after each outcome. (Own.)
 use Rattle.std.specs.Prelude.{◌≡◌, ◌≢◌, ℕ, ◌+◌, ◌<◌, ◌≤◌, ◌⊎◌, Bool, true, false}
 use Rattle.std.specs.Prelude.{List, length, slice_get, Option, None, Some}
-use Rattle.gtp_wire.specs.declared.commands.Command.TheVariants as command
 use Rattle.gtp_check_judge.specs.declared.asking.CheckCommand.{CheckCommand}
 use Rattle.gtp_check_judge.specs.declared.exam.Exam.{Exam}
 use Rattle.gtp_check_questions.specs.declared.actions.Action.{Action}
@@ -107,8 +106,8 @@ AfterSkip turn (asked.Found size) =
 AfterSkip turn asked.Restart = ⊥
 AfterSkip turn asked.Kill = ⊥
 
--- After a command that is asked the next step comes. But where a probe is of a legal move, the course stays at its step,
--- and the `undo` of the move is due.
+-- After a command that is asked the next step comes. But where a probe is of a legal move, the course stays at its
+-- step, and the `undo` of the move is due.
 abbrev pub AfterAsked : Turn → Question → Type 0
 AfterAsked turn (asked.Ask command) = NextComes turn
 AfterAsked turn (asked.Probe move) =
@@ -120,8 +119,8 @@ AfterAsked turn (asked.Found size) = ⊥
 AfterAsked turn asked.Restart = ⊥
 AfterAsked turn asked.Kill = ⊥
 
--- What comes after a turn of this question, by what was done. While the engine is waited for the course stays. Where the
--- engine is ended, to be started anew, the next step comes.
+-- What comes after a turn of this question, by what was done. While the engine is waited for the course stays. Where
+-- the engine is ended, to be started anew, the next step comes.
 abbrev pub After : Turn → Question → Action → Type 0
 After turn question Wait = Stays turn
 After turn question (Ask command) = AfterAsked turn question
@@ -136,7 +135,7 @@ abbrev pub IsSettled : Turn → Question → Type 0
 IsSettled turn (asked.Probe move) = IsTaken turn move ⊎ (¬ IsTaken turn move)
 IsSettled turn _ = Unit {0}
 
--- What comes after a turn of the opening, of which this is to be asked next: the course stays at its step. Only where the
+-- What comes after a turn of the opening, of which this is left then: the course stays at its step. Only where the
 -- engine is ended, since no more ids are left, the next step comes.
 abbrev pub AfterOpening : Turn → Opening → Action → Type 0
 AfterOpening turn after (Ask command) = turn.new ≡ record turn.old { opening = after }
