@@ -31,11 +31,10 @@ pub fn each_question_is_asked()
     ensures { EachQuestionIsAsked }
 {}
 
-/// Each step of the course comes in its order, and none is passed over or comes twice. After a command that was asked,
-/// the `undo` of a probe, a step that is passed over and the end of an engine the first step comes that still comes.
-/// These are all later ones. But where a size was refused or something found, the rest of the part is left. After ten
-/// findings or three losses the other parts of the lesson are. The course stays at its step while the engine is waited
-/// for, opened or started, and while the `undo` of a probe is due.
+/// The steps of a course come in their order, from the first on, and none twice. After each outcome of a step, and after
+/// the `undo` of a probe, the first of the later steps comes. But where a size was refused or something was found, the
+/// rest of the part is left. After ten findings or three losses the other parts of the lesson are. The course stays at
+/// its step while the engine is started, asked the opening or waited for, and until a probe is taken back.
 pub fn each_step_comes_in_order()
     ensures { EachStepComesInOrder }
 {}
