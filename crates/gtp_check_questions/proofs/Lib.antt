@@ -13,3 +13,5 @@ pub mod PartedScores
 pub mod UsualForm
 pub mod WrittenInFull
 pub mod PosedQuestions
+pub mod NextSteps
+pub mod OrderedSteps

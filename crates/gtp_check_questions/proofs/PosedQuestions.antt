@@ -1,6 +1,6 @@
 -- What a step asks is asked.
-use Rattle.std.proofs.Common.{◌≡◌, ◌∙◌, ◌+◌, ◌<◌, ◌≤◌, ◌⊎◌, inl, inr, arith, refl, sym, ap, subst, Bool, true, false, ℕ}
-use Rattle.std.proofs.Common.{Option, None, Some, length, slice_get}
+use Rattle.std.proofs.Common.{◌≡◌, ◌∙◌, ◌+◌, ◌<◌, ◌≤◌, inl, inr, arith, refl, ap, subst, Bool, true, false, ℕ}
+use Rattle.std.proofs.Common.{Option, Some, length, slice_get}
 use Rattle.std.proofs.lemmas.Bool.Decides.{nat_tests}
 use Rattle.std.specs.Prelude.{if◌then◌else◌, nat_lt}
 use Rattle.go_base.specs.declared.moves.Move.{Move}
@@ -13,13 +13,12 @@ use Rattle.gtp_check_questions.specs.declared.actions.Action.{Action}
 use Rattle.gtp_check_questions.specs.declared.actions.Action.TheVariants.{Start, Restart, Kill, Ask, Wait, Skip, Done}
 use Rattle.gtp_check_questions.specs.declared.actions.Question.{Question}
 use Rattle.gtp_check_questions.specs.declared.actions.Question.TheVariants as asked
-use Rattle.gtp_check_questions.specs.declared.lessons.Lesson.{Lesson}
 use Rattle.gtp_check_questions.specs.declared.stretches.Stretch.{Stretch}
 use Rattle.gtp_check_questions.specs.Asking.{Call, IsWanted, Poses, Takes, Tries, after_step, call}
 use Rattle.gtp_check_questions.specs.Course.{Course, part_over, step_over}
 use Rattle.gtp_check_questions.specs.Lessons.{stretches_of}
 use Rattle.gtp_check_questions.specs.Places.{next_step, next_stretch}
-use Rattle.gtp_check_questions.specs.Posing.{EachQuestionIsAsked, GoesOneOn, IsAskable, IsDone, IsIdle, IsTaken}
+use Rattle.gtp_check_questions.specs.Posing.{EachQuestionIsAsked, GoesOneOn, IsAskable, IsDone, IsIdle}
 use Rattle.gtp_check_questions.specs.Posing.{IsTurnOf, Turn, play_of}
 use Rattle.gtp_check_questions.specs.Stretches.{steps_if, steps_of}
 use Rattle.gtp_check_questions.proofs.OneQuestion.{one_step}
@@ -164,7 +163,7 @@ skip_over turn asked.Kill is takes = absurd is
 -- ---- a turn
 
 module _ (turn : Turn) (question : Question) (of : IsTurnOf turn question) where
-  taken : Takes (call turn.lesson turn.old turn.exam) question turn.action turn.new
+  pub taken : Takes (call turn.lesson turn.old turn.exam) question turn.action turn.new
   taken =
       let has = of.is.asks of.opened of.due in
       subst (λ (q : Question). Takes (call turn.lesson turn.old turn.exam) q turn.action turn.new)

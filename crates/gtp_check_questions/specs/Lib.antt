@@ -10,4 +10,5 @@ pub mod Course
 pub mod Asking
 pub mod Parting
 pub mod Posing
+pub mod Order
 pub mod Laws

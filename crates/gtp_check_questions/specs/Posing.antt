@@ -1,6 +1,6 @@
 -- What a step asks is asked, and no step is passed over for another reason than those that are said here. (Own.)
-use Rattle.std.specs.Prelude.{◌≡◌, ℕ, ◌+◌, ◌<◌, ◌≤◌, ◌⊎◌, true, false, slice_get, length, None, Some}
-use Rattle.go_board.specs.Game.{GameRecord, IsLegal}
+use Rattle.std.specs.Prelude.{◌≡◌, ◌+◌, ◌<◌, ◌≤◌, ◌⊎◌, true, false, slice_get, length, None, Some}
+use Rattle.go_board.specs.Game.{IsLegal}
 use Rattle.go_base.specs.declared.moves.Move.{Move}
 use Rattle.gtp_wire.specs.declared.commands.Command.TheVariants as command
 use Rattle.gtp_check_judge.specs.declared.asking.CheckCommand.{CheckCommand}
@@ -88,8 +88,8 @@ pub record GoesOneOn (turn : Turn) (stretch : Stretch) : Type 0 where
 -- A step that asks a command asks it, wherever it may be asked and isn't left out. One that probes a point asks a
 -- `play` there: of a legal move only of an engine that has `undo`, and that is due next. A step is passed over only for
 -- such a reason. And once a step is over that was passed over, or whose command or probe was asked and needs no `undo`,
--- the course goes one step on within its part. (What comes after the `undo` of a probe, a new start, a size or the end of
--- a part is said by the contract of `next` alone.)
+-- the course goes one step on within its part. (Which step comes after each other outcome, and at the end of a part,
+-- `EachStepComesInOrder` says.)
 pub record EachQuestionIsAsked : Type 0 where
   pub asks : (turn : Turn) (command : CheckCommand) → IsTurnOf turn (asked.Ask command) → IsAskable turn command
       → turn.action ≡ Ask command

@@ -3,6 +3,7 @@ ghost use Rattle.gtp_check_questions.specs.Laws.{EveryCourseIsBounded, EachScene
 ghost use Rattle.gtp_check_questions.specs.Laws.{ColoursAreInFull, ListIsAskedFor, UsualFormComesFirst};
 ghost use Rattle.gtp_check_questions.specs.Laws.{EachClearedBoardIsProbed, EachLackIsAskedFor, EachKomiIsExact};
 ghost use Rattle.gtp_check_questions.specs.Laws.{EachKoIsAnswered, EachSizeIsSought, NoSuicideIsAsked, PiecesAreSent};
+ghost use Rattle.gtp_check_questions.specs.Order.{EachStepComesInOrder};
 ghost use Rattle.gtp_check_questions.specs.Parting.{ScoresAreParted};
 ghost use Rattle.gtp_check_questions.specs.Posing.{EachQuestionIsAsked};
 
@@ -28,6 +29,14 @@ pub fn each_step_asks_one_question()
 /// step comes.
 pub fn each_question_is_asked()
     ensures { EachQuestionIsAsked }
+{}
+
+/// The steps of a course come in their order, from the first on, and none twice. After each outcome of a step, and after
+/// the `undo` of a probe, the first of the later steps comes. But where a size was refused or something was found, the
+/// rest of the part is left. After ten findings or three losses the other parts of the lesson are. The course stays at
+/// its step while the engine is started, asked the opening or waited for, and until a probe is taken back.
+pub fn each_step_comes_in_order()
+    ensures { EachStepComesInOrder }
 {}
 
 /// In each part of a lesson of scenes the moves of the scene are asked, then `clear_board`, and then a probe of each of
