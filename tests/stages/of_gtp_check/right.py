@@ -59,7 +59,6 @@ FREE = PYTHON + " tests/engines/right/free {} --seed {} --ko {}"
 BEYOND = PYTHON + " tests/engines/wrong/beyond {}"
 # the lessons that ask what a freedom is about
 SCORES = ("komi", "record", "games")
-CHANCES = ("handicaps", *SCORES, "restarts")
 HISTORY = ("start", "drawn", "record", "genmoves", "games")
 PLAYS = ("start", "ko", "captures", "suicide", "joining", "drawn", "genmoves", "games")
 FREEDOMS = {
@@ -80,9 +79,9 @@ FREEDOMS = {
     "allows_suicide_of_chains": PLAYS,
     "has_all_freedoms": (*PLAYS, *SCORES),
 }
-# It estimates by chance, one of twelve values: gtp_check may blame it, where it says the same three times in a row.
+# It estimates by chance, one of twelve values. Where it says the same three times in a row gtp_check blames it.
 BY_CHANCE = "estimates_by_chance_in_whole_points"
-TRIED_BY_CHANCE, BLAMED_BY_CHANCE = 24, 4  # with so many seeds it is tried, and blamed at most with so many
+TRIED_BY_CHANCE, BLAMED_BY_CHANCE = 12, 3  # with so many seeds it is tried, and blamed at most with so many
 # Of these gtp_check has to be told that suicide isn't to be asked. Without that it blames them.
 SUICIDAL = {"allows_suicide", "allows_suicide_of_chains", "has_all_freedoms", "suicide_and_no_ko", "captures_are_suicide"}
 UNASKED = ("--suicide", "unasked")
@@ -144,7 +143,7 @@ def free(row):
 
 def by_chance(seed):
     """Whether an engine that estimates by chance is blamed for a score, and what is odd about its check."""
-    result = checked(("--seed", str(seed), "--restarts", "0", "--trials", "0", *only(CHANCES)), FREE.format(BY_CHANCE, seed, "simple"))
+    result = checked(("--seed", str(seed), "--restarts", "0", "--trials", "0", "--only", "komi"), FREE.format(BY_CHANCE, seed, "simple"))
     report = read(result.output)
     if isinstance(report, str) or result.status not in (0, 1) or result.errors:
         return False, f"{report}: {result}"
