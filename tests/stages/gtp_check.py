@@ -20,6 +20,7 @@ each seed is some 240,000 commands.
 import re
 import sys
 import time
+from concurrent.futures import ThreadPoolExecutor
 from pathlib import Path
 
 sys.dont_write_bytecode = True
@@ -61,6 +62,18 @@ class Free(Checks):
 @checks.table([it for it in right.FREEDOMS if it in right.SUICIDAL], lambda it: f"suicide is blamed: {it}", right.suicidal)
 class Suicidal(Checks):
     """Engines whose rules allow suicide, where the check isn't told so: they are blamed for that alone."""
+
+
+class ByChance(checks.Case):
+    """An engine that estimates by chance, in whole points."""
+
+    def test_few_are_blamed(self):
+        """an engine that draws each score from twelve whole points is blamed with few seeds, and for a score alone."""
+        with ThreadPoolExecutor() as pool:
+            came = list(pool.map(right.by_chance, range(right.TRIED_BY_CHANCE)))
+        self.same([], [odd for _, odd in came if odd])
+        blamed = sum(is_blamed for is_blamed, _ in came)
+        self.assertLessEqual(blamed, right.BLAMED_BY_CHANCE)
 
 
 @checks.table(list(right.GO_BEYOND), lambda it: f"beyond a freedom: {it}", right.beyond)

@@ -26,7 +26,7 @@ use Rattle.gtp_check_judge.specs.declared.scores.Score.{Score}
 use Rattle.gtp_check_judge.specs.declared.scores.SaidScore.{SaidScore}
 use Rattle.gtp_check_judge.specs.declared.scores.SaidScore.TheVariants.{Number}
 use Rattle.gtp_check_judge.specs.declared.opinions.View.{View}
-use Rattle.gtp_check_judge.specs.declared.opinions.Opinion.TheVariants.{Twice}
+use Rattle.gtp_check_judge.specs.declared.opinions.Opinion.TheVariants.{Thrice}
 use Rattle.gtp_check_judge.specs.Scores.{score_of_text}
 use Rattle.gtp_check_judge.specs.Listings.{lists_required}
 use Rattle.gtp_check_judge.specs.Opinions.{agrees_with, allowed, distance}
@@ -76,7 +76,7 @@ SaysTo game (Play move) choice ok text = Unit {0}
 SaysTo game Undo choice ok text = Unit {0}
 SaysTo game Quit choice ok text = Unit {0}
 
--- What a `final_score` has to say: a score. Of an empty board it agrees with the opinion that the engine said twice.
+-- What a `final_score` has to say: a score. Of an empty board it agrees with what the engine said three times.
 abbrev pub SaysScore : RightEngine → Option SaidScore → Type 0
 SaysScore engine None = ⊥
 SaysScore engine (Some said) = agrees_with engine.opinion (view_in engine.game said) ≡ true
@@ -241,11 +241,11 @@ NoRightAnswer before (Some entry) None = ⊥
 NoRightAnswer before None (Some read) = Unit {0}
 NoRightAnswer before None None = ⊥
 
--- The text is a score of an empty board of a size of which the engine said a score twice. The two differ by more than
--- their komis do, one of the last digit that is written, the coarser of the two, and a hundredth of a point.
+-- The text is a score of an empty board of a size of which the engine said a score three times. The two differ by more
+-- than their komis do, one of the last digit that is written, the coarser of the two, and a hundredth of a point.
 pub record DiffersFromOpinion (before : RightEngine) (text : List ℕ) : Type 0 where
   pub old : View
-  pub stands : before.opinion ≡ Twice old
+  pub stands : before.opinion ≡ Thrice old
   pub size : old.size ≡ before.game.size
   pub score : Score
   pub said : score_of_text text ≡ Some (Number score)
@@ -256,7 +256,7 @@ pub record DiffersFromOpinion (before : RightEngine) (text : List ℕ) : Type 0 
 -- it may not be refused, and this one failed; every right answer is a failure, for this cause, and this one
 -- succeeded; the words aren't the points that are due; a `genmove` failed; or it succeeded, and said nothing that is
 -- a choice, or a vertex that is refused for this cause; a `final_score` said what is no score, or one that differs from
--- what the engine said twice by more than the komis do; a `list_commands` left out a command that every engine has; or
+-- what it said three times by more than the komis do; a `list_commands` left out a command that every engine has; or
 -- the id is missing or another.
 abbrev pub KindIsTrue : RightEngine → Asked → Reply → Kind → Type 0
 KindIsTrue before entry reply Refused =

@@ -1,16 +1,16 @@
 -- What an engine thinks of an empty board. (The standard's topic final_score leaves to the engine how it counts. So a
 -- score is an opinion, and an engine may come to another one each time. What follows from the topic komi is a
 -- difference: two scores of one board with two komis differ as the komis do, where the engine's opinion of the board
--- stays.) That it stays is taken from two scores in a row that are the same. An engine that draws estimates by chance
--- says the same twice where it keeps one for each komi. Nothing tells it from an engine that uses komi wrongly, so it
--- is found wrong at another komi.
+-- stays.) That it stays is taken from three scores in a row that are the same. An engine that draws estimates by chance
+-- says the same three times where it keeps one for each komi. Nothing tells it from an engine that uses komi wrongly, so
+-- it is found wrong at another komi.
 use Rattle.std.specs.Prelude.{ℕ, ◌==◌, ◌&&◌, nat_le, max, Bool, true, ℤ, pos, ◌+ℤ◌, ◌-ℤ◌, ◌*ℤ◌, unsigned_abs}
 use Rattle.std.specs.Prelude.{Option, None, Some, if◌then◌else◌}
 use Rattle.gtp_check_judge.specs.declared.scores.SaidScore.{SaidScore}
 use Rattle.gtp_check_judge.specs.declared.scores.SaidScore.TheVariants.{Number, Long}
 use Rattle.gtp_check_judge.specs.declared.opinions.View.{View}
 use Rattle.gtp_check_judge.specs.declared.opinions.Opinion.{Opinion}
-use Rattle.gtp_check_judge.specs.declared.opinions.Opinion.TheVariants.{Unheard, Once, Twice}
+use Rattle.gtp_check_judge.specs.declared.opinions.Opinion.TheVariants.{Unheard, Once, Twice, Thrice}
 use Rattle.gtp_check_judge.specs.Komis.{is_near_komi}
 
 -- What a score of an empty board of this size says of the board alone, where it is compared at all: it isn't where it
@@ -52,18 +52,21 @@ allowed m n = max (max m n) least_allowed
 abbrev pub differ_as_komis : View → View → Bool
 differ_as_komis old new = nat_le (distance old.lead new.lead) (allowed old.unit new.unit)
 
--- The score is right by the opinion so far. It is compared only with one that was heard twice of the same size.
+-- The score is right by the opinion so far. It is compared only with one that was heard three times of the same
+-- size.
 abbrev pub agrees : Opinion → View → Bool
 agrees Unheard new = true
 agrees (Once old) new = true
-agrees (Twice old) new = if old.size == new.size then differ_as_komis old new else true
+agrees (Twice old) new = true
+agrees (Thrice old) new = if old.size == new.size then differ_as_komis old new else true
 
--- The opinion after it. A score that comes out as the one before it was heard twice, and stands until one of another
--- size is heard. Any other was heard once.
+-- The opinion after it. A score that comes out as the one before it was heard once more. Where it was heard three times
+-- it stands until one of another size is heard. Any other was heard once.
 abbrev pub opinion_with : Opinion → View → Opinion
 opinion_with Unheard new = Once new
 opinion_with (Once old) new = if is_same old new then Twice old else Once new
-opinion_with (Twice old) new = if old.size == new.size then Twice old else Once new
+opinion_with (Twice old) new = if is_same old new then Thrice old else Once new
+opinion_with (Thrice old) new = if old.size == new.size then Thrice old else Once new
 
 -- the same where nothing is compared: then each score is right, and the opinion stays
 abbrev pub agrees_with : Opinion → Option View → Bool

@@ -11,7 +11,7 @@ use Rattle.gtp_check_judge.specs.declared.scores.Score.{Score}
 use Rattle.gtp_check_judge.specs.declared.scores.SaidScore.{SaidScore}
 use Rattle.gtp_check_judge.specs.declared.scores.SaidScore.TheVariants.{Number, Long}
 use Rattle.gtp_check_judge.specs.declared.opinions.View.{View}
-use Rattle.gtp_check_judge.specs.declared.opinions.Opinion.TheVariants.{Twice}
+use Rattle.gtp_check_judge.specs.declared.opinions.Opinion.TheVariants.{Thrice}
 use Rattle.gtp_check_judge.specs.declared.unanswered.Asked.{Asked}
 use Rattle.gtp_check_judge.specs.declared.exam.Exam.{Exam}
 use Rattle.gtp_check_judge.specs.declared.exam.Finding.{Finding}
@@ -48,20 +48,31 @@ abbrev pub NoneSays : List Exchange → Type 0
 NoneSays [] = Unit {0}
 NoneSays (exchange ∷ later) = ((view : View) → ¬ SaysOfBoard view exchange) × NoneSays later
 
--- It was heard twice, one after the other: of the same size, with the same komi, and the same number. No other score
--- that is compared was heard in between.
-pub record IsHeardTwice (said : List Exchange) (old : View) : Type 0 where
+-- the same again: of the same size, with the same komi, and the same number
+abbrev pub IsSame : View → View → Type 0
+IsSame old view = (view.size ≡ old.size) × (view.komi ≡ old.komi) × (view.lead ≡ old.lead)
+
+-- by the exchange the engine said the same again
+pub record SaysAgain (old : View) (exchange : Exchange) : Type 0 where
+  pub view : View
+  pub says : SaysOfBoard view exchange
+  pub same : IsSame old view
+
+-- It was heard three times, one after the other. No other score that is compared was heard in between.
+pub record IsHeardThrice (said : List Exchange) (old : View) : Type 0 where
   pub earlier : List Exchange
   pub one : Exchange
   pub between : List Exchange
-  pub other : Exchange
+  pub second : Exchange
+  pub until : List Exchange
+  pub third : Exchange
   pub later : List Exchange
-  pub all : said ≡ earlier ++ one ∷ (between ++ other ∷ later)
+  pub all : said ≡ earlier ++ one ∷ (between ++ second ∷ (until ++ third ∷ later))
   pub first : SaysOfBoard old one
-  pub again : View
-  pub second : SaysOfBoard again other
-  pub same : (again.size ≡ old.size) × (again.komi ≡ old.komi) × (again.lead ≡ old.lead)
+  pub again : SaysAgain old second
+  pub at_last : SaysAgain old third
   pub none_between : NoneSays between
+  pub none_until : NoneSays until
 
 -- each of the exchanges that says such a thing says it of a board of this size
 abbrev pub EachIsOfSize : ℕ → List Exchange → Type 0
@@ -69,14 +80,20 @@ EachIsOfSize size [] = Unit {0}
 EachIsOfSize size (exchange ∷ later) =
     ((view : View) → SaysOfBoard view exchange → view.size ≡ size) × EachIsOfSize size later
 
--- It was heard twice, and no score that is compared was heard since of a board of another size.
+-- It was heard three times, and no score that is compared was heard since of a board of another size.
 pub record StillStands (said : List Exchange) (one : View) : Type 0 where
-  pub heard : IsHeardTwice said one
+  pub heard : IsHeardThrice said one
   pub no_other_size : EachIsOfSize one.size heard.later
 
--- When it was heard for the first of the two times, none of a board of its size stood.
-abbrev pub NoneStood : (said : List Exchange) (one : View) → IsHeardTwice said one → Type 0
+-- When it was heard for the first of the three times, none of a board of its size stood.
+abbrev pub NoneStood : (said : List Exchange) (one : View) → IsHeardThrice said one → Type 0
 NoneStood said one heard = (old : View) → StillStands (heard.earlier ++ heard.one ∷ []) old → old.size ≢ one.size
+
+-- It is the first of those in a row that are the same: the score before it that is compared is another one, where there
+-- is one.
+abbrev pub BeginsRow : List Exchange → View → Type 0
+BeginsRow said one = (earlier : List Exchange) (exchange : Exchange) (between : List Exchange) (view : View)
+    → said ≡ earlier ++ exchange ∷ between → SaysOfBoard view exchange → NoneSays between → ¬ IsSame view one
 
 -- a reply to the oldest unanswered command, which this is, by which the engine says this of an empty board
 pub record HearsOfBoard (exam : Exam) (reply : Reply) (entry : Asked) (new : View) : Type 0 where
@@ -97,36 +114,43 @@ pub record HearsUncompared (exam : Exam) (reply : Reply) (entry : Asked) : Type 
   pub said : score_of_text reply.text.items ≡ Some score
   pub uncompared : (score ≡ Long) ⊎ ((komi <ℤ neg_ℤ (pos 2000)) ⊎ (pos 2000 <ℤ komi))
 
--- Where the engine said the score of a board twice, each other score of a board of that size is found wrong that
+-- Where the engine said the score of a board three times, each other score of a board of that size is found wrong that
 -- differs from it by more than the komis do and is allowed: one of the last digit that is written, the coarser of the
 -- two, or a hundredth of a point where that is more. One that differs by no more isn't. No other score is compared with
 -- anything: a score of too many digits, one with an exponent, or one that is said at a komi beyond 1,000 points, changes
 -- nothing.
 --
--- What others are compared with was heard twice, and none of another size was compared since. And the first that was
--- heard so is what they are compared with.
+-- What others are compared with was heard three times in a row, and none of another size was compared since. And the
+-- first that was heard so is what they are compared with. So a score is found wrong only where another one of that size
+-- was heard three times in a row, with one komi and none other in between, from which it differs by more.
 pub record ScoresDifferAsKomis : Type 0 where
   pub far : (rule : KoRule) (sent came : List ℕ) (said : List Exchange) (old new : Exam) (bytes : List ℕ) (used : ℕ)
       (reply : Reply) (finding : Option Finding) (entry : Asked) (one other : View)
       → Talks rule sent came said old → Hears old bytes (hearing used (Some (Ok reply)) finding) new
-      → HearsOfBoard old reply entry other → old.opinion ≡ Twice one → other.size ≡ one.size
+      → HearsOfBoard old reply entry other → old.opinion ≡ Thrice one → other.size ≡ one.size
       → allowed one.unit other.unit < distance one.lead other.lead → finding ≢ None
   pub near : (rule : KoRule) (sent came : List ℕ) (said : List Exchange) (old new : Exam) (bytes : List ℕ) (used : ℕ)
       (reply : Reply) (finding : Option Finding) (entry : Asked) (one other : View)
       → Talks rule sent came said old → Hears old bytes (hearing used (Some (Ok reply)) finding) new
-      → HearsOfBoard old reply entry other → old.opinion ≡ Twice one
+      → HearsOfBoard old reply entry other → old.opinion ≡ Thrice one
       → distance one.lead other.lead ≤ allowed one.unit other.unit → finding ≡ None
   pub free : (rule : KoRule) (sent came : List ℕ) (said : List Exchange) (old new : Exam) (bytes : List ℕ) (used : ℕ)
       (reply : Reply) (finding : Option Finding) (entry : Asked) (other : View)
       → Talks rule sent came said old → Hears old bytes (hearing used (Some (Ok reply)) finding) new
-      → HearsOfBoard old reply entry other → ((one : View) → old.opinion ≡ Twice one → other.size ≢ one.size)
+      → HearsOfBoard old reply entry other → ((one : View) → old.opinion ≡ Thrice one → other.size ≢ one.size)
       → finding ≡ None
+  pub found : (rule : KoRule) (sent came : List ℕ) (said : List Exchange) (old new : Exam) (bytes : List ℕ) (used : ℕ)
+      (reply : Reply) (finding : Option Finding) (entry : Asked) (other : View)
+      → Talks rule sent came said old → Hears old bytes (hearing used (Some (Ok reply)) finding) new
+      → HearsOfBoard old reply entry other → finding ≢ None
+      → (one : View) × StillStands said one × (other.size ≡ one.size)
+      × (allowed one.unit other.unit < distance one.lead other.lead)
   pub uncompared : (rule : KoRule) (sent came : List ℕ) (said : List Exchange) (old new : Exam) (bytes : List ℕ)
       (used : ℕ) (reply : Reply) (finding : Option Finding) (entry : Asked)
       → Talks rule sent came said old → Hears old bytes (hearing used (Some (Ok reply)) finding) new
       → HearsUncompared old reply entry → (finding ≡ None) × (new.opinion ≡ old.opinion)
-  pub twice : (rule : KoRule) (sent came : List ℕ) (said : List Exchange) (exam : Exam) (one : View)
-      → Talks rule sent came said exam → exam.opinion ≡ Twice one → StillStands said one
+  pub thrice : (rule : KoRule) (sent came : List ℕ) (said : List Exchange) (exam : Exam) (one : View)
+      → Talks rule sent came said exam → exam.opinion ≡ Thrice one → StillStands said one
   pub stands : (rule : KoRule) (sent came : List ℕ) (said : List Exchange) (exam : Exam) (one : View)
       → Talks rule sent came said exam → (still : StillStands said one) → NoneStood said one still.heard
-      → exam.opinion ≡ Twice one
+      → BeginsRow still.heard.earlier one → exam.opinion ≡ Thrice one

@@ -37,7 +37,7 @@ pub enum Due {
     /// A success, by which the board has this size; or a failure, by which nothing changes.
     Resizes(Size),
     /// A success that is a score of an empty board of this size with this komi, or a failure. It agrees with what the
-    /// engine said twice.
+    /// engine said three times.
     Scores(Size, Komi),
     /// A success or a failure, of any text.
     AnyReply,

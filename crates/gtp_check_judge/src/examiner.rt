@@ -104,7 +104,7 @@ impl Examiner {
     /// After a finding the engine counts as down. Of one that is down all bytes are used and nothing changes.
     ///
     /// A reply is judged by what is due to the oldest unanswered command. A score is an opinion: it is compared, as a
-    /// number, only with one of the same size that the engine said twice in a row.
+    /// number, only with one of the same size that the engine said three times in a row.
     pub fn heard(&mut self, bytes: &[u8], reply: &mut Reply) -> Heard
         ensures within { result.used ≤ length bytes.now }
         // of a piece that isn't empty one byte at least is used

@@ -37,7 +37,8 @@ pub enum Kind {
     Unlisted,
     /// It answered a `final_score` by a success that is no score.
     NoScore,
-    /// It answered a `final_score` by a score that differs from one that it said twice by more than the komis do.
+    /// It answered a `final_score` by a score that differs from one that it said three times by more than the
+    /// komis do.
     OtherScore,
     /// Its reply has no id, or not that of the oldest unanswered command.
     WrongId,

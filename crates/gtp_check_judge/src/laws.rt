@@ -136,10 +136,11 @@ pub fn scores_are_of_empty_boards()
     ensures { ScoresAreOfEmptyBoards }
 {}
 
-/// Where an engine said the score of an empty board twice in a row, a score of a board of that size is found wrong
+/// Where an engine said the score of an empty board three times in a row, a score of a board of that size is found wrong
 /// exactly where the two differ by more than the komis do, and by more than one of the last digit that is written and a
-/// hundredth of a point. The first that was said so stands until a score of another size is compared. No other score is compared, and
-/// none of too many digits, with an exponent, or at a komi beyond a thousand points.
+/// hundredth of a point. The first that was said so stands until a score of another size is compared. No other score is
+/// compared, and none of too many digits, with an exponent, or at a komi beyond a thousand points. So a score is found
+/// wrong only where another one of that size came three times in a row, with one komi, and the two differ so.
 pub fn scores_differ_as_komis()
     ensures { ScoresDifferAsKomis }
 {}

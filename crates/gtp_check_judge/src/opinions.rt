@@ -34,8 +34,10 @@ pub enum Opinion {
     Unheard,
     /// This, which it said last, and not twice in a row.
     Once(View),
-    /// This, which it said twice in a row. Scores of this size are compared with it.
+    /// This, which it said twice in a row at last, and not three times.
     Twice(View),
+    /// This, which it said three times in a row. Scores of this size are compared with it.
+    Thrice(View),
 }
 
 /// What a score of a board of this size, with this komi, says of the board alone, where it is compared at all.
@@ -87,8 +89,8 @@ pub(crate) fn agrees(opinion: &Opinion, new: &View) -> bool
     ensures { result ≡ agrees opinion.now new.now }
 {
     match opinion {
-        Opinion::Unheard | Opinion::Once(_) => true,
-        Opinion::Twice(old) => old.size.get() != new.size.get() || differ_as_komis(old, new),
+        Opinion::Unheard | Opinion::Once(_) | Opinion::Twice(_) => true,
+        Opinion::Thrice(old) => old.size.get() != new.size.get() || differ_as_komis(old, new),
     }
 }
 
@@ -98,7 +100,10 @@ pub(crate) fn opinion_with(opinion: &Opinion, new: &View) -> Opinion
 {
     match opinion {
         Opinion::Once(old) if is_same(old, new) => Opinion::Twice(*old),
-        Opinion::Twice(old) if old.size.get() == new.size.get() => Opinion::Twice(*old),
-        Opinion::Unheard | Opinion::Once(_) | Opinion::Twice(_) => Opinion::Once(*new),
+        Opinion::Twice(old) if is_same(old, new) => Opinion::Thrice(*old),
+        Opinion::Thrice(old) if old.size.get() == new.size.get() => Opinion::Thrice(*old),
+        Opinion::Unheard | Opinion::Once(_) | Opinion::Twice(_) | Opinion::Thrice(_) => {
+            Opinion::Once(*new)
+        }
     }
 }

@@ -10,6 +10,7 @@ pub mod SoughtSizes
 pub mod AnsweredKos
 pub mod SentPieces
 pub mod PartedScores
+pub mod ScoresInRows
 pub mod UsualForm
 pub mod WrittenInFull
 pub mod PosedQuestions

@@ -44,13 +44,13 @@ lines_of Restarts part scene_size = slice_index_or game_sizes part scene_size
 abbrev pub size_or : ℕ → ℕ → ℕ
 size_or lines other_size = if nat_le 1 lines && nat_le lines most_size then lines else other_size
 
--- Komis in half points: 6.5, 0, -3.5, 7.5, 0.5, -0.5, 999.5 and -7; -8388608, 1000000, 100.5 and -735.5; 8388607.5,
+-- Komis in half points: 6.5, 0, -3.5, 7.5, 0.5, -0.5, 999.5 and -7; 100.5, -735.5, -8388608 and 1000000; 8388607.5,
 -- -8388607.5, 100000.5 and -32768.5. Each is at most 2^24 half points either way, so a float of 32 bits represents it.
--- Ten are from -1000 to 1000 points: by these scores are compared.
+-- The first ten are from -1000 to 1000 points: by these scores are compared.
 abbrev pub komis : List ℤ
 komis =
-    pos 13 ∷ pos 0 ∷ negsuc 6 ∷ pos 15 ∷ pos 1 ∷ negsuc 0 ∷ pos 1999 ∷ negsuc 13 ∷ negsuc 16777215 ∷ pos 2000000 ∷
-    pos 201 ∷ negsuc 1470 ∷ pos 16777215 ∷ negsuc 16777214 ∷ pos 200001 ∷ negsuc 65536 ∷ []
+    pos 13 ∷ pos 0 ∷ negsuc 6 ∷ pos 15 ∷ pos 1 ∷ negsuc 0 ∷ pos 1999 ∷ negsuc 13 ∷ pos 201 ∷ negsuc 1470 ∷
+    negsuc 16777215 ∷ pos 2000000 ∷ pos 16777215 ∷ negsuc 16777214 ∷ pos 200001 ∷ negsuc 65536 ∷ []
 
 abbrev pub komi_of : ℕ → ℤ
 komi_of number = slice_index_or komis (number % 16) (pos 13)

@@ -106,27 +106,27 @@ sizes_stretches =
     stretch.Clear ∷ stretch.Filled ∷ stretch.Swept ∷ stretch.Edges ∷ stretch.AllBack 640 ∷ stretch.Back 3 ∷
     stretch.Edges ∷ stretch.Clear ∷ stretch.Genmoves 2 ∷ stretch.Emptied 2 ∷ stretch.Edges ∷ []
 
--- Scores are compared with one that came out the same twice in a row. An engine may draw an estimate by chance, and
--- keep it until komi or the board changes. So between two scores of one size and komi another komi is set, or stones
--- are put on the board: kept estimates are drawn again, and hardly come out the same.
+-- a score of each size, which hardly comes three times in a row
 abbrev pub handicaps_stretches : List Stretch
 handicaps_stretches =
-    stretch.Size ∷ stretch.Taken ∷ stretch.Komi ∷ stretch.Clear ∷ stretch.Stones 10 ∷ stretch.Handicap ∷
-    stretch.Undo ∷ stretch.Stars ∷ stretch.Handicap ∷ stretch.Surround ∷ stretch.Stars ∷ stretch.Clear ∷
-    stretch.Score ∷ stretch.OtherKomi ∷ stretch.Clear ∷ stretch.Komi ∷ stretch.Stars ∷ stretch.Drawn 1 ∷
-    stretch.Undo ∷ stretch.Stones 10 ∷ stretch.Handicap ∷ stretch.Genmoves 1 ∷ stretch.Undo ∷ stretch.Undo ∷
-    stretch.Handicap ∷ stretch.Genmoves 3 ∷ stretch.Clear ∷ stretch.Score ∷ stretch.Stars ∷ []
+    stretch.Size ∷ stretch.Taken ∷ stretch.Komi ∷ stretch.Clear ∷ stretch.Stones 10 ∷ stretch.Handicap ∷ stretch.Undo ∷
+    stretch.Stars ∷ stretch.Handicap ∷ stretch.Surround ∷ stretch.Stars ∷ stretch.Clear ∷ stretch.Stars ∷
+    stretch.Drawn 1 ∷ stretch.Undo ∷ stretch.Stones 10 ∷ stretch.Handicap ∷ stretch.Genmoves 1 ∷ stretch.Undo ∷
+    stretch.Undo ∷ stretch.Handicap ∷ stretch.Genmoves 3 ∷ stretch.Clear ∷ stretch.Score ∷ stretch.Stars ∷ []
 
+-- Scores are compared with one that came out the same three times in a row. An engine may draw an estimate by chance,
+-- and keep it until komi or the board changes. So between two scores of one size and komi stones are put on the board,
+-- or another komi is set: kept estimates are drawn again, and hardly come out the same three times. A part that compares
+-- scores begins with three of one size and komi.
 abbrev pub komi_stretches : List Stretch
 komi_stretches =
-    stretch.Seek ∷ stretch.Size ∷ stretch.Taken ∷ stretch.Komi ∷ stretch.Clear ∷ stretch.Score ∷ stretch.OtherKomi ∷
-    stretch.Clear ∷ stretch.Komi ∷ stretch.Score ∷ stretch.Drawn 3 ∷ stretch.Clear ∷ stretch.Score ∷ stretch.Drawn 3 ∷
-    stretch.OtherKomi ∷ stretch.Undo ∷ stretch.Clear ∷ stretch.Score ∷ stretch.Komi ∷ stretch.OtherKomi ∷
-    stretch.Size ∷ stretch.Taken ∷ stretch.Clear ∷ stretch.Score ∷ stretch.Komi ∷ stretch.Score ∷ stretch.Moves ∷
-    stretch.Emptied 12 ∷ stretch.Undo ∷ stretch.Score ∷ stretch.Moves ∷ stretch.Clear ∷ stretch.Score ∷
-    stretch.Filled ∷ stretch.Swept ∷ stretch.Undo ∷ stretch.AllBack 640 ∷ stretch.Score ∷ stretch.OtherKomi ∷
-    stretch.Komi ∷ stretch.Clear ∷ stretch.Score ∷ stretch.Inexact ∷ stretch.Moves ∷ stretch.Inexact ∷ stretch.Own ∷
-    stretch.Clear ∷ stretch.Komi ∷ stretch.Score ∷ []
+    stretch.Seek ∷ stretch.Size ∷ stretch.Taken ∷ stretch.Komi ∷ stretch.Clear ∷ stretch.Score ∷ stretch.Drawn 1 ∷
+    stretch.Clear ∷ stretch.Score ∷ stretch.Drawn 1 ∷ stretch.Clear ∷ stretch.Score ∷ stretch.Drawn 3 ∷
+    stretch.OtherKomi ∷ stretch.Undo ∷ stretch.Clear ∷ stretch.Score ∷ stretch.Moves ∷ stretch.Emptied 12 ∷
+    stretch.Undo ∷ stretch.Score ∷ stretch.Komi ∷ stretch.Size ∷ stretch.Taken ∷ stretch.Clear ∷ stretch.Score ∷
+    stretch.OtherKomi ∷ stretch.Moves ∷ stretch.Clear ∷ stretch.Score ∷ stretch.Filled ∷ stretch.Swept ∷ stretch.Undo ∷
+    stretch.AllBack 640 ∷ stretch.Score ∷ stretch.Clear ∷ stretch.Inexact ∷ stretch.Moves ∷ stretch.Inexact ∷
+    stretch.Own ∷ stretch.Clear ∷ stretch.Komi ∷ stretch.Score ∷ []
 
 -- A part ends on a cleared board: an engine may refuse the next one's size while a game is on.
 abbrev pub drawn_stretches : List Stretch
@@ -136,12 +136,12 @@ drawn_stretches =
 
 abbrev pub record_stretches : List Stretch
 record_stretches =
-    stretch.Seek ∷ stretch.Size ∷ stretch.Taken ∷ stretch.Komi ∷ stretch.Clear ∷ stretch.Drawn 1024 ∷ stretch.Undo ∷
-    stretch.Probed 36 ∷ stretch.Back 4 ∷ stretch.Drawn 955 ∷ stretch.Back 12 ∷ stretch.Probed 60 ∷ stretch.Clear ∷
-    stretch.Passes 1010 ∷ stretch.Moves ∷ stretch.Own ∷ stretch.Back 14 ∷ stretch.Own ∷ stretch.Clear ∷
-    stretch.Moves ∷ stretch.Waits 600 ∷ stretch.Back 8 ∷ stretch.Own ∷ stretch.Clear ∷ stretch.Undo ∷ stretch.Own ∷
-    stretch.Score ∷ stretch.OtherKomi ∷ stretch.Clear ∷ stretch.Komi ∷ stretch.Score ∷ stretch.OtherKomi ∷
-    stretch.Score ∷ []
+    stretch.Seek ∷ stretch.Size ∷ stretch.Taken ∷ stretch.OtherKomi ∷ stretch.Clear ∷ stretch.Score ∷ stretch.Drawn 1 ∷
+    stretch.Clear ∷ stretch.Score ∷ stretch.Drawn 1 ∷ stretch.Clear ∷ stretch.Score ∷ stretch.Komi ∷ stretch.Clear ∷
+    stretch.Drawn 1024 ∷ stretch.Undo ∷ stretch.Probed 36 ∷ stretch.Back 4 ∷ stretch.Drawn 955 ∷ stretch.Back 12 ∷
+    stretch.Probed 60 ∷ stretch.Clear ∷ stretch.Passes 1010 ∷ stretch.Moves ∷ stretch.Own ∷ stretch.Back 14 ∷
+    stretch.Own ∷ stretch.Clear ∷ stretch.Moves ∷ stretch.Waits 600 ∷ stretch.Back 8 ∷ stretch.Own ∷ stretch.Clear ∷
+    stretch.Undo ∷ stretch.Own ∷ stretch.Score ∷ stretch.OtherKomi ∷ stretch.Score ∷ []
 
 -- The board is filled for the choices of both colours, and again for the capture of all that fills it. Before that
 -- another size is asked for while a game is on, which an engine may refuse.
@@ -156,16 +156,15 @@ genmoves_stretches =
 
 abbrev pub games_stretches : List Stretch
 games_stretches =
-    stretch.Seek ∷ stretch.Size ∷ stretch.Taken ∷ stretch.Komi ∷ stretch.Clear ∷ stretch.Genmoves 6 ∷
-    stretch.Probed 60 ∷ stretch.Clear ∷ stretch.OtherKomi ∷ stretch.Genmoves 6 ∷ stretch.Probed 9 ∷
-    stretch.Emptied 12 ∷ stretch.Undo ∷ stretch.Handicap ∷ stretch.Stars ∷ stretch.Probed 9 ∷ stretch.Emptied 6 ∷
-    stretch.Undo ∷ stretch.Stars ∷ stretch.Clear ∷ stretch.Handicap ∷ stretch.Stars ∷ stretch.Clear ∷
-    stretch.Probed 60 ∷ stretch.Clear ∷ stretch.Score ∷ stretch.Komi ∷ stretch.Clear ∷ stretch.OtherKomi ∷
-    stretch.Score ∷ stretch.Moves ∷ stretch.Handicap ∷ stretch.Own ∷ stretch.Clear ∷ stretch.OtherSize ∷
-    stretch.OtherTaken ∷ stretch.Komi ∷ stretch.Clear ∷ stretch.Score ∷ stretch.Handicap ∷ stretch.Probed 60 ∷
-    stretch.Clear ∷ stretch.Score ∷ stretch.OtherKomi ∷ stretch.Komi ∷ stretch.Size ∷ stretch.Clear ∷ stretch.Score ∷
-    stretch.OtherKomi ∷ stretch.Clear ∷ stretch.Komi ∷ stretch.Score ∷ stretch.OtherKomi ∷ stretch.Score ∷
-    stretch.Genmoves 6 ∷ stretch.Clear ∷ []
+    stretch.Seek ∷ stretch.Size ∷ stretch.Taken ∷ stretch.Komi ∷ stretch.Clear ∷ stretch.Score ∷ stretch.Drawn 1 ∷
+    stretch.Clear ∷ stretch.Score ∷ stretch.Drawn 1 ∷ stretch.Clear ∷ stretch.Score ∷ stretch.Genmoves 6 ∷
+    stretch.Probed 60 ∷ stretch.Clear ∷ stretch.OtherKomi ∷ stretch.Genmoves 6 ∷ stretch.Probed 9 ∷ stretch.Emptied 12 ∷
+    stretch.Undo ∷ stretch.Handicap ∷ stretch.Stars ∷ stretch.Probed 9 ∷ stretch.Emptied 6 ∷ stretch.Undo ∷
+    stretch.Stars ∷ stretch.Clear ∷ stretch.Handicap ∷ stretch.Stars ∷ stretch.Clear ∷ stretch.Probed 60 ∷
+    stretch.Clear ∷ stretch.Score ∷ stretch.Komi ∷ stretch.Score ∷ stretch.Moves ∷ stretch.Handicap ∷ stretch.Own ∷
+    stretch.Clear ∷ stretch.OtherSize ∷ stretch.OtherTaken ∷ stretch.OtherKomi ∷ stretch.Clear ∷ stretch.Handicap ∷
+    stretch.Probed 60 ∷ stretch.Clear ∷ stretch.Size ∷ stretch.Taken ∷ stretch.Clear ∷ stretch.Score ∷ stretch.Komi ∷
+    stretch.Score ∷ stretch.Genmoves 6 ∷ stretch.Clear ∷ []
 
 -- an engine that is started again after its `quit`, and one that is started after another was ended without it
 abbrev pub restarts_stretches : List Stretch
@@ -173,11 +172,13 @@ restarts_stretches =
     stretch.Seek ∷ stretch.Size ∷ stretch.Taken ∷ stretch.Komi ∷ stretch.Clear ∷ stretch.Handicap ∷ stretch.Drawn 60 ∷
     stretch.Genmoves 2 ∷ stretch.Clear ∷ stretch.Handicap ∷ stretch.Stars ∷ stretch.Clear ∷ stretch.Filled ∷
     stretch.Chosen Black ∷ stretch.Restart ∷ stretch.Size ∷ stretch.Taken ∷ stretch.OtherKomi ∷ stretch.Clear ∷
-    stretch.Score ∷ stretch.Undo ∷ stretch.Filled ∷ stretch.Chosen White ∷ stretch.Clear ∷ stretch.Handicap ∷
+    stretch.Undo ∷ stretch.Score ∷ stretch.Drawn 1 ∷ stretch.Clear ∷ stretch.Score ∷ stretch.Drawn 1 ∷ stretch.Clear ∷
+    stretch.Score ∷ stretch.Komi ∷ stretch.Filled ∷ stretch.Chosen White ∷ stretch.Clear ∷ stretch.Handicap ∷
     stretch.Drawn 60 ∷ stretch.Probed 60 ∷ stretch.Back 5 ∷ stretch.Genmoves 4 ∷ stretch.Clear ∷ stretch.Score ∷
-    stretch.Komi ∷ stretch.Score ∷ stretch.Moves ∷ stretch.Own ∷ stretch.Emptied 12 ∷ stretch.Moves ∷ stretch.Kill ∷
-    stretch.Size ∷ stretch.Taken ∷ stretch.Komi ∷ stretch.Clear ∷ stretch.Undo ∷ stretch.Own ∷ stretch.Score ∷
-    stretch.OtherKomi ∷ stretch.Clear ∷ stretch.Komi ∷ stretch.Score ∷ stretch.OtherKomi ∷ stretch.Score ∷ []
+    stretch.OtherKomi ∷ stretch.Score ∷ stretch.Moves ∷ stretch.Own ∷ stretch.Emptied 12 ∷ stretch.Moves ∷
+    stretch.Kill ∷ stretch.Size ∷ stretch.Taken ∷ stretch.Komi ∷ stretch.Clear ∷ stretch.Undo ∷ stretch.Own ∷
+    stretch.Score ∷ stretch.Drawn 1 ∷ stretch.Clear ∷ stretch.Score ∷ stretch.Drawn 1 ∷ stretch.Clear ∷ stretch.Score ∷
+    stretch.OtherKomi ∷ stretch.Score ∷ stretch.Komi ∷ stretch.Clear ∷ stretch.Score ∷ []
 
 -- The part of the start whose lines are sent in pieces. The engine is started anew, so all that it is asked comes so.
 abbrev pub pieces_stretches : List Stretch

@@ -1,7 +1,8 @@
 -- What parts two scores of one part. (An engine may draw an estimate by chance, and keep it until komi or the board
 -- changes. Two scores that come out the same are compared with later ones, so hardly an estimate that was kept may come
 -- out twice.)
-use Rattle.std.specs.Prelude.{◌≡◌, ◌≢◌, ℕ, zero, suc, ◌<◌, ◌≤◌, ℤ, List, [], ◌∷◌, slice_get, Option, None, Some}
+use Rattle.std.specs.Prelude.{◌≡◌, ◌≢◌, ◌⊎◌, ℕ, zero, suc, ◌<◌, ◌≤◌, ℤ, Bool, true, false}
+use Rattle.std.specs.Prelude.{List, [], ◌∷◌, ◌++◌, slice_get, Option, None, Some}
 use Rattle.go_base.specs.Point.{IsOn}
 use Rattle.go_base.specs.Size.{most_size}
 use Rattle.go_base.specs.declared.moves.Move.{Move}
@@ -77,3 +78,49 @@ ScoresAreParted = (lesson : Lesson) (part : ℕ) (known : Option ℕ) (board : B
     → slice_get (stretches_of lesson part) first ≡ Some stretch.Score
     → slice_get (stretches_of lesson part) later ≡ Some stretch.Score
     → AreParted board None (stretches_of lesson part) first later
+
+-- whether a stretch leaves size, komi and the engine as they are: it asks for no size and no komi, and for no new start
+abbrev pub keeps_setup : Stretch → Bool
+keeps_setup stretch.Seek = false
+keeps_setup stretch.Size = false
+keeps_setup stretch.OtherSize = false
+keeps_setup stretch.Komi = false
+keeps_setup stretch.OtherKomi = false
+keeps_setup stretch.Inexact = false
+keeps_setup stretch.Restart = false
+keeps_setup stretch.Kill = false
+keeps_setup other = true
+
+abbrev pub EachKeepsSetup : List Stretch → Type 0
+EachKeepsSetup [] = Unit {0}
+EachKeepsSetup (now ∷ later) = (keeps_setup now ≡ true) × EachKeepsSetup later
+
+-- none of these stretches asks for a score
+abbrev pub NoneScores : List Stretch → Type 0
+NoneScores [] = Unit {0}
+NoneScores (now ∷ later) = (now ≢ stretch.Score) × NoneScores later
+
+-- The first score is asked for three times in a row, each of one size, with one komi.
+pub record BeginsByThree (stretches : List Stretch) : Type 0 where
+  pub before : List Stretch
+  pub between : List Stretch
+  pub until : List Stretch
+  pub later : List Stretch
+  pub all : stretches
+      ≡ before ++ stretch.Score ∷ (between ++ stretch.Score ∷ (until ++ stretch.Score ∷ later))
+  pub none_before : NoneScores before
+  pub kept_between : EachKeepsSetup between
+  pub kept_until : EachKeepsSetup until
+
+-- one score is asked for at most
+pub record HasOneScore (stretches : List Stretch) : Type 0 where
+  pub before : List Stretch
+  pub later : List Stretch
+  pub all : stretches ≡ before ++ later
+  pub none_before : NoneScores before
+  pub none_later : (now : Stretch) (others : List Stretch) → later ≡ now ∷ others → NoneScores others
+
+-- Each part that asks for more than one score begins by three of one size and komi: then others can be compared with it.
+abbrev pub ScoresBeginByThree : Type 0
+ScoresBeginByThree = (lesson : Lesson) (part : ℕ) → part < parts_of lesson
+    → HasOneScore (stretches_of lesson part) ⊎ BeginsByThree (stretches_of lesson part)

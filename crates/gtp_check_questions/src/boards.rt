@@ -159,8 +159,8 @@ fn komi_of(number: u32) -> Komi
     }
 }
 
-/// The half points of the komi of this number. A float of 32 bits represents each of these komis. Ten are from -1000 to
-/// 1000 points: by these scores are compared. The others are there to be taken, and read in scores.
+/// The half points of the komi of this number. A float of 32 bits represents each of these komis. The first ten are from
+/// -1000 to 1000 points: by these scores are compared. The others are there to be taken, and read in scores.
 fn half_points_of(number: u32) -> i32
     ensures exact { result ≡ komi_of number }
     ensures komi { IsKomi result }
@@ -174,10 +174,10 @@ fn half_points_of(number: u32) -> i32
         5 => -1,
         6 => 1999,
         7 => -14,
-        8 => -16_777_216,
-        9 => 2_000_000,
-        10 => 201,
-        11 => -1471,
+        8 => 201,
+        9 => -1471,
+        10 => -16_777_216,
+        11 => 2_000_000,
         12 => 16_777_215,
         13 => -16_777_215,
         14 => 200_001,

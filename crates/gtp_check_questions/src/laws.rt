@@ -4,7 +4,7 @@ ghost use Rattle.gtp_check_questions.specs.Laws.{ColoursAreInFull, ListIsAskedFo
 ghost use Rattle.gtp_check_questions.specs.Laws.{EachClearedBoardIsProbed, EachLackIsAskedFor, EachKomiIsExact};
 ghost use Rattle.gtp_check_questions.specs.Laws.{EachKoIsAnswered, EachSizeIsSought, NoSuicideIsAsked, PiecesAreSent};
 ghost use Rattle.gtp_check_questions.specs.Order.{EachStepComesInOrder};
-ghost use Rattle.gtp_check_questions.specs.Parting.{ScoresAreParted};
+ghost use Rattle.gtp_check_questions.specs.Parting.{ScoresAreParted, ScoresBeginByThree};
 ghost use Rattle.gtp_check_questions.specs.Posing.{EachQuestionIsAsked};
 
 /// Whatever is answered, and whenever a part is left: commands that are asked, steps that are passed over and engines
@@ -103,4 +103,10 @@ pub fn usual_form_comes_first()
 /// two lines at least, and a drawn move may be a pass where its colour has no other legal one.)
 pub fn scores_are_parted()
     ensures { ScoresAreParted }
+{}
+
+/// Each part that asks for more than one score begins by three of one size and komi. Between them neither a size nor a
+/// komi is asked for, and no new start.
+pub fn scores_begin_by_three()
+    ensures { ScoresBeginByThree }
 {}

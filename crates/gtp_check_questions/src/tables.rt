@@ -1,8 +1,12 @@
 //! What is asked in each part of a lesson.
 //!
-//! Scores are compared with one that came out the same twice in a row. An engine may draw an estimate by chance, and
-//! keep it until komi or the board changes. So between two scores of one size and komi another komi is set, or stones
-//! are put on the board: kept estimates are drawn again, and hardly come out the same.
+//! Scores are compared with one that came out the same three times in a row. An engine may draw an estimate by chance,
+//! and keep it until komi or the board changes. So between two scores of one size and komi stones are put on the board,
+//! or another komi is set: kept estimates are drawn again, and hardly come out the same three times.
+//!
+//! A part that compares scores begins with three of one size and komi, between which there are stones alone: an engine
+//! that adds up komis says the same three times, too. After these komis change, so that hardly another three come in a
+//! row.
 use crate::stretches::Stretch;
 use go_base::Colour;
 
@@ -219,8 +223,9 @@ pub(crate) static SIZES: [Stretch; 18] = [
     Stretch::Edges,
 ];
 
-/// A handicap after one that is refused, and with moves on its points. Nothing but moves is taken back.
-pub(crate) static HANDICAPS: [Stretch; 29] = [
+/// A handicap after one that is refused, and with moves on its points. Nothing but moves is taken back. The score is one
+/// of each size. None comes out three times in a row here: of three hundred parts some would by chance.
+pub(crate) static HANDICAPS: [Stretch; 25] = [
     Stretch::Size,
     Stretch::Taken,
     Stretch::Komi,
@@ -233,10 +238,6 @@ pub(crate) static HANDICAPS: [Stretch; 29] = [
     Stretch::Surround,
     Stretch::Stars,
     Stretch::Clear,
-    Stretch::Score,
-    Stretch::OtherKomi,
-    Stretch::Clear,
-    Stretch::Komi,
     Stretch::Stars,
     Stretch::Drawn(1),
     Stretch::Undo,
@@ -252,40 +253,37 @@ pub(crate) static HANDICAPS: [Stretch; 29] = [
     Stretch::Stars,
 ];
 
-/// Komis, by the scores of empty boards: the first score is asked for twice, with another komi in between, and the
+/// Komis, by the scores of empty boards: the first score is asked for three times, with a stone in between, and the
 /// others have to differ from it as the komis do. In the middle of a game a komi is asked for that no float of 32 bits
 /// represents, and then the points of the scene.
-pub(crate) static KOMI: [Stretch; 49] = [
+pub(crate) static KOMI: [Stretch; 43] = [
     Stretch::Seek,
     Stretch::Size,
     Stretch::Taken,
     Stretch::Komi,
     Stretch::Clear,
     Stretch::Score,
-    Stretch::OtherKomi,
+    Stretch::Drawn(1),
     Stretch::Clear,
-    Stretch::Komi,
     Stretch::Score,
-    Stretch::Drawn(3),
+    Stretch::Drawn(1),
     Stretch::Clear,
     Stretch::Score,
     Stretch::Drawn(3),
     Stretch::OtherKomi,
     Stretch::Undo,
     Stretch::Clear,
-    Stretch::Score,
-    Stretch::Komi,
-    Stretch::OtherKomi,
-    Stretch::Size,
-    Stretch::Taken,
-    Stretch::Clear,
-    Stretch::Score,
-    Stretch::Komi,
     Stretch::Score,
     Stretch::Moves,
     Stretch::Emptied(12),
     Stretch::Undo,
     Stretch::Score,
+    Stretch::Komi,
+    Stretch::Size,
+    Stretch::Taken,
+    Stretch::Clear,
+    Stretch::Score,
+    Stretch::OtherKomi,
     Stretch::Moves,
     Stretch::Clear,
     Stretch::Score,
@@ -294,10 +292,7 @@ pub(crate) static KOMI: [Stretch; 49] = [
     Stretch::Undo,
     Stretch::AllBack(640),
     Stretch::Score,
-    Stretch::OtherKomi,
-    Stretch::Komi,
     Stretch::Clear,
-    Stretch::Score,
     Stretch::Inexact,
     Stretch::Moves,
     Stretch::Inexact,

@@ -50,7 +50,7 @@ kind_sentence kind.Unlisted =
     codes "each of these is listed: protocol_version name version known_command list_commands quit boardsize clear_board komi play genmove"
 kind_sentence kind.NoScore = codes "a score is B+ or W+ and the points, or 0"
 kind_sentence kind.OtherScore =
-    codes "it scored the empty board of this size twice alike with one komi: its scores differ as the komis do"
+    codes "it scored the empty board of this size three times alike with one komi: its scores differ as the komis do"
 kind_sentence kind.WrongId = codes "a reply has the id of the oldest unanswered command"
 kind_sentence kind.Unasked = codes "each command has one reply"
 kind_sentence kind.NoStatus = codes "a reply begins with = or ?, and ends with two newlines"

@@ -80,7 +80,7 @@ pub(crate) fn kind_sentence(kind: Kind) -> &'static [u8]
         }
         Kind::NoScore => b"a score is B+ or W+ and the points, or 0",
         Kind::OtherScore => {
-            b"it scored the empty board of this size twice alike with one komi: its scores differ as the komis do"
+            b"it scored the empty board of this size three times alike with one komi: its scores differ as the komis do"
         }
         Kind::WrongId => b"a reply has the id of the oldest unanswered command",
         Kind::Unasked => b"each command has one reply",

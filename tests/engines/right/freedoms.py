@@ -125,6 +125,15 @@ class EstimatesByChance(Estimates):
         return super().opinion() + self.random.gauss(0, 5)
 
 
+class EstimatesByChanceInWholePoints(EstimatesByChance):
+    """A score is one of twelve whole points, drawn anew each time."""
+
+    digits = 0
+
+    def opinion(self):
+        return Engine.score(self) / 2 + self.komi / 2 + 0.25 + self.random.randrange(12)
+
+
 class KeepsAnEstimate(EstimatesByChance):
     """A score is an estimate by chance, and is kept until komi or the board changes, which neither a pass nor the `clear_board` of an empty
     board does."""

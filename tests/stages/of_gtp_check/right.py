@@ -79,6 +79,9 @@ FREEDOMS = {
     "allows_suicide_of_chains": PLAYS,
     "has_all_freedoms": (*PLAYS, *SCORES),
 }
+# It estimates by chance, one of twelve values. Where it says the same three times in a row gtp_check blames it.
+BY_CHANCE = "estimates_by_chance_in_whole_points"
+TRIED_BY_CHANCE, BLAMED_BY_CHANCE = 12, 3  # with so many seeds it is tried, and blamed at most with so many
 # Of these gtp_check has to be told that suicide isn't to be asked. Without that it blames them.
 SUICIDAL = {"allows_suicide", "allows_suicide_of_chains", "has_all_freedoms", "suicide_and_no_ko", "captures_are_suicide"}
 UNASKED = ("--suicide", "unasked")
@@ -136,6 +139,16 @@ def free(row):
     if (result.status, result.errors, report.count, said) != (0, "", 0, []):
         return f"status {result.status}, {report.count} complaints, {said}, standard error {result.errors!r}:\n{result.output[:2000]}"
     return None
+
+
+def by_chance(seed):
+    """Whether an engine that estimates by chance is blamed for a score, and what is odd about its check."""
+    result = checked(("--seed", str(seed), "--restarts", "0", "--trials", "0", "--only", "komi"), FREE.format(BY_CHANCE, seed, "simple"))
+    report = read(result.output)
+    if isinstance(report, str) or result.status not in (0, 1) or result.errors:
+        return False, f"{report}: {result}"
+    others = [it for it in report.complaints if it.command.split()[1] != "final_score"]
+    return bool(report.complaints), f"{others[0]} is no score" if others else None
 
 
 def unanswered():

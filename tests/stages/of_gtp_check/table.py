@@ -58,7 +58,7 @@ OTHERS = {
     ),
     ("sizes", "ko"): ("ids_are_shorts",),
     ("komi",): (
-        "score_runs_into_the_id prisoners_stay_at_undo",
+        "score_runs_into_the_id prisoners_stay_at_undo undo_sets_komi_back prisoners_of_the_game_before",
     ),
     ("captures",): (
         "note_at_a_capture capture_is_suicide atari_is_no_suicide last_taken_chain_comes_back",
@@ -83,9 +83,9 @@ OTHERS = {
         "tt_is_a_pass",
         "rows_are_one_character rows_are_sixteen_apart white_begins_with_a_handicap first_move_is_the_middle_of_a_handicap",
         # right after a handicap `undo` has nothing to take back
-        "handicap_is_undone undo_forgets_the_handicap undo_sets_komi_back passes_stay_at_undo",
-        # scores after a handicap, by many komis
-        "score_has_a_comma whites_lead_is_floored even_score_is_a_word",
+        "handicap_is_undone undo_forgets_the_handicap passes_stay_at_undo",
+        # scores of each size, by many komis
+        "score_has_a_comma even_score_is_a_word",
     ),
     ("genmoves",): (
         # the third of five genmoves is of the colour that moved last
@@ -101,7 +101,8 @@ OTHERS = {
         # a genmove after 60 drawn moves on 5x5
         "points_twice",
     ),
-    ("games",): ("ends_at_the_third_game colour_of_the_first_genmove",),
+    # scores before and after a handicap
+    ("games",): ("ends_at_the_third_game colour_of_the_first_genmove", "handicap_sets_komi points_for_a_handicap_stay"),
     # games that are drawn: long chains and play between them, two boards with equal counts, more than eight boards, a board with other
     # colours, a probe after 100 moves; of their sizes the second is smaller than the first
     ("drawn",): (

@@ -14,7 +14,7 @@ use Rattle.gtp_check_judge.specs.declared.judging.Judgement.{Judgement}
 use Rattle.gtp_check_judge.specs.declared.judging.Judgement.TheVariants.{Right, Opines, Wrong}
 use Rattle.gtp_check_judge.specs.declared.judging.Kind.TheVariants.{OtherScore}
 use Rattle.gtp_check_judge.specs.declared.opinions.Opinion.{Opinion}
-use Rattle.gtp_check_judge.specs.declared.opinions.Opinion.TheVariants.{Unheard, Once, Twice}
+use Rattle.gtp_check_judge.specs.declared.opinions.Opinion.TheVariants.{Unheard, Once, Twice, Thrice}
 use Rattle.gtp_check_judge.specs.declared.opinions.View.{View}
 use Rattle.gtp_check_judge.specs.declared.scores.Score.{Score}
 use Rattle.gtp_check_judge.specs.declared.scores.SaidScore.{SaidScore}
@@ -99,7 +99,7 @@ view_is s k (Number score) new e = by (is_near_komi k) refl e
 
 pub record Differs (opinion : Opinion) (new : View) : Type 0 where
   pub old : View
-  pub stands : opinion ≡ Twice old
+  pub stands : opinion ≡ Thrice old
   pub size : old.size ≡ new.size
   pub far : allowed old.unit new.unit < distance old.lead new.lead
 
@@ -112,10 +112,11 @@ less_far a b e = grind (arith, nat_tests)
 pub differs_so : (opinion : Opinion) (new : View) → agrees opinion new ≡ false → Differs opinion new
 differs_so Unheard new e = absurd (cc e)
 differs_so (Once old) new e = absurd (cc e)
-differs_so (Twice old) new e = by (old.size == new.size) (differ_as_komis old new) refl refl e
+differs_so (Twice old) new e = absurd (cc e)
+differs_so (Thrice old) new e = by (old.size == new.size) (differ_as_komis old new) refl refl e
   where
     by : (same near : Bool) → (old.size == new.size) ≡ same → differ_as_komis old new ≡ near
-        → (if same then near else true) ≡ false → Differs (Twice old) new
+        → (if same then near else true) ≡ false → Differs (Thrice old) new
     by false near size far e = absurd (cc e)
     by true true size far e = absurd (cc e)
     by true false size far e = record {

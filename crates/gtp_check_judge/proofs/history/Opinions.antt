@@ -17,7 +17,7 @@ use Rattle.gtp_check_judge.specs.declared.judging.Judgement.{Judgement}
 use Rattle.gtp_check_judge.specs.declared.judging.Judgement.TheVariants.{Right, Plays, Resized, Undone, Opines, Wrong}
 use Rattle.gtp_check_judge.specs.declared.judging.Kind.TheVariants.{OtherScore}
 use Rattle.gtp_check_judge.specs.declared.opinions.Opinion.{Opinion}
-use Rattle.gtp_check_judge.specs.declared.opinions.Opinion.TheVariants.{Unheard, Once, Twice}
+use Rattle.gtp_check_judge.specs.declared.opinions.Opinion.TheVariants.{Unheard, Once, Twice, Thrice}
 use Rattle.gtp_check_judge.specs.declared.opinions.View.{View}
 use Rattle.gtp_check_judge.specs.declared.scores.SaidScore.{SaidScore}
 use Rattle.gtp_check_judge.specs.declared.scores.SaidScore.TheVariants.{Number}
@@ -30,7 +30,7 @@ use Rattle.gtp_check_judge.specs.Exam.{Hears, IdLeaves, ReplyLeaves, after_judge
 use Rattle.gtp_check_judge.specs.Exam.{with_rest}
 use Rattle.gtp_check_judge.specs.Laws.{Exchange}
 use Rattle.gtp_check_judge.specs.ScoreLaws.{EachIsOfSize, HearsOfBoard, NoneSays, SaysOfBoard, ScoresAreOfEmptyBoards}
-use Rattle.gtp_check_judge.specs.ScoreLaws.{StillStands}
+use Rattle.gtp_check_judge.specs.ScoreLaws.{IsSame, SaysAgain, StillStands}
 use Rattle.gtp_check_judge.proofs.answers.Numbers.{if_so, view_is}
 use Rattle.gtp_check_judge.proofs.answers.Statuses.{IsNoScore}
 use Rattle.gtp_check_judge.proofs.order.Heard.{opines_scores}
@@ -125,28 +125,29 @@ if_both true x e = e
 if_both false x e = refl
 
 pub agrees_far : (one other : View) → other.size ≡ one.size → allowed one.unit other.unit < distance one.lead other.lead
-    → agrees (Twice one) other ≡ false
+    → agrees (Thrice one) other ≡ false
 agrees_far one other size far =
     if_so (one.size == other.size) (differ_as_komis one other) true (same_is one.size other.size (sym size))
     ∙ far_is (distance one.lead other.lead) (allowed one.unit other.unit) far
 
 pub agrees_near : (one other : View) → distance one.lead other.lead ≤ allowed one.unit other.unit
-    → agrees (Twice one) other ≡ true
+    → agrees (Thrice one) other ≡ true
 agrees_near one other near =
     if_both (one.size == other.size) (differ_as_komis one other)
     (close_is (distance one.lead other.lead) (allowed one.unit other.unit) near)
 
 pub agrees_free : (opinion : Opinion) (other : View)
-    → ((one : View) → opinion ≡ Twice one → other.size ≡ one.size → ⊥) → agrees opinion other ≡ true
+    → ((one : View) → opinion ≡ Thrice one → other.size ≡ one.size → ⊥) → agrees opinion other ≡ true
 agrees_free Unheard other free = refl
 agrees_free (Once one) other free = refl
-agrees_free (Twice one) other free = by (one.size == other.size) refl
+agrees_free (Twice one) other free = refl
+agrees_free (Thrice one) other free = by (one.size == other.size) refl
   where
     by : (b : Bool) → (one.size == other.size) ≡ b → (if b then differ_as_komis one other else true) ≡ true
     by true same = absurd (free one refl (sym (same_number one.size other.size same)))
     by false same = refl
 
--- ---- what stands was heard twice
+-- ---- what stands was heard three times
 
 -- the last of what was said of a board, after which nothing was
 pub record IsNewest (said : List Exchange) (view : View) : Type 0 where
@@ -157,10 +158,24 @@ pub record IsNewest (said : List Exchange) (view : View) : Type 0 where
   pub first : SaysOfBoard view one
   pub none_later : NoneSays later
 
+-- the same, and what was said last is the same as what was said before
+pub record IsNewestAgain (said : List Exchange) (view : View) : Type 0 where
+  pub earlier : List Exchange
+  pub one : Exchange
+  pub between : List Exchange
+  pub other : Exchange
+  pub later : List Exchange
+  pub all : said ≡ earlier ++ one ∷ (between ++ other ∷ later)
+  pub first : SaysOfBoard view one
+  pub again : SaysAgain view other
+  pub none_between : NoneSays between
+  pub none_later : NoneSays later
+
 abbrev pub OpinionSo : List Exchange → Opinion → Type 0
 OpinionSo said Unheard = Unit {0}
 OpinionSo said (Once view) = IsNewest said view
-OpinionSo said (Twice view) = StillStands said view
+OpinionSo said (Twice view) = IsNewestAgain said view
+OpinionSo said (Thrice view) = StillStands said view
 
 -- what an exchange does: it says nothing of a board that is compared, or says this and agrees
 pub data Effect (opinion : Opinion) (x : Exchange) (after : Opinion) : Type 0 where
@@ -302,20 +317,32 @@ stands_more said x view is still = let h = still.heard in record {
     earlier = h.earlier;
     one = h.one;
     between = h.between;
-    other = h.other;
+    second = h.second;
+    until = h.until;
+    third = h.third;
     later = h.later ++ x ∷ [];
     all =
         ap (λ (l : List Exchange). l ++ x ∷ []) h.all
-        ∙ append_assoc h.earlier (h.one ∷ (h.between ++ h.other ∷ h.later)) (x ∷ [])
-        ∙ ap (λ (l : List Exchange). h.earlier ++ h.one ∷ l) (append_assoc h.between (h.other ∷ h.later) (x ∷ []));
+        ∙ append_assoc h.earlier (h.one ∷ (h.between ++ h.second ∷ (h.until ++ h.third ∷ h.later))) (x ∷ [])
+        ∙ ap (λ (l : List Exchange). h.earlier ++ h.one ∷ l)
+        (append_assoc h.between (h.second ∷ (h.until ++ h.third ∷ h.later)) (x ∷ [])
+        ∙ ap (λ (l : List Exchange). h.between ++ h.second ∷ l) (append_assoc h.until (h.third ∷ h.later) (x ∷ [])));
     first = h.first;
     again = h.again;
-    second = h.second;
-    same = h.same;
+    at_last = h.at_last;
     none_between = h.none_between;
+    none_until = h.none_until;
   };
   no_other_size = each_more view.size h.later x still.no_other_size is;
 }
+
+two_more : (earlier : List Exchange) (one : Exchange) (between : List Exchange) (other : Exchange) (later : List Exchange)
+    (said : List Exchange) (x : Exchange) → said ≡ earlier ++ one ∷ (between ++ other ∷ later)
+    → said ++ x ∷ [] ≡ earlier ++ one ∷ (between ++ other ∷ (later ++ x ∷ []))
+two_more earlier one between other later said x all =
+    ap (λ (l : List Exchange). l ++ x ∷ []) all
+    ∙ append_assoc earlier (one ∷ (between ++ other ∷ later)) (x ∷ [])
+    ∙ ap (λ (l : List Exchange). earlier ++ one ∷ l) (append_assoc between (other ∷ later) (x ∷ []))
 
 quiet_more : (said : List Exchange) (x : Exchange) (opinion : Opinion) → ((view : View) → SaysOfBoard view x → ⊥)
     → OpinionSo said opinion → OpinionSo (said ++ x ∷ []) opinion
@@ -329,7 +356,19 @@ quiet_more said x (Once view) isnt so = record {
   first = so.first;
   none_later = none_more so.later x so.none_later isnt;
 }
-quiet_more said x (Twice view) isnt so = stands_more said x view (λ new s. absurd (isnt new s)) so
+quiet_more said x (Twice view) isnt so = record {
+  earlier = so.earlier;
+  one = so.one;
+  between = so.between;
+  other = so.other;
+  later = so.later ++ x ∷ [];
+  all = two_more so.earlier so.one so.between so.other so.later said x so.all;
+  first = so.first;
+  again = so.again;
+  none_between = so.none_between;
+  none_later = none_more so.later x so.none_later isnt;
+}
+quiet_more said x (Thrice view) isnt so = stands_more said x view (λ new s. absurd (isnt new s)) so
 
 none_apart : (z : ℤ) → unsigned_abs z ≡ 0 → z ≡ pos 0
 none_apart (pos n) h = omega (arith, ints, h)
@@ -343,6 +382,16 @@ one_size : (new view : View) (x : Exchange) → SaysOfBoard new x → SaysOfBoar
 one_size new view x s t =
     let both : Scores new.size new.komi ≡ Scores view.size view.komi = sym s.due ∙ t.due in cc both
 
+pub same_view : (old view : View) → is_same old view ≡ true → IsSame old view
+same_view old view is =
+    let first = and_parts (old.size == view.size)
+    (distance old.komi view.komi == 0 && distance old.lead view.lead == 0) is in
+    let others = and_parts (distance old.komi view.komi == 0) (distance old.lead view.lead == 0) first.1 in (
+      sym (same_number old.size view.size first.0),
+      same_number_z old.komi view.komi others.0,
+      same_number_z old.lead view.lead others.1,
+    )
+
 says_more : (said : List Exchange) (x : Exchange) (opinion : Opinion) (view : View) → SaysOfBoard view x
     → OpinionSo said opinion → OpinionSo (said ++ x ∷ []) (opinion_with opinion view)
 says_more said x Unheard view s so = newest said x view s
@@ -350,35 +399,44 @@ says_more said x (Once old) view s so = by (is_same old view) refl
   where
     by : (b : Bool) → is_same old view ≡ b → OpinionSo (said ++ x ∷ []) (if b then Twice old else Once view)
     by false is = newest said x view s
-    by true is =
-        let first = and_parts (old.size == view.size)
-        (distance old.komi view.komi == 0 && distance old.lead view.lead == 0) is in
-        let others = and_parts (distance old.komi view.komi == 0) (distance old.lead view.lead == 0) first.1 in
-        record {
-          heard = record {
-            earlier = so.earlier;
-            one = so.one;
-            between = so.later;
-            other = x;
-            later = [];
-            all =
-                ap (λ (l : List Exchange). l ++ x ∷ []) so.all
-                ∙ append_assoc so.earlier (so.one ∷ so.later) (x ∷ []);
-            first = so.first;
-            again = view;
-            second = s;
-            same = (
-              sym (same_number old.size view.size first.0),
-              same_number_z old.komi view.komi others.0,
-              same_number_z old.lead view.lead others.1,
-            );
-            none_between = so.none_later;
-          };
-          no_other_size = tt;
-        }
-says_more said x (Twice old) view s so = by (old.size == view.size) refl
+    by true is = record {
+      earlier = so.earlier;
+      one = so.one;
+      between = so.later;
+      other = x;
+      later = [];
+      all =
+          ap (λ (l : List Exchange). l ++ x ∷ []) so.all ∙ append_assoc so.earlier (so.one ∷ so.later) (x ∷ []);
+      first = so.first;
+      again = record { view = view; says = s; same = same_view old view is };
+      none_between = so.none_later;
+      none_later = tt;
+    }
+says_more said x (Twice old) view s so = by (is_same old view) refl
   where
-    by : (b : Bool) → (old.size == view.size) ≡ b → OpinionSo (said ++ x ∷ []) (if b then Twice old else Once view)
+    by : (b : Bool) → is_same old view ≡ b → OpinionSo (said ++ x ∷ []) (if b then Thrice old else Once view)
+    by false is = newest said x view s
+    by true is = record {
+      heard = record {
+        earlier = so.earlier;
+        one = so.one;
+        between = so.between;
+        second = so.other;
+        until = so.later;
+        third = x;
+        later = [];
+        all = two_more so.earlier so.one so.between so.other so.later said x so.all;
+        first = so.first;
+        again = so.again;
+        at_last = record { view = view; says = s; same = same_view old view is };
+        none_between = so.none_between;
+        none_until = so.none_later;
+      };
+      no_other_size = tt;
+    }
+says_more said x (Thrice old) view s so = by (old.size == view.size) refl
+  where
+    by : (b : Bool) → (old.size == view.size) ≡ b → OpinionSo (said ++ x ∷ []) (if b then Thrice old else Once view)
     by true same =
         stands_more said x old (λ new t. one_size new view x t s ∙ sym (same_number old.size view.size same)) so
     by false same = newest said x view s

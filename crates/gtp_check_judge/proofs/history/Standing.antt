@@ -1,4 +1,4 @@
--- The first score that was heard twice is what others are compared with, and no other is.
+-- The first score that was heard three times in a row is what others are compared with, and no other is.
 use Rattle.std.proofs.Common.{◌≡◌, ℕ, Bool, true, false, List, [], ◌∷◌, ◌++◌, Option, Some, None, refl, sym, ◌∙◌}
 use Rattle.std.proofs.Common.{ap, subst, arith, append_assoc}
 use Rattle.std.specs.Prelude.{ℤ, pos, negsuc, neg_ℤ, ◌+ℤ◌, ◌-ℤ◌, ◌*ℤ◌, ◌<ℤ◌, ◌==◌, ◌&&◌, ◌⊎◌, nat_le, unsigned_abs, Ok, if◌then◌else◌}
@@ -14,24 +14,25 @@ use Rattle.gtp_check_judge.specs.declared.exam.Exam.{Exam}
 use Rattle.gtp_check_judge.specs.declared.exam.Finding.{Finding}
 use Rattle.gtp_check_judge.specs.declared.judging.Judgement.TheVariants.{Right}
 use Rattle.gtp_check_judge.specs.declared.opinions.Opinion.{Opinion}
-use Rattle.gtp_check_judge.specs.declared.opinions.Opinion.TheVariants.{Unheard, Once, Twice}
+use Rattle.gtp_check_judge.specs.declared.opinions.Opinion.TheVariants.{Unheard, Once, Twice, Thrice}
 use Rattle.gtp_check_judge.specs.declared.opinions.View.{View}
 use Rattle.gtp_check_judge.specs.declared.scores.SaidScore.{SaidScore}
 use Rattle.gtp_check_judge.specs.declared.scores.SaidScore.TheVariants.{Number, Long}
 use Rattle.gtp_check_judge.specs.declared.unanswered.Asked.{Asked}
 use Rattle.gtp_check_judge.specs.Komis.{is_near_komi}
 use Rattle.gtp_check_judge.specs.Scores.{score_of_text}
-use Rattle.gtp_check_judge.specs.Opinions.{agrees, distance, is_same, opinion_with, view_of}
+use Rattle.gtp_check_judge.specs.Opinions.{agrees, allowed, distance, is_same, opinion_with, view_of}
 use Rattle.gtp_check_judge.specs.Judging.{Judged, said_score_judged, score_judged, view_judged}
 use Rattle.gtp_check_judge.specs.Exam.{Hears, IdLeaves, ReplyLeaves, finding_of, with_learned, with_rest, hearing, reply_to}
 use Rattle.gtp_check_judge.specs.Laws.{Exchange, Talks}
-use Rattle.gtp_check_judge.specs.ScoreLaws.{EachIsOfSize, HearsUncompared, IsHeardTwice, NoneSays, NoneStood}
-use Rattle.gtp_check_judge.specs.ScoreLaws.{SaysOfBoard, ScoresDifferAsKomis, StillStands}
-use Rattle.gtp_check_judge.proofs.answers.Numbers.{if_so}
+use Rattle.gtp_check_judge.specs.ScoreLaws.{BeginsRow, EachIsOfSize, HearsOfBoard, HearsUncompared, IsHeardThrice}
+use Rattle.gtp_check_judge.specs.ScoreLaws.{IsSame, NoneSays, NoneStood, SaysAgain, SaysOfBoard, ScoresDifferAsKomis}
+use Rattle.gtp_check_judge.specs.ScoreLaws.{StillStands}
+use Rattle.gtp_check_judge.proofs.answers.Numbers.{differs_so, if_so}
 use Rattle.gtp_check_judge.proofs.history.Heard.{Leaving, heard_leaving}
 use Rattle.gtp_check_judge.proofs.history.Opinions.{Effect, OpinionSo, agrees_far, agrees_free, agrees_near, effect}
 use Rattle.gtp_check_judge.proofs.history.Opinions.{finds, heard_so, judged_opinion, one_more, opinion_of, same_is}
-use Rattle.gtp_check_judge.proofs.history.Opinions.{same_number, view_said}
+use Rattle.gtp_check_judge.proofs.history.Opinions.{same_number, same_view, view_said}
 use Rattle.gtp_check_judge.proofs.talks.Silence.{id_has}
 
 -- ---- the opinion that exchanges make of another
@@ -112,33 +113,39 @@ quiet_so (x ∷ xs) opinion after none c = quiet_so xs c.0 after none.1 c.2 ∙ 
     by (Effect.says view s is) = absurd (none.0 view s)
 
 stays_so : (list : List Exchange) (view : View) (after : Opinion) → EachIsOfSize view.size list
-    → Comes list (Twice view) after → after ≡ Twice view
+    → Comes list (Thrice view) after → after ≡ Thrice view
 stays_so [] view after each is = is
 stays_so (x ∷ xs) view after each c =
     stays_so xs view after each.1 (subst (λ (o : Opinion). Comes xs o after) (by c.1) c.2)
   where
-    by : Effect (Twice view) x c.0 → c.0 ≡ Twice view
+    by : Effect (Thrice view) x c.0 → c.0 ≡ Thrice view
     by (Effect.quiet isnt is) = is
     by (Effect.says new s is) =
-        is ∙ if_so (view.size == new.size) (Twice view) (Once new) (same_is view.size new.size (sym (each.0 new s)))
+        is ∙ if_so (view.size == new.size) (Thrice view) (Once new) (same_is view.size new.size (sym (each.0 new s)))
 
--- none stood, so it was heard once
-once_so : (said : List Exchange) (opinion : Opinion) (one : View) → OpinionSo said (opinion_with opinion one)
-    → ((old : View) → StillStands said old → old.size ≡ one.size → ⊥) → opinion_with opinion one ≡ Once one
-once_so said Unheard one so none = refl
-once_so said (Once old) one so none = by (is_same old one) refl so
+-- none stood, and it begins a row, so it was heard once
+once_so : (earlier : List Exchange) (x : Exchange) (opinion : Opinion) (one : View) → OpinionSo earlier opinion
+    → BeginsRow earlier one → OpinionSo (earlier ++ x ∷ []) (opinion_with opinion one)
+    → ((old : View) → StillStands (earlier ++ x ∷ []) old → old.size ≡ one.size → ⊥)
+    → opinion_with opinion one ≡ Once one
+once_so earlier x Unheard one before begins so none = refl
+once_so earlier x (Once old) one before begins so none = by (is_same old one) refl
   where
-    by : (b : Bool) → is_same old one ≡ b → OpinionSo said (if b then Twice old else Once one)
-        → (if b then Twice old else Once one) ≡ Once one
-    by true same so =
-        let parts = and_parts (old.size == one.size)
-        (distance old.komi one.komi == 0 && distance old.lead one.lead == 0) same in
-        absurd (none old so (same_number old.size one.size parts.0))
+    by : (b : Bool) → is_same old one ≡ b → (if b then Twice old else Once one) ≡ Once one
+    by true same =
+        absurd (begins before.earlier before.one before.later old before.all before.first before.none_later
+        (same_view old one same))
+    by false same = refl
+once_so earlier x (Twice old) one before begins so none = by (is_same old one) refl so
+  where
+    by : (b : Bool) → is_same old one ≡ b → OpinionSo (earlier ++ x ∷ []) (if b then Thrice old else Once one)
+        → (if b then Thrice old else Once one) ≡ Once one
+    by true same so = absurd (none old so (sym (same_view old one same).0))
     by false same so = refl
-once_so said (Twice old) one so none = by (old.size == one.size) refl so
+once_so earlier x (Thrice old) one before begins so none = by (old.size == one.size) refl so
   where
-    by : (b : Bool) → (old.size == one.size) ≡ b → OpinionSo said (if b then Twice old else Once one)
-        → (if b then Twice old else Once one) ≡ Once one
+    by : (b : Bool) → (old.size == one.size) ≡ b → OpinionSo (earlier ++ x ∷ []) (if b then Thrice old else Once one)
+        → (if b then Thrice old else Once one) ≡ Once one
     by true same so = absurd (none old so (same_number old.size one.size same))
     by false same so = refl
 
@@ -147,49 +154,67 @@ no_distance m n e =
     let none : m -ℤ n ≡ pos 0 = omega (arith, ints, e) in
     ap (λ (z : ℤ). unsigned_abs z == 0) none
 
-same_so : (one again : View) → (again.size ≡ one.size) × (again.komi ≡ one.komi) × (again.lead ≡ one.lead)
-    → is_same one again ≡ true
+same_so : (one again : View) → IsSame one again → is_same one again ≡ true
 same_so one again same =
     ap (λ (b : Bool). b && (distance one.komi again.komi == 0 && distance one.lead again.lead == 0))
     (same_is one.size again.size (sym same.0))
     ∙ ap (λ (b : Bool). true && (b && distance one.lead again.lead == 0)) (no_distance one.komi again.komi same.1)
     ∙ ap (λ (b : Bool). true && (true && b)) (no_distance one.lead again.lead same.2)
 
+-- one that comes out the same again, after others that say nothing of a board
+again_so : (between : List Exchange) (x : Exchange) (old next after : Opinion) (one : View) → NoneSays between
+    → Comes between old next → Effect next x after → (again : SaysAgain one x) → after ≡ opinion_with old again.view
+again_so between x old next after one none comes effect again =
+    said_so next after x again.view again.says effect
+    ∙ ap (λ (o : Opinion). opinion_with o again.view) (quiet_so between old next none comes)
+
 stands_so : (said : List Exchange) (opinion : Opinion) (one : View) (still : StillStands said one)
-    → NoneStood said one still.heard → Comes said Unheard opinion → opinion ≡ Twice one
-stands_so said opinion one still none comes =
+    → NoneStood said one still.heard → BeginsRow still.heard.earlier one → Comes said Unheard opinion
+    → opinion ≡ Thrice one
+stands_so said opinion one still none begins comes =
     stays_so h.later one opinion still.no_other_size
-    (subst (λ (o : Opinion). Comes h.later o opinion) (again ∙ twice) after.2.2)
+    (subst (λ (o : Opinion). Comes h.later o opinion) thrice last.2.2)
   where
-    h : IsHeardTwice said one
+    h : IsHeardThrice said one
     h = still.heard
 
     before : (next : Opinion) × Comes h.earlier Unheard next
-        × Comes (h.one ∷ (h.between ++ h.other ∷ h.later)) next opinion
+        × Comes (h.one ∷ (h.between ++ h.second ∷ (h.until ++ h.third ∷ h.later))) next opinion
     before =
-        comes_parts h.earlier (h.one ∷ (h.between ++ h.other ∷ h.later)) Unheard opinion
+        comes_parts h.earlier (h.one ∷ (h.between ++ h.second ∷ (h.until ++ h.third ∷ h.later))) Unheard opinion
         (subst (λ (l : List Exchange). Comes l Unheard opinion) h.all comes)
 
-    after : (next : Opinion) × Comes h.between before.2.0 next × Comes (h.other ∷ h.later) next opinion
-    after = comes_parts h.between (h.other ∷ h.later) before.2.0 opinion before.2.2
+    after : (next : Opinion) × Comes h.between before.2.0 next
+        × Comes (h.second ∷ (h.until ++ h.third ∷ h.later)) next opinion
+    after = comes_parts h.between (h.second ∷ (h.until ++ h.third ∷ h.later)) before.2.0 opinion before.2.2
+
+    last : (next : Opinion) × Comes h.until after.2.0 next × Comes (h.third ∷ h.later) next opinion
+    last = comes_parts h.until (h.third ∷ h.later) after.2.0 opinion after.2.2
+
+    so : OpinionSo h.earlier before.0
+    so = so_after [] h.earlier Unheard before.0 tt before.1
 
     first : before.2.0 ≡ Once one
     first =
         let is = said_so before.0 before.2.0 h.one one h.first before.2.1 in
         is
-        ∙ once_so (h.earlier ++ h.one ∷ []) before.0 one
+        ∙ once_so h.earlier h.one before.0 one so begins
         (subst (OpinionSo (h.earlier ++ h.one ∷ [])) is
-        (one_more h.earlier h.one before.0 before.2.0 before.2.1 (so_after [] h.earlier Unheard before.0 tt before.1)))
+        (one_more h.earlier h.one before.0 before.2.0 before.2.1 so))
         none
 
-    again : after.2.0 ≡ opinion_with (Once one) h.again
-    again =
-        said_so after.0 after.2.0 h.other h.again h.second after.2.1
-        ∙ ap (λ (o : Opinion). opinion_with o h.again)
-        (quiet_so h.between before.2.0 after.0 h.none_between after.1 ∙ first)
+    twice : after.2.0 ≡ Twice one
+    twice =
+        again_so h.between h.second before.2.0 after.0 after.2.0 one h.none_between after.1 after.2.1 h.again
+        ∙ ap (λ (o : Opinion). opinion_with o h.again.view) first
+        ∙ if_so (is_same one h.again.view) (Twice one) (Once h.again.view) (same_so one h.again.view h.again.same)
 
-    twice : opinion_with (Once one) h.again ≡ Twice one
-    twice = if_so (is_same one h.again) (Twice one) (Once h.again) (same_so one h.again h.same)
+    thrice : last.2.0 ≡ Thrice one
+    thrice =
+        again_so h.until h.third after.2.0 last.0 last.2.0 one h.none_until last.1 last.2.1 h.at_last
+        ∙ ap (λ (o : Opinion). opinion_with o h.at_last.view) twice
+        ∙ if_so (is_same one h.at_last.view) (Thrice one) (Once h.at_last.view)
+        (same_so one h.at_last.view h.at_last.same)
 
 -- ---- what is compared with nothing
 
@@ -244,6 +269,32 @@ uncompared_so old new bytes used reply finding entry h o = (
         ∙ ap (said_score_judged old.opinion o.size o.komi) o.said
         ∙ ap (view_judged old.opinion) (no_view o.size o.komi o.score o.uncompared)
 
+-- ---- what is found wrong
+
+thrice_so : (rule : KoRule) (sent came : List ℕ) (said : List Exchange) (exam : Exam) (one : View)
+    → Talks rule sent came said exam → exam.opinion ≡ Thrice one → StillStands said one
+thrice_so rule sent came said exam one talk stands =
+    subst (OpinionSo said) stands
+    (so_after [] said Unheard exam.opinion tt (talk_comes rule sent came said exam talk))
+
+found_so : (rule : KoRule) (sent came : List ℕ) (said : List Exchange) (old new : Exam) (bytes : List ℕ) (used : ℕ)
+    (reply : Reply) (finding : Option Finding) (entry : Asked) (other : View)
+    → Talks rule sent came said old → Hears old bytes (hearing used (Some (Ok reply)) finding) new
+    → HearsOfBoard old reply entry other → (finding ≡ None → ⊥)
+    → (one : View) × StillStands said one × (other.size ≡ one.size)
+    × (allowed one.unit other.unit < distance one.lead other.lead)
+found_so rule sent came said old new bytes used reply finding entry other talk h o isnt =
+    by (agrees old.opinion other) refl
+  where
+    by : (b : Bool) → agrees old.opinion other ≡ b
+        → (one : View) × StillStands said one × (other.size ≡ one.size)
+        × (allowed one.unit other.unit < distance one.lead other.lead)
+    by true is =
+        absurd (isnt (heard_so old new bytes used reply finding entry other h o ∙ finds entry old.opinion other true is))
+    by false is =
+        let d = differs_so old.opinion other is in
+        (d.old, thrice_so rule sent came said old d.old talk d.stands, sym d.size, d.far)
+
 -- ---- the law
 
 pub scores_differ : ScoresDifferAsKomis
@@ -263,13 +314,13 @@ scores_differ = record {
       λ rule sent came said old new bytes used reply finding entry other talk h o free.
       heard_so old new bytes used reply finding entry other h o
       ∙ finds entry old.opinion other true (agrees_free old.opinion other free);
+  found =
+      λ rule sent came said old new bytes used reply finding entry other talk h o isnt.
+      found_so rule sent came said old new bytes used reply finding entry other talk h o isnt;
   uncompared = λ rule sent came said old new bytes used reply finding entry talk h o.
       uncompared_so old new bytes used reply finding entry h o;
-  twice =
-      λ rule sent came said exam one talk stands.
-      subst (OpinionSo said) stands
-      (so_after [] said Unheard exam.opinion tt (talk_comes rule sent came said exam talk));
+  thrice = λ rule sent came said exam one talk stands. thrice_so rule sent came said exam one talk stands;
   stands =
-      λ rule sent came said exam one talk still none.
-      stands_so said exam.opinion one still none (talk_comes rule sent came said exam talk);
+      λ rule sent came said exam one talk still none begins.
+      stands_so said exam.opinion one still none begins (talk_comes rule sent came said exam talk);
 }

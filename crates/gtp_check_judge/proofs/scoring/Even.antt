@@ -11,7 +11,7 @@ use Rattle.go_base.specs.declared.moves.Move.{Move}
 use Rattle.go_board.specs.Game.{GameRecord}
 use Rattle.go_board.specs.Area.{score}
 use Rattle.gtp_check_judge.specs.declared.opinions.Opinion.{Opinion}
-use Rattle.gtp_check_judge.specs.declared.opinions.Opinion.TheVariants.{Unheard, Once, Twice}
+use Rattle.gtp_check_judge.specs.declared.opinions.Opinion.TheVariants.{Unheard, Once, Twice, Thrice}
 use Rattle.gtp_check_judge.specs.declared.opinions.View.{View}
 use Rattle.gtp_check_judge.specs.declared.scores.SaidScore.{SaidScore}
 use Rattle.gtp_check_judge.specs.declared.scores.SaidScore.TheVariants.{Number, Long}
@@ -30,6 +30,7 @@ abbrev pub IsEven : Opinion → Type 0
 IsEven Unheard = Unit {0}
 IsEven (Once view) = view.lead ≡ pos 0
 IsEven (Twice view) = view.lead ≡ pos 0
+IsEven (Thrice view) = view.lead ≡ pos 0
 
 pub even_with : (opinion : Opinion) (new : View) → IsEven opinion → new.lead ≡ pos 0
     → IsEven (opinion_with opinion new)
@@ -39,9 +40,14 @@ even_with (Once old) new h e = by (is_same old new)
     by : (b : Bool) → IsEven (if b then Twice old else Once new)
     by true = h
     by false = e
-even_with (Twice old) new h e = by (old.size == new.size)
+even_with (Twice old) new h e = by (is_same old new)
   where
-    by : (b : Bool) → IsEven (if b then Twice old else Once new)
+    by : (b : Bool) → IsEven (if b then Thrice old else Once new)
+    by true = h
+    by false = e
+even_with (Thrice old) new h e = by (old.size == new.size)
+  where
+    by : (b : Bool) → IsEven (if b then Thrice old else Once new)
     by true = h
     by false = e
 
@@ -51,7 +57,8 @@ never_less n = grind (arith, nat_tests)
 even_agrees : (opinion : Opinion) (new : View) → IsEven opinion → new.lead ≡ pos 0 → agrees opinion new ≡ true
 even_agrees Unheard new h e = refl
 even_agrees (Once old) new h e = refl
-even_agrees (Twice old) new h e = by (old.size == new.size)
+even_agrees (Twice old) new h e = refl
+even_agrees (Thrice old) new h e = by (old.size == new.size)
   where
     near : differ_as_komis old new ≡ true
     near =

@@ -137,7 +137,7 @@ static ROWS: [Row; 15] = [
         is_positional: false,
         text: "# 1 komi: \"\": a score that doesn't differ from its others as the komis do
 # it wrote: \"=\\n\\n\"
-# right: it scored the empty board of this size twice alike with one komi: its scores differ as the komis do
+# right: it scored the empty board of this size three times alike with one komi: its scores differ as the komis do
 
 ",
     },
