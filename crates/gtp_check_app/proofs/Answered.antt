@@ -6,7 +6,7 @@ use Rattle.gtp_process.specs.declared.starter.Process.{Ghosts}
 use Rattle.gtp_process.specs.Starts.{Attempts}
 use Rattle.gtp_check_questions.specs.Lessons.{number_of}
 use Rattle.gtp_check_questions.specs.declared.lessons.Lesson.{Lesson}
-use Rattle.gtp_check_texts.specs.declared.fault.Fault.{Fault}
+use Rattle.gtp_check_reasons.specs.declared.fault.Fault.{Fault}
 use Rattle.gtp_check_talks.specs.Among.{is_among}
 use Rattle.gtp_check_talks.specs.Dialogues.{Dialogue, IsExchanged, dialogue, wrong_purpose}
 use Rattle.gtp_check_talks.specs.Laws.{AreNotedOnce, IsMoveAnswered, MovesAreNotedOnceAnswered}

@@ -10,7 +10,7 @@ use Rattle.gtp_check_shortening.specs.declared.flat.Shortening.{Shortening}
 use Rattle.gtp_check_shortening.specs.Reduction.{Reduction, candidate, is_minimal, next}
 use Rattle.gtp_check_shortening.specs.Shortening.{shortenings}
 use Rattle.gtp_check_talks.specs.Dialogues.{IsTrial, Wrong, wrong_purpose, wrong_talk}
-use Rattle.gtp_check_texts.specs.declared.fault.Fault.{Fault}
+use Rattle.gtp_check_reasons.specs.declared.fault.Fault.{Fault}
 use Rattle.gtp_check_plan.specs.declared.plan.Plan.{Plan}
 use Rattle.gtp_check_app.specs.Laws.{asked_in, asked_to_shorten, commands_of_lesson}
 use Rattle.gtp_check_app.specs.Trials.{LastGames, few_commands, limits_of, those_for}

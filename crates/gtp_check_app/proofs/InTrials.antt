@@ -10,8 +10,8 @@ use Rattle.gtp_check_judge.specs.Exam.{begun}
 use Rattle.gtp_check_questions.specs.declared.suicides.Suicide.{Suicide}
 use Rattle.gtp_check_shortening.specs.declared.flat.Shortening.{Shortening}
 use Rattle.gtp_check_shortening.specs.Reduction.{Reduction}
-use Rattle.gtp_check_texts.specs.declared.fault.Fault.{Fault}
-use Rattle.gtp_check_texts.specs.declared.fault.Fault.TheVariants.{CutOff, Wrote}
+use Rattle.gtp_check_reasons.specs.declared.fault.Fault.{Fault}
+use Rattle.gtp_check_reasons.specs.declared.fault.Fault.TheVariants.{CutOff, Wrote}
 use Rattle.gtp_check_talks.specs.declared.notes.Notes.{Notes}
 use Rattle.gtp_check_talks.specs.Dialogues.{AsksForMore, Converses, Dialogue, EndsWrong, IsTrial, Spares, SparesToEnd}
 use Rattle.gtp_check_talks.specs.Dialogues.{Wrong}

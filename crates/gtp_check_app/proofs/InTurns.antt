@@ -10,7 +10,7 @@ use Rattle.gtp_check_judge.specs.declared.exam.Exam.{Exam}
 use Rattle.gtp_check_judge.specs.Check.{after_loss, started, with_exam}
 use Rattle.gtp_check_judge.specs.Exam.{begun}
 use Rattle.gtp_check_questions.specs.Course.{Course}
-use Rattle.gtp_check_texts.specs.declared.fault.Fault.{Fault}
+use Rattle.gtp_check_reasons.specs.declared.fault.Fault.{Fault}
 use Rattle.gtp_check_texts.specs.Complaints.{complaint_lines}
 use Rattle.gtp_check_talks.specs.declared.engine.Engine.{Engine}
 use Rattle.gtp_check_talks.specs.declared.notes.Notes.{Notes}

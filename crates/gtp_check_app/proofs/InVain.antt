@@ -6,7 +6,7 @@ use Rattle.std.specs.Prelude.{if◌then◌else◌, length, nat_lt}
 use Rattle.gtp_process.specs.declared.starter.Process.{Ghosts}
 use Rattle.gtp_process.specs.Starts.{Attempts}
 use Rattle.gtp_check_questions.specs.declared.actions.Action.{Action}
-use Rattle.gtp_check_texts.specs.declared.fault.Fault.{Fault}
+use Rattle.gtp_check_reasons.specs.declared.fault.Fault.{Fault}
 use Rattle.gtp_check_talks.specs.Dialogues.{dialogue}
 use Rattle.gtp_check_plan.specs.declared.plan.Plan.{Plan}
 use Rattle.gtp_check_summary.specs.declared.summary.Over.{Over}

@@ -6,7 +6,7 @@ use Rattle.byte_streams.specs.Writing.{LinesGoOut, line_out, no_line}
 use Rattle.gtp_process.specs.declared.starter.Process.{Ghosts}
 use Rattle.gtp_process.specs.Starts.{Attempts}
 use Rattle.gtp_check_texts.specs.declared.complaint.Complaint.{Complaint}
-use Rattle.gtp_check_texts.specs.declared.fault.Fault.{Fault}
+use Rattle.gtp_check_reasons.specs.declared.fault.Fault.{Fault}
 use Rattle.cli.specs.declared.failure.Failure.{Failure}
 use Rattle.gtp_check_shortening.specs.declared.flat.Shortening.{Shortening}
 use Rattle.gtp_check_judge.specs.declared.asking.CheckCommand.{CheckCommand}

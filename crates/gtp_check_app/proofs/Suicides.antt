@@ -10,8 +10,8 @@ use Rattle.gtp_check_questions.specs.declared.suicides.Suicide.{Suicide as Suici
 use Rattle.gtp_check_questions.specs.declared.suicides.Suicide.TheVariants.{Unasked}
 use Rattle.gtp_check_shortening.specs.declared.flat.Shortening.{Shortening}
 use Rattle.gtp_check_shortening.specs.Reduction.{Reduction}
-use Rattle.gtp_check_texts.specs.declared.fault.Fault.{Fault}
-use Rattle.gtp_check_texts.specs.declared.fault.Fault.TheVariants.{Wrote}
+use Rattle.gtp_check_reasons.specs.declared.fault.Fault.{Fault}
+use Rattle.gtp_check_reasons.specs.declared.fault.Fault.TheVariants.{Wrote}
 use Rattle.gtp_check_talks.specs.Dialogues.{EndsLike, Wrong}
 use Rattle.gtp_check_plan.specs.declared.plan.Plan.{Plan}
 use Rattle.gtp_check_app.specs.Laws.{IsOfOther}

@@ -9,7 +9,7 @@ use Rattle.cli.specs.declared.failure.Failure.{Failure}
 use Rattle.cli.specs.declared.failure.Failure.TheVariants.{OutOfMemory, TooManyTurns, Write}
 use Rattle.gtp_check_questions.specs.declared.actions.Action.TheVariants.{Start}
 use Rattle.gtp_check_questions.specs.Course.{Course}
-use Rattle.gtp_check_texts.specs.declared.fault.Fault.{Fault}
+use Rattle.gtp_check_reasons.specs.declared.fault.Fault.{Fault}
 use Rattle.gtp_check_talks.specs.Dialogues.{AsksForMore, Wrong}
 use Rattle.gtp_check_plan.specs.declared.plan.Plan.{Plan}
 use Rattle.gtp_check_summary.specs.declared.summary.Over.{Over}

@@ -4,8 +4,8 @@ use Rattle.std.specs.Prelude.{replicate}
 use Rattle.std.specs.Prelude.{List, [], Option, None, Some, slice_index, slice_set}
 use Rattle.gtp_check_questions.specs.Lessons.{number_of}
 use Rattle.gtp_check_questions.specs.declared.lessons.Lesson.{Lesson}
-use Rattle.gtp_check_texts.specs.contracts.fault.FaultPartialEq.TheImpl as equality
-use Rattle.gtp_check_texts.specs.declared.fault.Fault.{Fault}
+use Rattle.gtp_check_reasons.specs.contracts.fault.FaultPartialEq.TheImpl as equality
+use Rattle.gtp_check_reasons.specs.declared.fault.Fault.{Fault}
 use Rattle.gtp_check_talks.specs.Counts.{one_more, with_more}
 use Rattle.gtp_check_app.specs.declared.tally.Tally.{Tally}
 

@@ -6,8 +6,8 @@ use Rattle.gtp_check_questions.specs.declared.suicides.Suicide.{Suicide}
 use Rattle.gtp_check_questions.specs.declared.suicides.Suicide.TheVariants.{Unasked}
 use Rattle.gtp_check_questions.specs.Asking.{lesson_of}
 use Rattle.gtp_check_questions.specs.Course.{Course, Leaves, part_over}
-use Rattle.gtp_check_texts.specs.declared.fault.Fault.{Fault}
-use Rattle.gtp_check_texts.specs.declared.fault.Fault.TheVariants.{Wrote}
+use Rattle.gtp_check_reasons.specs.declared.fault.Fault.{Fault}
+use Rattle.gtp_check_reasons.specs.declared.fault.Fault.TheVariants.{Wrote}
 
 -- a `genmove` was answered with a suicide, where that isn't judged
 abbrev pub is_unjudged : Suicide → Fault → Bool

@@ -25,11 +25,11 @@ use cli::failure::Failure;
 use gtp_check_judge::{CheckCommand, Examiner};
 use gtp_check_plan::plan::Plan;
 use gtp_check_questions::{Action, Course, Lesson, Lessons};
+use gtp_check_reasons::fault::Fault;
 use gtp_check_shortening::talk::Purpose;
 use gtp_check_summary::summary::{Ending, Over, first_line, last_lines};
 use gtp_check_talks::engine::{Engine, Room};
 use gtp_check_talks::notes::Notes;
-use gtp_check_texts::fault::Fault;
 use gtp_process::{Process, StartFault, Starter, Unstarted};
 use std::alloc::{AllocError, Global};
 

@@ -32,6 +32,7 @@ use go_board::{Game, KoRule};
 use gtp_check_judge::{CheckCommand, Kind};
 use gtp_check_plan::plan::Plan;
 use gtp_check_questions::{Course, Lesson};
+use gtp_check_reasons::fault::Fault;
 use gtp_check_shortening::flat::{
     Shortening, commands_of, games_in, has_cut, shortened, shortenings,
 };
@@ -41,7 +42,6 @@ use gtp_check_shortening::talk::{Purpose, Said};
 use gtp_check_shortening::{Limits, Reduction};
 use gtp_check_talks::trial::{Trial, Tried, try_commands};
 use gtp_check_texts::complaint::{Complaint, complaint_text};
-use gtp_check_texts::fault::Fault;
 use gtp_check_texts::last_game::Shown;
 use gtp_process::{Process, Starter};
 use std::alloc::{AllocError, Global};

@@ -5,7 +5,7 @@ ghost use Rattle.gtp_check_talks.specs.Notes.{nothing_noted};
 ghost use Rattle.gtp_check_app.specs.Progress.{IsShown, cleared, in_place, is_read_next, line_at, line_start};
 ghost use Rattle.gtp_check_app.specs.Progress.{looking_line};
 ghost use Rattle.gtp_check_app.specs.Progress.{most_columns, place_among, waiting_text};
-ghost use Rattle.gtp_check_texts.specs.Texts.{joined};
+ghost use Rattle.gtp_check_reasons.specs.Texts.{joined};
 ghost use Rattle.gtp_check_app.specs.Turns.{state_of, waiting};
 
 use crate::check::Check;

@@ -5,7 +5,7 @@ ghost use Rattle.gtp_check_app.specs.Tally.{with_hidden, with_suicide};
 
 use arrayvec::ArrayVec;
 use gtp_check_questions::Lesson;
-use gtp_check_texts::fault::Fault;
+use gtp_check_reasons::fault::Fault;
 
 /// Of one kind in one lesson so many complaints are shown.
 const MOST_SHOWN_ALIKE: usize = 3;

@@ -5,8 +5,8 @@ ghost use Rattle.gtp_check_app.specs.Trials.{asked_for, left_after, match_may_wa
 ghost use Rattle.gtp_check_app.specs.Trials.{ran_on, spaced, with_names, with_names_before};
 
 use gtp_check_judge::CheckCommand;
+use gtp_check_reasons::runs_on;
 use gtp_check_talks::trial::Tried;
-use gtp_check_texts::runs_on;
 use gtp_wire::Command;
 use std::alloc::{AllocError, Global};
 

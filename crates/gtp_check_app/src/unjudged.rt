@@ -8,8 +8,8 @@ use crate::check::{Check, purpose_in};
 use go_board::PlayFault;
 use gtp_check_judge::Kind;
 use gtp_check_questions::{Course, Suicide};
+use gtp_check_reasons::fault::Fault;
 use gtp_check_shortening::talk::Purpose;
-use gtp_check_texts::fault::Fault;
 use gtp_process::{Process, Starter};
 
 /// Whether something is wrong that is judged.

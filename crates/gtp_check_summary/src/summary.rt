@@ -14,9 +14,9 @@ use go_base::{push, write_int};
 use go_board::KoRule;
 use gtp_check_plan::plan::Plan;
 use gtp_check_questions::{LESSONS, Lesson, Lessons};
+use gtp_check_reasons::texts::add_all;
 use gtp_check_talks::among::is_among;
 use gtp_check_talks::notes::{Beginning, Notes};
-use gtp_check_texts::texts::add_all;
 use gtp_process::{Unstarted, push_quoted, push_unstarted};
 use std::alloc::{AllocError, Global};
 

@@ -4,7 +4,7 @@ use Rattle.gtp_process.specs.declared.starter.Ending.{Ending}
 use Rattle.gtp_process.specs.declared.starter.Process.{Ghosts}
 use Rattle.gtp_process.specs.Starts.{Attempts, Tries}
 use Rattle.gtp_check_judge.specs.Check.{Check, after_loss, started, with_exam}
-use Rattle.gtp_check_texts.specs.declared.fault.Fault.{Fault}
+use Rattle.gtp_check_reasons.specs.declared.fault.Fault.{Fault}
 use Rattle.gtp_check_talks.specs.Dialogues.{AsksAll, AsksFirst, Dialogue, IsTrial, Spares, SparesToEnd, Standing}
 use Rattle.gtp_check_talks.specs.Dialogues.{Trial, Wrong, begun_with, right, standing, wrong, wrong_with}
 

@@ -29,7 +29,7 @@ use Rattle.gtp_check_questions.specs.Lessons.{all_lessons, number_of}
 use Rattle.gtp_check_questions.specs.declared.lessons.Lesson.{Lesson}
 use Rattle.gtp_check_shortening.specs.declared.talk.Said.{Said}
 use Rattle.gtp_check_shortening.specs.Shortening.{commands_of}
-use Rattle.gtp_check_texts.specs.declared.fault.Fault.{Fault}
+use Rattle.gtp_check_reasons.specs.declared.fault.Fault.{Fault}
 use Rattle.gtp_check_talks.specs.Among.{is_among}
 use Rattle.gtp_check_talks.specs.Counts.{with_more}
 use Rattle.gtp_check_talks.specs.declared.notes.Notes.{Notes}

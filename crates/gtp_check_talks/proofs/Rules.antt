@@ -24,7 +24,7 @@ use Rattle.gtp_check_judge.specs.Dues.{after_check, after_due}
 use Rattle.gtp_check_judge.specs.Judging.{oldest, has_id}
 use Rattle.gtp_check_judge.specs.Exam.{Asks, Hears, Leaves, ReplyLeaves, IdLeaves, after_judged, with_learned, hearing, reply_to}
 use Rattle.gtp_check_judge.specs.Exam.{with_rest}
-use Rattle.gtp_check_texts.specs.declared.fault.Fault.{Fault}
+use Rattle.gtp_check_reasons.specs.declared.fault.Fault.{Fault}
 use Rattle.gtp_check_talks.specs.Dialogues.{AreHeard, Converses, Dialogue, EndsSo, IsExchanged}
 use Rattle.gtp_check_talks.specs.Dialogues.{IsHeard, IsRead}
 

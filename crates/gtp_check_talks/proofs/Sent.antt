@@ -13,7 +13,7 @@ use Rattle.gtp_check_judge.specs.declared.exam.Exam.{Exam}
 use Rattle.gtp_check_judge.specs.Asking.{written_check}
 use Rattle.gtp_check_shortening.specs.declared.talk.Purpose.{Purpose}
 use Rattle.gtp_check_shortening.specs.declared.talk.Said.{Said}
-use Rattle.gtp_check_texts.specs.declared.fault.Fault.{Fault}
+use Rattle.gtp_check_reasons.specs.declared.fault.Fault.{Fault}
 use Rattle.gtp_check_talks.specs.declared.notes.Notes.{Notes}
 use Rattle.gtp_check_talks.specs.Dialogues.{AreHeard, AreTaken, Converses, Dialogue, EndsSo, IsAsked, IsExchanged}
 use Rattle.gtp_check_talks.specs.Dialogues.{IsRead}

@@ -7,8 +7,8 @@ use Rattle.gtp_process.specs.declared.causes.PipeCause.{PipeCause}
 use Rattle.gtp_process.specs.declared.starter.Process.{Ghosts}
 use Rattle.gtp_check_judge.specs.Exam.{begun}
 use Rattle.gtp_check_judge.specs.Laws.{SilenceSaysAllIsRight}
-use Rattle.gtp_check_texts.specs.declared.fault.Fault.{Fault}
-use Rattle.gtp_check_texts.specs.declared.fault.Fault.TheVariants.{CutOff}
+use Rattle.gtp_check_reasons.specs.declared.fault.Fault.{Fault}
+use Rattle.gtp_check_reasons.specs.declared.fault.Fault.TheVariants.{CutOff}
 use Rattle.gtp_check_talks.specs.declared.notes.Notes.{Notes}
 use Rattle.gtp_check_talks.specs.Dialogues.{AreHeard, Converses, Dialogue, EndsWrong, IsExchanged, IsRead, begun_with}
 use Rattle.gtp_check_talks.specs.Laws.{BreaksOff, IsLost, IsRightlyAnswered}

@@ -17,8 +17,8 @@ use Rattle.gtp_check_judge.specs.Judging.{oldest, has_id}
 use Rattle.gtp_check_judge.specs.Exam.{begun, Hears, Leaves, ReplyLeaves, IdLeaves, after_judged, finding_of, hearing, reply_to}
 use Rattle.gtp_check_judge.specs.Exam.{with_learned, with_rest}
 use Rattle.gtp_check_judge.specs.Laws.{Exchange, FindingsAreJustified, Talks, exchanged}
-use Rattle.gtp_check_texts.specs.declared.fault.Fault.{Fault}
-use Rattle.gtp_check_texts.specs.declared.fault.Fault.TheVariants.{Wrote}
+use Rattle.gtp_check_reasons.specs.declared.fault.Fault.{Fault}
+use Rattle.gtp_check_reasons.specs.declared.fault.Fault.TheVariants.{Wrote}
 use Rattle.gtp_check_talks.specs.declared.notes.Notes.{Notes}
 use Rattle.gtp_check_talks.specs.Dialogues.{AreHeard, AreTaken, Converses, Dialogue, EndsWrong, IsExchanged, IsHeard}
 use Rattle.gtp_check_talks.specs.Dialogues.{IsRead, IsSent, begun_with, ends_in_pieces}

@@ -37,9 +37,9 @@ use Rattle.gtp_check_questions.specs.Course.{IsLeftOut}
 use Rattle.gtp_check_questions.specs.Lessons.{is_in_pieces}
 use Rattle.gtp_check_judge.specs.Exam.{Asks, HasRoomFor, Hearing, Hears, HearsDown, hearing}
 use Rattle.gtp_check_talks.specs.declared.engine.Engine.{Engine}
-use Rattle.gtp_check_texts.specs.declared.fault.Fault.{Fault}
-use Rattle.gtp_check_texts.specs.declared.fault.Fault.TheVariants.{CutOff, Wrote}
-use Rattle.gtp_check_texts.specs.Lines.{is_newline}
+use Rattle.gtp_check_reasons.specs.declared.fault.Fault.{Fault}
+use Rattle.gtp_check_reasons.specs.declared.fault.Fault.TheVariants.{CutOff, Wrote}
+use Rattle.gtp_check_reasons.specs.Lines.{is_newline}
 use Rattle.gtp_check_talks.specs.declared.notes.Notes.{Notes}
 use Rattle.gtp_check_shortening.specs.declared.talk.Purpose.{Purpose}
 use Rattle.gtp_check_shortening.specs.declared.talk.Said.{Said}

@@ -14,8 +14,8 @@ use crate::engine::{Ended, Engine, Room};
 use crate::notes::Notes;
 use gtp_check_judge::{CheckCommand, Examiner};
 use gtp_check_questions::{Lesson, Suicide};
+use gtp_check_reasons::fault::Fault;
 use gtp_check_shortening::talk::{Purpose, Said};
-use gtp_check_texts::fault::Fault;
 use gtp_process::{Process, StartFault, Starter};
 use std::alloc::{AllocError, Global};
 

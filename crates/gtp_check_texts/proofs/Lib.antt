@@ -1,7 +1,2 @@
-mod CaptureTexts
-pub mod Joining
-mod KosRetaken
-mod LinesOfTexts
+mod DrawnLines
 mod StonesOnBoards
-mod StonesTaken
-mod SuicideChains

@@ -2,7 +2,7 @@
 ghost use Rattle.std.specs.Prelude.{◌≡◌, ◌≤◌, length};
 ghost use Rattle.gtp_check_texts.specs.Junk.{first_line};
 
-use crate::lines::line_len;
+use gtp_check_reasons::line_len;
 use gtp_wire::MOST_SHOWN;
 
 /// The first line of what an engine wrote, without its newline and at most 80 bytes of it.

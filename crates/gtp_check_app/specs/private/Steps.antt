@@ -16,7 +16,7 @@ use Rattle.gtp_check_app.specs.declared.check.Next.{Next}
 use Rattle.gtp_check_app.specs.declared.streams.Streams.{Streams}
 use Rattle.gtp_check_app.specs.declared.check.Next.TheVariants.{Exchange, Kill, Over, Restart, Start}
 use Rattle.gtp_check_talks.specs.declared.engine.Engine.{Engine}
-use Rattle.gtp_check_texts.specs.declared.fault.Fault.{Fault}
+use Rattle.gtp_check_reasons.specs.declared.fault.Fault.{Fault}
 use Rattle.cli.specs.declared.failure.Failure.{Failure}
 use Rattle.cli.specs.declared.failure.Failure.TheVariants.{OutOfMemory, Write}
 use Rattle.gtp_check_talks.specs.declared.notes.Notes.{Notes}

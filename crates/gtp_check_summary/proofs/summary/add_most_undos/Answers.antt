@@ -1,7 +1,7 @@
 use Rattle.std.proofs.Common.{[], ◌∷◌, codes, sym}
 use Rattle.std.proofs.lemmas.List.{append-nil}
 use Rattle.gtp_check_summary.specs.Summary.{counted_text}
-use Rattle.gtp_check_texts.proofs.Joining.{one_more}
+use Rattle.gtp_check_reasons.proofs.Joining.{one_more}
 use Rattle.gtp_check_summary.proofs.summary.add_most_undos.Goals as goal
 
 pub returns : goal.returns

@@ -1,6 +1,6 @@
 use Rattle.std.proofs.Common.{◌∙◌}
 use Rattle.gtp_check_summary.specs.Summary.{spaced_name}
-use Rattle.gtp_check_texts.proofs.Joining.{appended-step}
+use Rattle.gtp_check_reasons.proofs.Joining.{appended-step}
 use Rattle.gtp_check_summary.proofs.summary.add_names.Goals as goal
 
 pub loop-lesson-preserved : goal.loop-lesson-preserved

@@ -2,7 +2,7 @@ use Rattle.std.proofs.Common.{[], ◌∷◌, codes, map, sym}
 use Rattle.std.proofs.lemmas.List.{append-nil}
 use Rattle.std.specs.List.{concat}
 use Rattle.gtp_check_summary.specs.Summary.{spaced_size}
-use Rattle.gtp_check_texts.proofs.Joining.{one_more}
+use Rattle.gtp_check_reasons.proofs.Joining.{one_more}
 use Rattle.gtp_check_summary.proofs.summary.add_refusals.Goals as goal
 
 pub returns : goal.returns

@@ -2,7 +2,7 @@ use Rattle.std.proofs.Common.{◌≡◌, ◌++◌, ◌∙◌, Bool, ap, arith, m
 use Rattle.std.specs.List.{concat}
 use Rattle.gtp_check_questions.specs.Lessons.{all_lessons}
 use Rattle.gtp_check_summary.specs.Summary.{is_unplayed, unplayed_line}
-use Rattle.gtp_check_texts.proofs.Joining.{appended-step}
+use Rattle.gtp_check_reasons.proofs.Joining.{appended-step}
 use Rattle.gtp_check_summary.proofs.summary.add_unplayed.Goals as goal
 
 pub loop-lesson-preserved : goal.loop-lesson-preserved

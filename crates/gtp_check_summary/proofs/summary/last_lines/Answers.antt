@@ -3,7 +3,7 @@ use Rattle.gtp_check_questions.specs.declared.lessons.Lesson.{Lesson}
 use Rattle.gtp_check_summary.specs.Summary.{counts_line, hidden_lines, lack_lines, lessons_line, unplayed_lines}
 use Rattle.gtp_check_summary.specs.Summary.{missed_lines}
 use Rattle.gtp_check_summary.specs.Summary.{refused_line, suicides_line, undos_line}
-use Rattle.gtp_check_texts.proofs.Joining.{one_more}
+use Rattle.gtp_check_reasons.proofs.Joining.{one_more}
 use Rattle.gtp_check_summary.proofs.summary.last_lines.Goals as goal
 
 pub returns : goal.returns

@@ -1,7 +1,7 @@
 use Rattle.std.proofs.Common.{◌≡◌, ◌-◌, ◌∙◌, ap, ℕ, List, take, drop, arith}
 use Rattle.std.specs.List.{position_or_len}
 use Rattle.std.proofs.lemmas.List.{take_min}
-use Rattle.gtp_check_texts.specs.Lines.{is_newline}
+use Rattle.gtp_check_reasons.specs.Lines.{is_newline}
 use Rattle.gtp_check_talks.proofs.engine.through_line.Goals as goal
 
 pub returns : goal.returns

@@ -1,4 +1,4 @@
-use Rattle.gtp_check_texts.proofs.LinesOfTexts.{drawn-step}
+use Rattle.gtp_check_texts.proofs.DrawnLines.{drawn-step}
 use Rattle.gtp_check_texts.proofs.board.add_comments.Goals as goal
 
 pub loop-line-preserved : goal.loop-line-preserved

@@ -1,5 +1,5 @@
 use Rattle.std.proofs.Common.{◌≡◌, ◌++◌, length}
-use Rattle.gtp_check_texts.proofs.LinesOfTexts.{drawn}
+use Rattle.gtp_check_texts.proofs.DrawnLines.{drawn}
 use Rattle.gtp_check_texts.proofs.board.add_comments.Given as goal
 
 -- with the lines that are left the whole is drawn

@@ -1,7 +1,7 @@
 use Rattle.std.proofs.Common.{◌∙◌, ℕ, take, min, ap}
 use Rattle.std.specs.List.{position_or_len}
-use Rattle.gtp_check_texts.specs.Lines.{is_newline}
-use Rattle.gtp_check_texts.proofs.LinesOfTexts.{take_shorter}
+use Rattle.gtp_check_reasons.specs.Lines.{is_newline}
+use Rattle.gtp_check_texts.proofs.DrawnLines.{take_shorter}
 use Rattle.gtp_check_texts.proofs.junk.first_line.Goals as goal
 
 pub returns-clause-line : goal.returns-clause-line

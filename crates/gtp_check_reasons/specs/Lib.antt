@@ -1,0 +1,12 @@
+pub mod Answers
+pub mod Colours
+pub mod Illegal
+pub mod Kinds
+pub mod Laws
+pub mod Lines
+pub mod Plays
+pub mod Reasons
+pub mod Rules
+pub mod RunOn
+pub mod Sentences
+pub mod Texts

@@ -1,0 +1,56 @@
+//! What a right engine answers, where that hangs on what was asked before.
+ghost use Rattle.std.specs.Prelude.{◌≡◌};
+ghost use Rattle.gtp_check_reasons.specs.Answers.{points_of, right_answer, right_points, stones_on};
+
+use crate::fault::Fault;
+use arrayvec::ArrayVec;
+use go_base::{Size, VERTICES_ROOM, handicap, write_vertices};
+use gtp_check_judge::{CheckCommand, Kind};
+use gtp_check_shortening::talk::Said;
+use gtp_wire::Command;
+
+/// The room for an answer: the vertices of a handicap.
+pub const ANSWER_ROOM: usize = VERTICES_ROOM;
+
+/// An answer.
+type Answer = ArrayVec<u8, ANSWER_ROOM>;
+
+/// What a right engine answers to a command, where other points of a handicap were wrong.
+pub fn right_answer(fault: Fault, said: Option<Said>) -> Answer
+    ensures { result.items ≡ right_answer fault said }
+{
+    match fault {
+        Fault::Wrote(Kind::OtherPoints) => right_points(said),
+        _ => ArrayVec::new(),
+    }
+}
+
+/// The points of the handicap that a command places on the board that it was asked on.
+fn right_points(said: Option<Said>) -> Answer
+    ensures { result.items ≡ right_points said }
+{
+    match &said {
+        Some(said) => points_of(&said.command, said.size),
+        None => ArrayVec::new(),
+    }
+}
+
+/// The points of the handicap that a command places on a board of this size.
+fn points_of(command: &CheckCommand, size: Size) -> Answer
+    ensures { result.items ≡ points_of command.now size }
+{
+    match command {
+        CheckCommand::Match(Command::FixedHandicap(stones)) => stones_on(*stones, size),
+        _ => ArrayVec::new(),
+    }
+}
+
+/// The points of so many stones on a board of this size, if it allows them.
+fn stones_on(stones: u32, size: Size) -> Answer
+    ensures { result.items ≡ stones_on stones size }
+{
+    match handicap(size, stones) {
+        Some(points) => write_vertices(&points),
+        None => ArrayVec::new(),
+    }
+}

@@ -1,0 +1,146 @@
+//! What decides that an answer is wrong.
+ghost use Rattle.std.specs.Prelude.{◌≡◌, ◌∷◌, [], ◌++◌, OnOk};
+ghost use Rattle.gtp_check_reasons.specs.Reasons.{chosen_by, colour_letter, move_of, reason, refused_match, refused_text};
+ghost use Rattle.gtp_check_reasons.specs.Reasons.{are_of_one_colour, in_a_row_line, in_a_row_text, undo_text};
+
+use crate::colours::is_same;
+use crate::illegal::{add_illegal, last_move};
+use crate::plays::add_legal;
+use crate::sentences::{command_sentence, kind_sentence, no_move_sentence, other_sentence};
+use crate::texts::add_all;
+use go_base::{Colour, Move, Vertex};
+use go_board::Game;
+use gtp_check_judge::{Cause, CheckCommand, Kind};
+use gtp_wire::Command;
+use std::alloc::AllocError;
+
+/// Appends what decides that an answer is wrong, in one line without a newline.
+///
+/// It names which stones a legal play takes, which move may be taken back, why a move isn't legal, or the rule. The
+/// game is that of a right engine before the command, and `chosen` the vertex that a `genmove` answered, where it is
+/// known.
+///
+/// # Errors
+///
+/// Where memory is refused.
+pub fn add_reason(
+    text: &mut Vec<u8>,
+    game: &Game,
+    command: &CheckCommand,
+    kind: Kind,
+    chosen: Option<Vertex>,
+) -> Result<(), AllocError>
+    ensures { OnOk result (text.new.items
+        ≡ text.old.items ++ reason game.now command.now kind chosen) }
+{
+    match kind {
+        Kind::Refused => add_refused(text, game, command),
+        Kind::Took(Cause::BadMove(fault)) => {
+            add_illegal(text, game, move_of(command, chosen), fault)
+        }
+        Kind::Unlawful(fault) => add_illegal(text, game, move_of(command, chosen), fault),
+        Kind::NoMove => text.extend_from_slice(no_move_sentence(command)),
+        _ => text.extend_from_slice(kind_sentence(kind)),
+    }
+}
+
+/// Appends why a right engine takes a command.
+fn add_refused(text: &mut Vec<u8>, game: &Game, command: &CheckCommand) -> Result<(), AllocError>
+    ensures { OnOk result (text.new.items ≡ text.old.items ++ refused_text game.now command.now) }
+{
+    match command {
+        CheckCommand::Match(command) => add_refused_match(text, game, command),
+        _ => text.extend_from_slice(other_sentence(command)),
+    }
+}
+
+/// Appends why a right engine takes a command of a match.
+fn add_refused_match(text: &mut Vec<u8>, game: &Game, command: &Command) -> Result<(), AllocError>
+    ensures { OnOk result (text.new.items ≡ text.old.items ++ refused_match game.now command.now) }
+{
+    match command {
+        Command::Play(made) => add_legal(text, game, *made),
+        Command::Undo => add_undo(text, last_move(game)),
+        _ => text.extend_from_slice(command_sentence(command)),
+    }
+}
+
+/// Appends that there is a move to take back: the last one.
+fn add_undo(text: &mut Vec<u8>, last: Option<Move>) -> Result<(), AllocError>
+    ensures { OnOk result (text.new.items ≡ text.old.items ++ undo_text last) }
+{
+    match last {
+        None => text.extend_from_slice(b"there is a move to take back"),
+        Some(made) => add_all(
+            text,
+            &[
+                b"there is a move to take back: ",
+                colour_letter(made.colour),
+                b" ",
+                &made.vertex.write(),
+            ],
+        ),
+    }
+}
+
+/// The capital letter of a colour.
+fn colour_letter(colour: Colour) -> &'static [u8]
+    ensures { result.now ≡ colour_letter colour }
+{
+    match colour {
+        Colour::Black => b"B",
+        Colour::White => b"W",
+    }
+}
+
+/// The move that a command makes; a `genmove` makes the one that was chosen.
+fn move_of(command: &CheckCommand, chosen: Option<Vertex>) -> Option<Move>
+    ensures { result ≡ move_of command.now chosen }
+{
+    match command {
+        CheckCommand::Match(Command::Play(made)) | CheckCommand::PlayInFull(made) => Some(*made),
+        CheckCommand::Match(Command::Genmove(colour)) | CheckCommand::GenmoveInFull(colour) => {
+            chosen_by(*colour, chosen)
+        }
+        _ => None,
+    }
+}
+
+/// The move that this colour chose, where its vertex is known.
+fn chosen_by(colour: Colour, chosen: Option<Vertex>) -> Option<Move>
+    ensures { result ≡ chosen_by colour chosen }
+{
+    let vertex = chosen?;
+    Some(Move { colour, vertex })
+}
+
+/// That moves of one colour in a row are legal, where a move was refused and the last one had its colour.
+pub fn in_a_row_line(game: &Game, command: &CheckCommand, kind: Kind) -> &'static [u8]
+    ensures { result.now ≡ in_a_row_line game.now command.now kind }
+{
+    match kind {
+        Kind::Refused => in_a_row_text(are_of_one_colour(last_move(game), move_of(command, None))),
+        _ => b"",
+    }
+}
+
+/// Whether both moves are known and of one colour.
+fn are_of_one_colour(last: Option<Move>, made: Option<Move>) -> bool
+    ensures { result ≡ are_of_one_colour last made }
+{
+    match (last, made) {
+        (Some(last), Some(made)) => is_same(last.colour, made.colour),
+        _ => false,
+    }
+}
+
+/// The line where they are.
+fn in_a_row_text(are_of_one_colour: bool) -> &'static [u8]
+    ensures { result.now ≡ in_a_row_text are_of_one_colour }
+{
+    if are_of_one_colour {
+        b"# the last move was of the same colour: moves of one colour in a row are legal\n"
+    } else {
+        b""
+    }
+}
