@@ -207,6 +207,23 @@ class Pauses(checks.Case):
         os.close(engine.given)
 
 
+# what an engine may write around its answers, by the format of bash's printf
+DRESSES = {"CR before each LF": r"=%s D4\r\n\r\n", "empty lines before each": r"\n\n=%s D4\n\n", "empty lines behind each": r"=%s D4\n\n\n\n",
+           "all of these": r"\r\n\n=%s D4\r\n\r\n\r\n\r\n"}  # fmt: skip
+
+
+@checks.table(DRESSES, lambda it: f"an engine passes its trial whose answers have {it}")
+class Dressed(checks.Case):
+    """What an engine may write around its answers is no answer."""
+
+    def row(self, row):
+        words = ["bash", "-c", f"while read -r number _; do printf '{DRESSES[row]}' \"$number\"; done"]
+        log = os.open(os.devnull, os.O_WRONLY)
+        came = trial.attempt(words, str(self.room()), log, trial.Setup([]), (20, 20, 20))
+        os.close(log)
+        self.same((trial.PASSED, "", "D4 D4"), came)
+
+
 class Noticed(Case):
     """Where a trial takes long it is said what is waited for."""
 
