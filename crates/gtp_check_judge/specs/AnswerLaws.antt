@@ -2,11 +2,13 @@
 -- of commands is right.
 use Rattle.std.specs.Prelude.{◌≡◌, ℕ, ◌+◌, ◌-◌, ◌*◌, ◌^◌, ◌<◌, ◌≤◌, ◌⊎◌, ℤ, pos, ◌↔◌, true, false, List, [], ◌∷◌, ◌++◌}
 use Rattle.std.specs.Prelude.{length, codes, Contains, Option, None, Some, Result, Ok}
+use Rattle.std.specs.List.{slice_split}
 use Rattle.std.specs.Str.Parse.{AllDigits, digits_value}
 use Rattle.go_board.specs.declared.rules.KoRule.{KoRule}
 use Rattle.gtp_wire.specs.declared.commands.Command.TheVariants.{Boardsize, Komi, Undo}
 use Rattle.gtp_wire.specs.declared.replies.Reply.{Reply}
 use Rattle.gtp_wire.specs.declared.replies.ReplyFault.{ReplyFault}
+use Rattle.gtp_wire.specs.Bytes.{is_newline}
 use Rattle.gtp_wire.specs.Words.{reply_words}
 use Rattle.gtp_check_judge.specs.declared.asking.CheckCommand.TheVariants.{Match, ListCommands}
 use Rattle.gtp_check_judge.specs.declared.unanswered.Asked.{Asked}
@@ -164,17 +166,24 @@ pub record IsListing (exam : Exam) (reply : Reply) (entry : Asked) : Type 0 wher
   pub id : reply.id ≡ Some entry.id
   pub succeeds : reply.ok ≡ true
 
--- Such a reply is found wrong where a command that the standard requires of every engine isn't one of its words. Where
--- each of them is, nothing is found, in whatever order they stand, and whatever other words there are.
+-- One of the rows of the text, the parts between its newlines, has the name and no other word.
+pub record HasRow (text name : List ℕ) : Type 0 where
+  pub row : List ℕ
+  pub is_row : Contains (slice_split is_newline text) row
+  pub only : reply_words row ≡ name ∷ []
+
+-- Such a reply is found wrong where a command that the standard requires of every engine has no row of its text. Where
+-- each of them has, nothing is found, in whatever order they stand, and whatever other rows there are. (The standard,
+-- list_commands: one command a row.)
 pub record ListsNameEachCommand : Type 0 where
   pub lacking : (rule : KoRule) (sent came : List ℕ) (said : List Exchange) (old new : Exam) (bytes : List ℕ)
       (used : ℕ) (reply : Reply) (finding : Option Finding) (entry : Asked) (name : List ℕ)
       → Talks rule sent came said old → Hears old bytes (hearing used (Some (Ok reply)) finding) new
-      → IsListing old reply entry → IsRequired name → ¬ Contains (reply_words reply.text.items) name
+      → IsListing old reply entry → IsRequired name → ¬ HasRow reply.text.items name
       → finding ≡ Some (record { asked = Some entry; kind = Unlisted })
   pub complete : (rule : KoRule) (sent came : List ℕ) (said : List Exchange) (old new : Exam) (bytes : List ℕ)
       (used : ℕ) (reply : Reply) (finding : Option Finding) (entry : Asked)
       → Talks rule sent came said old → Hears old bytes (hearing used (Some (Ok reply)) finding) new
       → IsListing old reply entry
-      → ((name : List ℕ) → IsRequired name → Contains (reply_words reply.text.items) name)
+      → ((name : List ℕ) → IsRequired name → HasRow reply.text.items name)
       → finding ≡ None
