@@ -2,13 +2,11 @@
 -- of commands is right.
 use Rattle.std.specs.Prelude.{◌≡◌, ℕ, ◌+◌, ◌-◌, ◌*◌, ◌^◌, ◌<◌, ◌≤◌, ◌⊎◌, ℤ, pos, ◌↔◌, true, false, List, [], ◌∷◌, ◌++◌}
 use Rattle.std.specs.Prelude.{length, codes, Contains, Option, None, Some, Result, Ok}
-use Rattle.std.specs.List.{slice_split}
 use Rattle.std.specs.Str.Parse.{AllDigits, digits_value}
 use Rattle.go_board.specs.declared.rules.KoRule.{KoRule}
 use Rattle.gtp_wire.specs.declared.commands.Command.TheVariants.{Boardsize, Komi, Undo}
 use Rattle.gtp_wire.specs.declared.replies.Reply.{Reply}
 use Rattle.gtp_wire.specs.declared.replies.ReplyFault.{ReplyFault}
-use Rattle.gtp_wire.specs.Bytes.{is_newline}
 use Rattle.gtp_wire.specs.Words.{reply_words}
 use Rattle.gtp_check_judge.specs.declared.asking.CheckCommand.TheVariants.{Match, ListCommands}
 use Rattle.gtp_check_judge.specs.declared.unanswered.Asked.{Asked}
@@ -28,6 +26,7 @@ use Rattle.gtp_check_judge.specs.declared.judging.Refusal.TheVariants as refusal
 use Rattle.go_base.specs.Size.{IsSize}
 use Rattle.gtp_session.specs.CommandAnswers.{after_command}
 use Rattle.gtp_check_judge.specs.Komis.{HasToBeTaken}
+use Rattle.gtp_check_judge.specs.Listings.{rows}
 use Rattle.gtp_check_judge.specs.RightEngine.{RightEngine}
 use Rattle.gtp_check_judge.specs.Dues.{IsDue}
 use Rattle.gtp_check_judge.specs.Laws.{Exchange, Talks, IsAsked, IsRight}
@@ -169,7 +168,7 @@ pub record IsListing (exam : Exam) (reply : Reply) (entry : Asked) : Type 0 wher
 -- One of the rows of the text, the parts between its newlines, has the name and no other word.
 pub record HasRow (text name : List ℕ) : Type 0 where
   pub row : List ℕ
-  pub is_row : Contains (slice_split is_newline text) row
+  pub is_row : Contains (rows text) row
   pub only : reply_words row ≡ name ∷ []
 
 -- Such a reply is found wrong where a command that the standard requires of every engine has no row of its text. Where

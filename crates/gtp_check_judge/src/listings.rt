@@ -1,6 +1,7 @@
 //! What is answered to `list_commands`.
 ghost use Rattle.std.specs.Prelude.{◌≡◌};
-ghost use Rattle.gtp_check_judge.specs.Listings.{is_listed, is_row_of, lists_required, rows};
+ghost use Rattle.gtp_check_judge.specs.Listings.{administrative_commands, are_listed, is_listed, is_row_of};
+ghost use Rattle.gtp_check_judge.specs.Listings.{lists_required, play_commands, rows};
 
 use gtp_wire::first_word;
 
@@ -8,13 +9,26 @@ use gtp_wire::first_word;
 pub(crate) fn lists_required(text: &[u8]) -> bool
     ensures { result ≡ lists_required (rows text.now) }
 {
+    lists_administrative(text) && lists_play(text)
+}
+
+/// The same of the administrative commands.
+fn lists_administrative(text: &[u8]) -> bool
+    ensures { result ≡ are_listed (rows text.now) administrative_commands }
+{
     is_listed(text, b"protocol_version")
         && is_listed(text, b"name")
         && is_listed(text, b"version")
         && is_listed(text, b"known_command")
         && is_listed(text, b"list_commands")
         && is_listed(text, b"quit")
-        && is_listed(text, b"boardsize")
+}
+
+/// The same of the commands of setup and of play.
+fn lists_play(text: &[u8]) -> bool
+    ensures { result ≡ are_listed (rows text.now) play_commands }
+{
+    is_listed(text, b"boardsize")
         && is_listed(text, b"clear_board")
         && is_listed(text, b"komi")
         && is_listed(text, b"play")

@@ -5,5 +5,5 @@ use Rattle.gtp_session.specs.Commands.{all_names}
 use Rattle.gtp_check_judge.specs.Listings.{lists_required, rows}
 
 pub all_listed : lists_required (rows all_names) ≡ true
-unfolding reply_words
+unfolding reply_words rows
 all_listed = refl

@@ -7,6 +7,7 @@ use Rattle.gtp_check_judge.proofs.answers.Rows.{HasLeft-all, HasLeft-more, HasLe
 use Rattle.gtp_check_judge.proofs.listings.is_listed.Goals as goal
 
 pub loop-row-init : goal.loop-row-init
+unfolding rows
 loop-row-init c =
     let same = c.into_iter-row-iterator.ensures.into_iter_gives in
     HasLeft-all _ _ _ _
