@@ -4,6 +4,7 @@ pub mod Texts
 pub mod Statuses
 pub mod Numbers
 pub mod Lists
+pub mod Rows
 pub mod Choices
 pub mod Judged
 pub mod Komis

@@ -26,6 +26,7 @@ use Rattle.gtp_check_judge.specs.declared.judging.Refusal.TheVariants as refusal
 use Rattle.go_base.specs.Size.{IsSize}
 use Rattle.gtp_session.specs.CommandAnswers.{after_command}
 use Rattle.gtp_check_judge.specs.Komis.{HasToBeTaken}
+use Rattle.gtp_check_judge.specs.Listings.{rows}
 use Rattle.gtp_check_judge.specs.RightEngine.{RightEngine}
 use Rattle.gtp_check_judge.specs.Dues.{IsDue}
 use Rattle.gtp_check_judge.specs.Laws.{Exchange, Talks, IsAsked, IsRight}
@@ -164,17 +165,24 @@ pub record IsListing (exam : Exam) (reply : Reply) (entry : Asked) : Type 0 wher
   pub id : reply.id ≡ Some entry.id
   pub succeeds : reply.ok ≡ true
 
--- Such a reply is found wrong where a command that the standard requires of every engine isn't one of its words. Where
--- each of them is, nothing is found, in whatever order they stand, and whatever other words there are.
+-- One of the rows of the text, the parts between its newlines, has the name and no other word.
+pub record HasRow (text name : List ℕ) : Type 0 where
+  pub row : List ℕ
+  pub is_row : Contains (rows text) row
+  pub only : reply_words row ≡ name ∷ []
+
+-- Such a reply is found wrong where a command that the standard requires of every engine has no row of its text. Where
+-- each of them has, nothing is found, in whatever order they stand, and whatever other rows there are. (The standard,
+-- list_commands: one command a row.)
 pub record ListsNameEachCommand : Type 0 where
   pub lacking : (rule : KoRule) (sent came : List ℕ) (said : List Exchange) (old new : Exam) (bytes : List ℕ)
       (used : ℕ) (reply : Reply) (finding : Option Finding) (entry : Asked) (name : List ℕ)
       → Talks rule sent came said old → Hears old bytes (hearing used (Some (Ok reply)) finding) new
-      → IsListing old reply entry → IsRequired name → ¬ Contains (reply_words reply.text.items) name
+      → IsListing old reply entry → IsRequired name → ¬ HasRow reply.text.items name
       → finding ≡ Some (record { asked = Some entry; kind = Unlisted })
   pub complete : (rule : KoRule) (sent came : List ℕ) (said : List Exchange) (old new : Exam) (bytes : List ℕ)
       (used : ℕ) (reply : Reply) (finding : Option Finding) (entry : Asked)
       → Talks rule sent came said old → Hears old bytes (hearing used (Some (Ok reply)) finding) new
       → IsListing old reply entry
-      → ((name : List ℕ) → IsRequired name → Contains (reply_words reply.text.items) name)
+      → ((name : List ℕ) → IsRequired name → HasRow reply.text.items name)
       → finding ≡ None

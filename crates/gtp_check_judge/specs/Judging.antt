@@ -35,7 +35,7 @@ use Rattle.gtp_check_judge.specs.declared.opinions.View.{View}
 use Rattle.gtp_check_judge.specs.declared.opinions.Opinion.{Opinion}
 use Rattle.gtp_check_judge.specs.Scores.{score_of_text}
 use Rattle.gtp_check_judge.specs.Opinions.{view_of, agrees, opinion_with}
-use Rattle.gtp_check_judge.specs.Listings.{lists_required}
+use Rattle.gtp_check_judge.specs.Listings.{lists_required, rows}
 use Rattle.gtp_check_judge.specs.RightEngine.{RightEngine}
 
 -- ---- what is unanswered
@@ -200,7 +200,7 @@ Judged game opinion (Scores size komi) reply got =
 Judged game opinion AnyReply reply got = got ≡ Right
 Judged game opinion MayUndo reply got = got ≡ undo_judged reply.ok
 Judged game opinion Lists reply got =
-    got ≡ list_judged (lists_required (reply_words reply.text.items)) reply.ok
+    got ≡ list_judged (lists_required (rows reply.text.items)) reply.ok
 Judged game opinion (Chooses colour) reply got =
     ChoiceJudged game colour reply.ok (choice_of_text reply.text.items) got
 

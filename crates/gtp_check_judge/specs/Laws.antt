@@ -28,7 +28,7 @@ use Rattle.gtp_check_judge.specs.declared.scores.SaidScore.TheVariants.{Number}
 use Rattle.gtp_check_judge.specs.declared.opinions.View.{View}
 use Rattle.gtp_check_judge.specs.declared.opinions.Opinion.TheVariants.{Thrice}
 use Rattle.gtp_check_judge.specs.Scores.{score_of_text}
-use Rattle.gtp_check_judge.specs.Listings.{lists_required}
+use Rattle.gtp_check_judge.specs.Listings.{lists_required, rows}
 use Rattle.gtp_check_judge.specs.Opinions.{agrees_with, allowed, distance}
 use Rattle.gtp_wire.specs.Words.{reply_words}
 use Rattle.gtp_session.specs.Policy.{May, IsLawful}
@@ -82,7 +82,7 @@ SaysScore engine None = ⊥
 SaysScore engine (Some said) = agrees_with engine.opinion (view_in engine.game said) ≡ true
 
 -- The same of each command: the text of a `final_score` is such a score; of a `name`, a `version` and a `known_command`
--- it is any; that of a `list_commands` names each command that every engine has.
+-- it is any; that of a `list_commands` has a row for each command that every engine has.
 abbrev pub Says : RightEngine → CheckCommand → Choice → Bool → List ℕ → Type 0
 Says engine (Match command) choice ok text = SaysTo engine.game command choice ok text
 Says engine FinalScore choice true text = SaysScore engine (score_of_text text)
@@ -90,7 +90,7 @@ Says engine FinalScore choice false text = Unit {0}
 Says engine Name choice ok text = Unit {0}
 Says engine Version choice ok text = Unit {0}
 Says engine (KnownCommand known) choice ok text = Unit {0}
-Says engine ListCommands choice true text = lists_required (reply_words text) ≡ true
+Says engine ListCommands choice true text = lists_required (rows text) ≡ true
 Says engine ListCommands choice false text = Unit {0}
 Says engine (PlayInFull move) choice ok text = SaysTo engine.game (Play move) choice ok text
 Says engine (GenmoveInFull colour) choice ok text = SaysTo engine.game (Genmove colour) choice ok text
@@ -283,7 +283,7 @@ KindIsTrue before entry reply OtherScore =
     (reply.ok ≡ true) × (entry.due ≡ Scores before.game.size before.game.komi)
     × DiffersFromOpinion before reply.text.items
 KindIsTrue before entry reply Unlisted =
-    (reply.ok ≡ true) × (entry.due ≡ Lists) × (lists_required (reply_words reply.text.items) ≡ false)
+    (reply.ok ≡ true) × (entry.due ≡ Lists) × (lists_required (rows reply.text.items) ≡ false)
 KindIsTrue before entry reply WrongId = reply.id ≢ Some entry.id
 KindIsTrue before entry reply Unasked = ⊥
 KindIsTrue before entry reply NoStatus = ⊥

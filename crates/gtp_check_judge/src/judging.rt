@@ -8,7 +8,7 @@ ghost use Rattle.gtp_check_judge.specs.Judging.{Judged, ChoiceJudged, SaidJudged
 ghost use Rattle.gtp_check_judge.specs.Judging.{view_judged, MayBeJudged, has_id, success_judged};
 ghost use Rattle.gtp_check_judge.specs.Judging.{failure_judged, size_judged, undo_judged, points_judged, refused_by};
 ghost use Rattle.gtp_check_judge.specs.Judging.{list_judged};
-ghost use Rattle.gtp_check_judge.specs.Listings.{lists_required};
+ghost use Rattle.gtp_check_judge.specs.Listings.{lists_required, rows};
 
 use crate::dues::{Cause, Due};
 use crate::listings::lists_required;
@@ -197,7 +197,7 @@ fn are_points(size: Size, stones: u32, reply: &Reply) -> bool
 /// A reply to a `list_commands`.
 fn list_judged(reply: &Reply) -> Judgement
     ensures { result
-        ≡ list_judged (lists_required (reply_words reply.now.text.items)) reply.now.ok }
+        ≡ list_judged (lists_required (rows reply.now.text.items)) reply.now.ok }
 {
     if !reply.ok {
         return Judgement::Wrong(Kind::Refused);

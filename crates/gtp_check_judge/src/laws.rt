@@ -157,8 +157,8 @@ pub fn refusals_are_reported()
     ensures { RefusalsAreReported }
 {}
 
-/// A success to a `list_commands` is found wrong exactly where a command that the standard requires of every engine isn't
-/// one of its words.
+/// A success to a `list_commands` is found wrong exactly where a command that the standard requires of every engine has no
+/// row of it, with this word alone.
 pub fn lists_name_each_command()
     ensures { ListsNameEachCommand }
 {}

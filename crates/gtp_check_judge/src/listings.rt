@@ -1,15 +1,20 @@
 //! What is answered to `list_commands`.
 ghost use Rattle.std.specs.Prelude.{◌≡◌};
-ghost use Rattle.std.specs.List.{list_any};
-ghost use Rattle.std.specs.Str.{bytes_eq};
-ghost use Rattle.gtp_wire.specs.Words.{reply_words};
-ghost use Rattle.gtp_check_judge.specs.Listings.{is_listed, lists_required};
+ghost use Rattle.gtp_check_judge.specs.Listings.{administrative_commands, are_listed, is_listed, is_row_of};
+ghost use Rattle.gtp_check_judge.specs.Listings.{lists_required, play_commands, rows};
 
 use gtp_wire::first_word;
 
-/// Whether each command that the standard requires of every engine is among the words of a text.
+/// Whether each command that the standard requires of every engine has a row of a text.
 pub(crate) fn lists_required(text: &[u8]) -> bool
-    ensures { result ≡ lists_required (reply_words text.now) }
+    ensures { result ≡ lists_required (rows text.now) }
+{
+    lists_administrative(text) && lists_play(text)
+}
+
+/// The same of the administrative commands.
+fn lists_administrative(text: &[u8]) -> bool
+    ensures { result ≡ are_listed (rows text.now) administrative_commands }
 {
     is_listed(text, b"protocol_version")
         && is_listed(text, b"name")
@@ -17,23 +22,40 @@ pub(crate) fn lists_required(text: &[u8]) -> bool
         && is_listed(text, b"known_command")
         && is_listed(text, b"list_commands")
         && is_listed(text, b"quit")
-        && is_listed(text, b"boardsize")
+}
+
+/// The same of the commands of setup and of play.
+fn lists_play(text: &[u8]) -> bool
+    ensures { result ≡ are_listed (rows text.now) play_commands }
+{
+    is_listed(text, b"boardsize")
         && is_listed(text, b"clear_board")
         && is_listed(text, b"komi")
         && is_listed(text, b"play")
         && is_listed(text, b"genmove")
 }
 
-/// Whether a name is among the words of a text.
+/// Whether one of the rows of a text is that of a name.
 fn is_listed(text: &[u8], name: &[u8]) -> bool
-    ensures { result ≡ is_listed (reply_words text.now) name.now }
+    ensures { result ≡ is_listed (rows text.now) name.now }
 {
-    let mut left = text;
-    while let Some((word, rest)) = first_word(left) {
-        if name == word {
+    for row in text.split(|byte| *byte == b'\n') {
+        if is_row_of(name, row) {
             return true;
         }
-        left = rest;
     }
     false
+}
+
+/// Whether a row has this word, and no other.
+fn is_row_of(name: &[u8], row: &[u8]) -> bool
+    ensures { result ≡ is_row_of name.now row.now }
+{
+    match first_word(row) {
+        None => false,
+        Some((word, rest)) => match first_word(rest) {
+            Some(_) => false,
+            None => name == word,
+        },
+    }
 }

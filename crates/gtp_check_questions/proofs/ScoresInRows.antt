@@ -24,15 +24,15 @@ no_scores [] = true
 no_scores (now ∷ later) = no_score now && no_scores later
 
 isnt_score : (now : Stretch) → no_score now ≡ true → now ≢ stretch.Score
-isnt_score now no is = let e : true ≡ false = sym no ∙ ap no_score is in cc e
+isnt_score now without is = let e : true ≡ false = sym without ∙ ap no_score is in cc e
 
 none_so : (list : List Stretch) → no_scores list ≡ true → NoneScores list
 none_so [] none = tt
 none_so (now ∷ later) none =
     let two = and_parts (no_score now) (no_scores later) none in (isnt_score now two.0, none_so later two.1)
 
-without : (list : List Stretch) → no_scores list ≡ true → HasOneScore list
-without list none = record {
+scoreless : (list : List Stretch) → no_scores list ≡ true → HasOneScore list
+scoreless list none = record {
   before = list;
   later = [];
   all = sym (append-nil list);
@@ -45,10 +45,10 @@ without list none = record {
 start_so : (second third fourth : Bool)
     → HasOneScore (if second then pieces_stretches else if third then in_full_stretches
     else if fourth then list_stretches else start_stretches)
-start_so true third fourth = without pieces_stretches refl
-start_so false true fourth = without in_full_stretches refl
-start_so false false true = without list_stretches refl
-start_so false false false = without start_stretches refl
+start_so true third fourth = scoreless pieces_stretches refl
+start_so false true fourth = scoreless in_full_stretches refl
+start_so false false true = scoreless list_stretches refl
+start_so false false false = scoreless start_stretches refl
 
 handicaps_so : HasOneScore handicaps_stretches
 handicaps_so = record {
@@ -72,24 +72,24 @@ three list before later is none = record {
   later = later;
   all = is;
   none_before = none_so before none;
-  kept_between = (refl, refl, tt);
-  kept_until = (refl, refl, tt);
+  kept_between = (refl, (refl, tt));
+  kept_until = (refl, (refl, tt));
 }
 
 pub each_begins : ScoresBeginByThree
 each_begins lesson.Start part few = inl (start_so (part == 1) (part == 2) (part == 3))
-each_begins lesson.Sizes part few = inl (without sizes_stretches refl)
-each_begins lesson.Ko part few = inl (without ko_stretches refl)
-each_begins lesson.Captures part few = inl (without scene_stretches refl)
-each_begins lesson.Suicide part few = inl (without refused_stretches refl)
-each_begins lesson.Joining part few = inl (without scene_stretches refl)
+each_begins lesson.Sizes part few = inl (scoreless sizes_stretches refl)
+each_begins lesson.Ko part few = inl (scoreless ko_stretches refl)
+each_begins lesson.Captures part few = inl (scoreless scene_stretches refl)
+each_begins lesson.Suicide part few = inl (scoreless refused_stretches refl)
+each_begins lesson.Joining part few = inl (scoreless scene_stretches refl)
 each_begins lesson.Handicaps part few = inl handicaps_so
 each_begins lesson.Komi part few = inr (three komi_stretches (take 5 komi_stretches) (drop 12 komi_stretches) refl refl)
-each_begins lesson.Drawn part few = inl (without drawn_stretches refl)
+each_begins lesson.Drawn part few = inl (scoreless drawn_stretches refl)
 each_begins lesson.Record part few =
     inr (three record_stretches (take 5 record_stretches) (drop 12 record_stretches) refl refl)
-each_begins lesson.Genmoves part few = inl (without genmoves_stretches refl)
+each_begins lesson.Genmoves part few = inl (scoreless genmoves_stretches refl)
 each_begins lesson.Games part few =
     inr (three games_stretches (take 5 games_stretches) (drop 12 games_stretches) refl refl)
 each_begins lesson.Restarts part few =
-    inr (three restarts_stretches (take 20 restarts_stretches) (drop 27 restarts_stretches) refl refl)
+    inr (three restarts_stretches (take 40 restarts_stretches) (drop 47 restarts_stretches) refl refl)

@@ -172,13 +172,12 @@ restarts_stretches =
     stretch.Seek ∷ stretch.Size ∷ stretch.Taken ∷ stretch.Komi ∷ stretch.Clear ∷ stretch.Handicap ∷ stretch.Drawn 60 ∷
     stretch.Genmoves 2 ∷ stretch.Clear ∷ stretch.Handicap ∷ stretch.Stars ∷ stretch.Clear ∷ stretch.Filled ∷
     stretch.Chosen Black ∷ stretch.Restart ∷ stretch.Size ∷ stretch.Taken ∷ stretch.OtherKomi ∷ stretch.Clear ∷
-    stretch.Undo ∷ stretch.Score ∷ stretch.Drawn 1 ∷ stretch.Clear ∷ stretch.Score ∷ stretch.Drawn 1 ∷ stretch.Clear ∷
-    stretch.Score ∷ stretch.Komi ∷ stretch.Filled ∷ stretch.Chosen White ∷ stretch.Clear ∷ stretch.Handicap ∷
-    stretch.Drawn 60 ∷ stretch.Probed 60 ∷ stretch.Back 5 ∷ stretch.Genmoves 4 ∷ stretch.Clear ∷ stretch.Score ∷
-    stretch.OtherKomi ∷ stretch.Score ∷ stretch.Moves ∷ stretch.Own ∷ stretch.Emptied 12 ∷ stretch.Moves ∷
-    stretch.Kill ∷ stretch.Size ∷ stretch.Taken ∷ stretch.Komi ∷ stretch.Clear ∷ stretch.Undo ∷ stretch.Own ∷
-    stretch.Score ∷ stretch.Drawn 1 ∷ stretch.Clear ∷ stretch.Score ∷ stretch.Drawn 1 ∷ stretch.Clear ∷ stretch.Score ∷
-    stretch.OtherKomi ∷ stretch.Score ∷ stretch.Komi ∷ stretch.Clear ∷ stretch.Score ∷ []
+    stretch.Undo ∷ stretch.Filled ∷ stretch.Chosen White ∷ stretch.Clear ∷ stretch.Handicap ∷ stretch.Drawn 60 ∷
+    stretch.Probed 60 ∷ stretch.Back 5 ∷ stretch.Genmoves 4 ∷ stretch.Clear ∷ stretch.Moves ∷ stretch.Own ∷
+    stretch.Emptied 12 ∷ stretch.Moves ∷ stretch.Kill ∷ stretch.Size ∷ stretch.Taken ∷ stretch.Komi ∷ stretch.Clear ∷
+    stretch.Undo ∷ stretch.Own ∷ stretch.Score ∷ stretch.Drawn 1 ∷ stretch.Clear ∷ stretch.Score ∷ stretch.Drawn 1 ∷
+    stretch.Clear ∷ stretch.Score ∷ stretch.OtherKomi ∷ stretch.Score ∷ stretch.Komi ∷ stretch.Clear ∷ stretch.Score ∷
+    []
 
 -- The part of the start whose lines are sent in pieces. The engine is started anew, so all that it is asked comes so.
 abbrev pub pieces_stretches : List Stretch

@@ -145,8 +145,9 @@ pub(crate) static GAMES: [Stretch; 54] = [
     Stretch::Clear,
 ];
 
-/// The same again after a `quit`, and after an end without it. The scores of each start are compared with one another.
-pub(crate) static RESTARTS: [Stretch; 63] = [
+/// The same again after a `quit`, and after an end without it. The scores of the last start are compared with one another:
+/// what an engine keeps of the two starts before shows there.
+pub(crate) static RESTARTS: [Stretch; 52] = [
     Stretch::Seek,
     Stretch::Size,
     Stretch::Taken,
@@ -167,14 +168,6 @@ pub(crate) static RESTARTS: [Stretch; 63] = [
     Stretch::OtherKomi,
     Stretch::Clear,
     Stretch::Undo,
-    Stretch::Score,
-    Stretch::Drawn(1),
-    Stretch::Clear,
-    Stretch::Score,
-    Stretch::Drawn(1),
-    Stretch::Clear,
-    Stretch::Score,
-    Stretch::Komi,
     Stretch::Filled,
     Stretch::Chosen(Colour::White),
     Stretch::Clear,
@@ -184,9 +177,6 @@ pub(crate) static RESTARTS: [Stretch; 63] = [
     Stretch::Back(5),
     Stretch::Genmoves(4),
     Stretch::Clear,
-    Stretch::Score,
-    Stretch::OtherKomi,
-    Stretch::Score,
     Stretch::Moves,
     Stretch::Own,
     Stretch::Emptied(12),

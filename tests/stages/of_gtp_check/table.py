@@ -138,7 +138,6 @@ UNNOTICED = {
     "empty_board_is_blacks": "a score of an empty board is an opinion",
     "score_has_six_digits": "a score may end with an exponent",
     "no_reply_to_an_unknown_command": NOT_ASKED,
-    "id_at_multiple_lines": "in a list further words are the names of other commands",
     "quit_has_no_reply": "the answer to `quit` isn't judged",
     "known_is_yes": "any answer to `known_command` is right",
     "unknown_is_a_failure": "any answer to `known_command` is right",

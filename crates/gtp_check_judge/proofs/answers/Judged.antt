@@ -11,8 +11,7 @@ use Rattle.gtp_check_judge.specs.RightEngine.{RightEngine}
 use Rattle.gtp_check_judge.specs.Dues.{IsDue}
 use Rattle.gtp_check_judge.specs.Judging.{Judged}
 use Rattle.gtp_check_judge.specs.Judging.{are_points}
-use Rattle.gtp_check_judge.specs.Listings.{lists_required}
-use Rattle.gtp_wire.specs.Words.{reply_words}
+use Rattle.gtp_check_judge.specs.Listings.{lists_required, rows}
 use Rattle.gtp_check_judge.specs.Laws.{IsAsked}
 use Rattle.gtp_check_judge.proofs.answers.Choices.{asks_of, choice_holds}
 use Rattle.gtp_check_judge.proofs.answers.Lists.{list_holds}
@@ -51,7 +50,7 @@ judged_holds before entry MayUndo reply got is size a id j =
     (λ ch. due_answered before entry.id entry.command MayUndo ch size a.writable a.limits due) id refl j
 judged_holds before entry Lists reply got is size a id j =
     let due = subst (IsDue before entry.command) is a.is_due in
-    list_holds before entry reply (lists_required (reply_words reply.text.items)) reply.ok got due is
+    list_holds before entry reply (lists_required (rows reply.text.items)) reply.ok got due is
     (λ ch. due_answered before entry.id entry.command Lists ch size a.writable a.limits due) id refl refl j
 judged_holds before entry (Places s n) reply got is size a id j =
     let due = subst (IsDue before entry.command) is a.is_due in

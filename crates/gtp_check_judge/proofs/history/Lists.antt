@@ -8,7 +8,7 @@ use Rattle.std.proofs.lemmas.Slice.Eq.{bytes_eq-Decides}
 use Rattle.go_board.specs.declared.rules.KoRule.{KoRule}
 use Rattle.gtp_wire.specs.Words.{reply_words}
 use Rattle.gtp_wire.specs.declared.replies.Reply.{Reply}
-use Rattle.gtp_check_judge.specs.AnswerLaws.{IsListing, IsRequired, ListsNameEachCommand}
+use Rattle.gtp_check_judge.specs.AnswerLaws.{HasRow, IsListing, IsRequired, ListsNameEachCommand}
 use Rattle.gtp_check_judge.specs.declared.asking.CheckCommand.{CheckCommand}
 use Rattle.gtp_check_judge.specs.declared.asking.CheckCommand.TheVariants.{ListCommands}
 use Rattle.gtp_check_judge.specs.declared.dues.Due.{Due}
@@ -21,29 +21,50 @@ use Rattle.gtp_check_judge.specs.Dues.{IsDue}
 use Rattle.gtp_check_judge.specs.Exam.{engine_of, Hears, ReplyLeaves, IdLeaves, finding_of, with_rest, hearing, reply_to}
 use Rattle.gtp_check_judge.specs.Judging.{Judged, list_judged}
 use Rattle.gtp_check_judge.specs.Laws.{Exchange, IsAsked, IsRightSoFar, Talks}
-use Rattle.gtp_check_judge.specs.Listings.{is_listed, lists_required, required_commands}
+use Rattle.gtp_check_judge.specs.Listings.{is_listed, is_only, is_row_of, lists_required, required_commands, rows}
 use Rattle.gtp_check_judge.specs.RightEngine.{RightEngine}
 use Rattle.gtp_check_judge.proofs.talks.Silence.{id_has, oldest_asked, right_so_far}
 
--- ---- the words of a list
+-- ---- the rows of a list
 
-listed_so : (words : List (List ℕ)) (name : List ℕ) → is_listed words name ≡ true → Contains words name
+-- one of these rows has the name, and no other word
+record IsRowOf (list : List (List ℕ)) (name : List ℕ) : Type 0 where
+  row : List ℕ
+  is_row : Contains list row
+  only : reply_words row ≡ name ∷ []
+
+only_so : (name : List ℕ) (words : List (List ℕ)) → is_only name words ≡ true → words ≡ name ∷ []
+only_so name [] e = absurd (cc e)
+only_so name (word ∷ []) e = ap (λ (w : List ℕ). w ∷ []) (sym ((bytes_eq-Decides name word).0 e))
+only_so name (word ∷ other ∷ later) e = absurd (cc e)
+
+so_only : (name : List ℕ) (words : List (List ℕ)) → words ≡ name ∷ [] → is_only name words ≡ true
+so_only name words is = ap (is_only name) is ∙ (bytes_eq-Decides name name).1 refl
+
+listed_so : (list : List (List ℕ)) (name : List ℕ) → is_listed list name ≡ true → IsRowOf list name
 listed_so [] name e = absurd (cc e)
-listed_so (word ∷ words) name e = by (bytes_eq name word) refl e (λ later. listed_so words name later)
+listed_so (row ∷ list) name e = by (is_row_of name row) refl e (λ later. listed_so list name later)
   where
-    by : (b : Bool) → bytes_eq name word ≡ b → (b || list_any (bytes_eq name) words) ≡ true
-        → (list_any (bytes_eq name) words ≡ true → Contains words name) → Contains (word ∷ words) name
-    by true same e so = (0, omega arith, sym ((bytes_eq-Decides name word).0 same))
-    by false other e so = let there = so e in (suc there.0, omega (arith, there.1), there.2)
+    by : (b : Bool) → is_row_of name row ≡ b → (b || list_any (is_row_of name) list) ≡ true
+        → (list_any (is_row_of name) list ≡ true → IsRowOf list name) → IsRowOf (row ∷ list) name
+    by true one e so =
+        record { row = row; is_row = (0, omega arith, refl); only = only_so name (reply_words row) one }
+    by false other e so = let there = so e in record {
+      row = there.row;
+      is_row = (suc there.is_row.0, omega (arith, there.is_row.1), there.is_row.2);
+      only = there.only;
+    }
 
-so_listed : (words : List (List ℕ)) (name : List ℕ) → Contains words name → is_listed words name ≡ true
-so_listed [] name there = absurd (omega (arith, there.1))
-so_listed (word ∷ words) name (zero, few, is) =
-    ap (λ (b : Bool). b || list_any (bytes_eq name) words) ((bytes_eq-Decides name word).1 (sym is))
-so_listed (word ∷ words) name (suc k, few, is) =
-    later (bytes_eq name word) (so_listed words name (k, omega (arith, few), is))
+so_listed : (list : List (List ℕ)) (name row : List ℕ) → Contains list row → reply_words row ≡ name ∷ []
+    → is_listed list name ≡ true
+so_listed [] name row there only = absurd (omega (arith, there.1))
+so_listed (first ∷ list) name row (zero, few, is) only =
+    ap (λ (b : Bool). b || list_any (is_row_of name) list)
+    (so_only name (reply_words first) (ap reply_words is ∙ only))
+so_listed (first ∷ list) name row (suc k, few, is) only =
+    later (is_row_of name first) (so_listed list name row (k, omega (arith, few), is) only)
   where
-    later : (b : Bool) → list_any (bytes_eq name) words ≡ true → (b || list_any (bytes_eq name) words) ≡ true
+    later : (b : Bool) → list_any (is_row_of name) list ≡ true → (b || list_any (is_row_of name) list) ≡ true
     later true e = refl
     later false e = e
 
@@ -102,7 +123,7 @@ list_due engine command due is h = by (subst (λ (c : CheckCommand). IsDue engin
 
 list_found : (exam : Exam) (entry : Asked) (reply : Reply) (finding : Option Finding) (new : Exam) (has_all : Bool)
     → entry.due ≡ Lists → reply.id ≡ Some entry.id → reply.ok ≡ true
-    → lists_required (reply_words reply.text.items) ≡ has_all
+    → lists_required (rows reply.text.items) ≡ has_all
     → ReplyLeaves exam (Some entry) reply finding new → finding ≡ finding_of entry (list_judged has_all true)
 list_found exam entry reply finding new has_all due id ok lists h =
     let l : IdLeaves exam (reply_to entry reply) true finding new =
@@ -115,7 +136,7 @@ list_found exam entry reply finding new has_all due id ok lists h =
 list_heard : (rule : KoRule) (sent came : List ℕ) (said : List Exchange) (old new : Exam) (bytes : List ℕ) (used : ℕ)
     (reply : Reply) (finding : Option Finding) (entry : Asked) (has_all : Bool)
     → Talks rule sent came said old → Hears old bytes (hearing used (Some (Ok reply)) finding) new
-    → IsListing old reply entry → lists_required (reply_words reply.text.items) ≡ has_all
+    → IsListing old reply entry → lists_required (rows reply.text.items) ≡ has_all
     → finding ≡ finding_of entry (list_judged has_all true)
 list_heard rule sent came said old new bytes used reply finding entry has_all talk h l lists =
     let s : IsRightSoFar rule said old = right_so_far rule sent came said old talk in
@@ -126,7 +147,7 @@ list_heard rule sent came said old new bytes used reply finding entry has_all ta
     (list_due s.before entry.command entry.due l.lists asked.is_due) l.id l.succeeds lists
     (subst (λ (o : Option Asked). ReplyLeaves (with_rest old h.0) o reply finding new) l.asked h.2)
 
-lacks : (words : List (List ℕ)) (name : List ℕ) → IsRequired name → (Contains words name → ⊥)
+lacks : (words : List (List ℕ)) (name : List ℕ) → IsRequired name → (IsRowOf words name → ⊥)
     → lists_required words ≡ false
 lacks words name needs none = by (lists_required words) refl
   where
@@ -138,9 +159,10 @@ pub lists_judged : ListsNameEachCommand
 lists_judged = record {
   lacking = λ rule sent came said old new bytes used reply finding entry name talk h l needs none.
       list_heard rule sent came said old new bytes used reply finding entry false talk h l
-      (lacks (reply_words reply.text.items) name needs none);
+      (lacks (rows reply.text.items) name needs (λ one. none (record { row = one.row; is_row = one.is_row; only = one.only })));
   complete = λ rule sent came said old new bytes used reply finding entry talk h l all.
       list_heard rule sent came said old new bytes used reply finding entry true talk h l
-      (of_each (reply_words reply.text.items) required_commands all_required
-      (λ name needs. so_listed (reply_words reply.text.items) name (all name needs)));
+      (of_each (rows reply.text.items) required_commands all_required
+      (λ name needs.
+      let has = all name needs in so_listed (rows reply.text.items) name has.row has.is_row has.only));
 }

@@ -7,7 +7,7 @@ use gtp_check_judge::{Cause, CheckCommand, Examiner, Kind, MOST_UNANSWERED, Refu
 use gtp_wire::Reply;
 
 /// The board's size, the commands that are asked on it, what is heard, and what is found.
-static ANSWERS: [(&str, &[&str], &str, Option<Kind>); 24] = [
+static ANSWERS: [(&str, &[&str], &str, Option<Kind>); 25] = [
     // What a right engine does may not be refused.
     (
         "1 boardsize 5\n",
@@ -102,6 +102,14 @@ static ANSWERS: [(&str, &[&str], &str, Option<Kind>); 24] = [
         &["6 list_commands\n"],
         "=6 reg_genmove\nplay\nundo\nkomi\nclear_board\nboardsize\nquit\nlist_commands\nknown_command\n\
             version\nname\nprotocol_version\n\n",
+        Some(Kind::Unlisted),
+    ),
+    // Each has a row of its own.
+    (
+        "1 boardsize 5\n",
+        &["6 list_commands\n"],
+        "=6 genmove play undo komi clear_board boardsize quit list_commands known_command version name\n\
+            protocol_version\n\n",
         Some(Kind::Unlisted),
     ),
     (
