@@ -33,8 +33,8 @@ pub record IsStepAt (lessons : List Lesson) (place : Place) : Type 0 where
 abbrev pub AreOfOnePart : Place → Place → Type 0
 AreOfOnePart one other = (one.lesson ≡ other.lesson) × (one.part ≡ other.part)
 
--- A place comes before another: its lesson does; or they are of one lesson, and its part does; or of one part, and its
--- stretch does; or of one stretch, and its step does.
+-- A place comes before another where its lesson does. In one lesson the parts decide, in one part the stretches, and in
+-- one stretch the steps.
 abbrev pub IsBefore : Place → Place → Type 0
 IsBefore one other =
     (one.lesson < other.lesson)
