@@ -31,6 +31,7 @@ NOT_STARTED = {
     "it writes without pause": ("exec yes", f"what it answers to 'boardsize 5' is no answer: '{40 * 'y.n'}'".replace(".", "\\")),
     "its answer has no end": ("exec yes = =", f"its answer to 'boardsize 5' has more than 8192 bytes; it wrote '{20 * '= =.'}'".replace(".", "\\n")),
     "it writes empty lines without pause": ("exec yes ''", "it doesn't answer 'boardsize 5' in 1 seconds"),
+    "half an answer, and then nothing": ("echo '=1'; exec sleep 1000", "it doesn't answer 'boardsize 5' in 1 seconds; it wrote '=1\\n'"),
     "half an answer": ("echo '=1'; exit", "it ended at 'boardsize 5': exit status 0; it wrote '=1\\n'"),
     "what it says": ("echo one >&2; echo no library >&2; exit 1",
                      "it ended at 'boardsize 5': exit status 1; the last line of all/tried/HOST/bad.log is: no library"),  # fmt: skip
