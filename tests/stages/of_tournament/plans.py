@@ -223,7 +223,7 @@ class Lost(Case):
         """While games are played again, and after a kill, the tally and the table say the same of the old ones."""
         with room() as here:
             here.script("two", "#!/bin/bash\nfor it in 1 2 3; do read -r n c; echo =$n; echo; done\nexec sleep 1000\n")
-            engines = ["--engine", f"one={RANDOM} %s", "--engine", "two=./two %s", "--move-limit", "0.5"]
+            engines = ["--engine", f"one={RANDOM} %s", "--engine", "two=./two %s", "--move-limit", "0.5", "--start-limit", "5"]
             here.run("tournament", "play", "all", *engines, "--seeds", "1", "--", "--size", "5", "--restarts", "0")
             before = counted(here)
             self.check("both games have a late side", (0, True), (before[0].status, all(row[8] and row[10] for row in before[2])))
