@@ -6,7 +6,7 @@ import sys
 
 from tests.shared import checks
 
-from .rooms import LIMIT, SCRIPTS, SLOW, SMALL, Case, room, two_engines
+from .rooms import LIMIT, SCRIPTS, SMALL, Case, room, tried, two_engines
 
 # An engine that sends this to its process group where it ends, also in its third move.
 GROUP = """\
@@ -49,12 +49,15 @@ class AskedToEnd(Case):
     def test_asked(self):
         """It is reported, its log says so, and the tally."""
         with room() as here:
-            slow = here.script("slow", SLOW)
-            engines = two_engines("all", f"{slow} --policy random --seed")
-            process = here.start("tournament", "play", *engines, "--jobs", "1", *SMALL)
+            waits = here.script("waits", '#!/bin/bash\nuntil [ -e go ]; do sleep 0.1; done\nexec gtp_engine "$@"\n')
+            here.run("tournament", "plan", *two_engines("all", f"{waits} --policy random --seed"), *SMALL)
+            tried(here, "all")
+            process = here.start("tournament", "play", "all", "--jobs", "1")
             here.until(lambda: here.named("game 1_one_two") and here.named("twogtp"))
             for pid in here.named("game 1_one_two"):
                 os.kill(pid, signal.SIGTERM)
+            here.until(lambda: not here.named("game 1_one_two"))
+            (here.at / "go").touch()
             _, errors = process.communicate(timeout=LIMIT)
             why = "its process was asked to end, and not by this run"
             self.check("it is reported", (1, f"tournament: 1_one_two: no result: {why}\n"), (process.returncode, errors))

@@ -11,7 +11,7 @@ TWO = ["all", "--engine", "one=gtp_engine", "--engine", "two=gtp_engine"]
 AT_ONCE = [*TWO[1:], "--jobs", "1"]
 OPTIONS = ["--size", "1", "--max-moves", "1"]  # a game ends at once
 MATCH = ["--why", "--record", *OPTIONS, "--black", "gtp_engine", "--white", "gtp_engine"]
-GAMES = 40
+GAMES = 24
 # seconds of processor time that a game costs beside twogtp, or so many times what it costs alone, on a machine that is slower, and how
 # many processes it starts beside those of twogtp
 MOST = {"--direct": (0.010, 5, 1), None: (0.060, 20, 3)}

@@ -94,10 +94,10 @@ class Leaving(Case):
             for name in ("one", "bare/bin"):
                 (here.at / name).mkdir(parents=True)
             (here.at / "bare/bin/tournament").symlink_to(SCRIPTS / "tournament")
-            here.run("tournament", "plan", "far", "--engine", "one=gtp_engine", "--engine", f"two={RANDOM} %s", "--seeds", "8", "--", "--size", "1")
+            here.run("tournament", "plan", "far", "--engine", "one=gtp_engine", "--engine", f"two={RANDOM} %s", "--seeds", "5", "--", "--size", "1")
             (here.at / "machines").write_text("1/bare\n# a remark\n2/gone\n1/one\n")
             came = parallel_of(here, "far", f"--retries 5 --sshloginfile machines --ssh 'machine machines' tournament game {here.at}/far")
-            self.check(f"{what}: all games are played", (0, 16), (came.status, len(here.games("far"))))
+            self.check(f"{what}: all games are played", (0, 10), (came.status, len(here.games("far"))))
             why = [r"# 1/bare left: tournament: (one|two) can't be started here: gtp_engine: No such file or directory", "# a remark",
                    "# 2/gone left: ssh: no route to gone", "1/one"]  # fmt: skip
             left = (here.at / "machines").read_text().splitlines()
@@ -183,15 +183,18 @@ class Arrays(Case):
     def test_time(self):
         """No game is begun that the time left doesn't hold."""
         times = {"9:59": 0, "10:05": 0, "0:10:20": 1, "1-00:00:00": 1, "UNLIMITED": 1, "none": 1, "610": 0, "630": 1}
-        for left, count in times.items():
-            with room() as here:
-                here.run("tournament", "plan", *two_engines("array"), *SMALL)
+        with room() as here:
+            here.run("tournament", "plan", *two_engines("array"), *SMALL)
+            for left, count in times.items():
                 came = task_of(here, 8, ["array", "8"], left)
                 last = f"{count} of 1 games of task 8/8 have a result{'' if count else ', 1 are missing'}"
                 said = {0: "tournament: the time left doesn't hold another game of 600 seconds; the same command goes on\n",
                         1: "" if left != "none" else "tournament.sbatch: squeue doesn't say how much time is left\n"}[count]  # fmt: skip
-                wanted = (1 - count, last, said)
-                self.check(f"time left: {left}", wanted, (came.status, came.output.splitlines()[-1], came.errors))
+                wanted = (1 - count, last, said, count)
+                played = list((here.at / "array/games").iterdir())
+                self.check(f"time left: {left}", wanted, (came.status, came.output.splitlines()[-1], came.errors, len(played)))
+                for place in played:
+                    place.unlink()
 
     def test_goes_out(self):
         """Games are begun as long as it holds them, and those that are played have their result."""

@@ -139,22 +139,23 @@ class Stopped(Case):
             hangs = here.script("hangs", HANGS)
             words = ["play", "all", "--engine", f"one={hangs} 3", "--engine", "two=./hangs 9", "--limit", "2" if row == "the limit" else "600"]
             process = here.start("tournament", *words, *ONE_GAME)
-            here.until(lambda: (here.at / "all/notes/1_one_two").exists() and "thinks" in (here.at / "all/notes/1_one_two").read_text())
+            here.until(lambda: (here.at / "all/notes/1_one_two").exists() and "5 black thinks" in (here.at / "all/notes/1_one_two").read_text())
             self.end(here, row, process)
             _, errors = process.communicate(timeout=LIMIT)
             self.check(f"{row}: no process is left", True, here.until(lambda: not here.left(), 15))
             notes = notes_of(here, "1_one_two")
             self.check(f"{row}: the notes have the moves", ["A1", "A9", "B1", "B9"], record_of(notes))
-            self.check(f"{row}: and who was waited for", "5 black thinks", notes[7])
+            last = [*notes, "5 black thinks"].index("5 black thinks")  # on a slow machine others may be noted that were waited for
+            self.check(f"{row}: and who was waited for", True, last < len(notes))
             if ENDS[row]:
-                self.check(f"{row}: and how long, and why it ended", ENDS[row], [cut(without_seconds(it)) for it in notes[8:]])
+                self.check(f"{row}: and how long, and why it ended", ENDS[row], [cut(without_seconds(it)) for it in notes[last + 1 :]])
                 thought = [sum(float(it.split()[3].rstrip(":")) for it in notes[3:-2] if who in it and "thinks" not in it) for who in ("black", "white")]
                 said = [float(it) for it in re.findall(r"\d+\.\d{3}", notes[-2])]
                 are_same = len(said) == 2 and all(abs(one - other) < 0.0006 for one, other in zip(said, thought))
                 self.check(f"{row}: how long both thought has the time that one was waited for", True, are_same)
             if row == "the limit":
                 said = errors.splitlines()[0]
-                is_so = re.fullmatch(r"tournament: 1_one_two: no result: not over in 2 seconds; one was waited for, 1\.\d+ seconds at '8 genmove b'", said)
+                is_so = re.fullmatch(r"tournament: 1_one_two: no result: not over in 2 seconds; one was waited for, [01]\.\d+ seconds at '8 genmove b'", said)
                 self.check("the limit: it is said who was waited for", True, is_so is not None)
 
     def end(self, here, row, process):

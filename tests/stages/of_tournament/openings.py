@@ -86,14 +86,14 @@ class Rules(Case):
 
     def test_rules(self):
         """Drawn moves."""
-        games = [drawn(seed) for seed in range(400)]
+        games = [drawn(seed) for seed in range(200)]
         with room() as here:
             (here.at / "games").write_text(json.dumps([game for game, _ in games]))
             with open(here.at / "games", encoding="utf-8") as file:
                 came = here.run(sys.executable, "-c", JUDGE, str(SCRIPTS), stdin=file)
         judged = json.loads(came.output)
         odd = [game[:2] for (game, wanted), got in zip(games, judged) if wanted != got]
-        self.check("each move of 400 games breaks what it breaks by the reference, and the boards are the same", [], odd[:3])
+        self.check("each move of 200 games breaks what it breaks by the reference, and the boards are the same", [], odd[:3])
         counts = {it: sum(broken.count(it) for _, broken in games) for it in RULES}
         self.check(f"each rule is broken often: {counts}", True, min(counts.values()) >= 100)
         sides = {(size, stones) for (size, stones, _), _ in games if stones}

@@ -102,9 +102,10 @@ class Plans(Case):
                 status, output, errors = here.run("tournament", "play", "all", *arguments)
                 wanted = (0, "8 of 8 games have a result", said, plan)
                 self.check(f"{what}: all is played", wanted, (status, output.splitlines()[-1], errors, (here.at / "all/plan").read_text()))
-            here.run("tournament", "plan", "all", *ONE_AND_TWO, "--engine", "three=gtp_engine", *SMALL)
-            came = here.run("tournament", "play", "all", *ONE_AND_TWO, "--seeds", "5", *SMALL)
-            wanted = (0, "tournament: all has more than the command: three; all of it is played\n", "30 of 30 games have a result")
+            for more in ([], ["--engine", "three=gtp_engine"]):
+                here.run("tournament", "plan", "few", *ONE_AND_TWO, *more, "--seeds", "1", *SMALL)
+            came = here.run("tournament", "play", "few", *ONE_AND_TWO, "--seeds", "2", *SMALL)
+            wanted = (0, "tournament: few has more than the command: three; all of it is played\n", "12 of 12 games have a result")
             self.check("an older command with more seeds: all engines get them", wanted, (came.status, came.errors, came.output.splitlines()[-1]))
 
     def test_wrong(self):
@@ -222,7 +223,7 @@ class Lost(Case):
         """While games are played again, and after a kill, the tally and the table say the same of the old ones."""
         with room() as here:
             here.script("two", "#!/bin/bash\nfor it in 1 2 3; do read -r n c; echo =$n; echo; done\nexec sleep 1000\n")
-            engines = ["--engine", f"one={RANDOM} %s", "--engine", "two=./two %s", "--move-limit", "0.5"]
+            engines = ["--engine", f"one={RANDOM} %s", "--engine", "two=./two %s", "--move-limit", "0.5", "--start-limit", "5"]
             here.run("tournament", "play", "all", *engines, "--seeds", "1", "--", "--size", "5", "--restarts", "0")
             before = counted(here)
             self.check("both games have a late side", (0, True), (before[0].status, all(row[8] and row[10] for row in before[2])))

@@ -54,7 +54,7 @@ class Room:
         self.at = folder
         self.mark = f"TOURNAMENT_ROOM={secrets.token_hex(8)}"
         name, value = self.mark.split("=")
-        self.environment = {**alone.environment(SCRIPTS, self.programs), name: value, "TWOGTP": str(self.programs / "twogtp")}
+        self.environment = {**alone.environment(alone.compiled(SCRIPTS), self.programs), name: value, "TWOGTP": str(self.programs / "twogtp")}
         self.environment.pop("TOURNAMENT", None)
 
     def start(self, *words, **more):

@@ -207,9 +207,11 @@ class Pauses(checks.Case):
         os.close(engine.given)
 
 
-# what an engine may write around its answers, by the format of bash's printf
-DRESSES = {"CR before each LF": r"=%s D4\r\n\r\n", "empty lines before each": r"\n\n=%s D4\n\n", "empty lines behind each": r"=%s D4\n\n\n\n",
-           "all of these": r"\r\n\n=%s D4\r\n\r\n\r\n\r\n"}  # fmt: skip
+# what an engine may write around its answers
+DRESSES = {"CR before each LF": "=% D4\r\n\r\n", "empty lines before each": "\n\n=% D4\n\n", "empty lines behind each": "=% D4\n\n\n\n",
+           "all of these": "\r\n\n=% D4\r\n\r\n\r\n\r\n"}  # fmt: skip
+# It writes each answer at once.
+ANSWERS = "import os, sys\nfor line in sys.stdin: os.write(1, sys.argv[1].replace('%', line.split()[0].strip('quit')).encode())"
 
 
 @checks.table(DRESSES, lambda it: f"an engine passes its trial whose answers have {it}")
@@ -217,7 +219,7 @@ class Dressed(checks.Case):
     """What an engine may write around its answers is no answer."""
 
     def row(self, row):
-        words = ["bash", "-c", f"while read -r number _; do printf '{DRESSES[row]}' \"$number\"; done"]
+        words = [sys.executable, "-S", "-c", ANSWERS, DRESSES[row]]
         log = os.open(os.devnull, os.O_WRONLY)
         came = trial.attempt(words, str(self.room()), log, trial.Setup([]), (20, 20, 20))
         os.close(log)

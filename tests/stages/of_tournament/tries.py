@@ -31,6 +31,7 @@ NOT_STARTED = {
     "it writes without pause": ("exec yes", f"what it answers to 'boardsize 5' is no answer: '{40 * 'y.n'}'".replace(".", "\\")),
     "its answer has no end": ("exec yes = =", f"its answer to 'boardsize 5' has more than 8192 bytes; it wrote '{20 * '= =.'}'".replace(".", "\\n")),
     "it writes empty lines without pause": ("exec yes ''", "it doesn't answer 'boardsize 5' in 1 seconds"),
+    "half an answer, and then nothing": ("echo '=1'; exec sleep 1000", "it doesn't answer 'boardsize 5' in 1 seconds; it wrote '=1\\n'"),
     "half an answer": ("echo '=1'; exit", "it ended at 'boardsize 5': exit status 0; it wrote '=1\\n'"),
     "what it says": ("echo one >&2; echo no library >&2; exit 1",
                      "it ended at 'boardsize 5': exit status 1; the last line of all/tried/HOST/bad.log is: no library"),  # fmt: skip
@@ -251,10 +252,10 @@ class InARow(Case):
         with room() as here:
             here.script("engine", FAILS)
             engines = ["--engine", f"one={RANDOM} %s", "--engine", f"two={RANDOM} 1%s", "--engine", "bad=./engine 1"]
-            words = ["play", "all", *engines, "--jobs", "1", "--seeds", "5", "--", "--size", "2", "--restarts", "0"]
+            words = ["play", "all", *engines, "--jobs", "1", "--seeds", "3", "--", "--size", "2", "--restarts", "0"]
             status, output, errors = here.run("tournament", *words)
             said = errors.splitlines()
-            self.check("ten in a row: the status, and the last line", (69, "6 of 30 games have a result"), (status, output.splitlines()[-1]))
+            self.check("ten in a row: the status, and the last line", (69, "6 of 18 games have a result"), (status, output.splitlines()[-1]))
             why = r".*no result: bad wasn't started: it ended (at '1 boardsize 2'|before anything was asked): exit status 3"
             self.check("ten games are reported", [True] * 10, [re.fullmatch(why, it) is not None for it in said[:-1]])
             self.check("then it ends with the name", "tournament: bad wasn't started in 10 games in a row: no other game is begun here", said[-1])
@@ -270,9 +271,9 @@ class InARow(Case):
         with room() as here:
             here.script("engine", FAILS)
             engines = ["--engine", f"one={RANDOM} %s", "--engine", "bad=./engine 2"]
-            words = ["play", "all", *engines, "--jobs", "1", "--seeds", "12", "--", "--size", "2", "--restarts", "0"]
+            words = ["play", "all", *engines, "--jobs", "1", "--seeds", "11", "--", "--size", "2", "--restarts", "0"]
             status, output, errors = here.run("tournament", *words)
-            self.same((1, "12 of 24 games have a result", 12), (status, output.splitlines()[-1], len(lines(errors))))
+            self.same((1, "11 of 22 games have a result", 11), (status, output.splitlines()[-1], len(lines(errors))))
 
     def test_game(self):
         """A game in which an engine isn't started has it tried again before the next one."""
