@@ -80,8 +80,14 @@ loop-best-preserved g c =
         engine = same;
       }
       | in-Some-2 w ↦ record {
-        reduces = rw (w.reduction-is, w.best-is, w.succeeded.ensures, count, w.own_of-own.ensures,
-            w.as_slice-in-Some-2.ensures.value)
+        reduces = rw (
+          w.reduction-is,
+          w.best-is,
+          w.succeeded.ensures,
+          count,
+          w.own_of-own.ensures,
+          w.as_slice-in-Some-2.ensures.value,
+        )
             (Reduces.succeeded {tried = wrong_of w.in-Some-2.tried} c.in-Some.commands.items
             c.loop-best.invariant.reduces is_next
             (rw (c.as_slice-in-Some.ensures.value, w.in-Some-2.is) at c.in_ok-try_one.ensures.tries));
