@@ -7,6 +7,7 @@ mod InTrials
 mod InTurns
 mod InVain
 mod OverTurns
+mod Owning
 mod Passing
 mod Progressing
 mod Running

@@ -14,8 +14,8 @@ use Rattle.gtp_check_plan.specs.declared.plan.Plan.{Plan}
 use Rattle.gtp_check_talks.specs.Dialogues.{AsksForMore, IsTrial, Wrong, none, one_more, right, unstarted, wrong}
 use Rattle.gtp_check_talks.specs.Dialogues.{wrong_talk}
 use Rattle.gtp_check_shortening.specs.declared.talk.Said.{Said}
-use Rattle.gtp_check_shortening.specs.Shortening.{shortened}
-use Rattle.gtp_check_app.specs.Trials.{LastGames, shortenings_of}
+use Rattle.gtp_check_shortening.specs.Shortening.{commands_of, shortened}
+use Rattle.gtp_check_app.specs.Trials.{LastGames, left_by, shortenings_of}
 use Rattle.gtp_check_talks.specs.Dialogues.{Standing, Trial}
 use Rattle.gtp_check_app.specs.Turns.{standing_in}
 use Rattle.gtp_check_app.specs.Turns.{IsReduced, IsShortened, IsTried, Moment, Reduces, Shortens, TriesOne}
@@ -115,23 +115,31 @@ module _ {P : Type 0} (known : Ghosts P) (plan : Plan) (found : Wrong) (first : 
       (same : list ≡ all) (is : talk ≡ wrong_talk found) (count : tried ≡ index)
       (before : Missed known plan found first (take index list) mid) where
     -- the next one ended like it
-    pub found_here : (other : Shortening) (commands : List CheckCommand) {ended : Wrong} {after : Moment P}
+    pub found_here : (other : Shortening) (commands left : List CheckCommand) {ended : Wrong} {after : Moment P}
         → commands ≡ shortened (get_or list index other) talk → index < length list
-        → TriesOne known plan found commands mid (Some ended) after
-        → Shortens known plan found all first (record { ended = Some ended; tried = tried + 1 }) after
-    found_here other commands {ended = ended} {after = after} which within attempt =
-        let parts : take index list ++ get_or list index other ∷ drop (index + 1) list ≡ all =
+        → left ≡ left_by found commands ended → TriesOne known plan found commands mid (Some ended) after
+        → Shortens known plan found all first (record { ended = Some ended; tried = tried + 1; left = left }) after
+    found_here other commands left {ended = ended} {after = after} which within left-is attempt =
+        let how = get_or list index other in
+        let stays = left_by found (shortened how (wrong_talk found)) ended in
+        let parts : take index list ++ how ∷ drop (index + 1) list ≡ all =
         sym (at_drop_more (λ (rest : List Shortening). take index list ++ rest) list index other within)
         ∙ take-append-drop index list ∙ same in
         let number : 1 + length (take index list) ≡ tried + 1 = omega (arith, count, length-take index list) in
+        let same_left : stays ≡ left =
+        sym (left-is ∙ ap (λ (these : List CheckCommand). left_by found these ended)
+        (which ∙ ap (λ (all_said : List Said). shortened how all_said) is)) in
         subst
-        (λ (n : ℕ). Shortens known plan found all first (record { ended = Some ended; tried = n }) after)
+        (λ (these : List CheckCommand). Shortens known plan found all first
+        (record { ended = Some ended; tried = tried + 1; left = these }) after) same_left
+        (subst
+        (λ (n : ℕ). Shortens known plan found all first
+        (record { ended = Some ended; tried = n; left = stays }) after)
         number
         (subst
         (λ (ones : List Shortening). Shortens known plan found ones first
-        (record { ended = Some ended; tried = 1 + length (take index list) }) after) parts
-        (missed_then before (get_or list index other ∷ drop (index + 1) list)
-        (shortened_so (rw (which, is) at attempt))))
+        (record { ended = Some ended; tried = 1 + length (take index list); left = stays }) after) parts
+        (missed_then before (how ∷ drop (index + 1) list) (shortened_so (rw (which, is) at attempt)))))
 
     -- the next one didn't
     pub one_missed : (other : Shortening) (commands : List CheckCommand) {after : Moment P}
@@ -144,18 +152,24 @@ module _ {P : Type 0} (known : Ghosts P) (plan : Plan) (found : Wrong) (first : 
         (Missed.more (get_or list index other) before (rw (which, is) at attempt))
 
     -- there is no other
-    pub all_missed : length list ≤ index → index ≤ length list
-        → Shortens known plan found all first (record { ended = None; tried = tried }) mid
-    all_missed past within =
+    pub all_missed : (left : List CheckCommand) → left ≡ commands_of talk → length list ≤ index → index ≤ length list
+        → Shortens known plan found all first (record { ended = None; tried = tried; left = left }) mid
+    all_missed left left-is past within =
         let whole : take index list ++ [] ≡ all = append-nil (take index list) ∙ take_all index list past ∙ same in
         let number : 0 + length (take index list) ≡ tried = omega (arith, count, length-take index list) in
+        let same_left : commands_of (wrong_talk found) ≡ left =
+        sym (left-is ∙ ap (λ (all_said : List Said). commands_of all_said) is) in
         subst
-        (λ (n : ℕ). Shortens known plan found all first (record { ended = None; tried = n }) mid)
+        (λ (these : List CheckCommand). Shortens known plan found all first
+        (record { ended = None; tried = tried; left = these }) mid) same_left
+        (subst
+        (λ (n : ℕ). Shortens known plan found all first
+        (record { ended = None; tried = n; left = commands_of (wrong_talk found) }) mid)
         number
         (subst
         (λ (ones : List Shortening). Shortens known plan found ones first
-        (record { ended = None; tried = 0 + length (take index list) }) mid) whole
-        (missed_then before [] none_left))
+        (record { ended = None; tried = 0 + length (take index list); left = commands_of (wrong_talk found) }) mid)
+        whole (missed_then before [] none_left)))
 
 -- ---- delta debugging
 

@@ -1,8 +1,10 @@
 -- A pass is earned, and suicide isn't judged where it isn't asked. (Own.)
-use Rattle.std.specs.Prelude.{◌≡◌, ◌==◌, ◌+◌, ◌≤◌, ◌<◌, ◌↔◌, ℕ, true, All, List, [], length, count_by, max}
+use Rattle.std.specs.Prelude.{◌≡◌, ◌==◌, ◌+◌, ◌≤◌, ◌<◌, ◌↔◌, ℕ, true, All, List, [], ◌∷◌, length, count_by, max, take}
 use Rattle.std.specs.Prelude.{Option, Some}
 use Rattle.go_board.specs.declared.faults.PlayFault.TheVariants.{Suicide}
 use Rattle.gtp_process.specs.declared.starter.Process.{Ghosts}
+use Rattle.gtp_check_judge.specs.declared.asking.CheckCommand.{CheckCommand}
+use Rattle.gtp_check_judge.specs.declared.asking.CheckCommand.TheVariants.{Name}
 use Rattle.gtp_check_judge.specs.declared.judging.Kind.TheVariants.{Unlawful}
 use Rattle.gtp_check_questions.specs.Lessons.{number_of}
 use Rattle.gtp_check_questions.specs.declared.lessons.Lesson.{Lesson}
@@ -20,6 +22,7 @@ use Rattle.gtp_check_talks.specs.Dialogues.{Wrong, wrong_purpose, wrong_talk}
 use Rattle.gtp_check_talks.specs.Laws.{MovesAreNotedOnceAnswered}
 use Rattle.gtp_check_app.specs.Status.{not_earned, something_found}
 use Rattle.gtp_check_app.specs.Tally.{with_suicide}
+use Rattle.gtp_check_app.specs.Trials.{asked_for, own_of}
 use Rattle.gtp_check_app.specs.Turns.{Complains, IsReduced, IsShortened, Moment, Reduces, State}
 
 -- ---- suicide that isn't judged
@@ -73,6 +76,19 @@ abbrev pub TrialsAskFew : {P : Type 0} → Ghosts P → Type 0
 TrialsAskFew {P} known = (plan : Plan) (found : Wrong) (before after : Moment P) (shorter : Option Wrong)
     (shortened : IsShortened known plan found before shorter after)
     → asked_to_shorten shortened ≤ max 20000 (commands_of_lesson found (wrong_purpose found).lesson)
+
+-- Commands with any `name` before, between and after them.
+pub data IsWithNames : List CheckCommand → List CheckCommand → Type 0 where
+  none : IsWithNames [] []
+  own : {commands asked : List CheckCommand} (command : CheckCommand) → IsWithNames commands asked
+      → IsWithNames (command ∷ commands) (command ∷ asked)
+  name : {commands asked : List CheckCommand} → IsWithNames commands asked → IsWithNames commands (Name ∷ asked)
+
+-- Of what is asked in a trial of some commands, the first so many are the first of these commands: as many as are counted
+-- as such, with any `name` besides.
+abbrev pub OwnCommandsAreCounted : Type 0
+OwnCommandsAreCounted = (found : Wrong) (commands : List CheckCommand) (count : ℕ)
+    → IsWithNames (take (own_of found commands count) commands) (take count (asked_for found commands))
 
 -- ---- a pass
 

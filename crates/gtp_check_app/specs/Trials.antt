@@ -1,5 +1,5 @@
 -- Which conversations are tried in place of a long one, and how many. (Own.)
-use Rattle.std.specs.Prelude.{ℕ, ◌-◌, ◌&&◌, max, nat_lt, Bool, List, length, filter, take, count_by, if◌then◌else◌}
+use Rattle.std.specs.Prelude.{ℕ, ◌+◌, ◌-◌, ◌&&◌, max, nat_lt, Bool, List, length, filter, take, count_by, if◌then◌else◌}
 use Rattle.std.specs.Prelude.{Option, None, Some, true, false, [], ◌∷◌, ◌++◌, ◌||◌, ◌==◌}
 use Rattle.gtp_wire.specs.declared.commands.Command.{Command}
 use Rattle.gtp_wire.specs.declared.commands.Command.TheVariants.{Boardsize, Komi, ClearBoard, FixedHandicap, Play}
@@ -14,6 +14,7 @@ use Rattle.gtp_check_shortening.specs.declared.flat.Shortening.{Shortening}
 use Rattle.gtp_check_shortening.specs.declared.limits.Limits.{Limits}
 use Rattle.gtp_check_shortening.specs.declared.talk.Said.{Said}
 use Rattle.gtp_check_shortening.specs.Purposes.{is_same_lesson}
+use Rattle.gtp_check_shortening.specs.Reduction.{ended_after}
 use Rattle.gtp_check_shortening.specs.Shortening.{games_in, has_cut, shortened, shortenings}
 use Rattle.gtp_check_talks.specs.Dialogues.{Wrong, wrong_purpose, wrong_talk}
 
@@ -56,10 +57,11 @@ abbrev pub shortenings_of : ℕ → List Said → List Shortening
 shortenings_of trials talk = take trials (those_for talk shortenings)
 
 -- What came of the last games of a conversation: the first of them that ended like it, if one did, and how many were
--- tried.
+-- tried. And the commands of the conversation that are left then, without the `name` that were asked besides.
 pub record LastGames : Type 0 where
   pub ended : Option Wrong
   pub tried : ℕ
+  pub left : List CheckCommand
 
 -- ---- what a trial asks
 
@@ -124,6 +126,22 @@ ran_on wrong = runs_on wrong.fault wrong.answered (length wrong.talk) wrong.wrot
 -- an engine could be waited for that has nothing more to write.
 abbrev pub asked_for : Wrong → List CheckCommand → List CheckCommand
 asked_for found commands = if ran_on found then with_names commands else commands
+
+-- how many of the first so many commands that are asked with two `name` between them are commands of the conversation
+unfoldable pub own_spaced : ℕ → List CheckCommand → ℕ → ℕ
+own_spaced left [] count = 0
+own_spaced left (command ∷ later) count =
+    if nat_lt count (length (with_names_before command left)) then 0
+    else own_spaced (left_after command left) later (count - length (with_names_before command left)) + 1
+
+-- The same of what is asked in place of the conversation that was found: without such `name` all of them are.
+abbrev pub own_of : Wrong → List CheckCommand → ℕ → ℕ
+own_of found commands count = if ran_on found then own_spaced most_between commands count else count
+
+-- What is left of these commands, where a trial of them ended like the conversation that was found: those that were
+-- answered rightly, and the last one.
+abbrev pub left_by : Wrong → List CheckCommand → Wrong → List CheckCommand
+left_by found commands tried = ended_after (own_of found commands tried.answered) commands
 
 -- the one, if there is one, or else the other
 abbrev pub or_else : Option Wrong → Option Wrong → Option Wrong

@@ -55,7 +55,7 @@ use Rattle.gtp_check_summary.specs.Summary.{first_line}
 use Rattle.gtp_check_shortening.specs.Played.{played}
 use Rattle.gtp_check_shortening.specs.Superko.{IsPositional, game_before}
 use Rattle.gtp_check_app.specs.Unjudged.{HasPassedOver, is_blamed, is_unjudged}
-use Rattle.gtp_check_app.specs.Trials.{LastGames, asked_for, limits_of, or_else, shortenings_of}
+use Rattle.gtp_check_app.specs.Trials.{LastGames, asked_for, left_by, limits_of, or_else, own_of, shortenings_of}
 use Rattle.gtp_check_app.specs.Tally.{found, is_shown, nothing_found, started_again, with_suicide}
 
 -- how many turns a check has at most; no check within the limits has this number
@@ -318,13 +318,15 @@ module _ {P : Type 0} (known : Ghosts P) (plan : Plan) where
 
   -- The last games of it were tried so, in this order, up to the first that ended like the one that was found.
   pub data Shortens (found : Wrong) : List Shortening → Moment P → LastGames → Moment P → Type 0 where
-    none_left : {before : Moment P} → Shortens found [] before (record { ended = None; tried = 0 }) before
+    none_left : {before : Moment P}
+        → Shortens found [] before (record { ended = None; tried = 0; left = commands_of (wrong_talk found) }) before
     missed : {how : Shortening} {later : List Shortening} {before mid after : Moment P} {games : LastGames}
         → TriesOne found (shortened how (wrong_talk found)) before None mid → Shortens found later mid games after
         → Shortens found (how ∷ later) before (record games { tried = games.tried + 1 }) after
     shortened_so : {how : Shortening} {later : List Shortening} {before after : Moment P} {ended : Wrong}
         → TriesOne found (shortened how (wrong_talk found)) before (Some ended) after
-        → Shortens found (how ∷ later) before (record { ended = Some ended; tried = 1 }) after
+        → Shortens found (how ∷ later) before
+        (record { ended = Some ended; tried = 1; left = left_by found (shortened how (wrong_talk found)) ended }) after
 
   -- ---- delta debugging
 
@@ -340,19 +342,20 @@ module _ {P : Type 0} (known : Ghosts P) (plan : Plan) where
     succeeded : {now : Reduction} {best : Option Wrong} {mid after : Moment P} {tried : Wrong}
         (commands : List CheckCommand) → Reduces found first before now best mid → next now ≡ Some commands
         → TriesOne found commands mid (Some tried) after
-        → Reduces found first before (after_success tried.answered (length commands) now) (Some tried) after
+        → Reduces found first before
+        (after_success (own_of found commands tried.answered) (length commands) now) (Some tried) after
 
   -- It was reduced until nothing was left to try.
   pub data IsReduced (found : Wrong) (first : Reduction) (before : Moment P) : Option Wrong → Moment P → Type 0 where
     reduced : {last : Reduction} {best : Option Wrong} {after : Moment P}
         → Reduces found first before last best after → next last ≡ None → IsReduced found first before best after
 
-  -- It was made shorter: to its last games, as far as one of these ends alike, and then by leaving out parts. In all no
-  -- more conversations were tried than the plan says.
+  -- It was made shorter: to its last games, as far as one of these ends alike, and then by leaving out parts of its own
+  -- commands. In all no more conversations were tried than the plan says.
   pub data IsShortened (found : Wrong) (before : Moment P) : Option Wrong → Moment P → Type 0 where
     both_ways : {games : LastGames} {best : Option Wrong} {mid after : Moment P}
         → Shortens found (shortenings_of plan.trials (wrong_talk found)) before games mid
-        → IsReduced found (begun_reduction (commands_of (wrong_talk (unwrap_or games.ended found)))
+        → IsReduced found (begun_reduction games.left
         (limits_of plan found (unwrap_or games.ended found) games.tried)) mid best after
         → IsShortened found before (or_else best games.ended) after
 

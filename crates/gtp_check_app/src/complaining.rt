@@ -25,7 +25,7 @@ ghost use Rattle.cli.specs.declared.failure.Failure.TheVariants as failure;
 use crate::check::{Check, purpose_in};
 use crate::progress::{clear, show_looking};
 use crate::streams::Streams;
-use crate::trials::asked_for;
+use crate::trials::{asked_for, left_by, own_of};
 use byte_streams::{WriteOnce, write_text};
 use cli::failure::Failure;
 use go_board::{Game, KoRule};
@@ -218,15 +218,22 @@ impl<S: Starter> Check<S> {
             let commands = shortened(self.alloc, talk, *shortening)?;
             tried += 1;
             if let Some(ended) = self.try_one(found, commands.as_slice(), plan, starter)? {
+                let left = left_by(self.alloc, found, commands.as_slice(), &ended)?;
                 let ended = Some(ended);
-                return Ok(LastGames { ended, tried });
+                return Ok(LastGames { ended, tried, left });
             }
         }
-        Ok(LastGames { ended: None, tried })
+        let left = commands_of(self.alloc, talk)?;
+        Ok(LastGames {
+            ended: None,
+            tried,
+            left,
+        })
     }
 
     /// What is left of a conversation where parts are left out, and that has the same end as the one that was found: the
-    /// shortest that was tried, if any has. It begins with the last games that ended so, or with all.
+    /// shortest that was tried, if any has. It begins with the last games that ended so, or with all. Each `name` that is
+    /// asked besides isn't among the commands of which parts are left out.
     fn reduced(
         &mut self,
         found: &Tried,
@@ -237,7 +244,7 @@ impl<S: Starter> Check<S> {
         ensures reduced { IfOk result (λ best.
             let longer = unwrap_or (games_of games.now).ended (wrong_of found.now) in
             IsReduced S.Process.Process plan.now (wrong_of found.now)
-            (begun_reduction (commands_of (wrong_talk longer))
+            (begun_reduction (games_of games.now).left
             (limits_of plan.now (wrong_of found.now) longer games.now.tried))
             (moment (state_of self.old) (S.asked starter.old))
             (option_map wrong_of best) (moment (state_of self.new) (S.asked starter.new))) }
@@ -247,16 +254,16 @@ impl<S: Starter> Check<S> {
         ensures engine { self.new.engine ≡ self.old.engine }
     {
         let longer = games.ended.as_ref().unwrap_or(found);
-        let commands = commands_of(self.alloc, longer.conversation())?;
         let limits = limits_of(plan, found, longer, games.tried);
-        let mut reduction = Reduction::new(self.alloc, commands.as_slice(), limits)?;
+        let mut reduction = Reduction::new(self.alloc, games.left.as_slice(), limits)?;
         let mut best = None;
         while let Some(commands) = reduction.next(self.alloc)? {
             let asked = commands.len();
             match self.try_one(found, commands.as_slice(), plan, starter)? {
                 None => reduction.failed(asked),
                 Some(tried) => {
-                    reduction.succeeded(tried.answered, asked);
+                    let own = own_of(found, commands.as_slice(), tried.answered);
+                    reduction.succeeded(own, asked);
                     best = Some(tried);
                 }
             }
@@ -318,6 +325,8 @@ struct LastGames {
     ended: Option<Tried>,
     /// How many were tried.
     tried: u32,
+    /// The commands of the conversation that are left then, without the `name` that were asked besides.
+    left: Vec<CheckCommand>,
 }
 
 /// How much is shown of a conversation for which nothing shorter was found, where so many trials are made at most.

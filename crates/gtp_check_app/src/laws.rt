@@ -1,5 +1,6 @@
 //! Laws of the check. Each is the contract of a function that does nothing.
-ghost use Rattle.gtp_check_app.specs.Laws.{APassIsEarned, NoChosenSuicideIsBlamed, TrialsAreFew, TrialsAskFew};
+ghost use Rattle.gtp_check_app.specs.Laws.{APassIsEarned, NoChosenSuicideIsBlamed, OwnCommandsAreCounted, TrialsAreFew};
+ghost use Rattle.gtp_check_app.specs.Laws.{TrialsAskFew};
 ghost use Rattle.gtp_check_app.specs.RunLaws.{EachComplaintIsJust, QuitGoesToWhoOwesNothing, SilentChecksAreRight};
 ghost use Rattle.gtp_check_app.specs.RunLaws.{StatusesSay, ThreeStartsInVainEndIt};
 ghost use Rattle.gtp_check_app.specs.Sequence.{known_of};
@@ -26,6 +27,12 @@ pub fn trials_are_few<P: Process>()
 /// had in its lesson, or 20,000. Each `name` that is asked besides, since an answer may run on, isn't counted.
 pub fn trials_ask_few<P: Process>()
     ensures { TrialsAskFew P.Process }
+{}
+
+/// Of what a trial asks, the first so many commands are the first of the shorter conversation, as many as are counted as its
+/// own, with any `name` besides. So parts are left out of the conversation alone.
+pub fn own_commands_are_counted()
+    ensures { OwnCommandsAreCounted }
 {}
 
 /// The status of a check that is over is 1 exactly where something was found, and 0 exactly where nothing was, each

@@ -1,8 +1,8 @@
 //! What a shorter conversation is asked, where an answer may have run on into the next one.
-ghost use Rattle.std.specs.Prelude.{◌≡◌, ◌++◌, ◌∷◌, [], IfOk, OnOk};
+ghost use Rattle.std.specs.Prelude.{◌≡◌, ◌++◌, ◌∷◌, [], length, IfOk, OnOk};
 ghost use Rattle.gtp_check_talks.specs.Dialogues.{wrong_of};
 ghost use Rattle.gtp_check_app.specs.Trials.{asked_for, left_after, match_may_wait, may_wait, most_between, needs_names};
-ghost use Rattle.gtp_check_app.specs.Trials.{ran_on, spaced, with_names, with_names_before};
+ghost use Rattle.gtp_check_app.specs.Trials.{left_by, own_of, own_spaced, ran_on, spaced, with_names, with_names_before};
 
 use gtp_check_judge::CheckCommand;
 use gtp_check_reasons::runs_on;
@@ -28,6 +28,62 @@ pub(crate) fn asked_for(
     let mut asked = Vec::new(alloc);
     asked.extend_from_slice(commands)?;
     Ok(asked)
+}
+
+/// What is left of these commands, where a trial of them ended like the conversation that was found: those that were
+/// answered rightly, and the last one.
+pub(crate) fn left_by(
+    alloc: Global,
+    found: &Tried,
+    commands: &[CheckCommand],
+    tried: &Tried,
+) -> Result<Vec<CheckCommand>, AllocError>
+    ensures { IfOk result (λ left. left.items
+        ≡ left_by (wrong_of found.now) commands.now (wrong_of tried.now)) }
+{
+    let last = commands.len().saturating_sub(1);
+    let own = own_of(found, commands, tried.answered).min(last);
+    let mut left = Vec::new(alloc);
+    left.extend_from_slice(&commands[..own])?;
+    left.extend_from_slice(&commands[last..])?;
+    Ok(left)
+}
+
+/// How many of the first so many commands that were asked are these themselves, where they were tried in place of the
+/// conversation that was found: all but each `name` that is asked between them.
+pub(crate) fn own_of(found: &Tried, commands: &[CheckCommand], count: usize) -> usize
+    ensures { result ≡ own_of (wrong_of found.now) commands.now count }
+{
+    if ran_on(found) {
+        own_spaced(commands, count)
+    } else {
+        count
+    }
+}
+
+/// The same where two `name` are asked between them.
+fn own_spaced(commands: &[CheckCommand], count: usize) -> usize
+    ensures { result ≡ own_spaced most_between commands.now count }
+{
+    let mut left = MOST_BETWEEN;
+    let mut rest = count;
+    for own in 0..commands.len() {
+        let command = commands[own];
+        let asked = asked_with(&command, left);
+        if rest < asked {
+            return own;
+        }
+        rest -= asked;
+        left = left_after(&command, left);
+    }
+    commands.len()
+}
+
+/// How many commands are asked with this one: it alone, or two `name` before it.
+fn asked_with(command: &CheckCommand, left: usize) -> usize
+    ensures { result ≡ length (with_names_before command.now left) }
+{
+    if needs_names(command, left) { 3 } else { 1 }
 }
 
 /// Whether an answer may have run on into the next one, where a conversation ended so.

@@ -5,4 +5,5 @@ use Rattle.gtp_check_app.specs.Trials.{LastGames}
 use Rattle.gtp_check_talks.specs.Dialogues.{wrong_of}
 
 abbrev pub games_of : Games → LastGames
-games_of games = record { ended = option_map wrong_of games.ended; tried = games.tried }
+games_of games =
+    record { ended = option_map wrong_of games.ended; tried = games.tried; left = games.left.items }

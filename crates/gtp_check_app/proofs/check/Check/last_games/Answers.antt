@@ -1,11 +1,13 @@
-use Rattle.std.proofs.Common.{◌≡◌, ◌∙◌, ap, arith, false, length, refl, List, None}
+use Rattle.std.proofs.Common.{◌≡◌, ◌∙◌, ap, arith, false, length, refl, sym, List, None}
 use Rattle.std.proofs.lemmas.Result.{err_from_is_err_and}
 use Rattle.gtp_process.specs.Starts.{program_line}
+use Rattle.gtp_check_judge.specs.declared.asking.CheckCommand.{CheckCommand}
 use Rattle.gtp_check_shortening.specs.declared.talk.Said.{Said}
 use Rattle.gtp_check_talks.specs.Dialogues.{none, wrong_of, wrong_talk}
-use Rattle.gtp_check_app.specs.Trials.{shortenings_of}
+use Rattle.gtp_check_app.specs.Trials.{left_by, shortenings_of}
 use Rattle.gtp_check_app.specs.Turns.{moment, state_of}
-use Rattle.gtp_check_app.proofs.Shortening.{Missed, all_missed, found_here, missed_asks, one_missed, then_more}
+use Rattle.gtp_check_app.proofs.Shortening.{Missed, all_missed, found_here, missed_asks, one_asks, one_missed}
+use Rattle.gtp_check_app.proofs.Shortening.{then_more}
 use Rattle.gtp_check_app.proofs.check.Check.last_games.Goals as goal
 
 pub returns-in_err-all-clause-refused : goal.returns-in_err-all-clause-refused
@@ -45,6 +47,27 @@ returns-in_err-ended-clause-refused g c =
           refused.1,
     )
 
+pub returns-in_err-left-clause-refused : goal.returns-in_err-left-clause-refused
+returns-in_err-left-clause-refused g c =
+    let exit = c.from_residual-in_err-left in
+    let failed = err_from_is_err_and exit.result exit.ensures.1 in
+    rw failed.1 (
+      failed.2,
+      then_more (program_line c.args.plan.now.words.items) _ _
+          (missed_asks g.S.Process.Process c.args.plan.now (wrong_of c.args.found.now) _
+          c.loop-shortening.invariant.missed)
+          (one_asks g.S.Process.Process c.args.plan.now (wrong_of c.args.found.now) _ _ c.in_ok-ended.ensures.tries),
+    )
+
+pub returns-in_err-left-2-clause-refused : goal.returns-in_err-left-2-clause-refused
+returns-in_err-left-2-clause-refused g c =
+    let exit = c.from_residual-in_err-left-2 in
+    let failed = err_from_is_err_and exit.result exit.ensures.1 in
+    rw failed.1 (
+      failed.2,
+      missed_asks g.S.Process.Process c.args.plan.now (wrong_of c.args.found.now) _ c.loop-shortening.invariant.missed,
+    )
+
 pub returns-in-Some-clause-shortens : goal.returns-in-Some-clause-shortens
 returns-in-Some-clause-shortens g c =
     found_here
@@ -57,7 +80,10 @@ returns-in-Some-clause-shortens g c =
     ∙ ap (λ (talk : List Said). shortenings_of c.args.plan.now.trials talk) c.conversation-talk.ensures)
     c.conversation-talk.ensures c.loop-shortening.invariant.tried c.loop-shortening.invariant.missed
     (record { games = 0; more_than = 0; is_whole = false; is_played = false; kept = None }) c.as_slice.result.now
-    (c.as_slice.ensures.value ∙ c.in_ok-commands.ensures) c.loop-shortening-test.true
+    c.in_ok-left.left.items (c.as_slice.ensures.value ∙ c.in_ok-commands.ensures) c.loop-shortening-test.true
+    (c.in_ok-left.ensures
+    ∙ ap (λ (these : List CheckCommand). left_by (wrong_of c.args.found.now) these (wrong_of c.in-Some.ended))
+    (c.as_slice-in-Some.ensures.value ∙ sym c.as_slice.ensures.value))
     (rw c.in-Some.is at c.in_ok-ended.ensures.tries)
 
 pub loop-shortening-preserved : goal.loop-shortening-preserved
@@ -89,4 +115,5 @@ returns-clause-shortens g c =
     (c.deref-shortening-items.ensures.value ∙ c.in_ok-all.ensures.those
     ∙ ap (λ (talk : List Said). shortenings_of c.args.plan.now.trials talk) c.conversation-talk.ensures)
     c.conversation-talk.ensures c.loop-shortening.invariant.tried c.loop-shortening.invariant.missed
+    c.in_ok-left-2.left.items c.in_ok-left-2.ensures
     c.loop-shortening-test.false c.loop-shortening.auto.shortening-index-end

@@ -5,9 +5,8 @@ use Rattle.std.proofs.lemmas.Result.{err_from_is_err_and}
 use Rattle.gtp_process.specs.Starts.{program_line}
 use Rattle.gtp_check_judge.specs.declared.asking.CheckCommand.{CheckCommand}
 use Rattle.gtp_check_talks.specs.declared.trial.Tried.{Tried}
-use Rattle.gtp_check_talks.specs.Dialogues.{Wrong, none, wrong_of, wrong_talk}
+use Rattle.gtp_check_talks.specs.Dialogues.{Wrong, none, wrong_of}
 use Rattle.gtp_check_shortening.specs.Reduction.{begun, next}
-use Rattle.gtp_check_shortening.specs.Shortening.{commands_of}
 use Rattle.gtp_check_shortening.specs.declared.limits.Limits.{Limits}
 use Rattle.gtp_check_app.specs.Trials.{limits_of}
 use Rattle.gtp_check_app.specs.Turns.{IsReduced, Reduces}
@@ -15,15 +14,9 @@ use Rattle.gtp_check_app.proofs.Shortening.{reduces_asks, then_more}
 use Rattle.gtp_check_app.proofs.check.Check.reduced.Goals as goal
 use Rattle.gtp_check_app.proofs.check.Check.reduced.Goals.{in-None, in-Some-2}
 
-pub returns-in_err-commands-clause-refused : goal.returns-in_err-commands-clause-refused
-returns-in_err-commands-clause-refused g c =
-    let exit = c.from_residual in
-    let failed = err_from_is_err_and exit.result exit.ensures.1 in
-    rw failed.1 (failed.2, none)
-
 pub returns-in_err-reduction-clause-refused : goal.returns-in_err-reduction-clause-refused
 returns-in_err-reduction-clause-refused g c =
-    let exit = c.from_residual-in_err-reduction in
+    let exit = c.from_residual in
     let failed = err_from_is_err_and exit.result exit.ensures.1 in
     rw failed.1 (failed.2, none)
 
@@ -38,22 +31,22 @@ loop-best-init g c =
     let plan = c.args.plan.now in
     let tried = c.args.games.now.tried in
     let longer = c.unwrap_or-longer.result.now in
-    let commands : c.as_slice.result.now ≡ commands_of (wrong_talk (wrong_of longer)) =
-    c.as_slice.ensures.value ∙ c.in_ok-commands.ensures ∙ ap commands_of c.conversation.ensures in
     let is : wrong_of longer ≡ unwrap_or (option_map wrong_of c.args.games.now.ended) (wrong_of c.args.found.now) =
     ap (λ (one : Bor Tried). wrong_of one.now) c.unwrap_or-longer.ensures
     ∙ longer_is c.as_ref.result c.args.games.now.ended c.args.found c.as_ref.ensures.value in
+    let left = c.as_slice.result.now in
     let begins = c.in_ok-reduction.ensures
-    ∙ ap (λ (all : List CheckCommand). begun all c.limits_of-limits.result) commands
-    ∙ ap (λ (limits : Limits). begun (commands_of (wrong_talk (wrong_of longer))) limits)
-    c.limits_of-limits.ensures
-    ∙ ap (λ (wrong : Wrong). begun (commands_of (wrong_talk wrong))
-    (limits_of plan (wrong_of c.args.found.now) wrong tried)) is in
+    ∙ ap (λ (limits : Limits). begun left limits) c.limits_of-limits.ensures
+    ∙ ap (λ (wrong : Wrong). begun left (limits_of plan (wrong_of c.args.found.now) wrong tried)) is
+    ∙ ap (λ (all : List CheckCommand). begun all
+    (limits_of plan (wrong_of c.args.found.now)
+    (unwrap_or (option_map wrong_of c.args.games.now.ended) (wrong_of c.args.found.now)) tried))
+    c.as_slice.ensures.value in
     record { reduces = rw begins Reduces.begins; engine = refl }
 
-pub returns-in_err-commands-2-clause-refused : goal.returns-in_err-commands-2-clause-refused
-returns-in_err-commands-2-clause-refused g c =
-    let exit = c.from_residual-in_err-commands-2 in
+pub returns-in_err-commands-clause-refused : goal.returns-in_err-commands-clause-refused
+returns-in_err-commands-clause-refused g c =
+    let exit = c.from_residual-in_err-commands in
     let failed = err_from_is_err_and exit.result exit.ensures.1 in
     rw failed.1 (
       failed.2,
@@ -76,10 +69,10 @@ returns-in_err-try_one-clause-refused g c =
 pub loop-best-preserved : goal.loop-best-preserved
 loop-best-preserved g c =
     let is_next : next c.loop-best.reduction ≡ Some c.in-Some.commands.items =
-    sym c.in_ok-commands-2.ensures ∙ ap (λ one. option_map (λ commands. commands.items) one) c.in-Some.is in
+    sym c.in_ok-commands.ensures ∙ ap (λ one. option_map (λ commands. commands.items) one) c.in-Some.is in
     let count : c.len-asked.result ≡ length c.in-Some.commands.items = omega (arith, c.len-asked.ensures) in
     let same = c.in_ok-try_one.ensures.engine ∙ c.loop-best.invariant.engine in
-    elim c.match-branch-6.branch [
+    elim c.match-branch-5.branch [
       | in-None w ↦ record {
         reduces = rw (w.reduction-is, w.best-is, w.failed.ensures, count)
             (Reduces.failed c.in-Some.commands.items c.loop-best.invariant.reduces is_next
@@ -87,7 +80,14 @@ loop-best-preserved g c =
         engine = same;
       }
       | in-Some-2 w ↦ record {
-        reduces = rw (w.reduction-is, w.best-is, w.succeeded.ensures, count)
+        reduces = rw (
+          w.reduction-is,
+          w.best-is,
+          w.succeeded.ensures,
+          count,
+          w.own_of-own.ensures,
+          w.as_slice-in-Some-2.ensures.value,
+        )
             (Reduces.succeeded {tried = wrong_of w.in-Some-2.tried} c.in-Some.commands.items
             c.loop-best.invariant.reduces is_next
             (rw (c.as_slice-in-Some.ensures.value, w.in-Some-2.is) at c.in_ok-try_one.ensures.tries));
@@ -98,5 +98,5 @@ loop-best-preserved g c =
 pub returns-clause-reduced : goal.returns-clause-reduced
 returns-clause-reduced g c =
     let none_left : next c.loop-best.reduction ≡ None =
-    sym c.in_ok-commands-2.ensures ∙ ap (λ one. option_map (λ commands. commands.items) one) c.in_default.is in
+    sym c.in_ok-commands.ensures ∙ ap (λ one. option_map (λ commands. commands.items) one) c.in_default.is in
     IsReduced.reduced c.loop-best.invariant.reduces none_left
