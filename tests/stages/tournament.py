@@ -49,7 +49,7 @@ from tests.stages.of_tournament.progressed import Abandoned, Lines, Times  # noq
 from tests.stages.of_tournament.numbers import Errors, Mutants, PairsOfTwo, Tests, Values, Year  # noqa: E402, F401
 from tests.stages.of_tournament.damaged import Cut, Damages, Old  # noqa: E402, F401
 from tests.stages.of_tournament.damaged import Unread as UnreadResults  # noqa: E402, F401
-from tests.stages.of_tournament.costs import Dear, Folders, Many, OneGame  # noqa: E402, F401
+from tests.stages.of_tournament.costs import Dear, Filled, Many, OneGame  # noqa: E402, F401
 from tests.stages.of_tournament.counted import Intervals, Tallies, Wrong  # noqa: E402, F401
 from tests.stages.of_tournament.between import InTime, Late, Passing  # noqa: E402, F401
 from tests.stages.of_tournament.noted import LateOnes, Limits, Noted, Thought  # noqa: E402, F401
@@ -71,7 +71,7 @@ PARSER.add_argument("--whole", action="store_true",
                     help="200 kills at drawn moments, and folders with 100,000 results; some 20 minutes longer")  # fmt: skip
 OPTIONS = PARSER.options(__name__)
 Drawn.kills = max(OPTIONS.kills, 200 if OPTIONS.whole else 0)
-Folders.whole = OPTIONS.whole
+Filled.whole = OPTIONS.whole
 rooms.Room.programs = OPTIONS.programs.resolve()
 
 

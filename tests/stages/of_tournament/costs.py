@@ -108,7 +108,7 @@ class OneGame(Case):
         return None
 
 
-class Folders(Case):
+class Filled(Case):
     """Folders with many results, made by hand."""
 
     whole = False  # are there 100,000 of them, or a fifth?
@@ -123,7 +123,7 @@ class Folders(Case):
         return seconds_of(here, "tally", "--help") + max(SECONDS * self.count / MANY, times * reading)
 
 
-class Many(Folders):
+class Many(Filled):
     """A folder of which four results are missing: nothing takes long in it."""
 
     def test_many(self):
@@ -178,7 +178,7 @@ def seconds_to_read(*folders):
     return own_seconds() - began
 
 
-class Dear(Folders):
+class Dear(Filled):
     """Results that could be dear to the tally: abandoned ones, of which the notes are wanted, and those of many engines."""
 
     def test_late(self):
