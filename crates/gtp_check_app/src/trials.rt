@@ -1,7 +1,7 @@
 //! What a shorter conversation is asked, where an answer may have run on into the next one.
-ghost use Rattle.std.specs.Prelude.{◌≡◌, ◌++◌, ◌∷◌, [], length, IfOk, OnOk};
+ghost use Rattle.std.specs.Prelude.{◌≡◌, ◌++◌, length, IfOk, OnOk};
 ghost use Rattle.gtp_check_talks.specs.Dialogues.{wrong_of};
-ghost use Rattle.gtp_check_app.specs.Trials.{asked_for, left_after, match_may_wait, may_wait, most_between, needs_names};
+ghost use Rattle.gtp_check_app.specs.Trials.{asked_for, left_after, may_wait, most_between, needs_names};
 ghost use Rattle.gtp_check_app.specs.Trials.{left_by, own_of, own_spaced, ran_on, spaced, with_names, with_names_before};
 
 use gtp_check_judge::CheckCommand;
@@ -132,14 +132,7 @@ fn add_with_names(
     if needs_names(command, left) {
         all.extend_from_slice(&[CheckCommand::Name, CheckCommand::Name])?;
     }
-    add(all, *command)
-}
-
-/// A command is added.
-fn add(all: &mut Vec<CheckCommand>, command: CheckCommand) -> Result<(), AllocError>
-    ensures { OnOk result (all.new.items ≡ all.old.items ++ command ∷ []) }
-{
-    all.extend_from_slice(&[command])
+    all.extend_from_slice(&[*command])
 }
 
 /// Whether two `name` are asked before a command.
@@ -164,19 +157,10 @@ fn left_after(command: &CheckCommand, left: usize) -> usize
 fn may_wait(command: &CheckCommand) -> bool
     ensures { result ≡ may_wait command.now }
 {
-    match command {
-        CheckCommand::Match(command) => match_may_wait(command),
-        CheckCommand::FinalScore | CheckCommand::GenmoveInFull(_) => true,
-        _ => false,
-    }
-}
-
-/// The same of a command of a match.
-fn match_may_wait(command: &Command) -> bool
-    ensures { result ≡ match_may_wait command.now }
-{
     matches!(
         command,
-        Command::Boardsize(_) | Command::Genmove(_) | Command::Undo
+        CheckCommand::Match(Command::Boardsize(_) | Command::Genmove(_) | Command::Undo)
+            | CheckCommand::FinalScore
+            | CheckCommand::GenmoveInFull(_)
     )
 }
