@@ -75,11 +75,11 @@ usage: tournament play FOLDER --engine NAME=CMD --engine NAME=CMD ..
 
 Plays all games of FOLDER that have no result; a damaged one is none. The
 same command goes on where it was stopped. Where there is a plan, give all of
-engines, gauntlet, openings, move limit and options as it has them, or none.
-There may be more engines behind the others; where the plan has more engines or
-seeds, all are played. A plan gets new engines only where each can be started on
-this machine. A line on standard error says each minute how far it is, and in a
-terminal each ten seconds.
+engines, gauntlet, openings, move limit, direct and options as it has them, or
+none. There may be more engines behind the others; where the plan has more
+engines or seeds, all are played. A plan gets new engines only where each can be
+started on this machine. A line on standard error says each minute how far it
+is, and in a terminal each ten seconds.
 """, PLAN + PLAY + OPTION, FILES, STATUS]),
     "plan": "\n".join(["""\
 usage: tournament plan FOLDER --engine NAME=CMD --engine NAME=CMD ..
