@@ -43,7 +43,7 @@ from tests.stages.of_tournament.stops import OneKilled, Sessions, Silent, Stoppe
 from tests.stages.of_tournament.drawn import Drawn, Two, Unread  # noqa: E402, F401
 from tests.stages.of_tournament.plans import CutAtSpaces, Lost, NoNotes, NoResults, Plans, Vanished  # noqa: E402, F401
 from tests.stages.of_tournament.machines import Arrays, Elsewhere, Leaving, Locks  # noqa: E402, F401
-from tests.stages.of_tournament.copied import Copied, Loop  # noqa: E402, F401
+from tests.stages.of_tournament.copied import Commands, Loop  # noqa: E402, F401
 from tests.stages.of_tournament.asked import Forms, Helps, Python, Said, SaidByTally  # noqa: E402, F401
 from tests.stages.of_tournament.gauntlets import Gauntlets, Same, Warned  # noqa: E402, F401
 from tests.stages.of_tournament.exports import ByGnuGo, Exported, Opened, Page, Records, Versions  # noqa: E402, F401

@@ -153,8 +153,9 @@ Counts the results of a folder that tournament made.
   --between NAME NAME
                      of --sprt: the test is of these two engines, of the first
                      one here to the second; so with more than two engines
-  --json             for other programs: scores are from 0 to 1, and an infinite
-                     Elo is null
+  --json             for other programs: scores are from 0 to 1, an infinite Elo
+                     is null, and in pairs_in_interval those that repeat each
+                     other are one
 
 status: 0  each game of its plan has a result; of --sprt: ELO1 is accepted
         1  some game has none, or a damaged file

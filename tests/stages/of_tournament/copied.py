@@ -57,7 +57,7 @@ class Loop(Case):
         self.check("the last seeds, where all pairs end alike", ("one - two: go on: 200 pairs (0 unlike most, not below 10)", 6), came)
 
 
-class Copied(Case):
+class Commands(Case):
     """The other commands."""
 
     def test_without_one(self):
