@@ -4,14 +4,18 @@
 #SBATCH --time=04:00:00
 #SBATCH --output=tournament.%A.log
 #SBATCH --open-mode=append
-# A tournament as a Slurm array: each of TASKS tasks plays its share of the games of FOLDER, one after the other. FOLDER and the programs
+# A tournament as a Slurm array: each of TASKS tasks plays its share of the games of FOLDER. FOLDER and the programs
 # lie where all nodes see them.
 #
 #   tournament plan FOLDER --engine .. --engine .. --limit 600
 #   sbatch --array=1-100 tournament.sbatch FOLDER 100
 #
-# Submit it again to go on, with the same number of tasks, or some of it: --array=3,7. A task begins no game that the time left to it
-# doesn't hold, so --time has to be more than the limit of a game. Where `tournament` isn't in PATH, TOURNAMENT names it.
+# Task 3 of 100 plays the games 3, 103, 203 and so on, as many at once as --cpus-per-task says. Submit the array again to go on, with the
+# same number of tasks, or some of it: --array=3,7. A task begins no game that the time left to it doesn't hold, so --time has to be more
+# than the limit of a game. Where `tournament` isn't in PATH, TOURNAMENT names it, and TWOGTP the program.
+#
+# The last task has to be below MaxArraySize, by default 1001. When a node dies, Slurm gives its tasks to others after some nine minutes;
+# some clusters want --requeue for it.
 if [ $# -ne 2 ] || [ -z "${SLURM_ARRAY_TASK_ID:-}" ]; then
     echo 'usage: sbatch --array=1-TASKS tournament.sbatch FOLDER TASKS' >&2
     exit 2

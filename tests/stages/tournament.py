@@ -26,7 +26,8 @@ The stage finds all processes that a script started by a word in their environme
   gtp_engine.
 - The same games are played by xargs, by the script for Slurm without Slurm, and by GNU Parallel on two machines, for which a
   script plays ssh. The results have to be the same. Machines leave that can't be reached, or have no engine. Each lock fails.
-- Each process that watches over a game is killed, and two of them at one moment, and no engine may be left. Silent engines are tried as docs/tournaments.md says.
+- Each process that watches over a game is killed, and two of them at one moment, and no engine may be left. Silent engines are tried as docs/controller.md says,
+  and what docs/tournaments.md has for copying is run.
 """
 import sys
 from pathlib import Path
@@ -42,6 +43,7 @@ from tests.stages.of_tournament.stops import OneKilled, Sessions, Silent, Stoppe
 from tests.stages.of_tournament.drawn import Drawn, Two, Unread  # noqa: E402, F401
 from tests.stages.of_tournament.plans import CutAtSpaces, Lost, NoNotes, NoResults, Plans, Vanished  # noqa: E402, F401
 from tests.stages.of_tournament.machines import Arrays, Elsewhere, Leaving, Locks  # noqa: E402, F401
+from tests.stages.of_tournament.copied import Commands, Loop  # noqa: E402, F401
 from tests.stages.of_tournament.asked import Forms, Helps, Python, Said, SaidByTally  # noqa: E402, F401
 from tests.stages.of_tournament.gauntlets import Gauntlets, Same, Warned  # noqa: E402, F401
 from tests.stages.of_tournament.exports import ByGnuGo, Exported, Opened, Page, Records, Versions  # noqa: E402, F401

@@ -19,18 +19,21 @@ PLAN = """\
   --gauntlet NAME    this engine plays all others, which don't play each other
   --limit SECONDS    how long a game may take [600]
   --move-limit SECONDS
-                     how long a genmove may take [as long as a game]
+                     how long a genmove may take, in seconds of the clock. It
+                     can't be added or changed later [as long as a game]
   --start-limit SECONDS
                      how long each other answer may take, also the first [60]
   --openings FILE    a line of moves for each opening, such as D4 Q16 pass; #
                      begins a comment. Seed 1 has the first one, with both
-                     colours, seed 2 the second, and so on, around
-  --direct           engines are started by twogtp, which knows no quotes: no
-                     such limits, no openings, and moves aren't kept as they
-                     are played
+                     colours, seed 2 the second, and so on; after the last one
+                     comes the first again. They can't be added later
+  --direct           saves 30 milliseconds a game: engines are started by
+                     twogtp, which knows no quotes. No such limits, no openings,
+                     and moves aren't kept as they are played
 """
 PLAY = """\
-  --jobs N           how many games at once [as many as processors]
+  --jobs N           how many games at once; no plan keeps it [as many as
+                     processors]
   --again            games with an unfit or abandoned side are played again, and
                      their engines tried
   --task K/T         plays the games K, K+T, K+2T .. of all
@@ -38,13 +41,14 @@ PLAY = """\
                      it: 1-00:30:00, 30:00, or 90 for seconds
 """
 OPTION = """\
-  -- OPTION ..       options of twogtp, such as --size 9 --komi 7.5
+  -- OPTION ..       options of twogtp, such as --size 9 --komi 7.5, but not
+                     --games; twogtp --help has them
 """
 FILES = """\
 A game is named SEED_BLACK_WHITE. FOLDER/games has its result and record,
 FOLDER/notes its moves as they are played, FOLDER/logs what came on standard
-error, if anything did. TWOGTP names the program where it is neither beside
-these scripts nor in PATH.
+error, if anything did. Games are played by the twogtp that TWOGTP names, else
+the one in a folder bin beside these scripts, else the one in PATH.
 """
 STATUS = """\
 status: 0  each game has a result, or with --task another process plays it,
@@ -70,11 +74,12 @@ usage: tournament play FOLDER --engine NAME=CMD --engine NAME=CMD ..
        tournament play FOLDER .. where it has a plan
 
 Plays all games of FOLDER that have no result; a damaged one is none. The
-same command goes on where it was stopped. What isn't given is taken from
-FOLDER/plan, which has to have the same engines and options; there may be more
-engines behind the others, and where it has more, all are played. A plan gets
-new engines only where each can be started on this machine. A line on standard
-error says each minute how far it is, and in a terminal each ten seconds.
+same command goes on where it was stopped. Where there is a plan, give all of
+engines, gauntlet, openings, move limit, direct and options as it has them, or
+none. There may be more engines behind the others; where the plan has more
+engines or seeds, all are played. A plan gets new engines only where each can be
+started on this machine. A line on standard error says each minute how far it
+is, and in a terminal each ten seconds.
 """, PLAN + PLAY + OPTION, FILES, STATUS]),
     "plan": "\n".join(["""\
 usage: tournament plan FOLDER --engine NAME=CMD --engine NAME=CMD ..
@@ -116,13 +121,17 @@ usage: tournament export FOLDER --pgn | --csv | --jsonl | --sgf RECORDS
 
 Writes the results of FOLDER in the plan's order, for other programs.
 
-  --pgn              a game of PGN each, without moves, for rating programs
+  --pgn              a game of PGN each, without moves, for rating programs.
+                     White's result is first; 1/2-1/2 is a drawn game, and *
+                     another that nobody won
   --csv              a table with a header
   --jsonl            a line of JSON each
-  --sgf RECORDS      a file of SGF each, RECORDS/GAME.sgf, in a new folder
+  --sgf RECORDS      a file of SGF each, RECORDS/GAME.sgf, in a new folder. 0 is
+                     a drawn game, and Void another that nobody won
 """ + LOSSES + """
 The versions are what an engine said in its last trial on the game's machine:
-not in the game, if the engine was replaced or tried again since.
+not in the game, if the engine was replaced or tried again since. No form says
+when a game was played: that is the time of its file in FOLDER/games.
 
 status: 0  the games that have a result are written
         1  they can't be read or written, and no file of --sgf is left
@@ -144,7 +153,9 @@ Counts the results of a folder that tournament made.
   --between NAME NAME
                      of --sprt: the test is of these two engines, of the first
                      one here to the second; so with more than two engines
-  --json             for other programs
+  --json             for other programs: scores are from 0 to 1, an infinite Elo
+                     is null, and in pairs_in_interval those that repeat each
+                     other are one
 
 status: 0  each game of its plan has a result; of --sprt: ELO1 is accepted
         1  some game has none, or a damaged file
