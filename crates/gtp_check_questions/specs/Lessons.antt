@@ -106,7 +106,7 @@ sizes_stretches =
     stretch.Clear ∷ stretch.Filled ∷ stretch.Swept ∷ stretch.Edges ∷ stretch.AllBack 640 ∷ stretch.Back 3 ∷
     stretch.Edges ∷ stretch.Clear ∷ stretch.Genmoves 2 ∷ stretch.Emptied 2 ∷ stretch.Edges ∷ []
 
--- a score of each size, which hardly comes three times in a row
+-- A part asks for one score, with another komi than those before: none comes three times in a row.
 abbrev pub handicaps_stretches : List Stretch
 handicaps_stretches =
     stretch.Size ∷ stretch.Taken ∷ stretch.Komi ∷ stretch.Clear ∷ stretch.Stones 10 ∷ stretch.Handicap ∷ stretch.Undo ∷

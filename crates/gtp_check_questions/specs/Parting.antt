@@ -1,6 +1,6 @@
 -- What parts two scores of one part. (An engine may draw an estimate by chance, and keep it until komi or the board
--- changes. Two scores that come out the same are compared with later ones, so hardly an estimate that was kept may come
--- out twice.)
+-- changes. Later scores are compared with three that come out the same, so one that was kept has to be drawn anew between
+-- them.)
 use Rattle.std.specs.Prelude.{◌≡◌, ◌≢◌, ◌⊎◌, ℕ, zero, suc, ◌<◌, ◌≤◌, ℤ, Bool, true, false}
 use Rattle.std.specs.Prelude.{List, [], ◌∷◌, ◌++◌, slice_get, Option, None, Some}
 use Rattle.go_base.specs.Point.{IsOn}
@@ -120,7 +120,8 @@ pub record HasOneScore (stretches : List Stretch) : Type 0 where
   pub none_before : NoneScores before
   pub none_later : (now : Stretch) (others : List Stretch) → later ≡ now ∷ others → NoneScores others
 
--- Each part that asks for more than one score begins by three of one size and komi: then others can be compared with it.
+-- Each part that asks for more than one score begins by three of one size and komi: then others can be compared with
+-- them, where komi is at most a thousand points.
 abbrev pub ScoresBeginByThree : Type 0
 ScoresBeginByThree = (lesson : Lesson) (part : ℕ) → part < parts_of lesson
     → HasOneScore (stretches_of lesson part) ⊎ BeginsByThree (stretches_of lesson part)

@@ -47,7 +47,7 @@ kind_sentence kind.NoMove = codes "a genmove succeeds; a player who has no move 
 kind_sentence kind.NoVertex = codes "a genmove answers a vertex of the board, pass, or resign"
 kind_sentence (kind.Unlawful fault) = codes "the move isn't legal"
 kind_sentence kind.Unlisted =
-    codes "each of these is listed: protocol_version name version known_command list_commands quit boardsize clear_board komi play genmove"
+    codes "each of these has a row of its own: protocol_version name version known_command list_commands quit boardsize clear_board komi play genmove"
 kind_sentence kind.NoScore = codes "a score is B+ or W+ and the points, or 0"
 kind_sentence kind.OtherScore =
     codes "it scored the empty board of this size three times alike with one komi: its scores differ as the komis do"

@@ -27,7 +27,7 @@ fn kind_text(kind: Kind) -> &'static [u8]
         Kind::NoMove => b"no move: the genmove failed",
         Kind::NoVertex => b"neither a vertex nor resign",
         Kind::Unlawful(_) => b"an illegal move",
-        Kind::Unlisted => b"a list without a command that each engine has",
+        Kind::Unlisted => b"a list without a row for a command that each engine has",
         Kind::NoScore => b"no score",
         Kind::OtherScore => b"a score that doesn't differ from its others as the komis do",
         Kind::WrongId => b"a reply without the id of the command",

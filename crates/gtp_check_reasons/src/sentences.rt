@@ -76,7 +76,7 @@ pub(crate) fn kind_sentence(kind: Kind) -> &'static [u8]
         Kind::NoVertex => b"a genmove answers a vertex of the board, pass, or resign",
         Kind::Unlawful(_) => b"the move isn't legal",
         Kind::Unlisted => {
-            b"each of these is listed: protocol_version name version known_command list_commands quit boardsize clear_board komi play genmove"
+            b"each of these has a row of its own: protocol_version name version known_command list_commands quit boardsize clear_board komi play genmove"
         }
         Kind::NoScore => b"a score is B+ or W+ and the points, or 0",
         Kind::OtherScore => {

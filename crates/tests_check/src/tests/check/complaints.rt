@@ -298,10 +298,10 @@ static ROWS: [Row; 15] = [
         sent: b"1 list_commands\n",
         wrote: b"=1 play\n\n",
         is_positional: false,
-        text: "# 4 start: \"1 list_commands\": a list without a command that each engine has
+        text: "# 4 start: \"1 list_commands\": a list without a row for a command that each engine has
 1 list_commands
 # it wrote: \"=1 play\\n\\n\"
-# right: each of these is listed: protocol_version name version known_command list_commands quit boardsize clear_board komi play genmove
+# right: each of these has a row of its own: protocol_version name version known_command list_commands quit boardsize clear_board komi play genmove
 
 ",
     },
