@@ -44,10 +44,10 @@ from tests.stages.of_tournament.plans import CutAtSpaces, Lost, NoNotes, NoResul
 from tests.stages.of_tournament.machines import Arrays, Elsewhere, Leaving, Locks  # noqa: E402, F401
 from tests.stages.of_tournament.asked import Forms, Helps, Python, Said, SaidByTally  # noqa: E402, F401
 from tests.stages.of_tournament.gauntlets import Gauntlets, Same, Warned  # noqa: E402, F401
-from tests.stages.of_tournament.exports import ByGnuGo, Exported, Opened, Page, Records, Versions  # noqa: E402, F401
+from tests.stages.of_tournament.exports import ByGnuGo, DamagedNotes, Exported, Opened, Page, Records, Versions  # noqa: E402, F401
 from tests.stages.of_tournament.progressed import Abandoned, Lines, Times  # noqa: E402, F401
 from tests.stages.of_tournament.numbers import Errors, Mutants, PairsOfTwo, Tests, Values, Year  # noqa: E402, F401
-from tests.stages.of_tournament.damaged import Cut, Damages, Old  # noqa: E402, F401
+from tests.stages.of_tournament.damaged import Copied, Cut, Damages, Old, Spelled  # noqa: E402, F401
 from tests.stages.of_tournament.damaged import Unread as UnreadResults  # noqa: E402, F401
 from tests.stages.of_tournament.costs import Dear, Folders, Many, OneGame  # noqa: E402, F401
 from tests.stages.of_tournament.counted import Intervals, Tallies, Wrong  # noqa: E402, F401

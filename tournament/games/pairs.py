@@ -34,8 +34,8 @@ class Pairs:
     def number(self, game, parts):
         """The number that stands for a game's opening and moves; 0 where there are so few that they may be the same by chance."""
         opening = self.openings[game // len(self.games.sides) % len(self.openings)] if self.openings else ""
-        own, text, begin = int(parts[2]) - len(opening.split()), parts.string, parts.end()
-        return hash((opening, text[begin:text.find(b"\n", begin)])) if own > SHORT else 0
+        own = int(parts[2]) - len(opening.split())
+        return hash((opening, parts[5])) if own > SHORT else 0
 
     def engines(self):
         """Each two engines, with the numbers of their two games of a seed."""

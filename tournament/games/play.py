@@ -118,7 +118,7 @@ class Play:
             game, engines = self.games.number(name), name.split("_")[1:]
             if parts:
                 self.note(game, parts)
-                self.tell(f"{self.count} of {self.total}: {name}: {results.line_of(parts)}")
+                self.tell(f"{self.count} of {self.total}: {name}: {results.line_of(parts).decode()}")
                 for engine in engines:
                     self.not_started[engine] = 0
             elif outcome == TAKEN:
@@ -270,7 +270,7 @@ class One:
         if not parts:
             return self.run.stop_status() if self.run.stopped else 1
         try:
-            output.write(1, f"{self.name}: {results.line_of(parts)}\n")
+            output.write(1, f"{self.name}: {results.line_of(parts).decode()}\n")
         except OSError:
             output.complain(f"{self.name}: it has a result, but this line was not written")
             return 1

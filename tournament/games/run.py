@@ -29,7 +29,7 @@ class Run:
         replaced."""
         if old is not None and os.stat(places.result).st_ino == old:
             raise FileNotFoundError
-        return results.read(places.result, self.match.has_board)
+        return self.match.rule.read(places.result)
 
     def result(self, places, old):
         """The same, but None where there is none. A damaged one is reported, and so is one that can't be read. Raises InTheWay where another

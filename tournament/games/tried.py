@@ -14,6 +14,7 @@ from . import output, program, results, trial
 from .notes import seconds_of
 from .output import NoStart
 from .places import new_file
+from .setup import Setup
 
 PAUSE = 0.2  # seconds between two looks whether another process has ended its trials
 SOON = 10  # seconds after which it is said what is waited for
@@ -24,7 +25,7 @@ class Tried:
 
     def __init__(self, run, plan):
         self.run, self.plan, self.match = run, plan, run.match
-        self.setup = trial.Setup(plan.options)
+        self.setup = Setup(plan.options)
         self.done = set()  # those that were tried by this run, or of which it said what they can't do
         self.anew = set()  # those that are tried by this run, whatever is known of them
         self.began = time.time()

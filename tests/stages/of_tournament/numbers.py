@@ -165,9 +165,9 @@ PLAYED = [
     ("0", "limit", "E", "F"),  # 1, or out where games are that nobody won
     ("0", "B+R", "H", "J"),  # 1/2
     ("B+R", None, "G", None),  # not whole
-    ("B+R", "W+R", "G", "I"),  # 2, and new: the other game with these moves isn't counted
+    ("B+R", "W+R", "G", "N"),  # 2, and new: the other game with these moves isn't counted
     ("B+R", "W+R", "K", "B"),  # 2, not new: its second game is that of seed 1
-    ("B+R", "W+R", "I", "L"),  # 2, and new: these moves were played with the other colours
+    ("B+R", "W+R", "N", "L"),  # 2, and new: these moves were played with the other colours
     ("B+R", "W+R", "H", "M"),  # 2, not new: its first game is that of seed 7
 ]
 EVERY, NEW, OUT = [1, 1, 4, 0, 5], [1, 1, 3, 0, 3], [1, 1, 3, 0, 5]
@@ -183,7 +183,7 @@ SAME_OPENED = [["1_a_b", "3_a_b"], ["2_b_a", "4_b_a"]]
 def plan_of(names, seeds):
     """A plan of these engines."""
     made = plan.Plan()
-    made.engines, made.seeds = dict.fromkeys(names, "x"), seeds
+    made.engines, made.seeds, made.options = dict.fromkeys(names, "x"), seeds, ["--komi", "7"]
     return made
 
 
@@ -191,13 +191,13 @@ def found_in(played, is_out=False, openings=()):
     """What is found of the pairs of two engines, and which games are the same."""
     made = plan_of("ab", len(played))
     made.openings = openings
-    found = pairs.Pairs(made, is_out)
+    found, rule = pairs.Pairs(made, is_out), results.Rule(made)
     for seed, (*verdicts, one, other) in enumerate(played):
         for side, (verdict, which) in enumerate(zip(verdicts, (one, other))):
             if verdict:
                 count = int(which[1:] or 21)
                 text = f"game 1: {verdict} moves {count} restarts 0 0\n{' '.join(['D4'] * (count - 1))} {which[0]}1\n"
-                parts = results.parts_of(text.encode(), False)
+                parts = rule.parts_of(text.encode())
                 found.add(2 * seed + side, ends.end_of(parts[1]), parts)
     (one, other, *numbers), = found.engines()
     two = found.of_two(*numbers)
@@ -215,7 +215,7 @@ def pairs_off():
     """What of the pairs doesn't come out."""
     out, none, opened = found_in(PLAYED, True), found_in([NONE] * 2), found_in(OPENED, openings=OPENINGS)
     one = found_in([("B+R", "B+R", "A", "A")] * 2)
-    late = [found_in([it, *PLAYED]) for it in (NONE, (None, "B+R", None, "X"), ("B+R", None, "X", None))]
+    late = [found_in([it, *PLAYED]) for it in (NONE, (None, "B+R", None, "Q"), ("B+R", None, "Q", None))]
     three = pairs.Pairs(plan_of("abc", 1)).engines()
     both, sum_of = pairs.Found(EVERY, NEW), ([2, 2, 7, 0, 8], [2, 2, 6, 0, 8])
     both.add(pairs.Found(NEW, OUT))

@@ -14,7 +14,7 @@ from .rooms import LIMIT, RANDOM, SCRIPTS, STUBBORN, Case, room
 
 sys.path.insert(0, str(SCRIPTS))
 
-from games import trial  # noqa: E402
+from games import setup, trial  # noqa: E402
 
 ONE_SEED = ["--seeds", "1", "--jobs", "1"]
 WHO = ("tournament", "trial one", "asks one")  # the run, and both processes of a trial
@@ -219,7 +219,7 @@ class Dressed(checks.Case):
     def row(self, row):
         words = ["bash", "-c", f"while read -r number _; do printf '{DRESSES[row]}' \"$number\"; done"]
         log = os.open(os.devnull, os.O_WRONLY)
-        came = trial.attempt(words, str(self.room()), log, trial.Setup([]), (20, 20, 20))
+        came = trial.attempt(words, str(self.room()), log, setup.Setup([]), (20, 20, 20))
         os.close(log)
         self.same((trial.PASSED, "", "D4 D4"), came)
 
