@@ -59,7 +59,7 @@ from tests.stages.of_tournament.opened import Answers, Crashes, Refusals, Talks 
 from tests.stages.of_tournament.opened import Times as OpenedTimes  # noqa: E402, F401
 from tests.stages.of_tournament.opened import Games as OpenedGames  # noqa: E402, F401
 from tests.stages.of_tournament.replayed import Begun, Followed, InTheWay, Looks, Put  # noqa: E402, F401
-from tests.stages.of_tournament.tries import Added, InARow, NotStarted, Tried, Unable  # noqa: E402, F401
+from tests.stages.of_tournament.tries import Added, Counted, Gone, InARow, NotStarted, Tried, Unable  # noqa: E402, F401
 from tests.stages.of_tournament.trials import Broken, Dressed, Kept, Noticed, Pauses, Quits, TrialKilled  # noqa: E402, F401
 from tests.stages.of_tournament.beside import Died, Games, Sample, Taps  # noqa: E402, F401
 
