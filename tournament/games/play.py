@@ -203,7 +203,7 @@ class Play:
         self.count_again()
 
     def count_again(self):
-        """Counts the results again: of a run that has played all of them, since one may be gone that it had. A run that is stopped ends at once."""
+        """Counts the results again: all of them where a game was played, since others may be gone by now, but for a run that is stopped."""
         is_anew = self.has_played and not self.run.stopped
         if is_anew or self.count < self.total:
             known = None if is_anew else self.kinds

@@ -1,4 +1,4 @@
-"""How far a run is: a line on standard error, each minute, and in a terminal more often. The first one says how to stop it from elsewhere."""
+"""How far a run is: a line on standard error, each minute, and in a terminal more often. The first one says how to stop the run."""
 import os
 import time
 

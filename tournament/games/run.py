@@ -3,7 +3,7 @@ import os
 import signal
 import time
 
-from . import below, family, output, results
+from . import below, family, output
 from .game import BROKEN, DONE, ENDING, NO_ROOM, NONE, SAME, STOPPED, play_here, report
 from .match import Match
 from .places import InTheWay, Places

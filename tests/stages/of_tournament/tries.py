@@ -5,7 +5,7 @@ from pathlib import Path
 
 from tests.shared import checks
 
-from .rooms import LIMIT, RANDOM, STUBBORN, Case, lines, room, tried
+from .rooms import LIMIT, RANDOM, STUBBORN, Case, room, tried
 
 # It writes down what it is asked, and plays as ours.
 HEARD = '#!/bin/bash\necho start >> heard\nexec gtp_engine < <(tee -a heard)\n'
