@@ -46,10 +46,10 @@ from tests.stages.of_tournament.machines import Arrays, Elsewhere, Leaving, Lock
 from tests.stages.of_tournament.copied import Commands, Loop  # noqa: E402, F401
 from tests.stages.of_tournament.asked import Forms, Helps, Python, Said, SaidByTally  # noqa: E402, F401
 from tests.stages.of_tournament.gauntlets import Gauntlets, Same, Warned  # noqa: E402, F401
-from tests.stages.of_tournament.exports import ByGnuGo, Exported, Opened, Page, Records, Versions  # noqa: E402, F401
+from tests.stages.of_tournament.exports import ByGnuGo, DamagedNotes, Exported, Opened, Page, Records, Versions  # noqa: E402, F401
 from tests.stages.of_tournament.progressed import Abandoned, Lines, Times  # noqa: E402, F401
 from tests.stages.of_tournament.numbers import Errors, Mutants, PairsOfTwo, Tests, Values, Year  # noqa: E402, F401
-from tests.stages.of_tournament.damaged import Cut, Damages, Old  # noqa: E402, F401
+from tests.stages.of_tournament.damaged import Copied, Cut, Damages, Old, Spelled  # noqa: E402, F401
 from tests.stages.of_tournament.damaged import Unread as UnreadResults  # noqa: E402, F401
 from tests.stages.of_tournament.costs import Dear, Filled, Many, OneGame  # noqa: E402, F401
 from tests.stages.of_tournament.counted import Intervals, Tallies, Wrong  # noqa: E402, F401
@@ -61,7 +61,7 @@ from tests.stages.of_tournament.opened import Answers, Crashes, Refusals, Talks 
 from tests.stages.of_tournament.opened import Times as OpenedTimes  # noqa: E402, F401
 from tests.stages.of_tournament.opened import Games as OpenedGames  # noqa: E402, F401
 from tests.stages.of_tournament.replayed import Begun, Followed, InTheWay, Looks, Put  # noqa: E402, F401
-from tests.stages.of_tournament.tries import Added, InARow, NotStarted, Tried, Unable  # noqa: E402, F401
+from tests.stages.of_tournament.tries import Added, Counted, Gone, InARow, NotStarted, Tried, Unable  # noqa: E402, F401
 from tests.stages.of_tournament.trials import Broken, Dressed, Kept, Noticed, Pauses, Quits, TrialKilled  # noqa: E402, F401
 from tests.stages.of_tournament.beside import Died, Games, Sample, Taps  # noqa: E402, F401
 

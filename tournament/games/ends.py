@@ -1,10 +1,10 @@
 """How games ended, for the tally and for exports: who won, and who is to blame where nobody did."""
 from typing import NamedTuple, Optional
 
-from . import notes
+from . import notes, results
 from .output import Mistake
 
-FORFEITS = [f"forfeit ({it})" for it in ("illegal move", "no vertex", "no move", "refused play")]
+FORFEITS = [f"forfeit ({it})" for it in results.FORFEITS]
 
 
 class End(NamedTuple):
@@ -45,7 +45,7 @@ class Ends:
 
     def abandoned(self, game, parts, end):
         """How a game ended in which a side was abandoned, by its notes if they are of this result."""
-        found = None if self.is_direct else notes.late_in(self.folder, self.games.name(game), parts[0][8:-1])
+        found = None if self.is_direct else notes.late_in(self.folder, self.games.name(game), results.line_of(parts))
         self.unknown += found is None
         if found:
             self.restarts = tuple(count - ignored for count, ignored in zip(self.restarts, found.ignored))

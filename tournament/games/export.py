@@ -17,6 +17,7 @@ NAMES = ("black", "white")
 FIELDS = ("game", "black", "white", "seed", "opening", "verdict", "winner", "moves", "black_seconds", "white_seconds", "host",
           "black_version", "white_version", "twogtp_version")  # fmt: skip
 ALL = Share(1, 1)
+LONGEST = 64  # characters of a machine's name
 FORMS = ("--pgn", "--csv", "--jsonl", "--sgf")
 POINTS = {0: "0-1", 1: "1-0", None: "*"}  # of the winner's side, as PGN has it: White's first
 TERMINATIONS = {**dict.fromkeys(("won", "R", "0"), "normal"), **dict.fromkeys(FORFEITS, "rules infraction"), "late": "time forfeit",
@@ -39,7 +40,7 @@ class Exports:
             if parts:
                 self.without -= 1
                 end = self.ends.of(game, parts)
-                yield self.row(game, parts, end), end, moves_of(parts)
+                yield self.row(game, parts, end), end, parts[5].decode().split()
 
     def row(self, game, parts, end):
         """What is said of a game."""
@@ -54,12 +55,12 @@ class Exports:
 
     def noted(self, name, parts):
         """The machine on which a game was played, and how long both sides thought, by the notes if they are of this result."""
-        data = notes.bytes_for(self.folder, name, parts[0][8:-1])
+        data = notes.bytes_for(self.folder, name, results.line_of(parts))
         if data is None:
             return None, (None, None)
         text = data.decode("latin-1")
-        found = notes.Notes(text)
-        return text.partition("\n")[0].partition(" on ")[2], tuple(round(it, 3) for it in found.thought)
+        host, found = text.partition("\n")[0].partition(" on ")[2], notes.Notes(text)
+        return host if is_host(host) else None, tuple(round(it, 3) for it in found.thought)
 
     def versions_on(self, host):
         """The versions of the programs on a machine, as they were tried there."""
@@ -68,10 +69,9 @@ class Exports:
         return self.versions[host]
 
 
-def moves_of(parts):
-    """The moves of a result."""
-    text, begin = parts.string, parts.end()
-    return text[begin:text.find(b"\n", begin)].decode().split()
+def is_host(text):
+    """May a machine have this name, by which its versions are found? Notes may be damaged."""
+    return text.isprintable() and "/" not in text and 0 < len(text) <= LONGEST and text.strip(".") != ""
 
 
 def as_csv(games):
@@ -119,11 +119,14 @@ def write_records(games, plan, folder):
             places.append(f"{folder}/{row['game']}.sgf")
             with open(places[-1], "x", encoding="utf-8") as file:
                 file.write(board.record(row, end, moves))
-    except OSError as problem:
+    except BaseException as problem:
         for remove, place in [*((os.unlink, it) for it in places), *([] if is_there else [(os.rmdir, folder)])]:
             with contextlib.suppress(OSError):
                 remove(place)
-        raise OSError(problem.errno, f"no file of --sgf is left: {problem.strerror}", folder) from None
+        if isinstance(problem, OSError):
+            place = folder if problem.filename in (None, *places[-1:]) else problem.filename
+            raise OSError(problem.errno, f"no file of --sgf is left: {problem.strerror}", place) from None
+        raise
 
 
 def export(words):

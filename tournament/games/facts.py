@@ -52,7 +52,7 @@ def of_pairs(found):
     score, interval = found.score(), found.interval()
     return {
         "pairs": found.every,
-        "pairs_in_interval": found.new,
+        "pairs_in_interval": sum(found.clusters.values()),
         "score": score,
         "interval": interval,
         "elo": in_elo(score),

@@ -41,7 +41,8 @@ def plan_for(asked, is_given, folder):
         had = whole(plan, asked, is_given)
         if is_given and not asked.goes_on(plan):
             text = f"{difference(plan, asked)}\n{advice(plan, asked, folder)}"
-            raise Mistake(f"{folder} was begun with other engines or options. It has\n{text}")
+            is_order = sorted(plan.shown()) == sorted(asked.shown())
+            raise Mistake(f"{folder} was begun with {'the same in another order' if is_order else 'other engines or options'}. It has\n{text}")
         if is_given and plan.openings and not asked.openings:
             raise Mistake(f"{folder} was begun with openings: write --openings with the same ones, or leave out engines and options, too")
         plan.had = had and f"{folder} has more than the command: {', '.join(had)}; all of it is played"
@@ -85,6 +86,8 @@ def difference(plan, asked):
     import difflib  # which isn't needed elsewhere
 
     old, new = plan.shown(), asked.shown()
+    if sorted(old) == sorted(new):
+        return "\n".join([*old, "where the command has", *new])
     blocks = [it for it in difflib.SequenceMatcher(None, old, new, False).get_opcodes() if it[0] != "equal"]
     had = [line for _, begin, end, _, _ in blocks for line in old[begin:end]]
     wanted = [line for _, _, _, begin, end in blocks for line in new[begin:end]]

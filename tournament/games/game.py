@@ -79,7 +79,7 @@ class Game:
     def leave(self, status):
         """Leaves the result, if there is one. It also counts where an engine doesn't answer `quit`, so that twogtp is ended when its line
         is there."""
-        parts = results.parts_of(results.text_of(self.result), self.match.has_board)
+        parts = self.match.rule.parts_of(results.text_of(self.result))
         found = self.noted and self.noted.read()
         if status in (2, 3) or not parts:
             if -status in ENDING and not self.is_over:
@@ -103,7 +103,7 @@ class Game:
         """Leaves this result."""
         try:
             if found:
-                self.noted.close(found, f"result: {results.line_of(parts)}")
+                self.noted.close(found, f"result: {results.line_of(parts).decode()}")
             os.fsync(self.result)
             if not is_file(self.result, self.places.new_result):
                 return TAKEN

@@ -4,7 +4,7 @@ import os
 import re
 import sys
 
-from . import notes, output, program
+from . import notes, output, program, results
 
 NAMES = ("black", "white")  # of both sides
 MODULES = ("below", "talk", "between")  # what `between` needs, in the order in which one needs another
@@ -17,7 +17,7 @@ class Match:
 
     def __init__(self, plan, twogtp):
         self.plan, self.twogtp = plan, twogtp
-        self.limit, self.has_board, self.is_direct = plan.limit, plan.has_boards(), plan.is_direct
+        self.limit, self.rule, self.is_direct = plan.limit, results.Rule(plan), plan.is_direct
         self.commands = {name: plan.words(name) for name in plan.engines}
         self.folder = os.getcwd() if plan.is_old() else plan.folder
         self.between, self.code = program.between(), None

@@ -16,12 +16,14 @@ FOLDER/notes/GAME has a line for the game, and then one for each note, which beg
 At the end come the times that both thought, and the result.
 """
 import contextlib
+import re
 
 from . import results
 
 COLOURS = ("black", "white")
 CUT = ("late", "ended", "waited", "not")
 NOTHING = "nothing was asked"
+SECONDS = re.compile(r"([0-9]{1,15}(?:\.[0-9]{1,9})?):?")
 
 
 class Notes:
@@ -78,10 +80,8 @@ class Notes:
 
 def seconds_of(word):
     """The seconds that a word has; 0 where it is none."""
-    try:
-        return float(word.rstrip(":"))
-    except ValueError:
-        return 0.0
+    found = SECONDS.fullmatch(word)
+    return float(found[1]) if found else 0.0
 
 
 class Late:

@@ -8,7 +8,7 @@ from typing import NamedTuple
 
 from . import rules
 from .output import Mistake
-from .trial import Setup
+from .setup import Setup
 
 COLOURS = {"b": rules.BLACK, "black": rules.BLACK, "w": rules.WHITE, "white": rules.WHITE}
 NAMES = {rules.BLACK: "Black", rules.WHITE: "White"}

@@ -6,6 +6,7 @@ import os
 program = ["tournament"]  # its name, in what it says of itself
 NO_ROOM = (errno.ENOSPC, errno.EDQUOT, errno.EFBIG)  # the errors of a disk that is full
 FEWER = (errno.EAGAIN, errno.ENOMEM, errno.EMFILE, errno.ENFILE)  # errors of which no file is the cause, but many games at once
+SPELLED = {it: f"\\x{it:02x}" for it in (*range(32), *range(127, 160)) if chr(it) not in "\t\n"}
 ROOM = 65536  # bytes by which it is tried whether there is room: more than a game begins with
 
 
@@ -35,9 +36,9 @@ def read_lines(file):
 
 
 def complain(text):
-    """Writes a line on standard error. Where nobody reads that, it is lost."""
+    """Writes a line on standard error, or some, in which control characters of others are spelled. Where nobody reads that, it is lost."""
     with contextlib.suppress(OSError):
-        write(2, f"{program[0]}: {text}\n")
+        write(2, f"{program[0]}: {text.translate(SPELLED)}\n")
 
 
 def write_all(number, lines, at_once=5000):

@@ -1,7 +1,8 @@
 """The pairs of a folder's games: two games of the same two engines with the same seed, one with each colour.
 
-Where engines play the same moves again, the later game says nothing new. So of games with the same engines, colours, opening and moves,
-more than 20, one is counted where it is said how sure a score is.
+Where engines play the same moves again, the later game says nothing new: games with the same engines, colours, opening and moves, more than
+20. A score counts all games. How sure it is follows from clusters: pairs of which one repeats the other count as one there. A test counts
+only pairs that repeat none.
 """
 from array import array
 from collections import Counter, defaultdict
@@ -34,8 +35,8 @@ class Pairs:
     def number(self, game, parts):
         """The number that stands for a game's opening and moves; 0 where there are so few that they may be the same by chance."""
         opening = self.openings[game // len(self.games.sides) % len(self.openings)] if self.openings else ""
-        own, text, begin = int(parts[2]) - len(opening.split()), parts.string, parts.end()
-        return hash((opening, text[begin:text.find(b"\n", begin)])) if own > SHORT else 0
+        own = int(parts[2]) - len(opening.split())
+        return hash((opening, parts[5])) if own > SHORT else 0
 
     def engines(self):
         """Each two engines, with the numbers of their two games of a seed."""
@@ -46,25 +47,27 @@ class Pairs:
         return values[side::len(self.games.sides)]
 
     def of_two(self, one, other):
-        """The pairs of two engines, whose games of a seed have these numbers: all that are whole, and those that are new."""
+        """The pairs of two engines, whose games of a seed have these numbers."""
         first, second = self.of(self.scores, one), self.of(self.scores, other)
-        every = counts_of(zip(first, second))
-        return Found(every, without(every, first, second, self.old(one, other)))
+        every, repeats = counts_of(zip(first, second)), self.repeats(one, other)
+        return Found(every, clusters_of(every, first, second, repeats))
 
-    def old(self, one, other):
-        """The seeds of the pairs of which a game is the same as one in an earlier pair that is counted."""
+    def repeats(self, one, other):
+        """The pairs of which a game is the same as one in an earlier pair that repeats none itself: the seed of each, and that of the first
+        such pair."""
         sides = [self.of(self.moves, it) for it in (one, other)]
         if not any(has_twice(it) for it in sides):
-            return []
-        known, found = (set(), set()), []
+            return {}
+        known, found = ({}, {}), {}
         for seed, ends in enumerate(zip(self.of(self.scores, one), self.of(self.scores, other))):
             if ends in OUTCOMES:
                 played = [it[seed] for it in sides]
-                if any(it in before for it, before in zip(played, known)):
-                    found.append(seed)
+                before = [at[it] for it, at in zip(played, known) if it in at]
+                if before:
+                    found[seed] = min(before)
                 else:
-                    for it, before in zip(played, known):
-                        before.update([it] if it else [])
+                    for it, at in zip(played, known):
+                        at.update({it: seed} if it else {})
         return found
 
     def in_order(self, one, other):
@@ -73,7 +76,7 @@ class Pairs:
         ends = [it for it in (first.find(NONE), second.find(NONE)) if it >= 0]
         until = min(ends, default=len(first))
         first, second = first[:until], second[:until]
-        return without(counts_of(zip(first, second)), first, second, [seed for seed in self.old(one, other) if seed < until])
+        return without(counts_of(zip(first, second)), first, second, [seed for seed in self.repeats(one, other) if seed < until])
 
     def same(self):
         """The games that are the same, move by move: the numbers of each such group, in the plan's order."""
@@ -90,27 +93,40 @@ class Pairs:
 
 
 class Found:
-    """The pairs of two engines: how many have each outcome, of all and of those that are new."""
+    """The pairs of two engines: how many have each outcome, and how many clusters there are of so many pairs and so many half points. A pair
+    is in one with the earlier pair that it repeats, and else alone."""
 
-    def __init__(self, every=(0,) * 5, new=(0,) * 5):
-        self.every, self.new = list(every), list(new)
+    def __init__(self, every=(0,) * 5, clusters=()):
+        self.every, self.clusters = list(every), Counter(clusters)
 
     def add(self, other):
         """Adds other pairs."""
         self.every = [one + more for one, more in zip(self.every, other.every)]
-        self.new = [one + more for one, more in zip(self.new, other.new)]
+        self.clusters.update(other.clusters)
 
     def turned(self):
         """The same pairs, as the other engine sees them."""
-        return Found(self.every[::-1], self.new[::-1])
+        return Found(self.every[::-1], {(size, 4 * size - won): count for (size, won), count in self.clusters.items()})
 
     def score(self):
         """The score; None where there is no pair."""
         return scores.moments(self.every)[0] if any(self.every) else None
 
     def interval(self):
-        """The 95 % interval of the score, by the pairs that are new; None where there is none."""
-        return scores.interval(self.new) if any(self.new) else None
+        """The 95 % interval of the score; None where there is no pair."""
+        return scores.interval(self.clusters) if self.clusters else None
+
+
+def clusters_of(counts, first, second, repeats):
+    """How many clusters there are of so many pairs and so many half points, where these seeds repeat others."""
+    found, several = Counter(scores.alone(counts)), {}
+    for seed, before in repeats.items():
+        ends = several.setdefault(before, [OUTCOMES[first[before], second[before]]])
+        ends.append(OUTCOMES[first[seed], second[seed]])
+    for ends in several.values():
+        found.subtract((1, it) for it in ends)
+        found[len(ends), sum(ends)] += 1
+    return +found
 
 
 def has_twice(moves):

@@ -36,6 +36,7 @@ class Play:
         self.later = array("Q")  # games that another process plays
         self.old = {}  # of a game that is played again: the inode of its old result, until there is a new one
         self.tried = Tried(run, plan)
+        self.has_played = False  # was a game begun?
         self.not_started = Counter()  # of an engine, in how many games in a row it wasn't
         self.is_unable = False  # were these too many, or can an engine not be started at all?
         self.is_written = True  # could all lines be written?
@@ -94,6 +95,7 @@ class Play:
         """Begins a game. False where others have to end before."""
         try:
             parts = self.run.begin(self.games.name(game), self.old.get(game))
+            self.has_played = self.has_played or not parts
             if parts:
                 self.note(game, parts)
         except Taken:
@@ -118,7 +120,7 @@ class Play:
             game, engines = self.games.number(name), name.split("_")[1:]
             if parts:
                 self.note(game, parts)
-                self.tell(f"{self.count} of {self.total}: {name}: {results.line_of(parts)}")
+                self.tell(f"{self.count} of {self.total}: {name}: {results.line_of(parts).decode()}")
                 for engine in engines:
                     self.not_started[engine] = 0
             elif outcome == TAKEN:
@@ -136,16 +138,29 @@ class Play:
         if self.not_started[engine] >= IN_A_ROW and not self.is_unable:
             self.is_unable = True
             output.complain(f"{engine} wasn't started in {IN_A_ROW} games in a row: no other game is begun here")
+            self.advise([engine])
+
+    def advise(self, engines):
+        """Says how the games of the others are played, if any are missing, where these engines can't be started."""
+        sides = self.games.sides
+        if not self.share and any(not set(engines).intersection(sides[game % len(sides)]) for game in self.missing()):
+            import shlex  # which isn't needed elsewhere
+
+            names, folder = "|".join(it.replace(".", "\\.").replace("+", "\\+") for it in engines), shlex.quote(self.run.folder)
+            some = f"tournament list {folder} | grep -vE '_({names})(_|$)' | xargs -n 1 -P {self.jobs} tournament game {folder}"
+            output.complain(f"to play the games of the others: {some}")
 
     def try_engines(self, names):
-        """Tries these engines. Where one can't be started no game is begun."""
+        """Tries these engines. Where some can't be started no game is begun, and these are returned."""
         try:
             self.tried.try_all(names)
         except NoStart as problem:
             self.is_unable = True
             output.complain(problem.args[0])
+            return problem.args[1:]
         except OSError as problem:
             self.run.has_no_room(problem)
+        return ()
 
     def try_added(self):
         """Tries the engines that the plan in the folder hasn't. Returns the status where that plan is to stay as it is, since one can't be
@@ -172,7 +187,8 @@ class Play:
         """Plays all that are missing, once each engine was tried here. Those that another process plays are tried again at the end, some
         seconds long."""
         if self.count < self.total and not self.has_no_time():
-            self.try_engines(self.plan.engines)
+            failed = self.try_engines(self.plan.engines)
+            self.advise(failed) if failed else None
         self.progress = Progress(self.count, self.total)
         self.play_these(self.missing())
         until = time.monotonic() + AGAIN
@@ -184,8 +200,14 @@ class Play:
             elif not self.is_over():
                 self.run.wait(PAUSE)
         self.run.family.end()
-        if self.count < self.total:
-            results.kinds_of(self.plan, self.run.folder, self.kinds, self.share, is_quiet=True)
+        self.count_again()
+
+    def count_again(self):
+        """Counts the results again: all of them where a game was played, since others may be gone by now, but for a run that is stopped."""
+        is_anew = self.has_played and not self.run.stopped
+        if is_anew or self.count < self.total:
+            known = None if is_anew else self.kinds
+            self.kinds = results.kinds_of(self.plan, self.run.folder, known, self.share, is_quiet=True)
             self.count = self.with_result()
 
     def all(self, again):
@@ -197,11 +219,14 @@ class Play:
         self.play()
         return self.status()
 
-    def counted(self):
-        """How many games have a result, and of a share how many are missing."""
+    def counted(self, lost=0):
+        """How many games have a result, in how many of them a side was unfit or abandoned, if that is to be said, and of a share how many are
+        missing."""
         missing = self.total - self.count
         share = f" of task {self.share}" if self.share else ""
-        return f"{self.count} of {self.total} games{share} have a result{f', {missing} are missing' if share and missing else ''}"
+        again = f", {lost} of them unfit or abandoned: --again plays {'these' if lost > 1 else 'it'} again" if lost else ""
+        left = f"{';' if lost else ','} {missing} are missing" if share and missing else ""
+        return f"{self.count} of {self.total} games{share} have a result{again}{left}"
 
     def status(self):
         """Says how many games have a result, and returns the status."""
@@ -213,7 +238,7 @@ class Play:
             output.complain(f"the time left doesn't hold another game of {self.plan.limit} seconds; the same command goes on")
         if self.later and not self.run.no_room:
             output.complain(f"games that another process plays: {len(self.later)}")
-        self.tell(counted)
+        self.tell(self.counted(0 if self.is_unable else self.of_kind(results.LOST)))
         if not self.is_written:
             output.complain(f"{counted}; the same command goes on")
         if self.is_unable:
@@ -270,7 +295,7 @@ class One:
         if not parts:
             return self.run.stop_status() if self.run.stopped else 1
         try:
-            output.write(1, f"{self.name}: {results.line_of(parts)}\n")
+            output.write(1, f"{self.name}: {results.line_of(parts).decode()}\n")
         except OSError:
             output.complain(f"{self.name}: it has a result, but this line was not written")
             return 1

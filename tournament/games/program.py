@@ -17,15 +17,20 @@ def is_program(place):
     return os.path.isfile(place) and os.access(place, os.X_OK)
 
 
+def found(named, folder=""):
+    """The place of a program that is started in a folder by this name; None where it isn't there."""
+    folders = [""] if "/" in named else os.environ.get("PATH", os.defpath).split(":")
+    return next(filter(is_program, (os.path.join(folder, it, named) for it in folders)), None)
+
+
 def find_twogtp():
     """The program twogtp: that of TWOGTP, the one beside these scripts, or the one in PATH."""
     beside = (os.path.realpath(f"{HERE}/{folder}/twogtp") for folder in BESIDE)
     named = os.environ.get("TWOGTP") or next(filter(is_program, beside), "twogtp")
-    folders = [""] if "/" in named else os.environ.get("PATH", os.defpath).split(":")
-    found = next(filter(is_program, (os.path.join(folder, named) for folder in folders)), None)
-    if not found:
+    place = found(named)
+    if not place:
         raise Mistake(f"there is no {named}: name it by TWOGTP")
-    return os.path.abspath(found)
+    return os.path.abspath(place)
 
 
 def start(words, folder, result, log):

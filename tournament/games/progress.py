@@ -1,4 +1,4 @@
-"""How far a run is: a line on standard error, each minute, and in a terminal more often."""
+"""How far a run is: a line on standard error, each minute, and in a terminal more often. The first one says how to stop the run."""
 import os
 import time
 
@@ -14,6 +14,7 @@ class Progress:
         self.before, self.total, self.clock, self.began = count, total, clock, clock()
         self.failed = 0  # games that ended without a result
         self.lost = 0  # results in which a side was unfit or abandoned
+        self.stops = f"; kill {os.getpid()} stops this run"  # in the first line
         is_terminal = os.isatty(2) if is_terminal is None else is_terminal
         self.step = OFTEN if is_terminal else SELDOM
         self.next = self.began + (AT_ONCE if is_terminal else SELDOM)
@@ -26,7 +27,8 @@ class Progress:
         """Writes a line where it is time. There are so many results now."""
         if self.clock() >= self.next:
             self.next = self.clock() + self.step
-            output.complain(self.line(count))
+            output.complain(f"{self.line(count)}{self.stops}")
+            self.stops = ""
 
     def line(self, count):
         """What is done, what failed, how many games a minute there are, and how long the rest takes so."""

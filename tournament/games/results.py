@@ -1,33 +1,58 @@
 """The results: what is one, and which games have one. All commands go by this.
 
-A result is a file of twogtp: the line of game 1, a line with as many moves as the line says, and under `--show` the last board. A file
-that has less, more or something else is damaged, and its game is to be played.
+A result is a file of twogtp: the line of game 1, a line with as many moves as the line says, and under `--show` the last board. Each move is
+`pass` or a point of the plan's board, and a score is one that this board and komi can have. A file that has less, more or something else is
+damaged, or of another plan, and its game is to be played.
 """
 import os
 import re
 
 from . import output
+from .rules import COLUMNS
+from .setup import Setup
 
-LINE = re.compile(
-    rb"game 1: ([BW]\+(?:[0-9]+(?:\.5)?|R|F\((?:illegal move|no vertex|no move|refused play)\))"
-    rb"|0|limit|(?:unfit|abandoned) (?:black|white)) moves ([0-9]+) restarts ([0-9]+) ([0-9]+)\n"
-)
+FORFEITS = ("illegal move", "no vertex", "no move", "refused play")
+OTHERS = ("limit", "B+R", "W+R", *(f"{winner}+F({why})" for winner in "BW" for why in FORFEITS),
+          *(f"{what} {side}" for what in ("unfit", "abandoned") for side in ("black", "white")))  # fmt: skip
 BOARD_END = re.compile(rb"captures B [0-9]+ W [0-9]+\n\n\Z")
 SHOWN = 10  # files that can't be read, of which a line says so
 PIECE = 16384  # bytes, which a result seldom has
 NONE, WHOLE, LOST, DAMAGED = range(4)  # what a game has: a side was unfit or abandoned where it is lost
 
 
-def parts_of(text, has_board):
-    """The parts of a whole result: its verdict, its moves, and the restarts of both sides. None where it isn't whole."""
-    line = LINE.match(text)
-    if not line:
-        return None
-    begin = line.end()
-    end = text.find(b"\n", begin)
-    moves = text.count(b" ", begin, end) + 1 if end > begin else 0
-    is_whole = end >= 0 and moves == int(line[2]) and (BOARD_END.search(text, end + 1) if has_board else end + 1 == len(text))
-    return line if is_whole else None
+class Rule:
+    """What a result of a plan is. The parts of one are its verdict, how many moves it has, the restarts of both sides, and the moves."""
+
+    def __init__(self, plan):
+        setup, self.has_board = Setup(plan.options), plan.has_boards()
+        size, komi = setup.rows(), setup.half_points()
+        self.verdicts = frozenset(it.encode() for it in (*OTHERS, *map(score, range(-2 * size**2 - komi, 2 * size**2 - komi + 1, 2))))
+        move = f"(?:[{COLUMNS[:size]}](?:{rows(size)})|pass)"
+        line = r"game 1: ([BWalu0][^\n]*) moves ([0-9]{1,4}) restarts ([0-9]{1,4}) ([0-9]{1,4})"
+        self.whole = re.compile(f"{line}\n((?:{move}(?: {move})*)?)\n".encode())
+
+    def parts_of(self, text):
+        """The parts of a whole result. None where it isn't whole."""
+        parts = self.whole.match(text)
+        if not parts or parts[1] not in self.verdicts or (parts[5].count(b" ") + 1 if parts[5] else 0) != int(parts[2]):
+            return None
+        return parts if (BOARD_END.search(text, parts.end()) if self.has_board else parts.end() == len(text)) else None
+
+    def read(self, place, folder=None):
+        """The parts of the result in a file, or None where that is damaged. FileNotFoundError where there is no file."""
+        return self.parts_of(bytes_of(place, folder))
+
+
+def score(half_points):
+    """A score as twogtp writes it: so many half points, positive where Black is ahead."""
+    points, is_half = divmod(abs(half_points), 2)
+    return f"{'B' if half_points > 0 else 'W'}+{points}{'.5' if is_half else ''}" if half_points else "0"
+
+
+def rows(size):
+    """The numbers from 1 to a size, as a regular expression."""
+    tens, ones = divmod(size, 10)
+    return "|".join([*([f"{tens}[0-{ones}]"] if tens else []), *(f"{it}[0-9]" for it in range(1, tens)), f"[1-{9 if tens else ones}]"])
 
 
 def text_of(file):
@@ -46,11 +71,6 @@ def bytes_of(place, folder=None):
         return text_of(file)
     finally:
         os.close(file)
-
-
-def read(place, has_board, folder=None):
-    """The parts of the result in a file, or None where that is damaged. FileNotFoundError where there is no file."""
-    return parts_of(bytes_of(place, folder), has_board)
 
 
 def why_unread(place):
@@ -94,13 +114,13 @@ def side_abandoned(parts):
 
 def line_of(parts):
     """The line of a result without `game 1: `."""
-    return parts[0][8:-1].decode()
+    return parts.string[8:parts.end(4)]
 
 
 def each(plan, folder, known=None, is_quiet=False):
     """Each game of the plan that has a file: its number, and the parts of its result, or None where that is damaged or can't be read. Those
     of which it is known that they have a result aren't read."""
-    number_of, has_board, unread = plan.games().number, plan.has_boards(), Unread(folder, is_quiet)
+    number_of, rule, unread = plan.games().number, Rule(plan), Unread(folder, is_quiet)
     try:
         games = os.open(f"{folder}/games", os.O_RDONLY | os.O_DIRECTORY)
     except FileNotFoundError:  # of a plan that was copied alone
@@ -112,7 +132,7 @@ def each(plan, folder, known=None, is_quiet=False):
                 if number is None or known and known[number] in (WHOLE, LOST):
                     continue
                 try:
-                    parts = read(file.name, has_board, games)
+                    parts = rule.read(file.name, games)
                 except FileNotFoundError:
                     continue
                 except OSError as problem:
@@ -126,12 +146,12 @@ def each(plan, folder, known=None, is_quiet=False):
 
 def of_share(plan, folder, share, known, is_quiet=False):
     """The same of a share of the games, for which no other is looked at."""
-    games, has_board, unread = plan.games(), plan.has_boards(), Unread(folder, is_quiet)
+    games, rule, unread = plan.games(), Rule(plan), Unread(folder, is_quiet)
     for number in share.of(games.count):
         if known[number] not in (WHOLE, LOST):
             name = games.name(number)
             try:
-                parts = read(f"{folder}/games/{name}", has_board)
+                parts = rule.read(f"{folder}/games/{name}")
             except FileNotFoundError:
                 continue
             except OSError as problem:

@@ -3,7 +3,7 @@ import os
 import signal
 import time
 
-from . import below, family, output, results
+from . import below, family, output
 from .game import BROKEN, DONE, ENDING, NO_ROOM, NONE, SAME, STOPPED, play_here, report
 from .match import Match
 from .places import InTheWay, Places
@@ -29,7 +29,7 @@ class Run:
         replaced."""
         if old is not None and os.stat(places.result).st_ino == old:
             raise FileNotFoundError
-        return results.read(places.result, self.match.has_board)
+        return self.match.rule.read(places.result)
 
     def result(self, places, old):
         """The same, but None where there is none. A damaged one is reported, and so is one that can't be read. Raises InTheWay where another

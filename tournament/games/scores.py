@@ -20,13 +20,22 @@ def moments(counts):
     return mean, sum(count * (at / 4 - mean) ** 2 for at, count in enumerate(counts)) / total
 
 
-def interval(counts):
-    """The 95 % interval of the score: 1.96 standard errors to each side. One pair is added, half of it won twice and half of it lost twice,
-    so that few pairs, or pairs that are all alike, don't look certain."""
-    lost, *between, won = counts
-    mean, variance = moments([lost + 0.5, *between, won + 0.5])
-    half = Z * math.sqrt(variance / sum(counts))
+def interval(clusters):
+    """The 95 % interval of the score: 1.96 standard errors to each side. It is given how many clusters there are of so many pairs and so many
+    half points: pairs that repeat an earlier one are a cluster with it, and others are alone. One cluster is added, as large as a pair's is
+    on average, half of it won twice and half of it lost twice. So few clusters, or those that are all alike, don't look certain."""
+    pairs = sum(count * size for (size, _), count in clusters.items())
+    added = sum(count * size**2 for (size, _), count in clusters.items()) / pairs  # how many pairs it has
+    mean = (sum(count * won / 4 for (_, won), count in clusters.items()) + added / 2) / (pairs + added)
+    squares = sum(count * (won / 4 - size * mean) ** 2 for (size, won), count in clusters.items())
+    squares += added**2 * (mean**2 + (1 - mean) ** 2) / 2
+    half = Z * math.sqrt(squares / (pairs + added) / pairs)
     return max(0.0, mean - half), min(1.0, mean + half)
+
+
+def alone(counts):
+    """Pairs that are clusters of one each."""
+    return {(1, at): count for at, count in enumerate(counts) if count}
 
 
 def elo(score):

@@ -1,6 +1,6 @@
 """A game's record as SGF has it (FF[4]): a column and a row of letters, from the upper left."""
 from .rules import COLUMNS, handicap_points
-from .trial import Setup
+from .setup import Setup
 
 
 class Board:
@@ -8,7 +8,7 @@ class Board:
 
     def __init__(self, options):
         setup = Setup(options)
-        self.size, self.handicap, self.komi = int(setup.size), int(setup.handicap), setup.komi
+        self.size, self.handicap, self.komi = setup.rows(), setup.stones(), setup.komi
 
     def record(self, row, end, moves):
         """The record of a game."""

@@ -189,7 +189,7 @@ class Table:
         for key in keys:
             row, found = self.sums.rows[key], self.sums.found[key]
             counts = " ".join([f"{it:{counted}}" for it in found.every])
-            score = of_score(tuple(found.every), tuple(found.new))
+            score = of_score(tuple(found.every), tuple(sorted(found.clusters.items())))
             yield f"{' - '.join([*key, 'all'][:2]):{name}}  {row.record():>{won}}  {row.all - row.decided:9}   {counts}  {score}"
 
     def of_all(self):
@@ -222,9 +222,9 @@ class Table:
 
 
 @lru_cache(maxsize=4096)  # of many engines with few seeds most are the same
-def of_score(every, new):
+def of_score(every, clusters):
     """The score of pairs in percent, and the difference in Elo, each with its interval."""
-    found = Found(every, new)
+    found = Found(every, dict(clusters))
     score, interval = found.score(), found.interval()
     if score is None:
         return "    -  -                 -"

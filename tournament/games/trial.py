@@ -27,24 +27,6 @@ class Late(Failed):
     """The same, where no answer came in time."""
 
 
-class Setup:
-    """What the options of a plan say of a board and of a game's length."""
-
-    def __init__(self, options):
-        said = {"--size": "19", "--komi": "6.5", "--handicap": "0", "--max-moves": "1000"}
-        for at, option in enumerate(options):
-            name, is_joined, value = option.partition("=")
-            if name in said:
-                said[name] = value if is_joined else options[at + 1]
-        self.size, self.komi, self.handicap, self.max_moves = said.values()
-
-    def commands(self):
-        """What an engine is asked: as by twogtp, and then for a move."""
-        has_handicap = self.handicap != "0"
-        first = [f"boardsize {self.size}", f"komi {self.komi}", "clear_board"]
-        return first + ([f"fixed_handicap {self.handicap}", "genmove w"] if has_handicap else ["genmove b"])
-
-
 class Asked:
     """An engine that was started, and is asked one command after the other."""
 

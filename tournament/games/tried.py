@@ -14,6 +14,7 @@ from . import output, program, results, trial
 from .notes import seconds_of
 from .output import NoStart
 from .places import new_file
+from .setup import Setup
 
 PAUSE = 0.2  # seconds between two looks whether another process has ended its trials
 SOON = 10  # seconds after which it is said what is waited for
@@ -24,7 +25,7 @@ class Tried:
 
     def __init__(self, run, plan):
         self.run, self.plan, self.match = run, plan, run.match
-        self.setup = trial.Setup(plan.options)
+        self.setup = Setup(plan.options)
         self.done = set()  # those that were tried by this run, or of which it said what they can't do
         self.anew = set()  # those that are tried by this run, whatever is known of them
         self.began = time.time()
@@ -63,6 +64,8 @@ class Tried:
         outcome, when, why = known.get(self.key(name), ("", "", ""))
         if name in self.anew and name not in self.done and outcome != "unstarted":
             return None
+        if outcome in ("passed", "unable") and name not in self.done and not self.is_there(name):
+            return None  # its trial says what is missing
         if outcome == "unable" and when == str(self.limits) and name not in self.done:
             self.done.add(name)
             output.complain(f"{name}: {why}; tried before: to try again, remove {self.run.folder}/{self.name}/passed")
@@ -70,6 +73,11 @@ class Tried:
             output.complain(f"{name} can't be started here: {why}")
             return False
         return True if outcome == "passed" or name in self.done else None
+
+    def is_there(self, name):
+        """Is the program of an engine there, where its command names it without the seed?"""
+        word = self.match.commands[name][0]
+        return "%s" in word or program.found(word, self.match.folder) is not None
 
     def try_all(self, names):
         """Tries these engines, but for those that passed before. What one can't do is reported. Raises NoStart where one can't be started."""
@@ -85,7 +93,7 @@ class Tried:
                 known = self.known(file)
                 started = [self.is_started(name, known) if it is None else it for name, it in zip(names, started)]
             if False in started and not self.run.stopped:
-                raise NoStart("no game is begun here")
+                raise NoStart("no game is begun here", *(name for name, it in zip(names, started) if it is False))
         finally:
             os.close(file)
 

@@ -155,14 +155,14 @@ class Many(Filled):
 
     def make(self, here):
         """Makes the folder, and returns how long it takes to read its files one after the other."""
-        words = ["--engine", "one=gtp_engine", "--engine", "two=gtp_engine", "--seeds", str(self.count // 2), "--", "--size", "1"]
+        words = ["--engine", "one=gtp_engine", "--engine", "two=gtp_engine", "--seeds", str(self.count // 2), "--", "--size", "9", "--max-moves", "30"]
         here.run("tournament", "plan", "all", *words)
         place = here.at / "all/games"
         for seed in range(1, self.count // 2 + 1):
             winner = "BW"[seed % 2]
-            one = here.at / f"{winner}{seed // 2 % 8}"  # one of 16 files, which have many names
+            one = here.at / f"{winner}{seed // 2 % 8 + 1}"  # one of 16 files, which have many names
             if not one.exists():
-                one.write_text(f"game 1: {winner}+6.5 moves 30 restarts 0 0\n{'D4 ' * 29}{one.name}\n")
+                one.write_text(f"game 1: {winner}+6.5 moves 30 restarts 0 0\n{'D4 ' * 29}C{one.name[1]}\n")
             for name in ("one_two", "two_one"):
                 os.link(one, place / f"{seed}_{name}")
         return seconds_to_read(place)
@@ -184,7 +184,7 @@ class Dear(Filled):
     def test_late(self):
         """In each game of an even seed Black was late, and in each other one it crashed."""
         with room() as here:
-            here.run("tournament", "plan", *TWO, "--seeds", str(self.count // 2), "--", "--size", "1")
+            here.run("tournament", "plan", *TWO, "--seeds", str(self.count // 2), "--", "--size", "9")
             line = "abandoned black moves 60 restarts 2 0"
             moves = "".join(f"{at} {('white', 'black')[at % 2]} D4 0.123\n" for at in range(1, 61))
             ends = ("61 black late 5.000: 12 genmove b\n0 black stays ended\n0 black stays ended\n", "61 black ended 0.1: 12 genmove b: signal 11\n")
@@ -207,7 +207,7 @@ class Dear(Filled):
             names = [f"e{it}" for it in range(1, 318 if self.whole else 143)]
             count = len(names) * (len(names) - 1)
             (here.at / "all/games").mkdir(parents=True)
-            (here.at / "all/plan").write_text("".join(f"engine {it} x\n" for it in names) + "option --size\noption 1\nseeds 1\nlimit 600\n")
+            (here.at / "all/plan").write_text("".join(f"engine {it} x\n" for it in names) + "option --size\noption 9\nseeds 1\nlimit 600\n")
             for at, one in enumerate(names):
                 result = here.at / f"one{at // 100}"  # of four, since a file can't have so many names
                 if not result.exists():

@@ -10,7 +10,7 @@ from .rooms import Case, room
 
 # Each verdict, and who won, counted by hand below.
 VERDICTS = {
-    "1_a_b": "B+5.5 moves 52 restarts 0 0", "1_b_a": "W+0.5 moves 61 restarts 0 1",
+    "1_a_b": "B+5 moves 52 restarts 0 0", "1_b_a": "W+1 moves 61 restarts 0 1",
     "2_a_b": "0 moves 40 restarts 0 0", "2_b_a": "B+R moves 30 restarts 0 0",
     "3_a_b": "W+R moves 31 restarts 0 0", "3_b_a": "limit moves 1000 restarts 0 0",
     "4_a_b": "W+F(illegal move) moves 12 restarts 0 0", "4_b_a": "B+F(refused play) moves 7 restarts 1 0",
@@ -64,8 +64,8 @@ OTHERWISE = {
 # 1_c_b, 2_b_c was at the limit, 2_c_b was drawn. Points: a 4 + 2 + 0.5, c 1 + 2 + 0.5 + 0.5, b 0.5.
 # a won 6 of 7, c 3 of 5, b 0 of 6. Pairs: of a - b both are 2; a - c has 1 and 3/2; c - b has 2, and of seed 2 1/2 + 1/2.
 THREE = {
-    "1_a_b": "B+1.5", "1_b_a": "W+1.5", "1_a_c": "B+R", "1_c_a": "B+R", "1_b_c": "W+3", "1_c_b": "B+12",
-    "2_a_b": "B+0.5", "2_b_a": "W+R", "2_a_c": "0", "2_c_a": "W+2.5", "2_b_c": "limit", "2_c_b": "0",
+    "1_a_b": "B+1", "1_b_a": "W+1", "1_a_c": "B+R", "1_c_a": "B+R", "1_b_c": "W+3", "1_c_b": "B+12",
+    "2_a_b": "B+2", "2_b_a": "W+R", "2_a_c": "0", "2_c_a": "W+2", "2_b_c": "limit", "2_c_b": "0",
 }
 THREE_COUNTED = """\
 12 of 12 games have a result, 9 have a winner
@@ -97,7 +97,7 @@ def results_of(here, folder, engines, seeds, verdicts):
     """A tournament's folder, written by hand."""
     (here.at / folder / "games").mkdir(parents=True)
     (here.at / folder / "logs").mkdir()
-    (here.at / folder / "plan").write_text("".join(f"engine {name} x\n" for name in engines) + f"seeds {seeds}\nlimit 600\n")
+    (here.at / folder / "plan").write_text("".join(f"engine {name} x\n" for name in engines) + f"option --komi=7\nseeds {seeds}\nlimit 600\n")
     for game, verdict in verdicts.items():
         (here.at / folder / "games" / game).write_text(f"game 1: {verdict}\n{record_of(verdict, game)}\n")
 

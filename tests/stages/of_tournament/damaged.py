@@ -10,7 +10,8 @@ from .rooms import LIMIT, RANDOM, SCRIPTS, SMALL, Case, lines, results, room, tr
 
 sys.path.insert(0, str(SCRIPTS))
 
-from games import places  # noqa: E402
+from games import places, plan  # noqa: E402
+from games import results as results_of_games  # noqa: E402
 
 TINY = ["--size", "2", "--max-moves", "3"]
 # what a whole file becomes, which then is damaged
@@ -24,7 +25,21 @@ DAMAGES = {
     "a line behind": lambda text: text + b"more\n",
     "another game's number": lambda text: text.replace(b"game 1:", b"game 2:"),
     "no such verdict": lambda text: re.sub(rb"game 1: \S+", b"game 1: B+F(no)", text),
+    "a score that 2x2 can't have": lambda text: re.sub(rb"game 1: \S+", b"game 1: B+0.5", text),
+    "a move off the board": lambda text: re.sub(rb" \S+\n\Z", b" C1\n", text),
+    "a byte that is no letter": lambda text: re.sub(rb" \S+\n\Z", b" \xc1" + b"1\n", text),
 }
+# a size and a komi, and how that may be written, too
+BOARDS = {(1, 0.5): (".5", "+0.50"), (2, 7): ("7.", "007.0"), (2, -3.5): ("-3.50",), (9, 6.5): ("06.5",), (10, 0): ("-0", ".0"), (19, 7.5): (),
+          (20, -30): (), (25, 1000): ()}  # fmt: skip
+NO_PLAN = {"--size x": "size 'x'", "--size 26": "size '26'", "--size": "size ''", "--komi 6.7": "komi '6.7'", "--komi nan": "komi 'nan'",
+           "--komi=.": "komi '.'", "--handicap 1": "handicap '1'"}  # fmt: skip
+
+
+def scores_of(size, komi):
+    """The scores that a board can have, by the points of both colours."""
+    every = {black - white - komi for black in range(size**2 + 1) for white in range(size**2 + 1 - black)}
+    return {f"{'B' if it > 0 else 'W'}+{f'{abs(it):.1f}'.replace('.0', '')}" if it else "0" for it in every}
 
 
 def made_of(here, folder, text, files, options=TINY, how=()):
@@ -91,7 +106,7 @@ class Damages(Case):
                 self.check(f"{what}: it is in the list, and in the tally", (True, 1), found)
                 line, said = f"{name}: limit moves 3 restarts 0 0\n", f"tournament: {name}: its file is damaged, and it is played again\n"
                 self.check(f"{what}: game plays it", (0, line, said), here.run("tournament", "game", "all", name))
-                self.check(f"{what}: then it is whole", text.decode(), here.games("all")[name])
+                self.check(f"{what}: then it is whole", text, (here.at / "all/games" / name).read_bytes())
             self.check("then nothing is in the list", names[len(DAMAGES) :], here.run("tournament", "list", "all").output.splitlines())
 
     def test_board(self):
@@ -118,6 +133,72 @@ class Damages(Case):
             self.check("a cut game with an abandoned side is played again", (1, 2, said), (status, len(output.splitlines()), errors.splitlines()))
             came = here.run("tournament", "play", "all", "--again")
             self.check("--again plays both", (1, 3, f"{unable}\n"), (came.status, len(came.output.splitlines()), came.errors))
+
+
+class Spelled(checks.Case):
+    """A score, and each move, is one that the plan's board can have."""
+
+    def test_scores(self):
+        """All scores of a board, and others beside them."""
+        for (size, komi), written in BOARDS.items():
+            near = {f"{it}{half / 2:.1f}".replace(".0", "") for it in ("B+", "W+") for half in range(int(2 * (size**2 + abs(komi))) + 9)} | {"0", "00"}
+            for text in (f"{komi:g}", *written):
+                rule = rule_of(f"--size {size} --komi={text}")
+                found = {it for it in near if rule.parts_of(f"game 1: {it} moves 2 restarts 0 0\npass pass\n".encode())}
+                self.check(f"the scores of {size}x{size} with komi {text}", scores_of(size, komi), found)
+
+    def test_moves(self):
+        """All points of a board, and others beside them."""
+        for size in (1, 2, 8, 9, 10, 11, 19, 20, 25):
+            columns, rule = "ABCDEFGHJKLMNOPQRSTUVWXYZ"[:size], rule_of(f"--size {size}")
+            near = [f"{column}{row}" for column in "ABCDEFGHIJKLMNOPQRSTUVWXYZ@[ab" for row in (*range(32), "01", "", "1x")]
+            near += ["pass", "PASS", "Pass", "resign", "", "pass1", "-"]
+            wanted = {"pass", *(f"{column}{row}" for column in columns for row in range(1, size + 1))}
+            for place in ("{} pass A1", "A1 {} A1", "pass pass {}"):
+                found = {it for it in near if rule.parts_of(f"game 1: limit moves 3 restarts 0 0\n{place.format(it)}\n".encode())}
+                self.check(f"the moves of {size}x{size}, as in '{place}'", wanted, found)
+
+    def test_numbers(self):
+        """Numbers that nobody writes, which int doesn't read."""
+        rule, many = rule_of(""), "0" * 5000
+        for line in (f"moves 1{many} restarts 0 0", f"moves 1 restarts 1{many} 0", f"moves 1 restarts 0 1{many}", f"moves {many}1 restarts 0 0"):
+            self.check(f"{line[:20]}..: it is none", None, rule.parts_of(f"game 1: limit {line}\nA1\n".encode()))
+
+    def test_plans(self):
+        """A plan that somebody changed."""
+        with room() as here:
+            (here.at / "all/games").mkdir(parents=True)
+            for option, said in NO_PLAN.items():
+                lines_of = "".join(f"option {word}\n" for word in option.split(" "))
+                (here.at / "all/plan").write_text(f"folder /\nengine a x\nengine b x\nseeds 1\nlimit 9\n{lines_of}")
+                came = here.run("tournament", "export", "all", "--sgf", "records")
+                self.check(f"{option}: export says so", (2, "", True), (*came[:2], came.errors.startswith(f"tournament: the plan has --{said}: it is ")))
+            self.check("no record is made", False, (here.at / "records").exists())
+
+
+def rule_of(options):
+    """The rule of a plan with these options."""
+    made = plan.Plan()
+    made.options = options.split()
+    return results_of_games.Rule(made)
+
+
+class Copied(Case):
+    """Results of another board are none."""
+
+    def test_copied(self):
+        """Games of 9x9 with komi 6.5 where the plan has 7x7 and komi 0.5: none is listed, counted or exported."""
+        with room() as here:
+            text = b"game 1: W+6.5 moves 4 restarts 0 0\nE5 J9 pass pass\n"
+            made_of(here, "all", text, [text] * 2, ["--size", "7", "--komi", "0.5"])
+            names = [f"{seed}_{it}" for seed in (1, 2) for it in ("one_two", "two_one")]
+            self.check("the list has all", (0, names), as_lines(here.run("tournament", "list", "all")))
+            self.check("the tally has none", "0 of 4 games", here.run("tally", "all").output[:12])
+            for words in (["--csv"], ["--jsonl"], ["--pgn"], ["--sgf", "records"]):
+                came = here.run("tournament", "export", "all", *words)
+                said = "tournament: without a result, and so not exported: 4 of 4 games\n"
+                self.check(f"{words[0]}: none is exported", (0, len(words) == 1 and words[0] == "--csv", said), (came.status, came.output != "", came.errors))
+            self.check("no record is written", [], list((here.at / "records").iterdir()))
 
 
 class Unread(Case):

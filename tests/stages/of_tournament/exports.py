@@ -26,13 +26,14 @@ GNUGO, EXTRACT = (shutil.which(it) or f"/usr/games/{it}" for it in ("gnugo", "pg
 HEAD = "game,black,white,seed,opening,verdict,winner,moves,black_seconds,white_seconds,host,black_version,white_version,twogtp_version"
 # games as they are written by hand: the line, and the moves; how each is exported: the winner, and SGF's and PGN's result
 WRITTEN = {
-    "1_a_b": ("B+5.5 moves 3 restarts 0 0", "D4 E5 pass"), "1_b_a": ("W+R moves 2 restarts 0 0", "A1 J9"),
+    "1_a_b": ("B+5 moves 3 restarts 0 0", "D4 E5 pass"), "1_b_a": ("W+R moves 2 restarts 0 0", "A1 J9"),
     "2_a_b": ("0 moves 2 restarts 0 0", "pass pass"), "2_b_a": ("B+F(illegal move) moves 1 restarts 0 0", "A9"),
     "3_a_b": ("limit moves 1 restarts 0 0", "J1"), "3_b_a": ("unfit black moves 0 restarts 0 0", ""),
     "4_a_b": ("abandoned black moves 1 restarts 2 0", "E5"), "4_b_a": ("abandoned white moves 1 restarts 0 2", "E5"),
 }
-ENDED = {"1_a_b": ("black", "B+5.5", "0-1"), "1_b_a": ("white", "W+R", "1-0"), "2_a_b": ("", "0", "1/2-1/2"), "2_b_a": ("black", "B+F", "0-1"),
+ENDED = {"1_a_b": ("black", "B+5", "0-1"), "1_b_a": ("white", "W+R", "1-0"), "2_a_b": ("", "0", "1/2-1/2"), "2_b_a": ("black", "B+F", "0-1"),
          "3_a_b": ("", "Void", "*"), "3_b_a": ("", "Void", "*"), "4_a_b": ("", "Void", "*"), "4_b_a": ("", "Void", "*")}  # fmt: skip
+SPENT = ("black_seconds", "white_seconds")
 LOSES = {"4_a_b": ("white", "W+F", "1-0"), "4_b_a": ("black", "B+T", "0-1")}  # where they lose: White was late in 4_b_a
 # D4 is the fourth column and, of nine rows, the sixth from above
 POINTS = {"1_a_b": ["B[df]", "W[ee]", "B[]"], "1_b_a": ["B[ai]", "W[ia]"], "2_a_b": ["B[]", "W[]"], "2_b_a": ["B[aa]"], "3_a_b": ["B[ii]"],
@@ -43,7 +44,7 @@ def written(here):
     """A folder with games that were written by hand: with notes of three, and versions of one machine."""
     for kind in ("games", "notes", "tried/far"):
         (here.at / "all" / kind).mkdir(parents=True)
-    lines = ["folder /x", "engine a x %s", "engine b y %s", "option --size", "option 9", "option --komi=0.5", "seeds 5", "limit 600"]
+    lines = ["folder /x", "engine a x %s", "engine b y %s", "option --size", "option 9", "option --komi=5", "seeds 5", "limit 600"]
     (here.at / "all/plan").write_text("".join(f"{line}\n" for line in lines))
     for name, (line, moves) in WRITTEN.items():
         (here.at / "all/games" / name).write_text(f"game 1: {line}\n{moves}\n")
@@ -69,7 +70,7 @@ class Exported(Case):
             rows = list(csv.DictReader(io.StringIO(came.output)))
             self.check("CSV: the games, in the plan's order", list(ENDED), [it["game"] for it in rows])
             self.check("CSV: who won", ends(0), won_in(came.output))
-            first = {"game": "1_a_b", "black": "a", "white": "b", "seed": "1", "opening": "", "verdict": "B+5.5", "winner": "black", "moves": "3",
+            first = {"game": "1_a_b", "black": "a", "white": "b", "seed": "1", "opening": "", "verdict": "B+5", "winner": "black", "moves": "3",
                      "black_seconds": "2.0", "white_seconds": "0.25", "host": "far", "black_version": 'A, "the" 1.2', "white_version": "",
                      "twogtp_version": "1.0"}  # fmt: skip
             self.check("CSV: a game", first, rows[0])
@@ -92,7 +93,7 @@ class Exported(Case):
             found = {place.stem: place.read_text() for place in (here.at / "deep/records").iterdir()}
             self.check("SGF: the results", ends(1, LOSES), {it: value_of("RE", found[it]) for it in ENDED})
             self.check("SGF: the moves", POINTS, {it: re.findall(r";([BW]\[\w*\])", found[it]) for it in POINTS})
-            root = "(;FF[4]GM[1]CA[UTF-8]AP[twogtp:1.0]SZ[9]KM[0.5]PB[a]PW[b]RE[B+5.5]GN[1_a_b]C[B+5.5]\n;B[df];W[ee];B[])\n"
+            root = "(;FF[4]GM[1]CA[UTF-8]AP[twogtp:1.0]SZ[9]KM[5]PB[a]PW[b]RE[B+5]GN[1_a_b]C[B+5]\n;B[df];W[ee];B[])\n"
             self.check("SGF: a whole one", root, found["1_a_b"])
             corners = {"A1": "ay", "Z25": "ya", "J9": "iq", "pass": ""}  # the lowest of 25 rows is y, J is the ninth column, and row 9 the 17th
             self.check("SGF: the points of 25x25", corners, {it: sgf.Board(["--size", "25"]).of(it) for it in corners})
@@ -106,7 +107,7 @@ class Exported(Case):
             found = {it: dict(re.findall(r'^\[(\w+) "(.*)"\]$', game, re.MULTILINE)) for it, game in zip(ENDED, games)}
             self.check("PGN: the results, White's first", ends(2), {it: tags["Result"] for it, tags in found.items()})
             wanted = {"Event": "all", "Site": "far", "Date": "????.??.??", "Round": "1", "White": "b", "Black": "a", "Result": "0-1",
-                      "Termination": "normal", "Verdict": "B+5.5", "Moves": "3", "BlackSeconds": "2.0", "WhiteSeconds": "0.25",
+                      "Termination": "normal", "Verdict": "B+5", "Moves": "3", "BlackSeconds": "2.0", "WhiteSeconds": "0.25",
                       "BlackVersion": 'A, \\"the\\" 1.2', "ControllerVersion": "1.0"}  # fmt: skip
             self.check("PGN: the tags of a game", wanted, found["1_a_b"])
             ways = ["normal", "normal", "normal", "rules infraction", "unterminated", "unterminated", "abandoned", "time forfeit"]
@@ -146,6 +147,36 @@ def won_in(table):
 def value_of(name, record):
     """The value of a property of a record's root."""
     return re.search(rf"[\]\n;]{name}\[([^]]*)\]", record)[1]
+
+
+# a machine's name in notes that are damaged, and the seconds of a move
+DAMAGED = {"a zero byte": ("f\0r", "nan"), "a slash": ("../tried/far", "inf"), "a dot": ("..", "1e999"), "none": ("", "-1.5"), "long": ("f" * 300, "1_0")}
+
+
+class DamagedNotes(Case):
+    """Notes that are damaged end no export."""
+
+    def test_damaged(self):
+        """What isn't known of a machine and of times is left out."""
+        with room() as here:
+            written(here)
+            for what, (host, seconds) in DAMAGED.items():
+                line = WRITTEN["1_a_b"][0]
+                (here.at / "all/notes/1_a_b").write_text(f"1_a_b on {host}\n1 black D4 1.5\n2 white E5 {seconds}\nresult: {line}\n")
+                first = json.loads(here.run("tournament", "export", "all", "--jsonl").output.split("\n")[0])
+                self.check(f"{what}: the row", (None, None, 1.5, 0.0), tuple(first[it] for it in ("host", "black_version", *SPENT)))
+                came = here.run("tournament", "export", "all", "--sgf", f"records {what}")
+                self.check(f"{what}: the records", (0, 8), (came.status, len(list((here.at / f"records {what}").iterdir()))))
+
+    def test_unread(self):
+        """Where something can't be read, a line names it, and no record is left."""
+        with room() as here:
+            written(here)
+            (here.at / "all/tried/far/versions").unlink()
+            (here.at / "all/tried/far/versions").mkdir()
+            said = "tournament: all/tried/far/versions: no file of --sgf is left: Is a directory\n"
+            self.check("versions that can't be read", (1, "", said), here.run("tournament", "export", "all", "--sgf", "records"))
+            self.check("no folder is left", False, (here.at / "records").exists())
 
 
 class Versions(Case):

@@ -1,5 +1,8 @@
 """Who plays whom: a gauntlet, an engine that is added later, and plans whose games have to be the same."""
-from .counted import pairs_in
+import json
+import re
+
+from .counted import pairs_in, results_of
 from .rooms import RANDOM, SMALL, Case, lines, room
 
 NAMES = ("one", "two", "three", "four")
@@ -116,6 +119,12 @@ def said_of(who, seeds="all seeds"):
     return f"tournament: {who} {said}\n"
 
 
+# The pairs of `first` are 20 alone, 1-1, and a cluster of 20, all won: 20 * 20 + 20 is the sum of the squares, so 10.5 pairs are added. The mean is
+# (20/2 + 20 + 10.5/2) / 50.5 = 141/202. They are off by 101/202 - 141/202 = -40/202 and 20 * 61/202 = 1220/202, so 20 * 1600 + 1220^2 = 1520400, and
+# 10.5^2 * (141^2 + 61^2) / 2 = 1301060.25. The half is 1.95996 * sqrt(2821460.25 / 202^2 / 50.5 / 40) = 0.36263: from 0.33539, which is -118.8 Elo.
+MIXED = {"first_book": "B+R", "book_first": "W+R", "first_rand": "B+R", "rand_first": "B+R"}
+
+
 class Same(Case):
     """Games that are the same count once in the interval, and the tally says which they are."""
 
@@ -136,6 +145,26 @@ class Same(Case):
             alone, = pairs_in(here.run("tally", "one").output)
             self.check("the interval is that of one pair", interval_in(alone), interval_in(first))
             self.check("which isn't certain", True, float(interval_in(first)[1]) - float(interval_in(first)[0]) > 50)
+
+
+    def test_all(self):
+        """An engine that wins the same two games against one engine with each seed, and one of two others against another."""
+        with room() as here:
+            games = {f"{seed}_{it}": f"{MIXED[it]} moves 30 restarts 0 0" for seed in range(1, 21) for it in MIXED}
+            results_of(here, "all", ["first", "book", "rand"], 20, games)
+            for name, line in games.items():
+                if "book" in name:
+                    (here.at / "all/games" / name).write_text(f"game 1: {line}\n{' '.join(['D4'] * 30)}\n")
+            rows = pairs_in(here.run("tally", "all").output)
+            said = [re.search(r" (\S+  \S+ to \S+) +(\S+  \S+ to \S+)$", it) for it in rows if it.startswith("first - all ")]
+            self.check("the interval is that of the score of all games", [("75.0  33.5 to 100.0", "+191  -119 to +inf")], [it.groups() for it in said])
+            found = json.loads(here.run("tally", "all", "--json").output)
+            counts = {it["name"]: it["pairs_in_interval"] for it in found["engines"]}
+            self.check("how many clusters each engine has", {"first": 21, "book": 1, "rand": 20}, counts)
+            for it in found["engines"] + found["pairs"]:
+                if it["pairs_in_interval"]:
+                    low, high = it["interval"]
+                    self.check(f"{it.get('name', it.get('engines'))}: the interval has the score", True, low <= it["score"] <= high)
 
 
 def interval_in(line):

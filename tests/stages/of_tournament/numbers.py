@@ -19,19 +19,40 @@ NEAR = 1e-9
 # - moments(0 1 2 0 1): the shares of four pairs are 1/4, 1/2, 1/2 and 1, so the mean is 9/16; their squares are 1/16, 1/4, 1/4 and 1, with
 #   the mean 25/64, and the variance is 25/64 - 81/256 = 19/256.
 # - elo(9/14) = 400 * log10(9/5); expected(400) = 1 / (1 + 1/10) = 10/11, expected(-400) = 1/11.
-# - interval(1 0 2 2 2): counted.py has it. interval(0 0 0 0 n): the mean is (n + 1/2) / (n + 1), and the variance that times 1/2 / (n + 1).
+# - interval of the pairs 1 0 2 2 2: counted.py has it. Of n pairs that are all won: the mean is (n + 1/2) / (n + 1), and the variance that times
+#   1/2 / (n + 1).
 # The others are by R 4.2, where n is the counts: x <- (0:4)/4; w <- n + c(.5,0,0,0,.5); m <- weighted.mean(x, w);
 # m + c(-1,1) * qnorm(.975) * sqrt(sum(w * (x-m)^2) / sum(w) / sum(n)). And where e is both differences: w <- n + .001;
 # m <- weighted.mean(x, w); v <- sum(w * x^2) / sum(w) - m^2; s <- 1 / (1 + 10^(-e/400)); sum(n) * diff(s) * (2*m - sum(s)) / (2*v).
 MANY = (10, 20, 40, 30, 20)
+
+
+def of_alone(*counts):
+    """Pairs of which none repeats another one."""
+    return {(1, at): count for at, count in enumerate(counts)}
+
+
+# Clusters by hand, as shares of what can be won. TWO: four times two pairs that are the same, won, and two alone, lost and 1-1. The squares of
+# the sizes are 4 * (4 + 1 + 1), so 24/16 pairs are added. The mean is (4 * (2 + 0 + 1/2) + 3/4) / (35/2) = 43/70. The clusters are off by 2 - 86/70 =
+# 54/70, -43/70 and 1/2 - 43/70 = -8/70, whose squares sum up to 4 * 4829/4900, and what is added has 9/4 * (43^2 + 27^2)/4900 / 2 = 2900.25/4900.
+# So the half is 1.95996 * sqrt(22216.25/4900 / (35/2) / 16) = 0.24941. THREE: four times three pairs of one kind, won, won and 1-1, and one alone,
+# lost: 40/16 are added, the mean is (4 * 5/2 + 5/4) / (37/2) = 45/74, off by 5/2 - 135/74 = 50/74 and -45/74: 4 * 4525/5476, and 25/4 * (45^2 +
+# 29^2)/5476 / 2 = 8956.25/5476: the half is 1.95996 * sqrt(27056.25/5476 / (37/2) / 16) = 0.25322.
+TWO, THREE = {(2, 8): 4, (1, 0): 4, (1, 2): 4}, {(3, 10): 4, (1, 0): 4}
 VALUES = [
     ("moments", ((0, 1, 2, 0, 1),), (9 / 16, 19 / 256)),
     ("moments", (MANY,), (0.5625, 0.0846354166666667)),
-    ("interval", ((1, 0, 2, 2, 2),), (0.363088795694101, 0.886911204305899)),
-    ("interval", (MANY,), (0.509503603140252, 0.614463339008509)),
-    ("interval", ((0, 0, 10, 0, 0),), (0.406562383223617, 0.593437616776383)),
-    ("interval", ((0, 0, 0, 0, 10),), (0.825442834050307, 1.0)),
-    ("interval", ((10, 0, 0, 0, 0),), (0.0, 0.174557165949693)),
+    ("interval", (of_alone(1, 0, 2, 2, 2),), (0.363088795694101, 0.886911204305899)),
+    ("interval", (of_alone(*MANY),), (0.509503603140252, 0.614463339008509)),
+    ("interval", (of_alone(0, 0, 10, 0, 0),), (0.406562383223617, 0.593437616776383)),
+    ("interval", (of_alone(0, 0, 0, 0, 10),), (0.825442834050307, 1.0)),
+    ("interval", (of_alone(10, 0, 0, 0, 0),), (0.0, 0.174557165949693)),
+    ("interval", (TWO,), (0.36487999274010996, 0.8636914358313187)),
+    ("interval", (THREE,), (0.35488442728609454, 0.8613317889301217)),
+    # where all clusters are as large, it is that of as many pairs
+    ("interval", ({(12, 48): 10},), (0.825442834050307, 1.0)),
+    ("interval", ({(3, 3 * at): count for at, count in enumerate(MANY)},), (0.509503603140252, 0.614463339008509)),
+    ("alone", ((1, 0, 2, 2, 2),), {(1, 0): 1, (1, 2): 2, (1, 3): 2, (1, 4): 2}),
     ("elo", (9 / 14,), 102.109002041322),
     ("elo", (0.5,), 0.0),
     ("elo", (0,), -math.inf),
@@ -96,7 +117,7 @@ def is_near(wanted, got):
     """Is it the same, but for what is lost in the last digits?"""
     if isinstance(wanted, tuple):
         return isinstance(got, tuple) and len(got) == len(wanted) and all(map(is_near, wanted, got))
-    if wanted is None or got is None or isinstance(wanted, int) or math.isinf(wanted):
+    if wanted is None or got is None or isinstance(wanted, (int, dict)) or math.isinf(wanted):
         return wanted == got
     return abs(got - wanted) <= NEAR * max(1, abs(wanted))
 
@@ -160,19 +181,24 @@ PLAYED = [
     ("B+R", "W+R", "A", "B"),  # 2
     ("W+R", "B+R", "S20", "S20"),  # 0
     ("B+R", "B+R", "A", "C"),  # 1, not new: its first game is that of seed 1
-    ("B+R", "B+R", "D", "C"),  # 1, and new: its second game is that of seed 3, which isn't counted
+    ("B+R", "B+R", "D", "C"),  # 1, and new: its second game is that of seed 3, which isn't new
     ("W+R", "W+R", "S20", "S20"),  # 1, and new: these moves are too few to be the same
     ("0", "limit", "E", "F"),  # 1, or out where games are that nobody won
     ("0", "B+R", "H", "J"),  # 1/2
     ("B+R", None, "G", None),  # not whole
-    ("B+R", "W+R", "G", "I"),  # 2, and new: the other game with these moves isn't counted
+    ("B+R", "W+R", "G", "N"),  # 2, and new: the other game with these moves is in no pair
     ("B+R", "W+R", "K", "B"),  # 2, not new: its second game is that of seed 1
-    ("B+R", "W+R", "I", "L"),  # 2, and new: these moves were played with the other colours
+    ("B+R", "W+R", "N", "L"),  # 2, and new: these moves were played with the other colours
     ("B+R", "W+R", "H", "M"),  # 2, not new: its first game is that of seed 7
+    ("B+R", "W+R", "H", "B"),  # 2, not new: it has a game of seed 1 and one of seed 7, so it is in a cluster with the first
 ]
-EVERY, NEW, OUT = [1, 1, 4, 0, 5], [1, 1, 3, 0, 3], [1, 1, 3, 0, 5]
+EVERY, OUT = [1, 1, 4, 0, 6], [1, 1, 3, 0, 6]
+# The seeds 1, 3, 10 and 13 are one cluster, with 4 + 2 + 4 + 4 half points; 7 and 12 are one, with 1 + 4. The seeds 2, 4, 5, 6, 9 and 11 are
+# alone, with 0, 2, 2, 2, 4 and 4. So there are 8.
+CLUSTERS = {(4, 14): 1, (2, 5): 1, (1, 0): 1, (1, 2): 3, (1, 4): 2}
+TURNED = {(4, 2): 1, (2, 3): 1, (1, 4): 1, (1, 2): 3, (1, 0): 2}
 IN_ORDER = [1, 1, 3, 0, 1]  # up to seed 7, but for seed 3
-SAME = [["1_a_b", "3_a_b"], ["1_b_a", "10_b_a"], ["3_b_a", "4_b_a"], ["7_a_b", "12_a_b"], ["8_a_b", "9_a_b"]]
+SAME = [["1_a_b", "3_a_b"], ["1_b_a", "10_b_a", "13_b_a"], ["3_b_a", "4_b_a"], ["7_a_b", "12_a_b", "13_a_b"], ["8_a_b", "9_a_b"]]
 # With two openings, of three moves and of one, the seeds 1 and 3 have the first. Moves of an opening aren't counted among the 21.
 OPENINGS = ["D4 D4 D4", "D4"]
 OPENED = [("B+R", "B+R", "A24", "B23"), ("B+R", "B+R", "A24", "C22"), ("B+R", "B+R", "A24", "B23"), ("B+R", "B+R", "D21", "C22")]
@@ -183,7 +209,7 @@ SAME_OPENED = [["1_a_b", "3_a_b"], ["2_b_a", "4_b_a"]]
 def plan_of(names, seeds):
     """A plan of these engines."""
     made = plan.Plan()
-    made.engines, made.seeds = dict.fromkeys(names, "x"), seeds
+    made.engines, made.seeds, made.options = dict.fromkeys(names, "x"), seeds, ["--komi", "7"]
     return made
 
 
@@ -191,23 +217,23 @@ def found_in(played, is_out=False, openings=()):
     """What is found of the pairs of two engines, and which games are the same."""
     made = plan_of("ab", len(played))
     made.openings = openings
-    found = pairs.Pairs(made, is_out)
+    found, rule = pairs.Pairs(made, is_out), results.Rule(made)
     for seed, (*verdicts, one, other) in enumerate(played):
         for side, (verdict, which) in enumerate(zip(verdicts, (one, other))):
             if verdict:
                 count = int(which[1:] or 21)
                 text = f"game 1: {verdict} moves {count} restarts 0 0\n{' '.join(['D4'] * (count - 1))} {which[0]}1\n"
-                parts = results.parts_of(text.encode(), False)
+                parts = rule.parts_of(text.encode())
                 found.add(2 * seed + side, ends.end_of(parts[1]), parts)
     (one, other, *numbers), = found.engines()
     two = found.of_two(*numbers)
     names = [[made.games().name(game) for game in group] for group in found.same()]
-    return {"engines": (one, other), "every": two.every, "new": two.new, "in order": found.in_order(*numbers), "same": names,
-            "score": two.score(), "turned": (two.turned().every, two.turned().new)}  # fmt: skip
+    return {"engines": (one, other), "every": two.every, "clusters": two.clusters, "in order": found.in_order(*numbers), "same": names,
+            "score": two.score(), "turned": (two.turned().every, two.turned().clusters)}  # fmt: skip
 
 
-FOUND = {"engines": ("a", "b"), "every": EVERY, "new": NEW, "in order": IN_ORDER, "same": SAME, "score": 29 / 44,
-         "turned": (EVERY[::-1], NEW[::-1])}  # fmt: skip
+FOUND = {"engines": ("a", "b"), "every": EVERY, "clusters": CLUSTERS, "in order": IN_ORDER, "same": SAME, "score": 33 / 48,
+         "turned": (EVERY[::-1], TURNED)}  # fmt: skip
 NONE = (None, None, None, None)
 
 
@@ -215,22 +241,26 @@ def pairs_off():
     """What of the pairs doesn't come out."""
     out, none, opened = found_in(PLAYED, True), found_in([NONE] * 2), found_in(OPENED, openings=OPENINGS)
     one = found_in([("B+R", "B+R", "A", "A")] * 2)
-    late = [found_in([it, *PLAYED]) for it in (NONE, (None, "B+R", None, "X"), ("B+R", None, "X", None))]
+    late = [found_in([it, *PLAYED]) for it in (NONE, (None, "B+R", None, "Q"), ("B+R", None, "Q", None))]
     three = pairs.Pairs(plan_of("abc", 1)).engines()
-    both, sum_of = pairs.Found(EVERY, NEW), ([2, 2, 7, 0, 8], [2, 2, 6, 0, 8])
-    both.add(pairs.Found(NEW, OUT))
+    other = found_in([(*it[1::-1], *it[:1:-1]) for it in PLAYED])  # as where the plan has the other engine first
+    both, sum_of = pairs.Found(EVERY, CLUSTERS), ([2, 2, 7, 0, 12], {**CLUSTERS, (1, 0): 2, (4, 14): 2, (5, 5): 2})
+    both.add(pairs.Found(OUT, {(1, 0): 1, (4, 14): 1, (5, 5): 2}))
+    sure, one_by_one = pairs.Found((0, 0, 0, 0, 2), {(2, 8): 1}), pairs.Found((0, 0, 0, 0, 2), {(1, 4): 2})
     found = {
         "of two engines": found_in(PLAYED) == FOUND,
         "without games that nobody won": out["every"] == OUT and out["in order"] == [1, 1, 2, 0, 1],
         "where nothing was played": none["score"] is None and none["every"] == none["in order"] == [0] * 5 and none["same"] == [],
-        "the same pair twice": one["new"] == [0, 0, 1, 0, 0] and one["same"] == [["1_a_b", "2_a_b"], ["1_b_a", "2_b_a"]],
+        "the same pair twice": one["clusters"] == {(2, 4): 1} and one["same"] == [["1_a_b", "2_a_b"], ["1_b_a", "2_b_a"]],
         "a first pair that isn't whole": all(it["in order"] == [0] * 5 and it["every"] == EVERY for it in late),
-        "openings": opened["same"] == SAME_OPENED and opened["new"] == [0, 0, 2, 0, 0],
+        "openings": opened["same"] == SAME_OPENED and opened["clusters"] == {(2, 4): 2},
         "the same opening twice": found_in([("B+R", "B+R", "A22", "B21")] * 2, openings=TWICE)["same"] == [["1_a_b", "2_a_b"]],
         "three engines": three == [("a", "b", 0, 1), ("a", "c", 2, 3), ("b", "c", 4, 5)],
         "no interval": pairs.Found().interval() is None,
-        "the interval is of new ones": pairs.Found(EVERY, (1, 0, 2, 2, 2)).interval() == scores.interval((1, 0, 2, 2, 2)),
-        "a sum": (both.every, both.new) == sum_of,
+        "the interval is that of the clusters": pairs.Found(EVERY, CLUSTERS).interval() == scores.interval(CLUSTERS),
+        "a pair twice isn't more certain than once": sure.interval()[0] < one_by_one.interval()[0],
+        "the other engine's clusters": (other["every"], other["clusters"]) == (EVERY[::-1], TURNED),
+        "a sum": (both.every, both.clusters) == sum_of,
     }
     return [what for what, is_so in found.items() if not is_so]
 
@@ -238,14 +268,13 @@ def pairs_off():
 # Changes that make no difference: what is skipped where no game is the same, the order of two things of which only the sum counts, and a pair
 # that isn't whole, which is never among those that aren't new.
 EQUAL_PAIRS = {
-    "pairs.Pairs.of_two: self.old(one, other) -> self.old(other, one)",
-    "pairs.Pairs.in_order: self.old(one, other) -> self.old(other, one)",
+    "pairs.Pairs.of_two: self.repeats(one, other) -> self.repeats(other, one)",
+    "pairs.Pairs.in_order: self.repeats(one, other) -> self.repeats(other, one)",
     "pairs.Pairs.in_order: seed < until -> seed <= until",
-    "pairs.Pairs.old: if not any((has_twice(it) for it in sides)): -> if False:",
-    "pairs.Pairs.old: zip(self.of(self.scores, one), self.of(self.scores, other)) -> zip(self.of(self.scores, other), self.of(self.scores, one))",
+    "pairs.Pairs.repeats: if not any((has_twice(it) for it in sides)): -> if False:",
+    "pairs.Pairs.repeats: zip(self.of(self.scores, one), self.of(self.scores, other)) -> zip(self.of(self.scores, other), self.of(self.scores, one))",
     "pairs.Pairs.same: if has_twice(played): -> if True:",
     "pairs.Found.add: zip(self.every, other.every) -> zip(other.every, self.every)",
-    "pairs.Found.add: zip(self.new, other.new) -> zip(other.new, self.new)",
     "pairs.has_twice: if len(moves) < 2: -> if False:",
     "pairs.has_twice: 2 -> 1",
     "pairs.has_twice: False -> True",
@@ -376,7 +405,7 @@ class Tests(Case):
 JSON = {"games": 20, "results": 14, "winners": 8, "black_won": 4, "white_won": 4, "damaged": 1, "same": [],
         "no_result": {"8_a_b": "not over in 600 seconds", "9_b_a": "its file is damaged"}}  # fmt: skip
 ENGINE = {"name": "b", "points": 6.5, "games": 14, "won": 6, "lost": 2, "no_winner": 6, "drawn": 1, "black": {"won": 3, "lost": 1},
-          "white": {"won": 3, "lost": 1}, "pairs": [1, 0, 2, 2, 2], "pairs_in_interval": [1, 0, 2, 2, 2]}  # fmt: skip
+          "white": {"won": 3, "lost": 1}, "pairs": [1, 0, 2, 2, 2], "pairs_in_interval": 7}  # fmt: skip
 
 
 # ---- what simulations come to

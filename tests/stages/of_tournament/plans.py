@@ -9,7 +9,7 @@ import time
 
 from tests.shared import checks
 
-from .rooms import RANDOM, SCRIPTS, SMALL, Case, lines, room, tried, two_engines
+from .rooms import LIMIT, RANDOM, SCRIPTS, SMALL, Case, lines, room, tried, two_engines
 
 ONE_AND_TWO = two_engines("all")[1:5]
 PLAN = f"""\
@@ -35,7 +35,8 @@ CHANGED = {
     "one engine more, alone without options": ["--engine", "three=cat"],
     "both in another order": [*ONE_AND_TWO[2:], *ONE_AND_TWO[:2], *SMALL],
 }
-# what is printed of each: the lines that differ
+OPTIONS = ["option --size 5", "option --komi 0.5"]
+# what is printed of each: the lines that differ, or all where these are the same in another order
 DIFFERS = {
     "another command": f"engine one {RANDOM} %s\nwhere the command has\nengine one {RANDOM} 5",
     "another name": f"engine two {RANDOM} 10%s\nwhere the command has\nengine three {RANDOM} 10%s",
@@ -46,8 +47,9 @@ DIFFERS = {
     "one engine more, alone": f"engine one {RANDOM} %s\nengine two {RANDOM} 10%s\nwhere the command has\nengine three cat",
     "one engine more, alone without options":
         f"engine one {RANDOM} %s\nengine two {RANDOM} 10%s\noption --size 5\noption --komi 0.5\nwhere the command has\nengine three cat",
-    "both in another order": f"engine two {RANDOM} 10%s\nwhere the command has\nengine two {RANDOM} 10%s",
-}
+    "both in another order": "\n".join([*(lines_of := [f"engine one {RANDOM} %s", f"engine two {RANDOM} 10%s", *OPTIONS]),
+                                        "where the command has", lines_of[1], lines_of[0], *OPTIONS]),
+}  # fmt: skip
 TO_ADD = "To add an engine, repeat the whole command with the new one behind the others. Else take another folder.\n"
 ELSE = "Take another folder, or write tournament play all alone, which goes on with what it has.\n"
 ADDS = ("another name", "one engine more, before the others", "one engine more, alone", "one engine more, alone without options")
@@ -89,7 +91,8 @@ class Plans(Case):
             self.check("the plan has what was asked for", plan, (here.at / "all/plan").read_text())
             for what, arguments in CHANGED.items():
                 status, output, errors = here.run("tournament", "play", "all", *arguments)
-                said = "tournament: all was begun with other engines or options. It has"
+                with_what = "the same in another order" if what == "both in another order" else "other engines or options"
+                said = f"tournament: all was begun with {with_what}. It has"
                 self.check(f"{what} in the same folder is refused", (2, "", said), (status, output, errors.partition("\n")[0]))
                 self.check(f"{what}: what differs is printed", f"{DIFFERS[what]}\n{TO_ADD if what in ADDS else ELSE}", errors.partition("\n")[2])
             for what, (arguments, more) in PARTS.items():
@@ -122,6 +125,16 @@ class Plans(Case):
             said = "tournament: there is no /no/such/twogtp: name it by TWOGTP\n"
             self.check("without twogtp: status 2", (2, "", said), here.run("tournament", "play", "all"))
 
+    def test_unknown(self):
+        """A line of a plan that isn't known, with control characters."""
+        with room() as here:
+            here.run("tournament", "plan", *two_engines("all"), *SMALL)
+            with open(here.at / "all/plan", "ab") as plan:
+                plan.write(b"\x1b[2Jgo\tto\x00 \xc3\xa9\xff\xc2\x9bx\x7f\n")
+            said = b"tournament: all/plan has a line that isn't known: \\x1b[2Jgo\tto\\x00 \xc3\xa9\xff\\x9bx\\x7f\n"
+            process = here.start("tournament", "list", "all", stderr=(here.at / "errors").open("wb"))
+            self.check("they are spelled", (2, said), (process.wait(LIMIT), (here.at / "errors").read_bytes()))
+
     def test_at_once(self):
         """Of two runs that begin a folder with other options at once, one makes it; with the same ones both have it."""
         for sizes in [("5", "7")] * 5 + [("5", "5")]:
@@ -152,7 +165,15 @@ class Lost(Case):
             self.check(f"{what}: the log says why", said, log[: len(said)])
             here.script("two", f'#!/bin/bash\nexec {RANDOM} "$@"\n')
             again = here.run("tournament", "play", "all")
-            self.check("played again it plays nothing, and has status 1", (1, "2 of 2 games have a result\n", ""), again)
+            said = "2 of 2 games have a result, 2 of them unfit or abandoned: --again plays these again\n"
+            self.check("played again it plays nothing, and has status 1", (1, said, ""), again)
+            one = here.run("tournament", "play", "all", "--task", "2/2").output
+            said = "1 of 1 games of task 2/2 have a result, 1 of them unfit or abandoned: --again plays it again\n"
+            self.check("the same of a task", said, one)
+            here.run("tournament", "plan", "all", "--seeds", "2")
+            one = here.run("tournament", "play", "all", "--task", "1/2", "--time-left", "1").output
+            said = "1 of 2 games of task 1/2 have a result, 1 of them unfit or abandoned: --again plays it again; 1 are missing\n"
+            self.check("the same of a task of which a game is missing", said, one)
             self.check("--again plays them", (0, ""), here.run("tournament", "play", "all", "--again")[::2])
             self.check("--again: the old logs are gone", [], list((here.at / "all/logs").iterdir()))
 
@@ -171,7 +192,8 @@ class Lost(Case):
             self.check("an engine can't be started: all is as it was", wanted, (came.status, came.output, kept_in(here), logs_in(here)))
             here.script("two", IN_ITS_TRIAL.format("exit 3"))
             came = here.run("tournament", "play", "all", "--again", "--jobs", "1")
-            self.check("it isn't started in a game: the results are as they were", (1, "4 of 4 games have a result", before),
+            said = "4 of 4 games have a result, 4 of them unfit or abandoned: --again plays these again"
+            self.check("it isn't started in a game: the results are as they were", (1, said, before),
                        (came.status, came.output.splitlines()[-1], kept_in(here)))  # fmt: skip
             said = re.findall(r"^tournament: (\w+): no new result, and the old one stays: two wasn't started: it ended ", came.errors, re.MULTILINE)
             self.check("it isn't started in a game: it says that each old one stays", sorted(before[0]), sorted(said))
@@ -269,22 +291,22 @@ class Lost(Case):
             self.check("before: the old ones stay", ([noted(line, "0.250"), "old\n"], False), (came, beside.exists()))
 
     def test_direct(self):
-        """An engine that isn't there, without what stands between."""
+        """An engine whose program has the seed in its name, and isn't there, without what stands between."""
         with room() as here:
-            engines = ["--engine", f"one={RANDOM} %s", "--engine", "two=./two %s"]
+            engines = ["--engine", f"one={RANDOM} %s", "--engine", "two=./two%s"]
             here.run("tournament", "plan", "all", *engines, "--seeds", "1", "--direct")
             tried(here, "all")
             came = here.run("tournament", "play", "all")
             self.check("directly, an engine that isn't there: no game has a result", (1, {}), (came.status, here.games("all")))
-            said = [f"tournament: {game}: no result: two wasn't started: not started: no such file: \"./two\"" for game in GAMES]
+            said = [f"tournament: {game}: no result: two wasn't started: not started: no such file: \"./two1\"" for game in GAMES]
             self.check("directly, an engine that isn't there: it says so", said, lines(came.errors))
-            here.script("two", "#!/bin/bash\nexit 3\n")
+            here.script("two1", "#!/bin/bash\nexit 3\n")
             again(here)
             came = here.run("tournament", "play", "all")
             said = re.sub(r"(started: ).*", r"\1..", came.errors)
             wanted = [f"tournament: {game}: no result: two wasn't started: .." for game in GAMES]
             self.check("directly, an engine that ends at once: the same", (1, wanted, {}), (came.status, lines(said), here.games("all")))
-            here.script("two", "#!/bin/bash\nread -r number _\nprintf '=%s\\n\\n' $number\n")
+            here.script("two1", "#!/bin/bash\nread -r number _\nprintf '=%s\\n\\n' $number\n")
             again(here)
             came = here.run("tournament", "play", "all")
             played = {text.splitlines()[0] for text in here.games("all").values()}

@@ -84,7 +84,8 @@ class Times(Case):
                     progress.look(0)
                 os.close(writes)
                 with open(reads, "rb") as file:
-                    found[-1] = found[-1] if file.read() == b"tournament: \n" else None
+                    said = f"tournament: {f'; kill {os.getpid()} stops this run' if len(found) == 1 else ''}\n"
+                    found[-1] = found[-1] if file.read() == said.encode() else None
             self.check(f"{'in a terminal' if is_terminal else 'elsewhere'}: seconds between lines", pauses, found)
 
     def test_terminal(self):
@@ -98,8 +99,9 @@ class Times(Case):
             status = process.wait(LIMIT)
             said = os.read(ours, 65536).decode().replace("\r\n", "\n")
             os.close(ours)
-            first = "tournament: 0 of 8 games have a result, 0 failed; 0.0 games a minute, unknown time left\n"
-            self.check("a line at once, and no other in some seconds", (0, first), (status, re.sub(r"(?<=left\n).*", "", said, flags=re.DOTALL)))
+            counted = "tournament: 0 of 8 games have a result, 0 failed; 0.0 games a minute, unknown time left"
+            first = f"{counted}; kill {process.pid} stops this run\n"
+            self.check("a line at once, and no other in some seconds", (0, first), (status, re.sub(r"(?<=run\n).*", "", said, flags=re.DOTALL)))
 
 
 class redirected:

@@ -136,9 +136,14 @@ def make(folder, elos, seeds, seed=1):
         for number in range(1, seeds + 1):
             for black, white, share in ((one, other, score), (other, one, 1 - score)):
                 verdict = "B+R" if drawn.random() < share else "W+R"
-                text = f"game 1: {verdict} moves 30 restarts 0 0\n{record} {chr(65 + number % 8)}{number}\n"
+                text = f"game 1: {verdict} moves 31 restarts 0 0\n{record} {point(number)} {point(number // 361)}\n"
                 with open(f"{folder}/games/{number}_{black}_{white}", "w") as file:
                     file.write(text)
+
+
+def point(number):
+    """A point of 19x19 that has this number, or that and 361 times another one."""
+    return f"{'ABCDEFGHJKLMNOPQRST'[number // 19 % 19]}{number % 19 + 1}"
 
 
 def found_of(folder):

@@ -14,7 +14,7 @@ from .rooms import LIMIT, RANDOM, SCRIPTS, STUBBORN, Case, room
 
 sys.path.insert(0, str(SCRIPTS))
 
-from games import trial  # noqa: E402
+from games import setup, trial  # noqa: E402
 
 ONE_SEED = ["--seeds", "1", "--jobs", "1"]
 WHO = ("tournament", "trial one", "asks one")  # the run, and both processes of a trial
@@ -221,7 +221,7 @@ class Dressed(checks.Case):
     def row(self, row):
         words = [sys.executable, "-S", "-c", ANSWERS, DRESSES[row]]
         log = os.open(os.devnull, os.O_WRONLY)
-        came = trial.attempt(words, str(self.room()), log, trial.Setup([]), (20, 20, 20))
+        came = trial.attempt(words, str(self.room()), log, setup.Setup([]), (20, 20, 20))
         os.close(log)
         self.same((trial.PASSED, "", "D4 D4"), came)
 

@@ -1,10 +1,11 @@
 """The trial of each engine before the first game on a machine, engines that aren't started, and the folder in which they start."""
 import re
 import signal
+from pathlib import Path
 
 from tests.shared import checks
 
-from .rooms import LIMIT, RANDOM, STUBBORN, Case, lines, room, tried
+from .rooms import LIMIT, RANDOM, STUBBORN, Case, room, tried
 
 # It writes down what it is asked, and plays as ours.
 HEARD = '#!/bin/bash\necho start >> heard\nexec gtp_engine < <(tee -a heard)\n'
@@ -121,9 +122,23 @@ class Added(Case):
     def test_plan(self):
         """`plan` tries nothing: its machine may have no engine."""
         with room() as here:
-            self.check("plan makes it", (0, "", ""), here.run("tournament", "plan", *THREE[:3], *THREE[5:], "--seeds", "1", "--", "--size", "2"))
-            came = here.run("tournament", "play", "all")
-            self.check("play says what it can't start", (69, NO_FILE.format("three")), came[::2])
+            self.check("plan makes it", (0, "", ""), here.run("tournament", "plan", *THREE, "--seeds", "1", "--", "--size", "2"))
+            others = "tournament list all | grep -vE '_(three)(_|$)' | xargs -n 1 -P 1 tournament game all"
+            said = NO_FILE.format("three") + f"tournament: to play the games of the others: {others}\n"
+            self.check("play says what it can't start, and what to do", (69, said), here.run("tournament", "play", "all", "--jobs", "1")[::2])
+            self.check("which plays the games of the others", (0, "", ["1_good_two", "1_two_good"]), (*played_by(here, others), sorted(here.games("all"))))
+            self.check("then only what it can't start", (69, NO_FILE.format("three")), here.run("tournament", "play", "all")[::2])
+
+    def test_names(self):
+        """What plays the games of the others, where names have other characters and are parts of others, and in a folder with a space."""
+        with room() as here:
+            names = ("a.b+c", "axb+c", "a.b+cd", "0a.b+c", "a.bbc")
+            commands = [word for it in names for word in ("--engine", f"{it}={'./engine' if it == names[0] else 'gtp_engine'}")]
+            here.run("tournament", "plan", "the night", *commands, "--seeds", "1", "--", "--size", "1")
+            said = here.run("tournament", "play", "the night", "--jobs", "3").errors.splitlines()[-1]
+            others = "tournament list 'the night' | grep -vE '_(a\\.b\\+c)(_|$)' | xargs -n 1 -P 3 tournament game 'the night'"
+            self.check("it says what to do", f"tournament: to play the games of the others: {others}", said)
+            self.check("which plays 12 games", (0, "", 12), (*played_by(here, others), len(here.games("the night"))))
 
     def test_unable(self):
         """What an engine can't do that is added is said once, and it is added."""
@@ -244,6 +259,61 @@ exec gtp_engine
 """
 
 
+def played_by(here, line):
+    """The status of a line for a shell, and what it says on standard error."""
+    return here.run("bash", "-c", line)[::2]
+
+
+class Gone(Case):
+    """An engine that passed its trial, and whose program is gone later: no game is begun."""
+
+    def test_gone(self):
+        """By a place, by PATH, and one that can't be executed any more; by `play` and by `game`."""
+        for what, command, spoil in GONE:
+            with room() as here:
+                here.environment["PATH"] = f"{here.at}/more:{here.environment['PATH']}"
+                (here.at / "more").mkdir()
+                program = here.at / (command if "/" in command else f"more/{command}")
+                here.script(str(program.relative_to(here.at)), "#!/bin/bash\nexec gtp_engine\n")
+                here.run("tournament", "play", "all", "--engine", f"good={RANDOM} %s", "--engine", f"bad={command} %s", *ONE_BY_ONE)
+                self.check(f"{what}: two games were played", 2, len(here.games("all")))
+                spoil(program)
+                why = "Permission denied" if what.endswith("executed") else "No such file or directory"
+                said = f"tournament: bad can't be started here: {command}: {why}\ntournament: "
+                came = here.run("tournament", "play", "all", "--seeds", "2")
+                self.check(f"{what}: play", (69, "2 of 4 games have a result\n", f"{said}no game is begun here\n"), came)
+                came = here.run("tournament", "game", "all", "2_bad_good")
+                self.check(f"{what}: game", (69, "", f"{said}2_bad_good: no game is begun here\n"), came)
+                self.check(f"{what}: no game failed", [], list((here.at / "all/logs").iterdir()))
+                here.script(str(program.relative_to(here.at)), "#!/bin/bash\nexec gtp_engine\n")
+                self.check(f"{what}: where it is back the same command goes on", (0, ""), here.run("tournament", "play", "all")[::2])
+
+
+GONE = [("by a place", "./engine", Path.unlink), ("by PATH", "my-engine", Path.unlink),
+        ("by a place, and can't be executed", "./engine", lambda it: it.chmod(0o644))]  # fmt: skip
+
+
+class Counted(Case):
+    """A run that played counts the files again at its end."""
+
+    def test_counted(self):
+        """A result that is emptied in a later game of the run, and one that is removed."""
+        for what, spoil in (("emptied", ": >"), ("removed", "rm -f")):
+            with room() as here:
+                here.script("engine", f"#!/bin/bash\n[ ! -e all/games/1_one_bad ] || {spoil} all/games/1_one_bad\nexec gtp_engine\n")
+                here.run("tournament", "plan", "all", "--engine", f"one={RANDOM} %s", "--engine", "bad=./engine", *ONE_BY_ONE[:2], *ONE_BY_ONE[4:])
+                tried(here, "all")
+                status, output, errors = here.run("tournament", "play", "all", "--jobs", "1")
+                said = "1 of 2 games have a result"
+                self.check(f"{what}: the last line", (1, "2 of 2: 1_bad_one", said, ""), (status, *(it[: len(said)] for it in last_two(output)), errors))
+
+
+def last_two(output):
+    """The last two lines, the first one without what follows the game's name."""
+    *_, line, last = output.splitlines()
+    return ": ".join(line.split(": ")[:2]), last
+
+
 class InARow(Case):
     """Ten games in a row in which an engine isn't started end the run."""
 
@@ -257,10 +327,12 @@ class InARow(Case):
             said = errors.splitlines()
             self.check("ten in a row: the status, and the last line", (69, "6 of 18 games have a result"), (status, output.splitlines()[-1]))
             why = r".*no result: bad wasn't started: it ended (at '1 boardsize 2'|before anything was asked): exit status 3"
-            self.check("ten games are reported", [True] * 10, [re.fullmatch(why, it) is not None for it in said[:-1]])
-            self.check("then it ends with the name", "tournament: bad wasn't started in 10 games in a row: no other game is begun here", said[-1])
-            again = here.run("tournament", "play", "all")
-            said = ["tournament: bad can't be started here: it ended at 'boardsize 2': exit status 3", "tournament: no game is begun here"]
+            self.check("ten games are reported", [True] * 10, [re.fullmatch(why, it) is not None for it in said[:-2]])
+            self.check("then it ends with the name", "tournament: bad wasn't started in 10 games in a row: no other game is begun here", said[-2])
+            others = "tournament list all | grep -vE '_(bad)(_|$)' | xargs -n 1 -P 1 tournament game all"
+            self.check("and says what plays the others' games", f"tournament: to play the games of the others: {others}", said[-1])
+            again = here.run("tournament", "play", "all", "--jobs", "1")
+            said = ["tournament: bad can't be started here: it ended at 'boardsize 2': exit status 3", "tournament: no game is begun here", said[-1]]
             self.check("the next run tries it again", (69, said), (again.status, again.errors.splitlines()))
             here.script("engine", "#!/bin/bash\nexec gtp_engine\n")
             again = here.run("tournament", "play", "all")
@@ -273,7 +345,7 @@ class InARow(Case):
             engines = ["--engine", f"one={RANDOM} %s", "--engine", "bad=./engine 2"]
             words = ["play", "all", *engines, "--jobs", "1", "--seeds", "11", "--", "--size", "2", "--restarts", "0"]
             status, output, errors = here.run("tournament", *words)
-            self.same((1, "11 of 22 games have a result", 11), (status, output.splitlines()[-1], len(lines(errors))))
+            self.same((1, "11 of 22 games have a result", 11), (status, output.splitlines()[-1], errors.count("no result: bad wasn't started")))
 
     def test_game(self):
         """A game in which an engine isn't started has it tried again before the next one."""
