@@ -386,6 +386,7 @@ class Full(Case):
         self.check("a full disk: it says once what to do", 1, errors.splitlines().count(said))
         self.check("a full disk: the last line", f"{len(played)} of 8 games have a result", output.splitlines()[-1])
         filler.unlink()
+        subprocess.run(["mount", "-o", "remount,size=16m", str(here.at / "disk")], check=True)
         self.check("a full disk: with room it is gone on with", (0, ""), here.run("tournament", "play", "disk/all")[::2])
         self.check("a full disk: then the results are those of one with room", wanted, here.games("disk/all"))
         self.check("a full disk: no process is left", [], here.left())
