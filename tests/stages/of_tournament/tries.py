@@ -322,10 +322,10 @@ class InARow(Case):
         with room() as here:
             here.script("engine", FAILS)
             engines = ["--engine", f"one={RANDOM} %s", "--engine", f"two={RANDOM} 1%s", "--engine", "bad=./engine 1"]
-            words = ["play", "all", *engines, "--jobs", "1", "--seeds", "3", "--", "--size", "2", "--restarts", "0"]
+            words = ["play", "all", *engines, "--jobs", "1", "--seeds", "4", "--", "--size", "2", "--restarts", "0"]
             status, output, errors = here.run("tournament", *words)
             said = errors.splitlines()
-            self.check("ten in a row: the status, and the last line", (69, "6 of 18 games have a result"), (status, output.splitlines()[-1]))
+            self.check("ten in a row: the status, and the last line", (69, "6 of 24 games have a result"), (status, output.splitlines()[-1]))
             why = r".*no result: bad wasn't started: it ended (at '1 boardsize 2'|before anything was asked): exit status 3"
             self.check("ten games are reported", [True] * 10, [re.fullmatch(why, it) is not None for it in said[:-2]])
             self.check("then it ends with the name", "tournament: bad wasn't started in 10 games in a row: no other game is begun here", said[-2])
