@@ -40,7 +40,7 @@ def plan_for(asked, is_given, folder):
         look_at_pairing(plan, asked, folder)
         had = whole(plan, asked, is_given)
         if is_given and not asked.goes_on(plan):
-            text = f"{difference(plan, asked)}\n{advice(plan, asked, folder)}"
+            text = f"{difference(plan, asked)}\n{advice(plan, asked, folder)}{of_openings(plan, asked)}"
             is_order = sorted(plan.shown()) == sorted(asked.shown())
             raise Mistake(f"{folder} was begun with {'the same in another order' if is_order else 'other engines or options'}. It has\n{text}")
         if is_given and plan.openings and not asked.openings:
@@ -79,6 +79,11 @@ def advice(plan, asked, folder):
     if new and old and (not asked.options or asked.options == plan.options):
         return "To add an engine, repeat the whole command with the new one behind the others. Else take another folder."
     return f"Take another folder, or write tournament play {folder} alone, which goes on with what it has."
+
+
+def of_openings(plan, asked):
+    """What is said besides where a folder has openings, and none are given."""
+    return " It has openings, too: where engines or options are given, write --openings." if plan.openings and not asked.openings else ""
 
 
 def difference(plan, asked):

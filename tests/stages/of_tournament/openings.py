@@ -173,6 +173,10 @@ ASKED = {
     "fewer openings": ([*WORDS[1:7], "--openings=one", *NINE], "all was begun with other openings: take another folder"),
     "none, with engines": ([*WORDS[1:7], *NINE],
                            "all was begun with openings: write --openings with the same ones, or leave out engines and options, too"),
+    "none, with engines alone": (WORDS[1:7],
+                                 "all was begun with other engines or options. It has\noption --size 9\nwhere the command has\nnothing\n"
+                                 "Take another folder, or write tournament play all alone, which goes on with what it has."
+                                 " It has openings, too: where engines or options are given, write --openings."),
     "directly": (["--direct"], "all was begun without --direct: take another folder"),
     "a file that isn't there": (["--openings", "nowhere"], "nowhere can't be read: No such file or directory"),
 }  # fmt: skip
