@@ -44,7 +44,7 @@ class Loop(Case):
             return printed[-1].partition(" Elo")[0].partition(", log")[0], len(printed)
 
     def test_loop(self):
-        """It ends by an answer, by a side that was abandoned, and by the last number of seeds."""
+        """It ends by an answer, by a side that was abandoned unless that is to lose, and by the last number of seeds."""
         text = shown("for ((seeds")
         won, even = ("B", "W"), ("B", "B")
         self.check("it asks for 5000 seeds at most", 1, text.count("seeds <= 5000;"))
@@ -53,6 +53,9 @@ class Loop(Case):
         self.check("the other answer", ("one - two: 0", 4), self.loop([it[::-1] if it is won else it for it in many], text))
         came = self.loop([("abandoned", "B"), *many], text)
         self.check("a side that was abandoned: the test isn't asked", (True, 1), (came[0].startswith("200 of 200 games have a result"), came[1]))
+        going = text.replace("|| break\n", within("|| [ $?") + "\n", 1).replace("0 10", f"0 10 {within('--abandoned')}")
+        came = self.loop([("abandoned", "B"), *many], going)
+        self.check("it goes on where an abandoned side loses, as the page has it", "one - two: 10", came[0])
         came = self.loop([even] * 200, text.replace("5000", "200"))
         self.check("the last seeds, where all pairs end alike", ("one - two: go on: 200 pairs (0 unlike most, not below 10)", 6), came)
 
