@@ -42,6 +42,7 @@ impl Model for Point {
 
 impl Point {
     /// The point where a column and a row cross, where both are 1 to 25.
+    #[inline]
     pub fn new(column: u32, row: u32) -> Option<Point>
         ensures limits { IsSome result ↔ IsCrossing column row }
         ensures value { IfSome result (λ p. p ≡ point column row) }
@@ -53,6 +54,7 @@ impl Point {
     }
 
     /// The point where a column and a row cross.
+    #[inline]
     pub(crate) fn crossing(column: u32, row: u32) -> Point
         requires { IsCrossing column row }
         ensures { result ≡ point column row }

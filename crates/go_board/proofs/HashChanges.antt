@@ -19,17 +19,17 @@ use Rattle.go_board.specs.Hash.{hash_of, stone_key}
 use Rattle.go_board.specs.LastTaken.{AreTakenByLast}
 use Rattle.go_board.specs.private.HashChange.{ChangesHash, IsSumOfTaken}
 use Rattle.go_board.specs.private.Kept.{record_of, IsKept}
-use Rattle.go_board.specs.private.TakenStack.{AreLastOf, stack_of}
+use Rattle.go_board.specs.private.TakenStack.{AreLastOf, stack_of, places_of}
 use Rattle.go_board.proofs.KeptHashes.{hashes-follow}
 use Rattle.go_board.proofs.records.EveryGame.{board-with_move}
 use Rattle.go_board.proofs.records.Moves.{IsBeforeMove-from, with-last, without_last-with_move}
-use Rattle.go_board.proofs.undo.LastTaken.{taken-last, places_of, listed-on}
+use Rattle.go_board.proofs.undo.LastTaken.{taken-last, listed-on}
 
 -- ---- sums in 64 bits
 
-hash-less : (board : List Cell) → hash_of board < 2 ^ 64
+hash-less : (size : ℕ) (board : List Cell) → hash_of size board < 2 ^ 64
 unfolding hash_of
-hash-less board = mod-lt _ (pow_pos 64)
+hash-less size board = mod-lt _ (pow_pos 64)
 
 -- what was added is taken away
 takes-away : (h d n : ℕ) → h < 2 ^ 64 → d < 2 ^ 64 → (h + d) % 2 ^ 64 ≡ n → (n + (2 ^ 64 - d)) % 2 ^ 64 ≡ h
@@ -67,8 +67,8 @@ changes-none game none =
     let same : without_last game ≡ game =
     ap (λ (ms : List Move). let g : GameRecord = record game { moves = ms } in g)
     (take_all (length game.moves - 1) game.moves (omega (arith, none))) in
-    adds-none (hash_of (board_of (without_last game))) (hash-less (board_of (without_last game)))
-    ∙ ap (λ (g : GameRecord). hash_of (board_of g)) same
+    adds-none (hash_of game.size (board_of (without_last game))) (hash-less game.size (board_of (without_last game)))
+    ∙ ap (λ (g : GameRecord). hash_of game.size (board_of g)) same
 
 pub changes-pass : (game : GameRecord) (ms : List Move) (m : Move) → game.moves ≡ ms ++ m ∷ [] → m.vertex ≡ Pass
     → ChangesHash game 0
@@ -77,11 +77,11 @@ changes-pass game ms m ends is =
     let same : with_move before m.colour m.vertex ≡ game = with-last game ms m ends in
     let back : without_last game ≡ before =
     ap without_last (sym same) ∙ without_last-with_move before m.colour m.vertex in
-    adds-none (hash_of (board_of (without_last game))) (hash-less (board_of (without_last game)))
-    ∙ ap (λ (g : GameRecord). hash_of (board_of g)) back
-    ∙ ap hash_of (sym (board-with_move before m.colour m.vertex
+    adds-none (hash_of game.size (board_of (without_last game))) (hash-less game.size (board_of (without_last game)))
+    ∙ ap (λ (g : GameRecord). hash_of game.size (board_of g)) back
+    ∙ ap (hash_of game.size) (sym (board-with_move before m.colour m.vertex
     ∙ ap (after_vertex (board_of before) m.colour) is))
-    ∙ ap (λ (g : GameRecord). hash_of (board_of g)) same
+    ∙ ap (λ (g : GameRecord). hash_of game.size (board_of g)) same
 
 play-changes : (game : GameRecord) (ms : List Move) (c : Colour) (p sum : ℕ) → IsGame game
     → game.moves ≡ ms ++ record { colour = c; vertex = At p } ∷ [] → IsSumOfTaken game (other c) sum
@@ -93,10 +93,11 @@ play-changes game ms c p sum g ends keys =
     let back : without_last game ≡ before = ap without_last (sym same) ∙ without_last-with_move before c (At p) in
     let law = hashes-follow before c p keys.points b.game_is b.legal
     (subst (λ (r : GameRecord). AreTakenByLast r keys.points) (sym same) keys.taken) in
-    ap (λ (r : GameRecord). (hash_of (board_of r) + (stone_key c p + (2 ^ 64 - sum)) % 2 ^ 64) % 2 ^ 64) back
-    ∙ adds-key (hash_of (board_of before)) (hash_of (board_of (with_move before c (At p)))) (stone_key c p)
-    (sum_by (stone_key (other c)) keys.points) sum (hash-less (board_of (with_move before c (At p)))) keys.sum_is law
-    ∙ ap (λ (r : GameRecord). hash_of (board_of r)) same
+    ap (λ (r : GameRecord). (hash_of game.size (board_of r) + (stone_key c p + (2 ^ 64 - sum)) % 2 ^ 64) % 2 ^ 64) back
+    ∙ adds-key (hash_of game.size (board_of before)) (hash_of game.size (board_of (with_move before c (At p))))
+    (stone_key c p) (sum_by (stone_key (other c)) keys.points) sum
+    (hash-less game.size (board_of (with_move before c (At p)))) keys.sum_is law
+    ∙ ap (λ (r : GameRecord). hash_of game.size (board_of r)) same
 
 pub changes-play : (game : GameRecord) (ms : List Move) (m : Move) (p sum key : ℕ) → IsGame game
     → game.moves ≡ ms ++ m ∷ [] → m.vertex ≡ At p → IsSumOfTaken game (other m.colour) sum
@@ -109,12 +110,13 @@ changes-play game ms m p sum key g ends is keys key_is =
 
 -- ---- the kept hash
 
-pub kept-undo : (old new : GameRecord) (hash change : ℕ) → new ≡ without_last old → hash ≡ hash_of (board_of old)
-    → change < 2 ^ 64 → ChangesHash old change → (hash + (2 ^ 64 - change)) % 2 ^ 64 ≡ hash_of (board_of new)
+pub kept-undo : (old new : GameRecord) (hash change : ℕ) → new ≡ without_last old
+    → hash ≡ hash_of old.size (board_of old) → change < 2 ^ 64 → ChangesHash old change
+    → (hash + (2 ^ 64 - change)) % 2 ^ 64 ≡ hash_of new.size (board_of new)
 kept-undo old new hash change is kept less changes =
-    takes-away (hash_of (board_of (without_last old))) change hash (hash-less (board_of (without_last old))) less
-    (changes ∙ sym kept)
-    ∙ ap (λ (g : GameRecord). hash_of (board_of g)) (sym is)
+    takes-away (hash_of old.size (board_of (without_last old))) change hash
+    (hash-less old.size (board_of (without_last old))) less (changes ∙ sym kept)
+    ∙ ap (λ (g : GameRecord). hash_of g.size (board_of g)) (sym is)
 
 -- ---- the loop over the stones that were taken
 

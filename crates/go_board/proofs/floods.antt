@@ -3,3 +3,4 @@ pub mod PlaceSets
 pub mod Regions
 pub mod OneChain
 pub mod Liberties
+pub mod Beside

@@ -1,8 +1,9 @@
 -- Which plays bring back an earlier board.
 pub mod ReplayedBoards
-pub mod EarlierStones
 pub mod PlaysTakenBack
 pub mod KoPoints
 pub mod KoPointsFound
+pub mod OnlyKoPoint
 pub mod OneCapture
 pub mod LoneStones
+pub mod KoPointPlays

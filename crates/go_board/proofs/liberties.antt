@@ -8,3 +8,4 @@ pub mod MergingIds
 pub mod ChangingIds
 pub mod StonesFields
 pub mod Shares
+pub mod StoneNumbers

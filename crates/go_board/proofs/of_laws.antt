@@ -5,3 +5,6 @@ pub mod KoRules
 pub mod ChainsAsSets
 pub mod GameEnds
 pub mod UntouchedGames
+pub mod RandomMoves
+pub mod Hashes
+pub mod EmptyBoards

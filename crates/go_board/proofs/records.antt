@@ -6,3 +6,9 @@ pub mod TakenStack
 pub mod EveryGame
 pub mod LegalPoints
 pub mod RowsOfPoints
+pub mod PointLists
+pub mod ChainLists
+pub mod Tables
+pub mod PastHashes
+pub mod LastTaken
+pub mod PlayHashes

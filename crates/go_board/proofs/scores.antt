@@ -1,3 +1,4 @@
 -- Points that count for a colour.
 pub mod Areas
 pub mod HowMany
+pub mod OpenPoints

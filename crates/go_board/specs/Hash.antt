@@ -1,5 +1,8 @@
--- A hash of a board: the sum of the keys of its stones, in 64 bits. (Zobrist's, with sums: a stone that comes or goes
--- changes it by its key alone.)
+-- A hash of a board and its size: the sum of the keys of the size and of the stones, in 64 bits. (Zobrist's, with sums:
+-- a stone that comes or goes changes it by its key alone.)
+--
+-- Each key is that of a number of its own: 0 to 1,403 are of stones and 1,405 to 1,429 of sizes. A position's hash has
+-- two kinds more: 1,430 and 1,431 are of the colours to move, and the numbers from 1,432 on of ko points.
 use Rattle.std.specs.Prelude.{ℕ, ◌+◌, ◌*◌, ◌/◌, ◌%◌, ◌^◌, List, bit_xor}
 use Rattle.std.specs.List.{sum_by, range_with_len}
 use Rattle.go_base.specs.declared.colours.Colour.{Colour}
@@ -15,14 +18,18 @@ mixed a =
     let c = (bit_xor b (b / 2 ^ 27) * 10723151780598845931) % 2 ^ 64 in
     bit_xor c (c / 2 ^ 31)
 
--- the number of a stone: two for each point
+-- the key of a number: a draw of that generator
+unfoldable pub key : ℕ → ℕ
+key number = mixed ((number * 11400714819323198485) % 2 ^ 64)
+
+-- the number of a stone: two for each place
 abbrev pub stone_number : Colour → ℕ → ℕ
 stone_number colour.Black p = 2 * p
 stone_number colour.White p = 2 * p + 1
 
--- the key of a stone of this colour on a point: a draw of that generator
+-- the key of a stone of this colour on a point
 unfoldable pub stone_key : Colour → ℕ → ℕ
-stone_key c p = mixed ((stone_number c p * 11400714819323198485) % 2 ^ 64)
+stone_key c p = key (stone_number c p)
 
 -- what a place adds: the key of its stone, where it has one
 abbrev pub key_of : Cell → ℕ → ℕ
@@ -31,6 +38,11 @@ key_of White p = stone_key colour.White p
 key_of Empty p = 0
 key_of Edge p = 0
 
--- the hash of a board
-unfoldable pub hash_of : List Cell → ℕ
-hash_of board = sum_by (λ p. key_of (at board p) p) (range_with_len 0 place_count) % 2 ^ 64
+-- the key of a size: its number comes after those of all stones
+unfoldable pub size_key : ℕ → ℕ
+size_key size = key (2 * place_count + size)
+
+-- the hash of a board of this size
+unfoldable pub hash_of : ℕ → List Cell → ℕ
+hash_of size board =
+    (size_key size + sum_by (λ p. key_of (at board p) p) (range_with_len 0 place_count)) % 2 ^ 64

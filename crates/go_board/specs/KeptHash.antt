@@ -13,5 +13,5 @@ use Rattle.go_board.specs.LastTaken.{AreTakenByLast}
 abbrev pub HashesFollowPlays : Type 0
 HashesFollowPlays = (game : GameRecord) (c : Colour) (p : ℕ) (taken : List ℕ) → IsGame game → IsLegal game c (At p)
     → AreTakenByLast (with_move game c (At p)) taken
-    → (hash_of (board_of (with_move game c (At p))) + sum_by (stone_key (other c)) taken) % 2 ^ 64
-    ≡ (hash_of (board_of game) + stone_key c p) % 2 ^ 64
+    → (hash_of game.size (board_of (with_move game c (At p))) + sum_by (stone_key (other c)) taken) % 2 ^ 64
+    ≡ (hash_of game.size (board_of game) + stone_key c p) % 2 ^ 64

@@ -15,3 +15,8 @@ pub record IsTakenByLast (game : GameRecord) (q : ℕ) : Type 0 where
 pub record AreTakenByLast (game : GameRecord) (points : List ℕ) : Type 0 where
   pub each : (q : ℕ) → Contains points q ↔ IsTakenByLast game q
   pub in_order : AllPairs (λ p q. p < q) points
+
+-- the last move took a stone
+pub record HasTakenByLast (game : GameRecord) : Type 0 where
+  pub point : ℕ
+  pub taken : IsTakenByLast game point

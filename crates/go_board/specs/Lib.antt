@@ -11,7 +11,16 @@ pub mod Laws
 pub mod LegalPoints
 pub mod Liberties
 pub mod LastTaken
+pub mod KoPoint
+pub mod Eye
+pub mod Candidates
+pub mod Index
+pub mod ChainPoints
+pub mod Playouts
+pub mod PlayoutLaws
 pub mod Hash
 pub mod KeptHash
+pub mod PositionHash
+pub mod HashLaws
 pub mod decisions
 pub mod private

@@ -11,3 +11,12 @@ pub mod Kept
 pub mod Stones
 pub mod HashChange
 pub mod Columns
+pub mod Playouts
+pub mod Eye
+pub mod PointList
+pub mod Areas
+pub mod Rollouts
+pub mod PlayoutBoard
+pub mod PlayoutStones
+pub mod EmptyPoints
+pub mod PastHashes

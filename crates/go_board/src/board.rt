@@ -4,8 +4,10 @@ ghost use Rattle.go_base.specs.Point.{IsOn};
 ghost use Rattle.go_base.specs.Size.{most_size, IsSize};
 ghost use Rattle.go_board.specs.Board.{is_point};
 
+mod eyes;
+
 use crate::columns::Columns;
-use crate::hashes::key_of;
+use crate::hashes::{key_of, size_key};
 use crate::places::Places;
 use crate::taken_stack::TakenStone;
 use go_base::{Colour, Point, Size, Vertex, handicap};
@@ -143,14 +145,11 @@ impl Board {
     ghost use Rattle.go_board.specs.private.ChainId.{IsChainOf, empty_at, empty_beside};
     ghost use Rattle.go_board.specs.Board.{place_count, at, stone, empty_board, with_black, HasStone};
     ghost use Rattle.go_board.specs.private.Columns.{AreEmptyIn};
-    ghost use Rattle.go_board.specs.private.Frame.{HasSize, SameEdge};
-    ghost use Rattle.go_base.specs.Colour.{other};
+    ghost use Rattle.go_board.specs.private.Frame.{IsFramed, HasSize, SameEdge};
     ghost use Rattle.go_base.specs.Handicap.{AllowsHandicap};
-    ghost use Rattle.go_board.specs.Counting.{CountsFor};
-    ghost use Rattle.go_board.specs.Area.{area};
     ghost use Rattle.go_board.specs.Chain.{HasBeside};
     ghost use Rattle.go_board.specs.Hash.{hash_of};
-    ghost use Rattle.go_board.specs.private.Flood.{IsSpread, AreSpread, AreTouching, AreEmptyBeside};
+    ghost use Rattle.go_board.specs.private.Flood.{IsSpread, AreSpread, AreEmptyBeside};
     ghost use Rattle.go_board.specs.Game.{start, after_vertex};
     ghost use Rattle.go_board.specs.private.TakenStack.{ArePoints, AreTakenBy, IsVacant, cleared, later_than};
     ghost use Rattle.go_board.specs.declared.board.Cell.TheVariants.{Edge};
@@ -201,6 +200,14 @@ impl Board {
         self.cells.iter().any(|cell| cell.is_stone())
     }
 
+    /// A look: what isn't edge is a point of the largest board.
+    #[inline]
+    pub fn look(&self)
+        ensures { IsFramed self.now }
+    {
+        let _ = &self.cells;
+    }
+
     /// What a place holds.
     #[inline]
     pub fn at(&self, place: usize) -> Cell
@@ -234,11 +241,11 @@ impl Board {
         self.cells[place] = cell;
     }
 
-    /// The sum of the keys of the stones, in 64 bits.
-    pub fn hash(&self) -> u64
-        ensures { result ≡ hash_of self.now }
+    /// The sum of the keys of this size and of the stones, in 64 bits.
+    pub fn hash(&self, size: Size) -> u64
+        ensures { result ≡ hash_of size self.now }
     {
-        let mut sum = 0_u64;
+        let mut sum = size_key(size);
         for (place, cell) in self.cells.iter().enumerate() {
             sum = sum.wrapping_add(key_of(*cell, place));
         }
@@ -332,26 +339,6 @@ impl Board {
             + self.empty_at(place - ROW)
     }
 
-    /// The places that hold what is sought and whose chain or region touches what is wanted.
-    pub fn touching(&self, sought: Cell, wanted: Cell) -> Places
-        requires { sought ≢ Edge }
-        ensures { AreTouching self.now sought wanted result }
-    {
-        let mut found = Places::new();
-        for (place, cell) in self.cells.iter().enumerate() {
-            if *cell == sought && self.has_beside(place, wanted) {
-                found.insert(place);
-            }
-        }
-        let mut next = 0;
-        while next < found.len() {
-            let place = found.get(next);
-            self.spread_round(sought, place, &mut found);
-            next += 1;
-        }
-        found
-    }
-
     /// Finds the places of the chain or region of a point, instead of those that were there.
     pub fn chain_into(&self, place: usize, found: &mut Places)
         requires place { place < place_count }
@@ -385,7 +372,7 @@ impl Board {
 
     /// Inserts those of a point's four neighbours that hold what is sought.
     #[inline]
-    fn spread_round(&self, sought: Cell, place: usize, found: &mut Places)
+    pub fn spread_round(&self, sought: Cell, place: usize, found: &mut Places)
         requires low { ROW < place }
         requires high { place + ROW < place_count }
         ensures { AreSpread self.now sought place found.old found.new }
@@ -405,36 +392,5 @@ impl Board {
         if self.cells[place] == sought {
             found.insert(place);
         }
-    }
-
-    /// How many points count for a colour: those with its stones, and those of empty regions that only its stones are
-    /// beside.
-    pub fn area(&self, colour: Colour) -> u32
-        ensures area { result ≡ area self.now colour }
-        ensures few { result ≤ place_count }
-    {
-        let mine = self.touching(Cell::Empty, Cell::stone(colour));
-        let theirs = self.touching(Cell::Empty, Cell::stone(colour.other()));
-        let mut area = 0;
-        for place in 0..PLACES {
-            if self.counts_for(colour, &mine, &theirs, place) {
-                area += 1;
-            }
-        }
-        area
-    }
-
-    /// Whether a point counts for a colour, where `mine` and `theirs` are the empty points of the regions beside its
-    /// stones and beside the other's.
-    #[inline]
-    fn counts_for(&self, colour: Colour, mine: &Places, theirs: &Places, place: usize) -> bool
-        requires few { place < place_count }
-        requires mine { AreTouching self.now Cell.Empty (stone colour) mine.now }
-        requires theirs { AreTouching self.now Cell.Empty (stone (other colour)) theirs.now }
-        ensures { IsTrue result ↔ CountsFor self.now colour place }
-    {
-        let cell = self.at(place);
-        cell == Cell::stone(colour)
-            || cell == Cell::Empty && mine.contains(place) && !theirs.contains(place)
     }
 }

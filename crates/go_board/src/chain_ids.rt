@@ -1,5 +1,6 @@
 //! The id of each place of a board.
-ghost use Rattle.std.specs.Prelude.{◌≡◌, ◌<◌, ◌↔◌, IsTrue};
+ghost use Rattle.std.specs.Prelude.{◌≡◌, ◌<◌, ◌≤◌, ◌↔◌, IsTrue};
+ghost use Rattle.go_base.specs.Size.{most_size};
 ghost use Rattle.go_board.specs.Board.{place_count};
 ghost use Rattle.go_board.specs.private.Steps.{rename};
 
@@ -32,6 +33,7 @@ impl ChainIds {
     ghost use Rattle.go_board.specs.private.ChainId.{id_of, AreChainIds};
     ghost use Rattle.go_board.specs.private.Steps.{rename_three, HasInRow, AreGiven, AreOthersKept};
     ghost use Rattle.go_board.specs.private.Frame.{IsFramed};
+    ghost use Rattle.go_board.specs.private.PlayoutBoard.{AreInRows, AreNamed};
 
     /// Each place has id 0, which is no stone's.
     pub fn none() -> Self
@@ -119,6 +121,20 @@ impl ChainIds {
         let (to, a, b, c) = (to as u16, a as u16, b as u16, c as u16);
         for id in &mut self.ids {
             *id = rename(to, c, rename(to, b, rename(to, a, *id)));
+        }
+    }
+
+    /// Turns three ids into one, in one pass over the rows of `lines` lines. All other places have id 0.
+    pub fn join_rows(&mut self, to: usize, a: usize, b: usize, c: usize, lines: usize)
+        requires to { to < place_count }
+        requires named { AreNamed a b c }
+        requires lines { lines ≤ most_size }
+        requires rows { AreInRows self.old lines }
+        ensures { self.new ≡ map (rename_three to a b c) self.old }
+    {
+        let (to, a, b, c) = (to as u16, a as u16, b as u16, c as u16);
+        for place in ROW..ROW * (lines + 1) {
+            self.ids[place] = rename(to, c, rename(to, b, rename(to, a, self.ids[place])));
         }
     }
 }

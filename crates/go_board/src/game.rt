@@ -9,27 +9,32 @@ ghost use Rattle.go_board.specs.Board.{place_count};
 ghost use Rattle.go_board.specs.private.TakenStack.{most_taken};
 ghost use Rattle.go_board.specs.Taken.{same_colour};
 
+mod boards;
+mod candidates;
+mod chain_lists;
 mod copies;
 mod hash_change;
+mod playouts;
+mod position_hash;
+mod repeats;
+mod rollouts;
 mod searching;
 
 use crate::board::{Board, Cell, place_of};
 use crate::chains::Chains;
 use crate::faults::{HandicapFault, NothingToUndo, PlayFault};
 use crate::ko::{Ko, ko_after};
+use crate::past_hashes::PastHashes;
 use crate::rules::KoRule;
 use crate::taken_stack::TakenStack;
 use arrayvec::ArrayVec;
 use go_base::{Colour, Komi, Move, Point, Size, Vertex, handicap};
+pub(crate) use playouts::draw;
 pub use searching::{Chain, MOST_POINTS};
 use std::marker::Model;
 
 /// How many moves a record has room for.
 pub const MOST_MOVES: usize = 2000;
-
-/// How many of the last moves are looked at for a stone that earlier boards hadn't. To look at more takes longer than
-/// it saves.
-const LAST_MOVES: usize = 32;
 
 /// A game of Go: its size, komi and handicap, and the moves made so far.
 ///
@@ -46,6 +51,7 @@ pub struct Game {
     stack: TakenStack,
     taken_by_black: u32,
     taken_by_white: u32,
+    hashes: PastHashes,
 }
 
 impl Model for Game {
@@ -64,16 +70,18 @@ impl Game {
     ghost use Rattle.go_board.specs.Board.{at, stone_at};
     ghost use Rattle.go_board.specs.Play.{play};
     ghost use Rattle.go_board.specs.declared.board.Cell.TheVariants.{Empty};
-    ghost use Rattle.go_board.specs.Game.{HasRoom, without_last, with_move, board_of, RepeatsLast, RepeatsAny};
+    ghost use Rattle.go_board.specs.Game.{HasRoom, without_last, with_move, board_of, RepeatsLast};
     ghost use Rattle.go_board.specs.Game.{Repeats, IsLegal, fresh_game_under};
     ghost use Rattle.go_board.specs.declared.rules.KoRule.TheVariants.{Simple};
     ghost use Rattle.go_board.specs.Game.{IsGame, IsFinished};
     ghost use Rattle.go_board.specs.decisions.Game.{finished?};
     ghost use Rattle.go_board.specs.Taken.{taken};
     ghost use Rattle.go_board.specs.Area.{score};
+    ghost use Rattle.go_base.specs.declared.colours.Colour.TheVariants.{Black, White};
+    ghost use Rattle.go_board.specs.Game.{GameRecord};
+    ghost use Rattle.go_board.specs.private.Areas.{stones_on};
     ghost use Rattle.go_board.specs.Refusals.{RefusesPoint, RefusesVertex, Refuses, IsTouched, RefusesHandicap};
     ghost use Rattle.go_base.specs.declared.vertices.Vertex.TheVariants.{At};
-    ghost use Rattle.go_board.specs.private.TakenStack.{StoodBelow, RepeatsBelow, IsAlsoBelow};
 
     /// A game under simple ko, without handicap and moves.
     pub fn new(size: Size, komi: Komi) -> Self
@@ -109,7 +117,9 @@ impl Game {
     {
         // A look: komi is in its limits.
         let _ = komi.half_points();
-        let chains = Chains::from_board(Board::start(size, stones));
+        let board = Board::start(size, stones);
+        let hashes = PastHashes::of_start(rule, size, &board);
+        let chains = Chains::from_board(board);
         let stack = TakenStack::new();
         Game {
             size,
@@ -122,6 +132,7 @@ impl Game {
             stack,
             taken_by_black: 0,
             taken_by_white: 0,
+            hashes,
         }
     }
 
@@ -219,6 +230,7 @@ impl Game {
         }
         let made = Move { colour, vertex };
         self.test(made.colour, made.vertex)?;
+        let hash = self.known_hash(made.colour, made.vertex);
         let number = self.moves.len();
         let taken = self
             .chains
@@ -227,6 +239,8 @@ impl Game {
         self.taken_by_white = with_taken(self.taken_by_white, taken, colour, Colour::White);
         self.moves.push(made);
         self.ko = ko_after(&self.moves, &self.stack);
+        self.hashes
+            .add(self.rule, self.size, self.chains.board(), hash);
         Ok(())
     }
 
@@ -278,91 +292,6 @@ impl Game {
         }
     }
 
-    /// Whether a play on an empty point would bring back any board of the record.
-    #[inline(never)]
-    fn repeats_any(&self, colour: Colour, point: Point) -> bool
-        requires { at (board_of self.now) point ≡ Empty }
-        ensures { IsTrue result ↔ RepeatsAny self.now (play (board_of self.now) colour point) }
-    {
-        self.boards_to_compare(colour, point) > 0
-            && self.had_board(&self.board_after(colour, point), place_of(point))
-    }
-
-    /// How many boards of the record, from the first on, may be the one that a play on an empty point leaves. That
-    /// board has a stone of the colour on the point, and one on each point where the colour's last moves put one.
-    fn boards_to_compare(&self, colour: Colour, point: Point) -> usize
-        requires { at (board_of self.now) point ≡ Empty }
-        ensures { RepeatsBelow self.now colour point result }
-    {
-        let mut few = self.boards_with_stone(colour, place_of(point));
-        let mut number = self.moves.len();
-        let end = self.moves.len().saturating_sub(LAST_MOVES);
-        while 0 < few && few <= number && end < number {
-            number -= 1;
-            let made = self.moves[number];
-            few = self.boards_with_move(colour, made.colour, made.vertex, few);
-        }
-        few
-    }
-
-    /// How many of the first `few` boards of the record may have had the stone of a move, where the move is of this
-    /// colour. A pass and a move of the other colour leave all.
-    fn boards_with_move(&self, colour: Colour, mover: Colour, vertex: Vertex, few: usize) -> usize
-        ensures { IsAlsoBelow self.now colour mover vertex few result }
-    {
-        match vertex {
-            Vertex::At(point) if mover == colour => {
-                self.boards_with_stone(colour, place_of(point)).min(few)
-            }
-            _ => few,
-        }
-    }
-
-    /// How many boards of the record, from the first on, may have had a stone of this colour on a place that was taken
-    /// since: those up to the last move of the other colour that took one there.
-    fn boards_with_stone(&self, colour: Colour, place: usize) -> usize
-        ensures { StoodBelow self.now colour place result }
-    {
-        let mut left = self.stack.stones();
-        while let Some((last, earlier)) = left.split_last() {
-            let number = usize::from(last.number);
-            if usize::from(last.place) == place && self.moves[number].colour != colour {
-                return number + 1;
-            }
-            left = earlier;
-        }
-        0
-    }
-
-    /// The board after a play on an empty point.
-    fn board_after(&self, colour: Colour, point: Point) -> Board
-        requires { at (board_of self.now) point ≡ Empty }
-        ensures { result ≡ play (board_of self.now) colour point }
-    {
-        let mut chains = self.chains.copy();
-        let mut stack = TakenStack::new();
-        // How many stones it takes doesn't matter here.
-        let _ = chains.make_play(colour, place_of(point), 0, &mut stack);
-        *chains.board()
-    }
-
-    /// Whether the board was this one after some number of moves, from none to all: the record is played again on
-    /// another board. The place is one where earlier boards may well differ.
-    fn had_board(&self, wanted: &Board, place: usize) -> bool
-        requires { IsOn most_size place }
-        ensures { IsTrue result ↔ RepeatsAny self.now wanted.now }
-    {
-        let mut board = Board::start(self.size, self.handicap);
-        let mut stones = self.stack.stones();
-        for (number, made) in self.moves.iter().enumerate() {
-            if board.equals(wanted, place) {
-                return true;
-            }
-            stones = board.make(made.colour, made.vertex, number, stones);
-        }
-        board.equals(wanted, place)
-    }
-
     /// Whether a play on an empty point would bring back the board before the previous move.
     #[inline]
     fn repeats_last(&self, colour: Colour, place: usize) -> bool
@@ -398,6 +327,7 @@ impl Game {
         self.taken_by_black = without_taken(self.taken_by_black, taken, colour, Colour::Black);
         self.taken_by_white = without_taken(self.taken_by_white, taken, colour, Colour::White);
         self.ko = ko_after(&self.moves, &self.stack);
+        self.hashes.drop_last();
         Ok(last)
     }
 
@@ -464,15 +394,29 @@ impl Game {
     ///
     /// A point counts for the colour of its stone, and an empty one where the stones beside its region are of one
     /// colour alone, for that colour.
-    // The proof opens the definition of the score by name. Proofs that don't name it see one number, so none of them
-    // grows with the number of points.
-    #[tactic(auto, unfolding(crate::specs::Area::score))]
     pub fn score(&self) -> i32
         ensures { result ≡ score self.now }
     {
-        let board = self.chains.board();
-        let black = board.area(Colour::Black) as i32;
-        let white = board.area(Colour::White) as i32;
+        let black_stones = self.chains.stones_of(Colour::Black);
+        let white_stones = self.chains.stones_of(Colour::White);
+        self.score_of(self.chains.board(), black_stones, white_stones)
+    }
+
+    /// The score with a board on which the colours have so many stones.
+    // The proof opens the definition of the score by name. Proofs that don't name it see one number, so none of them
+    // grows with the number of points.
+    #[tactic(auto, unfolding(crate::specs::Area::score))]
+    fn score_of(&self, board: &Board, black_stones: u32, white_stones: u32) -> i32
+        requires black { black_stones ≡ stones_on board.now Black }
+        requires white { white_stones ≡ stones_on board.now White }
+        requires few_black { black_stones ≤ place_count }
+        requires few_white { white_stones ≤ place_count }
+        ensures { (game : GameRecord) → board.now ≡ board_of game → self.now.komi ≡ game.komi
+            → result ≡ score game }
+    {
+        let open = board.open_area();
+        let black = (black_stones + open.black) as i32;
+        let white = (white_stones + open.white) as i32;
         2 * (black - white) - self.komi.half_points()
     }
 

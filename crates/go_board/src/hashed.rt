@@ -8,8 +8,8 @@ use std::marker::Model;
 
 /// A game that keeps a hash of its board: for a search that looks up whether it has met a board before.
 ///
-/// It is seen as its game. Equal boards have equal hashes, as `Game::board_hash` says, and boards that differ may have
-/// one hash, but seldom do. A move and an `undo` change the hash by the keys of the stones that come and go alone, and
+/// It is seen as its game. Equal boards of one size have equal hashes, as `Game::board_hash` says, and boards that
+/// differ may have one hash. A move and an `undo` change the hash by the keys of the stones that come and go alone, and
 /// `hash` reads it, where `Game::board_hash` passes over the board.
 #[derive(Drop)]
 pub struct HashedGame {
@@ -26,12 +26,13 @@ impl Model for HashedGame {
 
     ghost view = { λ h. h.game };
 
-    ghost invariant = { λ h. h.hash ≡ hash_of (board_of h.game) };
+    ghost invariant = { λ h. h.hash ≡ hash_of h.game.size (board_of h.game) };
 }
 
 impl HashedGame {
     ghost use Rattle.go_board.specs.Game.{HasRoom, IsLegal, board_of, with_move, without_last};
     ghost use Rattle.go_board.specs.Hash.{hash_of};
+    ghost use Rattle.go_board.specs.PositionHash.{IsPositionHash};
     ghost use Rattle.go_board.specs.Refusals.{Refuses};
 
     /// This game, with the hash of its board, which is computed once.
@@ -58,9 +59,17 @@ impl HashedGame {
 
     /// The hash of the board: what `Game::board_hash` returns for the game.
     pub fn hash(&self) -> u64
-        ensures { result ≡ hash_of (board_of self.now) }
+        ensures { result ≡ hash_of self.now.size (board_of self.now) }
     {
         self.hash
+    }
+
+    /// A hash of the position with a colour to move: what `Game::position_hash` returns for the game, by the hash that
+    /// is kept.
+    pub fn position_hash(&self, to_move: Colour) -> u64
+        ensures { IsPositionHash self.now to_move result }
+    {
+        self.game.hash_with_mover(self.hash, to_move)
     }
 
     /// Makes a move, as `Game::play` does. The hash changes by the key of the move's stone and those of the stones that

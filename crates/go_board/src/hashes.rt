@@ -1,14 +1,21 @@
-//! Hashes of boards, by the keys of their stones.
+//! Hashes of boards and positions, by the keys of what they have.
 ghost use Rattle.std.specs.Prelude.{◌≡◌, ◌<◌};
 ghost use Rattle.go_board.specs.Board.{place_count};
-ghost use Rattle.go_board.specs.Hash.{mixed, stone_key, key_of};
+ghost use Rattle.go_board.specs.Hash.{mixed, key, stone_key, key_of, size_key};
 ghost use Rattle.go_board.specs.KeptHash.{HashesFollowPlays};
+ghost use Rattle.go_board.specs.PositionHash.{mover_key, ko_key};
 
-use crate::board::{Cell, place_of};
-use go_base::{Colour, Point};
+use crate::board::{Cell, PLACES, place_of};
+use go_base::{Colour, Point, Size};
 
 /// What numbers are multiplied by before they are mixed, odd and near 2^64 over the golden ratio.
 const STEP: u64 = 0x9e37_79b9_7f4a_7c15;
+
+/// The first number of the keys of the colours to move, which come after those of the sizes.
+const MOVERS: usize = 1430;
+
+/// The first number of the keys of ko points.
+const KO_POINTS: usize = 1432;
 
 /// The key of a stone of this colour on a point, which is what it adds to `Game::board_hash`. So a play adds the key of
 /// its stone to the hash, and takes away those of the stones that it takes, in 64 bits.
@@ -26,11 +33,10 @@ pub(crate) fn key_at(colour: Colour, place: usize) -> u64
     requires { place < place_count }
     ensures { result ≡ stone_key colour place }
 {
-    let number = match colour {
-        Colour::Black => 2 * place,
-        Colour::White => 2 * place + 1,
-    };
-    mixed((number as u64).wrapping_mul(STEP))
+    match colour {
+        Colour::Black => key(2 * place),
+        Colour::White => key(2 * place + 1),
+    }
 }
 
 /// What a place that holds this adds to the hash of its board.
@@ -44,6 +50,42 @@ pub(crate) fn key_of(cell: Cell, place: usize) -> u64
         Cell::White => key_at(Colour::White, place),
         Cell::Empty | Cell::Edge => 0,
     }
+}
+
+/// What the size of a board adds to its hash.
+#[tactic(auto, unfolding(crate::specs::Hash::size_key))]
+pub(crate) fn size_key(size: Size) -> u64
+    ensures { result ≡ size_key size }
+{
+    key(2 * PLACES + size.get() as usize)
+}
+
+/// What the colour to move adds to the hash of a position.
+#[tactic(auto, unfolding(crate::specs::PositionHash::mover_key))]
+pub(crate) fn mover_key(colour: Colour) -> u64
+    ensures { result ≡ mover_key colour }
+{
+    match colour {
+        Colour::Black => key(MOVERS),
+        Colour::White => key(MOVERS + 1),
+    }
+}
+
+/// What a ko point adds to the hash of a position.
+#[tactic(auto, unfolding(crate::specs::PositionHash::ko_key))]
+pub(crate) fn ko_key(point: Point) -> u64
+    ensures { result ≡ ko_key point }
+{
+    key(KO_POINTS + place_of(point))
+}
+
+/// The key of a number.
+#[inline]
+#[tactic(auto, unfolding(crate::specs::Hash::key))]
+fn key(number: usize) -> u64
+    ensures { result ≡ key number }
+{
+    mixed((number as u64).wrapping_mul(STEP))
 }
 
 /// The bits of a number, mixed.

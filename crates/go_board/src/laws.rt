@@ -8,6 +8,12 @@ ghost use Rattle.go_board.specs.Laws.{JoinedPointsAreTheSmallestSet, UntouchedIs
 ghost use Rattle.go_board.specs.Laws.{NoneIsTakenFirst, MovesAddWhatTheyTake};
 ghost use Rattle.go_board.specs.Laws.{WhatBelongsCounts, PointsBelongToOne, ScoresAreThese, RefusalsAreFirstCauses};
 ghost use Rattle.go_board.specs.Laws.{GamesEndByTwoPasses, UntouchedGamesAreBlank};
+ghost use Rattle.go_board.specs.HashLaws.{EqualBoardsHaveOneHash, EqualPositionsHaveOneHash};
+ghost use Rattle.go_board.specs.HashLaws.{EmptyBoardsHaveTheirOwnHash};
+ghost use Rattle.go_board.specs.Candidates.{CandidatesAreChosenEvenly};
+ghost use Rattle.go_board.specs.Index.{IndexesAreOfOnePoint, IndexesAreThose};
+
+pub mod playouts;
 
 /// A game without moves has just one board: Black's stones on the handicap's points, the other points empty, and edge
 /// round them.
@@ -84,4 +90,25 @@ pub fn games_end_by_two_passes()
 /// A game is untouched exactly where its record has no move and each point of its board is empty.
 pub fn untouched_boards()
     ensures { UntouchedGamesAreBlank }
+{}
+
+/// Games of equal size and with equal boards have one hash, and positions that have the ko point and the colour to move
+/// in common too. So different hashes show a difference, and equal ones show nothing. The size is in the hash: the
+/// boards without a stone of two sizes have two hashes.
+pub fn equal_hashes()
+    ensures boards { EqualBoardsHaveOneHash }
+    ensures positions { EqualPositionsHaveOneHash }
+    ensures sizes { EmptyBoardsHaveTheirOwnHash }
+{}
+
+/// Of as many words in a row as a colour has candidates, each candidate is chosen by just one. So of all words of 64 bits
+/// `Game::random_move` has each candidate chosen by as many, or by one more than another.
+pub fn random_moves()
+    ensures { CandidatesAreChosenEvenly }
+{}
+
+/// The numbers from 0 below the number of a board's points are those of its points, and each is of just one.
+pub fn numbers_of_points()
+    ensures one { IndexesAreOfOnePoint }
+    ensures those { IndexesAreThose }
 {}

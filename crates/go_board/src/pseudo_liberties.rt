@@ -1,5 +1,5 @@
 //! The pseudo-liberties of each chain: the empty neighbours of its stones, added up.
-ghost use Rattle.std.specs.Prelude.{◌≡◌, ◌+◌, ◌-◌, ◌<◌, ◌≤◌};
+ghost use Rattle.std.specs.Prelude.{◌≡◌, ◌+◌, ◌-◌, ◌%◌, ◌<◌, ◌≤◌};
 ghost use Rattle.go_base.specs.Point.{IsOn};
 ghost use Rattle.go_base.specs.Size.{most_size};
 ghost use Rattle.go_board.specs.Board.{place_count};
@@ -35,6 +35,7 @@ impl PseudoLiberties {
     ghost use Rattle.go_board.specs.private.Steps.{most_pseudo_liberties, IsBelow, IsLowered, AreLowered, IsRaised};
     ghost use Rattle.go_board.specs.private.Steps.{AreRaised};
     ghost use Rattle.go_board.specs.private.Steps.{IsMoved};
+    ghost use Rattle.go_board.specs.private.PlayoutBoard.{AreAllLowered, AreAllRaised};
 
     /// No chain has a pseudo-liberty.
     pub fn zero() -> Self
@@ -151,5 +152,43 @@ impl PseudoLiberties {
         self.raise(board, ids, place - 1);
         self.raise(board, ids, place + ROW);
         self.raise(board, ids, place - ROW);
+    }
+
+    /// The id of each place beside a point loses one, or stays 0, once for each such place.
+    #[inline]
+    pub fn lower_all_beside(&mut self, ids: &ChainIds, place: usize)
+        requires { IsOn most_size place }
+        ensures { AreAllLowered ids.now self.old self.new place }
+    {
+        // A look: there are as many numbers as places.
+        let _ = &self.counts;
+        self.lessen(ids.at(place + 1), 1);
+        self.lessen(ids.at(place - 1), 1);
+        self.lessen(ids.at(place + ROW), 1);
+        self.lessen(ids.at(place - ROW), 1);
+    }
+
+    /// An id gets one more. 65,535 becomes 0.
+    #[inline]
+    fn raise_id(&mut self, id: usize)
+        requires { id < place_count }
+        ensures { self.new ≡ slice_set self.old id ((count_at self.old id + 1) % 65536) }
+    {
+        self.counts[id] = self.counts[id].wrapping_add(1);
+    }
+
+    /// The id of each place beside a point gets one more, once for each such place. No number is looked at: an id that
+    /// no stone has may have any.
+    #[inline]
+    pub fn raise_all_beside(&mut self, ids: &ChainIds, place: usize)
+        requires { IsOn most_size place }
+        ensures { AreAllRaised ids.now self.old self.new place }
+    {
+        // A look: there are as many numbers as places.
+        let _ = &self.counts;
+        self.raise_id(ids.at(place + 1));
+        self.raise_id(ids.at(place - 1));
+        self.raise_id(ids.at(place + ROW));
+        self.raise_id(ids.at(place - ROW));
     }
 }

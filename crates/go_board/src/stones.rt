@@ -5,6 +5,7 @@ ghost use Rattle.go_base.specs.Point.{IsOn};
 ghost use Rattle.go_base.specs.Size.{most_size};
 ghost use Rattle.go_board.specs.Board.{place_count};
 
+use crate::areas::one_of;
 use crate::board::{Board, Cell, ROW, ROWS};
 use crate::chain_ids::ChainIds;
 use crate::places::Places;
@@ -13,13 +14,15 @@ use crate::taken_stack::TakenStack;
 use go_base::Colour;
 use std::marker::Model;
 
-/// A board with an id for each of its places, and the pseudo-liberties of each id: the empty neighbours of its stones,
-/// added up. These follow from the board and the ids.
+/// A board with an id for each of its places, the pseudo-liberties of each id, which are the empty neighbours of its
+/// stones, added up, and the number of each colour's stones. All but the ids follow from the board and the ids.
 #[derive(Drop)]
 pub struct Stones {
     board: Board,
     ids: ChainIds,
     counts: PseudoLiberties,
+    black: u32,
+    white: u32,
 }
 
 impl Model for Stones {
@@ -41,7 +44,8 @@ impl Stones {
     ghost use Rattle.go_board.specs.declared.board.Cell.TheVariants.{Empty};
     ghost use Rattle.go_board.specs.private.Frame.{IsFramed};
     ghost use Rattle.go_board.specs.private.ChainId.{id_of, ids_at, ids_beside, pseudo_liberties, AreChainIds};
-    ghost use Rattle.go_board.specs.private.ChainId.{AreChains};
+    ghost use Rattle.go_board.specs.private.ChainId.{AreChains, ArePseudoLiberties};
+    ghost use Rattle.go_board.specs.private.Areas.{stones_on};
     ghost use Rattle.go_board.specs.private.TakenStack.{most_taken, captured_places, taken_at, HaveCapturedId};
     ghost use Rattle.go_board.specs.private.TakenStack.{IsCapturedIdOr, IsCapturedBeside, AreNoneCaptured};
     ghost use Rattle.go_board.specs.private.Steps.{rename_three, IsIdOr, ChangesIds, SetsFragmentId, IsCut};
@@ -53,7 +57,15 @@ impl Stones {
         ensures { result ≡ record { board = board; ids = ids } }
     {
         let counts = PseudoLiberties::new(&board, &ids);
-        Stones { board, ids, counts }
+        let black = board.stones_of(Colour::Black);
+        let white = board.stones_of(Colour::White);
+        Stones {
+            board,
+            ids,
+            counts,
+            black,
+            white,
+        }
     }
 
     /// A copy.
@@ -64,6 +76,8 @@ impl Stones {
             board: self.board,
             ids: self.ids,
             counts: self.counts,
+            black: self.black,
+            white: self.white,
         }
     }
 
@@ -74,6 +88,8 @@ impl Stones {
         self.board = other.board;
         self.ids = other.ids;
         self.counts = other.counts;
+        self.black = other.black;
+        self.white = other.white;
     }
 
     /// The board.
@@ -82,6 +98,26 @@ impl Stones {
         ensures { result.now ≡ self.now.board }
     {
         &self.board
+    }
+
+    /// How many stones of a colour there are.
+    #[inline]
+    pub fn stones_of(&self, colour: Colour) -> u32
+        ensures value { result ≡ stones_on self.now.board colour }
+        ensures few { result ≤ place_count }
+    {
+        match colour {
+            Colour::Black => self.black,
+            Colour::White => self.white,
+        }
+    }
+
+    /// The pseudo-liberties of all ids.
+    #[inline]
+    pub fn counts(&self) -> &PseudoLiberties
+        ensures { ArePseudoLiberties self.now.board self.now.ids result.now }
+    {
+        &self.counts
     }
 
     /// What a place holds.
@@ -163,8 +199,11 @@ impl Stones {
           ids = slice_set self.old.ids place id;
         } }
     {
+        let stone = Cell::stone(colour);
+        self.black += one_of(Colour::Black, stone);
+        self.white += one_of(Colour::White, stone);
         self.counts.lower_beside(&self.board, &self.ids, place);
-        self.board.set(place, Cell::stone(colour));
+        self.board.set(place, stone);
         self.ids.set(place, id);
         let more = self.board.empty_beside(place);
         self.counts.add(id, more);
@@ -175,6 +214,9 @@ impl Stones {
         requires { IsStone (at self.old.board place) }
         ensures { self.new ≡ record self.old { board = slice_set self.old.board place Empty } }
     {
+        let stone = self.board.at(place);
+        self.black -= one_of(Colour::Black, stone);
+        self.white -= one_of(Colour::White, stone);
         let less = self.board.empty_beside(place);
         self.counts.lessen(self.ids.at(place), less);
         self.board.set(place, Cell::Empty);

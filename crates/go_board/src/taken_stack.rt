@@ -74,9 +74,7 @@ impl TakenStack {
     pub fn copy_from(&mut self, other: &TakenStack)
         ensures { self.new ≡ other.now }
     {
-        self.stones.clear();
-        // There is room: both have the same.
-        let _ = self.stones.try_extend_from_slice(&other.stones);
+        copy_stones(&mut self.stones, &other.stones);
     }
 
     /// Adds a stone.
@@ -147,4 +145,19 @@ impl TakenStack {
         }
         Some(usize::from(last.place))
     }
+}
+
+/// Makes stones a copy of others, in place. Each stone is read before its place is written, and none is cleared that the
+/// copy has.
+fn copy_stones(
+    stones: &mut ArrayVec<TakenStone, MOST_TAKEN>,
+    others: &ArrayVec<TakenStone, MOST_TAKEN>,
+)
+    ensures { stones.new.items ≡ others.now.items }
+{
+    stones.truncate(others.len());
+    let (front, rest) = others.split_at(stones.len());
+    stones.as_mut_slice().copy_from_slice(front);
+    // There is room: both have the same.
+    let _ = stones.try_extend_from_slice(rest);
 }

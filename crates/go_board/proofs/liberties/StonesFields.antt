@@ -7,6 +7,9 @@ use Rattle.go_base.specs.Point.{IsOn}
 use Rattle.go_base.specs.Size.{most_size}
 use Rattle.go_base.specs.declared.colours.Colour.{Colour}
 use Rattle.go_board.specs.Board.{at, stone, IsStone}
+use Rattle.go_base.specs.declared.colours.Colour.TheVariants.{Black, White}
+use Rattle.go_board.specs.private.Areas.{one_of, stones_on}
+use Rattle.go_board.proofs.liberties.StoneNumbers.{stones-placed, stones-removed}
 use Rattle.go_board.specs.private.Frame.{IsFramed}
 use Rattle.go_board.specs.private.ChainId.{id_of, empty_beside, count_at}
 use Rattle.go_board.specs.private.Steps.{rename_three, IsMoved, AreLowered, AreRaised, IsBelow}
@@ -32,15 +35,20 @@ room-for_placed f c1 p id more kept l few lowered =
     let less = lowered.each id l in
     omega (arith, few, is, less, pseudo_liberties-few f.board f.ids id)
 
-pub AreCounted-placed : (f : Inside) (cells : List Cell) (ls c1 c2 : List ℕ) (c : Colour) (p id more : ℕ)
+pub AreCounted-placed : (f : Inside) (cells : List Cell) (ls c1 c2 : List ℕ) (c : Colour) (p id more b w : ℕ)
     → AreCounted f → IsOn most_size p → at f.board p ≡ Empty → id < 702
     → AreLowered f.board f.ids f.counts c1 p → cells ≡ set f.board p (stone c) → ls ≡ set f.ids p id
     → more ≡ empty_beside cells p → c2 ≡ set c1 id (count_at c1 id + more)
-    → AreCounted (record { board = cells; ids = ls; counts = c2 })
-AreCounted-placed f cells ls c1 c2 c p id more kept on empty l lowered board ids more_is added =
-    subst (λ (b : List Cell). AreCounted (record { board = b; ids = ls; counts = c2 })) (sym board)
-    (subst (λ (k : List ℕ). AreCounted (record { board = set f.board p (stone c); ids = k; counts = c2 }))
+    → b ≡ f.black + one_of Black (stone c) → w ≡ f.white + one_of White (stone c)
+    → AreCounted (record { board = cells; ids = ls; counts = c2; black = b; white = w })
+AreCounted-placed f cells ls c1 c2 c p id more b w kept on empty l lowered board ids more_is added b_is w_is =
+    subst (λ (cs : List Cell). AreCounted (record { board = cs; ids = ls; counts = c2; black = b; white = w }))
+    (sym board)
+    (subst (λ (k : List ℕ).
+    AreCounted (record { board = set f.board p (stone c); ids = k; counts = c2; black = b; white = w }))
     (sym ids) (record {
+      black_is = stones-placed f.board Black p (stone c) f.black b kept.framed.length_is below empty kept.black_is b_is;
+      white_is = stones-placed f.board White p (stone c) f.white w kept.framed.length_is below empty kept.white_is w_is;
       framed = IsFramed-set f.board p (stone c) (empty-point f.board p empty) kept.framed;
       length_is = length-set f.ids p id ∙ kept.length_is;
       counts =
@@ -48,6 +56,9 @@ AreCounted-placed f cells ls c1 c2 c p id more kept on empty l lowered board ids
           lowered
           (more_is ∙ ap (λ (b : List Cell). empty_beside b p) board) added;
     }))
+  where
+    below : p < 702
+    below = let top = on.top in let right = on.right in omega (arith, top, right)
 
 -- ---- a stone is removed
 
@@ -56,11 +67,26 @@ pub room-for_removed : (f : Inside) (c1 : List ℕ) (id less : ℕ) → AreCount
 room-for_removed f c1 id less kept l taken =
     IsBelow-lessened f.board f.ids f.counts c1 id less kept.counts taken l
 
-pub AreCounted-removed : (f : Inside) (cells : List Cell) (c1 c2 : List ℕ) (p id less : ℕ) → AreCounted f
+pub place-of_stone : (f : Inside) (p : ℕ) → AreCounted f → IsStone (at f.board p) → p < 702
+place-of_stone f p kept s =
+    let on = kept.framed.inside p (IsStone-point (at f.board p) s) in
+    let top = on.top in
+    let right = on.right in
+    omega (arith, top, right)
+
+pub AreCounted-removed : (f : Inside) (cells : List Cell) (c1 c2 : List ℕ) (p id less b w : ℕ) → AreCounted f
     → IsStone (at f.board p) → id ≡ id_of f.ids p → id < 702 → less ≡ empty_beside f.board p
     → c1 ≡ set f.counts id (count_at f.counts id - less) → cells ≡ set f.board p Empty
-    → AreRaised cells f.ids c1 c2 p → AreCounted (record f { board = cells; counts = c2 })
-AreCounted-removed f cells c1 c2 p id less kept s own l less_is taken board raised = record {
+    → AreRaised cells f.ids c1 c2 p → b ≡ f.black - one_of Black (at f.board p)
+    → w ≡ f.white - one_of White (at f.board p)
+    → AreCounted (record f { board = cells; counts = c2; black = b; white = w })
+AreCounted-removed f cells c1 c2 p id less b w kept s own l less_is taken board raised b_is w_is = record {
+  black_is =
+      stones-removed f.board Black p f.black b kept.framed.length_is (place-of_stone f p kept s) kept.black_is b_is
+      ∙ ap (λ (cs : List Cell). stones_on cs Black) (sym board);
+  white_is =
+      stones-removed f.board White p f.white w kept.framed.length_is (place-of_stone f p kept s) kept.white_is w_is
+      ∙ ap (λ (cs : List Cell). stones_on cs White) (sym board);
   framed =
       subst IsFramed (sym board) (IsFramed-set f.board p Empty (IsStone-point (at f.board p) s) kept.framed);
   length_is = kept.length_is;
@@ -92,6 +118,8 @@ pub AreCounted-joined : (f : Inside) (ls c1 c2 c3 : List ℕ) (to a b c : ℕ) �
     → ls ≡ map (rename_three to a b c) f.ids → AreCounted (record f { ids = ls; counts = c3 })
 AreCounted-joined f ls c1 c2 c3 to a b c kept t la lb lc m n o ids =
     subst (λ (k : List ℕ). AreCounted (record f { ids = k; counts = c3 })) (sym ids) (record {
+      black_is = kept.black_is;
+      white_is = kept.white_is;
       framed = kept.framed;
       length_is = length-map f.ids (rename_three to a b c) ∙ kept.length_is;
       counts =
@@ -114,6 +142,8 @@ pub AreCounted-id_changed : (f : Inside) (ls c1 c2 : List ℕ) (p from to own : 
     → ls ≡ set f.ids p to → AreCounted (record f { ids = ls; counts = c2 })
 AreCounted-id_changed f ls c1 c2 p from to own kept s from_is l t own_is taken added ids =
     subst (λ (k : List ℕ). AreCounted (record f { ids = k; counts = c2 })) (sym ids) (record {
+      black_is = kept.black_is;
+      white_is = kept.white_is;
       framed = kept.framed;
       length_is = length-set f.ids p to ∙ kept.length_is;
       counts =

@@ -60,7 +60,7 @@ last-move : (m : Move) (ms : List Move) → (last : Move) × (m ∷ ms ≡ take 
 last-move m [] = (m, refl)
 last-move m (n ∷ ms) = let rest = last-move n ms in (rest.0, ap (λ (l : List Move). m ∷ l) rest.1)
 
-split-last : (ms : List Move) → 0 < length ms → (last : Move) × (ms ≡ take (length ms - 1) ms ++ last ∷ [])
+pub split-last : (ms : List Move) → 0 < length ms → (last : Move) × (ms ≡ take (length ms - 1) ms ++ last ∷ [])
 split-last [] some = absurd (omega (arith, some))
 split-last (m ∷ ms) some =
     let rest = last-move m ms in

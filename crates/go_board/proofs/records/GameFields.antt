@@ -1,6 +1,6 @@
 -- What the fields of a game keep when it begins, by a move, and by an undo.
 use Rattle.std.proofs.Common.{◌≡◌, ℕ, ◌+◌, ◌-◌, ◌<◌, ◌≤◌, List, [], ◌∷◌, ◌++◌, length, refl, sym, ◌∙◌, ap, subst, arith}
-use Rattle.std.proofs.Common.{length-append}
+use Rattle.std.proofs.Common.{length-append, take}
 use Rattle.std.specs.Prelude.{ℤ, ◌⊎◌, ◌↔◌, Bool, IsTrue, Option, Some, None, if◌then◌else◌, slice_get}
 use Rattle.arrayvec.specs.ArrayVec.{ArrayVec}
 use Rattle.go_base.specs.Handicap.{AllowsHandicap}
@@ -17,6 +17,8 @@ use Rattle.go_board.specs.Game.{GameRecord, start, board_of, with_move, after_ve
 use Rattle.go_board.specs.private.Kept.{record_of, IsKept}
 use Rattle.go_board.specs.private.Ko.{IsKo, IsKoAfter, TakesOnly}
 use Rattle.go_board.specs.private.ChainId.{AreFree}
+use Rattle.go_board.specs.private.PastHashes.{AreHashes, AreHashesBy, added}
+use Rattle.go_board.specs.Hash.{hash_of}
 use Rattle.go_board.specs.Play.{play}
 use Rattle.go_board.specs.private.TakenStack.{stack_of, taken_places, taken_at, IsAfterMove, IsUnmade}
 use Rattle.go_board.specs.Taken.{same_colour, taken, captures_of_vertex, taken_from}
@@ -25,6 +27,7 @@ use Rattle.go_board.specs.declared.game.Game.TheInside.{Inside}
 use Rattle.go_board.specs.declared.ko.Ko.{Ko}
 use Rattle.go_board.specs.declared.taken_stack.TakenStone.{TakenStone}
 use Rattle.go_board.specs.declared.rules.KoRule.{KoRule}
+use Rattle.go_board.specs.declared.rules.KoRule.TheVariants as rule
 use Rattle.go_board.proofs.records.Moves.{IsGame-with_move, IsGame-komi, with-last, IsBeforeMove-from}
 use Rattle.go_board.proofs.ko_rules.KoPoints.{IsKo-start}
 use Rattle.go_board.proofs.records.EveryGame.{IsOrderly-game, framed-game, board-start, stack-start, board-with_move}
@@ -32,13 +35,14 @@ use Rattle.go_board.proofs.records.EveryGame.{legal-open, stack-few}
 use Rattle.go_board.proofs.records.TakenStack.{stack_of-with_move, length-taken}
 use Rattle.go_board.proofs.records.TakenCounts.{taken-with_move, taken-without_move, taken-enough, taken-few}
 use Rattle.go_board.proofs.records.TakenCounts.{captures-places}
+use Rattle.go_board.proofs.records.PastHashes.{hashes-start, hashes-more, hashes-less}
 
 -- size and freedom of the board follow from the game
 kept-from : (f : Inside) → IsGame (record_of f) → f.chains ≡ board_of (record_of f)
     → IsKo (record_of f) f.ko
     → f.stack ≡ stack_of (record_of f) → f.taken_by_black ≡ taken (record_of f) colour.Black
-    → f.taken_by_white ≡ taken (record_of f) colour.White → IsKept f
-kept-from f g board_is ko stack black white =
+    → f.taken_by_white ≡ taken (record_of f) colour.White → AreHashes (record_of f) f.hashes → IsKept f
+kept-from f g board_is ko stack black white hashes =
     let o = IsOrderly-game (record_of f) g in
     record {
       game = g;
@@ -49,6 +53,7 @@ kept-from f g board_is ko stack black white =
       stack_is = stack;
       black_is = black;
       white_is = white;
+      hashes_are = hashes;
     }
 
 -- ---- a game without moves
@@ -61,10 +66,10 @@ unfolding taken
 none-taken game d none = sym (ap (λ (ms : List Move). taken_from (start game.size game.handicap) d ms) none)
 
 pub IsKept-start : (size : ℕ) (komi : ℤ) (rule : KoRule) (handicap : ℕ) (chains : List Cell) (stack : List TakenStone)
-    (moves : ArrayVec Move)
+    (moves : ArrayVec Move) (hashes : List ℕ)
     → IsSize size → IsKomi komi
     → (handicap ≡ 0) ⊎ AllowsHandicap size handicap → chains ≡ start size handicap
-    → stack ≡ [] → moves.items ≡ []
+    → stack ≡ [] → moves.items ≡ [] → hashes ≡ added rule [] (hash_of size chains)
     → IsKept (record {
       size = size;
       komi = komi;
@@ -76,8 +81,9 @@ pub IsKept-start : (size : ℕ) (komi : ℤ) (rule : KoRule) (handicap : ℕ) (c
       stack = stack;
       taken_by_black = 0;
       taken_by_white = 0;
+      hashes = hashes;
     })
-IsKept-start size komi rule handicap chains stack moves is_size is_komi allowed board_is gone none =
+IsKept-start size komi rule handicap chains stack moves hashes is_size is_komi allowed board_is gone none begun =
     let game : GameRecord =
     record { size = size; komi = komi; rule = rule; handicap = handicap; moves = moves.items } in
     let g : IsGame game = record {
@@ -89,8 +95,15 @@ IsKept-start size komi rule handicap chains stack moves is_size is_komi allowed 
     } in
     kept-from _ g (board_is ∙ sym (board-start game none)) (IsKo-start game none) (gone ∙ sym (stack-start game none))
     (none-taken game colour.Black none) (none-taken game colour.White none)
+    (subst (λ (hs : List ℕ). AreHashes game hs) (sym begun) (hashes-start game rule chains none board_is))
 
 -- ---- another komi
+
+-- no board changes
+hashes-komi : (rule : KoRule) (game : GameRecord) (komi : ℤ) (hashes : List ℕ) → AreHashesBy rule game hashes
+    → AreHashesBy rule (record game { komi = komi }) hashes
+hashes-komi rule.Simple game komi hashes are = are
+hashes-komi rule.Positional game komi hashes are = record { long = are.long; each = are.each }
 
 pub IsKept-komi : (f : Inside) (komi : ℤ) → IsKomi komi → IsKept f → IsKept (record f { komi = komi })
 unfolding taken stack_of
@@ -106,6 +119,7 @@ IsKept-komi f komi is kept = record {
   stack_is = kept.stack_is;
   black_is = kept.black_is;
   white_is = kept.white_is;
+  hashes_are = hashes-komi f.rule (record_of f) komi f.hashes kept.hashes_are;
 }
 
 -- ---- a move
@@ -140,13 +154,14 @@ taken-most f d t kept is = let few = taken-few (record_of f) d in
     omega (arith, few, most, is)
 
 pub IsKept-play : (f : Inside) (c : Colour) (v : Vertex) (chains : List Cell) (ko : Option Ko) (stack : List TakenStone)
-    (now black white : ℕ) (moves : ArrayVec Move) → IsKept f → length f.moves.items < 2000
+    (now black white : ℕ) (moves : ArrayVec Move) (hashes : List ℕ) → IsKept f → length f.moves.items < 2000
     → IsLegal (record_of f) c v → moves.items ≡ f.moves.items ++ record { colour = c; vertex = v } ∷ []
     → chains ≡ after_vertex f.chains c v
     → stack ≡ f.stack ++ taken_at (length f.moves.items) (taken_places f.chains c v)
     → now ≡ captures_of_vertex f.chains c v
     → black ≡ f.taken_by_black + (if same_colour c colour.Black then now else 0)
     → white ≡ f.taken_by_white + (if same_colour c colour.White then now else 0) → IsKoAfter moves.items stack ko
+    → hashes ≡ added f.rule f.hashes (hash_of f.size chains)
     → IsKept (record f {
       moves = moves;
       chains = chains;
@@ -154,9 +169,10 @@ pub IsKept-play : (f : Inside) (c : Colour) (v : Vertex) (chains : List Cell) (k
       stack = stack;
       taken_by_black = black;
       taken_by_white = white;
+      hashes = hashes;
     })
-IsKept-play f c v chains ko stack now black white moves kept room legal items board_is stack_is now_is black_is
-    white_is ko_is =
+IsKept-play f c v chains ko stack now black white moves hashes kept room legal items board_is stack_is now_is black_is
+    white_is ko_is more =
     let game = record_of f in
     let next : GameRecord = record game { moves = moves.items } in
     let same : with_move game c v ≡ next =
@@ -177,6 +193,8 @@ IsKept-play f c v chains ko stack now black white moves kept room legal items bo
     ∙ ap (λ (h : GameRecord). taken h colour.Black) same)
     (taken-with_move game c v colour.White f.taken_by_white now white kept.white_is took white_is
     ∙ ap (λ (h : GameRecord). taken h colour.White) same)
+    (subst (λ (h : GameRecord). AreHashes h hashes) same (subst (λ (hs : List ℕ). AreHashes (with_move game c v) hs)
+    (sym more) (hashes-more game f.rule c v f.hashes chains kept.hashes_are (board ∙ ap board_of (sym same)))))
 
 -- ---- an undo
 
@@ -229,12 +247,13 @@ enough-taken f ms c v chains stack now t d kept ends back is =
     taken-enough shorter c v d t now (is ∙ ap (λ (h : GameRecord). taken h d) (sym same)) were.2
 
 pub IsKept-undo : (f : Inside) (c : Colour) (v : Vertex) (chains : List Cell) (ko : Option Ko) (stack : List TakenStone)
-    (now black white : ℕ) (moves : ArrayVec Move) → IsKept f
+    (now black white : ℕ) (moves : ArrayVec Move) (hashes : List ℕ) → IsKept f
     → f.moves.items ≡ moves.items ++ record { colour = c; vertex = v } ∷ []
     → IsUnmade f.chains f.stack (record { colour = c; vertex = v })
     (length moves.items) chains stack now
     → black ≡ f.taken_by_black - (if same_colour c colour.Black then now else 0)
     → white ≡ f.taken_by_white - (if same_colour c colour.White then now else 0) → IsKoAfter moves.items stack ko
+    → hashes ≡ take (length f.hashes - 1) f.hashes
     → IsKept (record f {
       moves = moves;
       chains = chains;
@@ -242,8 +261,9 @@ pub IsKept-undo : (f : Inside) (c : Colour) (v : Vertex) (chains : List Cell) (k
       stack = stack;
       taken_by_black = black;
       taken_by_white = white;
+      hashes = hashes;
     })
-IsKept-undo f c v chains ko stack now black white moves kept ends back black_is white_is ko_is =
+IsKept-undo f c v chains ko stack now black white moves hashes kept ends back black_is white_is ko_is less =
     let shorter : GameRecord =
     record { size = f.size; komi = f.komi; rule = f.rule; handicap = f.handicap; moves = moves.items } in
     let same : with_move shorter c v ≡ record_of f =
@@ -255,6 +275,8 @@ IsKept-undo f c v chains ko stack now black white moves kept ends back black_is 
     (kept.black_is ∙ ap (λ (h : GameRecord). taken h colour.Black) (sym same)) were.2 black_is)
     (taken-without_move shorter c v colour.White f.taken_by_white now white
     (kept.white_is ∙ ap (λ (h : GameRecord). taken h colour.White) (sym same)) were.2 white_is)
+    (subst (λ (hs : List ℕ). AreHashes shorter hs) (sym less) (hashes-less shorter f.rule c v f.hashes
+    (subst (λ (h : GameRecord). AreHashesBy f.rule h f.hashes) (sym same) kept.hashes_are)))
 
 -- ---- the ko
 

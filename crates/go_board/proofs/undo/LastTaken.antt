@@ -25,7 +25,7 @@ use Rattle.go_board.specs.Play.{is_captured, play}
 use Rattle.go_board.specs.Game.{GameRecord, IsGame, board_of, with_move, without_last, after_vertex}
 use Rattle.go_board.specs.LastTaken.{AreTakenByLast}
 use Rattle.go_board.specs.decisions.Chain.{captured?}
-use Rattle.go_board.specs.private.TakenStack.{taken_at, taken_places, stack_of, captured_places, AreLastOf, IsNotLast}
+use Rattle.go_board.specs.private.TakenStack.{taken_at, taken_places, stack_of, captured_places, AreLastOf, IsNotLast, places_of}
 use Rattle.go_board.proofs.General.{by_dec}
 use Rattle.go_board.proofs.boards.Cells.{stone-differs, stone-point, empty-point}
 use Rattle.go_board.proofs.captures.CapturedStones.{holds-yes, holds-true, in_list}
@@ -220,9 +220,6 @@ few-points points rising on k below =
     omega (arith, least, left, right, bottom, top)
 
 -- ---- the loop that lists them
-
-abbrev pub places_of : List TakenStone → List ℕ
-places_of stones = map (λ (t : TakenStone). t.place) stones
 
 -- the place of each stone is a point of the largest board
 pub listed-on : (game : GameRecord) (stones : List TakenStone) (index place : ℕ) (d : TakenStone) → IsGame game

@@ -3,7 +3,6 @@
 use Rattle.std.specs.Prelude.{◌≡◌, ℕ, List, [], ◌∷◌, ◌++◌, All, Contains, ◌⊎◌, ◌↔◌}
 use Rattle.go_base.specs.Point.{Neighbours}
 use Rattle.go_board.specs.Board.{at}
-use Rattle.go_board.specs.Chain.{Touches}
 use Rattle.go_board.specs.declared.board.Cell.{Cell}
 use Rattle.go_board.specs.declared.board.Cell.TheVariants.{Empty}
 
@@ -18,10 +17,6 @@ pub record AreSpread (board : List Cell) (sought : Cell) (place : ℕ) (old new 
   pub new_is : new ≡ old ++ more
   pub are : All (λ r. Neighbours place r × (at board r ≡ sought)) more
   pub all : (r : ℕ) → Neighbours place r → at board r ≡ sought → Contains new r
-
--- the list has just the places that hold what is sought and touch what is wanted
-abbrev pub AreTouching : List Cell → Cell → Cell → List ℕ → Type 0
-AreTouching board sought wanted found = (p : ℕ) → Contains found p ↔ ((at board p ≡ sought) × Touches board p wanted)
 
 -- the place is empty, and a neighbour of a listed one
 pub record IsEmptyBeside (board : List Cell) (places : List ℕ) (q : ℕ) : Type 0 where

@@ -9,7 +9,7 @@ use Rattle.go_board.specs.LastTaken.{AreTakenByLast}
 -- the last move added this to the hash of the board before it, in 64 bits
 abbrev pub ChangesHash : GameRecord → ℕ → Type 0
 ChangesHash game change =
-    (hash_of (board_of (without_last game)) + change) % 2 ^ 64 ≡ hash_of (board_of game)
+    (hash_of game.size (board_of (without_last game)) + change) % 2 ^ 64 ≡ hash_of game.size (board_of game)
 
 -- the sum of the keys of the stones that the last move took, where they were of this colour, in 64 bits
 pub record IsSumOfTaken (game : GameRecord) (c : Colour) (sum : ℕ) : Type 0 where

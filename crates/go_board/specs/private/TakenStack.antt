@@ -1,13 +1,13 @@
 -- The stones that moves have taken.
 use Rattle.std.specs.Prelude.{◌≡◌, ◌≢◌, ◌==◌, ℕ, ◌+◌, ◌<◌, ◌⊎◌, ◌↔◌, List, [], ◌∷◌, ◌++◌, slice_set, map, filter}
-use Rattle.std.specs.Prelude.{length, Contains, if◌then◌else◌, ◌≤◌, slice_get, Some}
+use Rattle.std.specs.Prelude.{length, if◌then◌else◌}
 use Rattle.std.specs.List.{range_with_len, AllByRecursion}
 use Rattle.go_base.specs.Colour.{other}
 use Rattle.go_base.specs.Point.{Neighbours}
 use Rattle.go_base.specs.declared.moves.Move.{Move}
 use Rattle.go_base.specs.declared.vertices.Vertex.{Vertex}
 use Rattle.go_base.specs.declared.vertices.Vertex.TheVariants.{Pass, At}
-use Rattle.go_board.specs.Game.{GameRecord, start, after, board_of, first_moves}
+use Rattle.go_board.specs.Game.{GameRecord, start, after}
 use Rattle.go_base.specs.declared.colours.Colour.{Colour}
 use Rattle.go_board.specs.declared.board.Cell.{Cell}
 use Rattle.go_board.specs.declared.board.Cell.TheVariants.{Edge, Empty}
@@ -15,7 +15,7 @@ use Rattle.go_board.specs.declared.taken_stack.TakenStone.{TakenStone}
 use Rattle.go_board.specs.Board.{at, stone}
 use Rattle.go_board.specs.private.Frame.{IsFramed}
 use Rattle.go_board.specs.Chain.{IsCaptured}
-use Rattle.go_board.specs.Play.{is_captured, play}
+use Rattle.go_board.specs.Play.{is_captured}
 use Rattle.go_board.specs.Taken.{captures_of_vertex}
 use Rattle.go_board.specs.private.ChainId.{id_of}
 
@@ -26,6 +26,10 @@ most_taken = 2009
 -- the places of the stones of this colour that have no liberty
 abbrev pub captured_places : List Cell → Colour → List ℕ
 captured_places board c = filter (is_captured board c) (range_with_len 0 (length board))
+
+-- the places on which these stones stood
+abbrev pub places_of : List TakenStone → List ℕ
+places_of stones = map (λ (t : TakenStone). t.place) stones
 
 -- stones that one move took
 abbrev pub taken_at : ℕ → List ℕ → List TakenStone
@@ -126,32 +130,6 @@ pub record IsRestored (board : List Cell) (this : Cell) (number : ℕ) (stones l
   pub stones_are : stones ≡ left ++ taken_at number places
   pub counted : count ≡ length places
   pub all : IsNotLast left number
-
--- ---- which boards may have had a stone
-
--- Of these stones, one of this colour was taken from the place, when `k` moves or more had been made.
-pub record WasTaken (game : GameRecord) (stones : List TakenStone) (c : Colour) (place k : ℕ) : Type 0 where
-  pub number : ℕ
-  pub later : k ≤ number
-  pub there : Contains stones (record { place = place; number = number })
-  pub mover : Move
-  pub made : slice_get game.moves number ≡ Some mover
-  pub differs : mover.colour ≢ c
-
--- such a stone stood there only on boards of fewer moves than this
-abbrev pub StoodBelow : GameRecord → Colour → ℕ → ℕ → Type 0
-StoodBelow game c place few = (k : ℕ) → WasTaken game (stack_of game) c place k → k < few
-
--- `less` is `few`, or the move's stone is of this colour, and one like it that was taken from its point stood there
--- only on boards of fewer moves than `less`.
-abbrev pub IsAlsoBelow : GameRecord → Colour → Colour → Vertex → ℕ → ℕ → Type 0
-IsAlsoBelow game c mover Pass few less = less ≡ few
-IsAlsoBelow game c mover (At p) few less = (less ≡ few) ⊎ ((mover ≡ c) × StoodBelow game c p less)
-
--- a play brings back only boards of fewer moves than this
-abbrev pub RepeatsBelow : GameRecord → Colour → ℕ → ℕ → Type 0
-RepeatsBelow game c p few =
-    (k : ℕ) → k ≤ length game.moves → play (board_of game) c p ≡ board_of (first_moves k game) → k < few
 
 -- ---- a move made again
 

@@ -1,8 +1,9 @@
 //! Copies of a game, for a search that plays on without the game that it searches.
 ghost use Rattle.std.specs.Prelude.{◌≡◌};
 
-use super::Game;
+use super::{Game, MOST_MOVES};
 use arrayvec::ArrayVec;
+use go_base::Move;
 
 impl Game {
     /// The same game once more, to play on without this one. A copy takes as much memory as a game.
@@ -23,6 +24,7 @@ impl Game {
             stack: self.stack.copy(),
             taken_by_black: self.taken_by_black,
             taken_by_white: self.taken_by_white,
+            hashes: self.hashes.copy(),
         }
     }
 
@@ -35,13 +37,24 @@ impl Game {
         self.komi = other.komi;
         self.rule = other.rule;
         self.handicap = other.handicap;
-        self.moves.clear();
-        // There is room: both have the same.
-        let _ = self.moves.try_extend_from_slice(&other.moves);
+        copy_moves(&mut self.moves, &other.moves);
         self.chains.copy_from(&other.chains);
         self.ko = other.ko;
         self.stack.copy_from(&other.stack);
         self.taken_by_black = other.taken_by_black;
         self.taken_by_white = other.taken_by_white;
+        self.hashes.copy_from(&other.hashes);
     }
+}
+
+/// Makes moves a copy of others, in place. Each move is read before its place is written, and none is cleared that the
+/// copy has: so a game that C gives for both, as no caller here can, stays as it was.
+fn copy_moves(moves: &mut ArrayVec<Move, MOST_MOVES>, others: &ArrayVec<Move, MOST_MOVES>)
+    ensures { moves.new.items ≡ others.now.items }
+{
+    moves.truncate(others.len());
+    let (front, rest) = others.split_at(moves.len());
+    moves.as_mut_slice().copy_from_slice(front);
+    // There is room: both have the same.
+    let _ = moves.try_extend_from_slice(rest);
 }

@@ -8,6 +8,7 @@ use crate::board::{Cell, ROW, place_of, point_at, point_in};
 use crate::columns::Columns;
 use crate::places::Places;
 use crate::rules::KoRule;
+use crate::taken_stack::TakenStone;
 use arrayvec::ArrayVec;
 use go_base::{Colour, Point};
 
@@ -28,15 +29,17 @@ pub struct Chain {
 impl Game {
     ghost use Rattle.go_base.specs.declared.vertices.Vertex.TheVariants.{At};
     ghost use Rattle.go_board.specs.Board.{stone_at};
-    ghost use Rattle.go_board.specs.Game.{IsLegal, board_of};
+    ghost use Rattle.go_board.specs.Game.{IsGame, IsLegal, board_of};
     ghost use Rattle.go_board.specs.Hash.{hash_of};
-    ghost use Rattle.go_board.specs.LastTaken.{AreTakenByLast};
+    ghost use Rattle.go_board.specs.LastTaken.{AreTakenByLast, HasTakenByLast};
     ghost use Rattle.go_board.specs.LegalPoints.{AreLegalPoints};
     ghost use Rattle.go_board.specs.Liberties.{IsChainAt};
     ghost use Rattle.go_board.specs.private.Columns.{AreEmptyIn, AreOpenIn, AreSureIn, AreLegalIn, AreLegalBefore};
+    ghost use Rattle.go_board.specs.private.TakenStack.{places_of};
+    ghost use Rattle.go_board.specs.declared.rules.KoRule.TheVariants.{Simple};
 
     /// The points on which a colour may play next, in the order A1, B1, .., A2, B2, ...: those for which `legal`
-    /// returns true.
+    /// returns true. The number of moves doesn't count, though `play` makes none where the record is full.
     pub fn legal_points(&self, colour: Colour) -> ArrayVec<Point, MOST_POINTS>
         ensures { AreLegalPoints self.now colour result.items }
     {
@@ -70,7 +73,8 @@ impl Game {
     #[inline]
     fn sure_in_row(&self, row: usize, open_points: Columns) -> Columns
         requires { AreOpenIn (board_of self.now) row open_points }
-        ensures { AreSureIn self.now row result }
+        ensures sure { AreSureIn self.now row result }
+        ensures all { self.now.rule ≡ Simple → result ≡ open_points }
     {
         match self.rule {
             KoRule::Simple => open_points,
@@ -121,7 +125,7 @@ impl Game {
 
     /// Whether a place is a point on which a colour may play next.
     #[inline]
-    fn is_legal_at(&self, colour: Colour, place: usize) -> bool
+    pub(super) fn is_legal_at(&self, colour: Colour, place: usize) -> bool
         requires { place < place_count }
         ensures { IsTrue result ↔ IsLegal self.now colour (At place) }
     {
@@ -154,24 +158,53 @@ impl Game {
         ensures { AreTakenByLast self.now result.items }
     {
         let mut points = ArrayVec::new();
-        let Some(number) = self.moves.len().checked_sub(1) else {
-            return points;
-        };
-        for stone in self.stack.taken_by(number) {
-            points.push(point_at(usize::from(stone.place)));
-        }
+        self.taken_by_last_move_into(&mut points);
         points
     }
 
-    /// A hash of the board: the sum of the keys of its stones, in 64 bits. Games with equal boards have equal hashes,
-    /// whatever else differs: the komi, the ko rule, who is to move, and by which moves the board came about.
+    /// Whether the last move of the record took a stone.
+    #[inline]
+    pub fn last_move_took(&self) -> bool
+        ensures { IsTrue result ↔ HasTakenByLast self.now }
+    {
+        !self.last_taken().is_empty()
+    }
+
+    /// The stones that the last move of the record took, where it has a move.
+    #[inline]
+    fn last_taken(&self) -> &[TakenStone]
+        ensures taken { AreTakenByLast self.now (places_of result.now) }
+        ensures game { IsGame self.now }
+    {
+        match self.moves.len().checked_sub(1) {
+            Some(number) => self.stack.taken_by(number),
+            None => &[],
+        }
+    }
+
+    /// Makes a list the one that `taken_by_last_move` returns. What it had goes. Of the record it looks at the stones
+    /// alone that the last move took.
+    pub fn taken_by_last_move_into(&self, points: &mut ArrayVec<Point, MOST_POINTS>)
+        ensures { AreTakenByLast self.now points.new.items }
+    {
+        points.clear();
+        for stone in self.last_taken() {
+            points.push(point_at(usize::from(stone.place)));
+        }
+    }
+
+    /// A hash of the board and its size: the sum of the keys of the size and of the stones, in 64 bits.
+    ///
+    /// Games of equal size and with equal boards have equal hashes, whatever else differs: the komi, the ko rule, who
+    /// is to move, and by which moves the board came about. So different hashes show that the size or the board
+    /// differs. Equal hashes show nothing: two boards may have one.
     ///
     /// It is computed at each call, in a pass over the board. A search that keeps one beside its game adds the
     /// `stone_key` of each stone that comes, and subtracts that of each that goes (`taken_by_last_move`), both
     /// wrapping.
     pub fn board_hash(&self) -> u64
-        ensures { result ≡ hash_of (board_of self.now) }
+        ensures { result ≡ hash_of self.now.size (board_of self.now) }
     {
-        self.chains.board().hash()
+        self.chains.board().hash(self.size)
     }
 }

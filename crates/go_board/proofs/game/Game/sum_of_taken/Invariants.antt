@@ -1,7 +1,7 @@
+use Rattle.go_board.specs.private.TakenStack.{places_of}
 use Rattle.std.proofs.Common.{◌≡◌, ◌%◌, ◌^◌, take}
 use Rattle.std.specs.List.{sum_by}
 use Rattle.go_board.specs.Hash.{stone_key}
-use Rattle.go_board.proofs.undo.LastTaken.{places_of}
 use Rattle.go_board.proofs.game.Game.sum_of_taken.Given as goal
 
 abbrev pub invariant-loop-stone : goal.invariant-loop-stone

@@ -37,7 +37,7 @@ pub invariant_of-self-2 : goal.invariant_of-self-2
 invariant_of-self-2 c =
     IsKept-undo c.self.inside c.in-Some.last.colour c.in-Some.last.vertex c.unmake-taken.new.self
     c.ko_after-self-inside.result c.unmake-taken.new.stack c.unmake-taken.result
-    c.without_taken-self-inside.result c.without_taken-self-inside-2.result c.pop.new.self c.self.invariant
+    c.without_taken-self-inside.result c.without_taken-self-inside-2.result c.pop.new.self c.drop_last.new.self c.self.invariant
     c.in-Some.ensures.items
     (subst (λ (n : ℕ). IsUnmade c.self.inside.chains c.self.inside.stack
     (record { colour = c.in-Some.last.colour; vertex = c.in-Some.last.vertex }) n c.unmake-taken.new.self
@@ -45,3 +45,4 @@ invariant_of-self-2 c =
     c.without_taken-self-inside.ensures c.without_taken-self-inside-2.ensures
     (subst (λ (ms : List Move). IsKoAfter ms c.unmake-taken.new.stack c.ko_after-self-inside.result)
     (c.deref.ensures).0 c.ko_after-self-inside.ensures)
+    c.drop_last.ensures

@@ -1,0 +1,97 @@
+//! Rollouts: the score of a playout, with the game as it was.
+ghost use Rattle.std.specs.Prelude.{◌≡◌, ◌↔◌, IsTrue};
+
+use super::Game;
+use crate::board::{Board, place_of};
+use crate::playout_board::PlayoutBoard;
+use crate::rollout::Rollout;
+use crate::rules::KoRule;
+use crate::words::Words;
+use go_base::{Colour, Vertex};
+
+impl Game {
+    ghost use Rattle.go_board.specs.Area.{score};
+    ghost use Rattle.go_board.specs.Game.{GameRecord, board_of};
+    ghost use Rattle.go_board.specs.Playouts.{AreEmptyPoints, IsRolledOut};
+    ghost use Rattle.go_board.specs.declared.rules.KoRule.TheVariants.{Simple};
+    ghost use Rattle.go_board.specs.private.Rollouts.{LastIsPass, IsRolloutOf, IsKoPlace};
+
+    /// The score, in half points, of a game that `playout` would leave: positive where Black leads. The game stays as
+    /// it was. With limit 0 that is the score now.
+    pub fn rollout<W: Words>(&self, colour: Colour, words: &mut W, limit: u32) -> i32
+        ensures { IsRolledOut W.gives self.now colour limit words.old result words.new }
+    {
+        match self.rule {
+            KoRule::Simple => self.rollout_alone(colour, words, limit),
+            KoRule::Positional => self.rollout_by_copy(colour, words, limit),
+        }
+    }
+
+    /// A rollout under any ko rule, by a copy of the game, which is made in place. It is called, so that a rollout under
+    /// simple ko takes no room for a copy.
+    #[inline(never)]
+    fn rollout_by_copy<W: Words>(&self, colour: Colour, words: &mut W, limit: u32) -> i32
+        ensures { IsRolledOut W.gives self.now colour limit words.old result words.new }
+    {
+        let mut game = Game::with_rule(self.size, self.komi, self.rule);
+        game.copy_from(self);
+        game.playout(colour, words, limit);
+        game.score()
+    }
+
+    /// A rollout under simple ko, by what it needs of the game alone.
+    fn rollout_alone<W: Words>(&self, colour: Colour, words: &mut W, limit: u32) -> i32
+        requires { self.now.rule ≡ Simple }
+        ensures { IsRolledOut W.gives self.now colour limit words.old result words.new }
+    {
+        let mut rollout = self.begin_rollout(colour);
+        rollout.play_on(colour, words, limit);
+        let board = rollout.board.board();
+        let black_stones = board.stones_of(Colour::Black);
+        let white_stones = board.stones_of(Colour::White);
+        self.score_of(board, black_stones, white_stones)
+    }
+
+    /// What a rollout keeps of this game, in which this colour is to move.
+    fn begin_rollout(&self, colour: Colour) -> Rollout
+        requires { self.now.rule ≡ Simple }
+        ensures kept { IsRolloutOf self.now colour result }
+        ensures empty { AreEmptyPoints self.now result.order }
+    {
+        let size = self.size.get();
+        let board = PlayoutBoard::from_chains(&self.chains, size as usize);
+        let order = self.empty_points();
+        let ko = self.ko_place(colour);
+        let passed = self.last_is_pass();
+        let finished = self.finished();
+        let moves = self.moves.len();
+        Rollout {
+            board,
+            order,
+            ko,
+            passed,
+            finished,
+            moves,
+        }
+    }
+
+    /// The empty point where a play of this colour would bring back the board before the last move.
+    fn ko_place(&self, colour: Colour) -> Option<usize>
+        ensures { IsKoPlace self.now colour result }
+    {
+        match self.ko_point(colour) {
+            Some(point) => Some(place_of(point)),
+            None => None,
+        }
+    }
+
+    /// Whether the last move of the record is a pass.
+    fn last_is_pass(&self) -> bool
+        ensures { IsTrue result ↔ LastIsPass self.now }
+    {
+        let [.., last] = self.moves() else {
+            return false;
+        };
+        last.vertex == Vertex::Pass
+    }
+}

@@ -1,0 +1,2 @@
+pub mod Seeded
+pub mod SeededLaws
