@@ -26,6 +26,8 @@ use Rattle.go_board.specs.contracts.ko.Ko as ko_type
 use Rattle.go_board.specs.contracts.taken_stack.TakenStone as taken_stone_type
 use Rattle.go_board.specs.contracts.taken_stack.TakenStack as taken_stack_type
 use Rattle.go_board.specs.contracts.taken_stack.TakenStack.TheInside as taken_stack_fields
+use Rattle.go_board.specs.contracts.past_hashes.PastHashes as past_hashes_type
+use Rattle.go_board.specs.contracts.past_hashes.PastHashes.TheInside as past_hashes_fields
 use Rattle.go_board.specs.contracts.game.Game as game_type
 use Rattle.go_board.specs.contracts.game.Game.TheInside as game_fields
 use Rattle.gtp_wire.specs.contracts.commands.Command as command_type
@@ -146,8 +148,16 @@ taken_stack_inside = declared_send taken_stack_fields.the_type (search (of_field
 taken_stack : IsSend taken_stack_type.the_row
 taken_stack = search (of_fields, taken_stack_inside) depth 20
 
+past_hashes_inside : IsSend past_hashes_fields.the_row
+past_hashes_inside = declared_send past_hashes_fields.the_type (search of_fields depth 20)
+
+past_hashes : IsSend past_hashes_type.the_row
+past_hashes = search (of_fields, past_hashes_inside) depth 20
+
 game_inside : IsSend game_fields.the_row
-game_inside = declared_send game_fields.the_type (search (of_fields, size, komi, ko_rule, move, chains, ko, taken_stack) depth 20)
+game_inside =
+    declared_send game_fields.the_type
+    (search (of_fields, size, komi, ko_rule, move, chains, ko, taken_stack, past_hashes) depth 20)
 
 pub game : IsSend game_type.the_row
 game = search (of_fields, game_inside) depth 20

@@ -4,3 +4,4 @@ pub mod exports;
 pub mod handle;
 pub mod lend;
 pub mod place;
+pub mod searching;

@@ -1,3 +1,4 @@
 pub mod Sending
 pub mod AddedNames
 pub mod Talking
+pub mod TakenPoints

@@ -6,6 +6,7 @@ pub mod Library
 pub mod Lines
 pub mod Matches
 pub mod Replies
+pub mod Searching
 pub mod Talks
 pub mod Texts
 pub mod Values

@@ -1,10 +1,12 @@
 //! The calls of a game.
-ghost use Rattle.std.specs.Prelude.{◌≡◌, IfOk, IfErr};
+ghost use Rattle.std.specs.Prelude.{◌≡◌, ◌≢◌, None, IfOk, IfErr};
+ghost use Rattle.go_board.specs.Board.{stone_at};
+ghost use Rattle.go_board.specs.Game.{board_of};
 ghost use Rattle.go_board.specs.Show.{board_text};
 ghost use Rattle.vintsaky_calls.specs.Codes.{rule_code};
 ghost use Rattle.vintsaky_calls.specs.Games.{ListsTaken, PutsPoints, IsPointOn, RefusesPointCode, BeginCall, PlayCall};
 ghost use Rattle.vintsaky_calls.specs.Games.{LegalCall, UndoCall, SetKomiCall, PlaceHandicapCall, LegalPointsCall};
-ghost use Rattle.vintsaky_calls.specs.Games.{StoneAtCall, ChainCall, MadeCall, CapturedCall};
+ghost use Rattle.vintsaky_calls.specs.Games.{StoneAtCall, ChainCall, RefusesChain, MadeCall, CapturedCall};
 ghost use Rattle.vintsaky_calls.specs.Texts.{Writes};
 
 use crate::causes::{Cause, cause_of_play};
@@ -96,14 +98,20 @@ pub fn legal_points(
 }
 
 /// What `vintsaky_game_taken_by_last_move` does.
+#[tactic(auto, using(crate::proofs::TakenPoints::none_listed))]
 pub fn taken_by_last_move(game: &Game, points: &mut [u32]) -> usize
     ensures { ListsTaken game.now points.old points.new result }
 {
-    put_points(&game.taken_by_last_move(), points)
+    if !game.last_move_took() {
+        return 0;
+    }
+    let mut taken = ArrayVec::new();
+    game.taken_by_last_move_into(&mut taken);
+    put_points(&taken, points)
 }
 
 /// Writes the numbers of points, where there is room for all of them. How many these are.
-fn put_points(points: &ArrayVec<Point, MOST_POINTS>, numbers: &mut [u32]) -> usize
+pub(crate) fn put_points(points: &ArrayVec<Point, MOST_POINTS>, numbers: &mut [u32]) -> usize
     ensures { PutsPoints points.now.items numbers.old numbers.new result }
 {
     let count = points.len();
@@ -136,7 +144,7 @@ pub fn chain(game: &Game, vertex: u32, stones: &mut u32, liberties: &mut u32) ->
 }
 
 /// The point of a number, on the board of a game.
-fn point_on(game: &Game, vertex: u32) -> Result<Point, Cause>
+pub(crate) fn point_on(game: &Game, vertex: u32) -> Result<Point, Cause>
     ensures on { IfOk result (λ point. IsPointOn game.now vertex point) }
     ensures why { IfErr result (RefusesPointCode game.now vertex) }
 {
@@ -146,6 +154,19 @@ fn point_on(game: &Game, vertex: u32) -> Result<Point, Cause>
     } else {
         Err(Cause::OffBoard)
     }
+}
+
+/// The point of a number, on which a stone is.
+pub(crate) fn stone_on(game: &Game, vertex: u32) -> Result<Point, Cause>
+    ensures on { IfOk result (λ point. IsPointOn game.now vertex point) }
+    ensures stone { IfOk result (λ point. stone_at (board_of game.now) point ≢ None) }
+    ensures why { IfErr result (RefusesChain game.now vertex) }
+{
+    let point = point_on(game, vertex)?;
+    if game.at(point).is_none() {
+        return Err(Cause::NoStone);
+    }
+    Ok(point)
 }
 
 /// What `vintsaky_game_made` does.

@@ -17,6 +17,7 @@ pub mod lines;
 mod losses;
 pub mod matches;
 pub mod replies;
+pub mod searching;
 pub mod texts;
 pub mod values;
 pub mod writing;

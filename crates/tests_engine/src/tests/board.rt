@@ -2,8 +2,11 @@
 mod chains;
 mod copies;
 mod drawn;
+mod eyes;
 mod hashes;
+mod lists;
 mod plain;
+mod playouts;
 pub mod points;
 mod positional;
 mod positions;
@@ -32,6 +35,14 @@ pub fn new_game_under(rt: &impl Abort, lines: u32, rule: KoRule) -> Game {
 /// The point of a column and a row, which are 1 to 25.
 fn at(rt: &impl Abort, column: u32, row: u32) -> Point {
     some(rt, Point::new(column, row))
+}
+
+/// The point of a name.
+fn point_of(rt: &impl Abort, name: &str) -> Point {
+    match some(rt, Vertex::read(name.as_bytes())) {
+        Vertex::At(point) => point,
+        Vertex::Pass => some(rt, None),
+    }
 }
 
 /// The move of a word: the colour's letter, and after it the vertex, as in `bD4` and `wpass`.

@@ -88,16 +88,18 @@ pub extern "C" fn vintsaky_game_finished(game: &mut GameHandle) -> bool
     game.lend().finished()
 }
 
-/// A hash of the board: equal boards have equal hashes.
+/// A hash of the board and its size: equal boards of one size have equal hashes. So different ones show that size or
+/// board differs, and equal ones show nothing.
 #[unsafe(no_mangle)]
 pub extern "C" fn vintsaky_game_hash(game: &mut GameHandle) -> u64
-    ensures hash { result ≡ hash_of (board_of game.old.value) }
+    ensures hash { result ≡ hash_of game.old.value.size (board_of game.old.value) }
     ensures object { game.new.value ≡ game.old.value }
 {
     game.lend().board_hash()
 }
 
-/// Becomes a copy of another game, with its record, its komi and its ko rule.
+/// Becomes a copy of another game, with its record, its komi and its ko rule. A game that is given for both stays as it
+/// was.
 #[unsafe(no_mangle)]
 pub extern "C" fn vintsaky_game_copy(game: &mut GameHandle, other: &mut GameHandle)
     ensures copied { game.new.value ≡ other.old.value }
@@ -186,7 +188,7 @@ pub extern "C" fn vintsaky_game_place_handicap(game: &mut GameHandle, stones: u3
 }
 
 /// Writes the numbers of the points on which a colour may play next, row by row from A1, where there is room for all of
-/// them, and how many these are.
+/// them, and how many these are. The number of moves doesn't count, though a full record takes no more.
 ///
 /// # Errors
 ///

@@ -148,5 +148,6 @@ fn each_stone_that_the_last_move_took(rt: HostRuntime) {
         }
         play_all(&rt, &mut game, moves);
         assert_points(&rt, moves, &game.taken_by_last_move(), names);
+        assert_equal_for(&rt, moves, game.last_move_took(), !names.is_empty());
     }
 }
