@@ -6,9 +6,9 @@
  * where something orders the uses, as a lock does.
  *
  * No pointer is NULL, also where its length or room is 0, and it has as many bytes or numbers as that says. What the pointers of one
- * call lead to doesn't overlap: objects, handles, buffers, numbers. All other arguments may be anything. No call takes memory, blocks,
- * or reads or writes anything but its object and the caller's buffers. A call takes at most 192 kB of stack, and all but
- * vintsaky_match_begin at most 64 kB.
+ * call lead to doesn't overlap: objects, handles, buffers, numbers. Only vintsaky_game_copy may be given one game twice. All other
+ * arguments may be anything. No call takes memory, blocks, or reads or writes anything but its object and the caller's buffers. A call
+ * of a match takes at most 320 kB of stack, and any other at most 160 kB.
  *
  * A call that may be refused returns 0 where it was done, and else a cause, the first that holds in the order that it names: then its
  * object is as it was, and it has written nothing. A text is written with a NUL after it, where the buffer has room for both, else not
@@ -44,9 +44,9 @@ static void (*const vintsaky_interface)(void) = vintsaky_interface_1;
 /* ---- numbers ---- */
 
 /* The memory of an object as constants: what its _bytes and _align return, or more where cargo built the library. */
-#define VINTSAKY_GAME_BYTES ((size_t)19616)
-#define VINTSAKY_ENGINE_BYTES ((size_t)25448)
-#define VINTSAKY_MATCH_BYTES ((size_t)46568)
+#define VINTSAKY_GAME_BYTES ((size_t)35640)
+#define VINTSAKY_ENGINE_BYTES ((size_t)41472)
+#define VINTSAKY_MATCH_BYTES ((size_t)62592)
 #define VINTSAKY_LINES_BYTES ((size_t)2056)
 #define VINTSAKY_REPLIES_BYTES ((size_t)16432)
 #define VINTSAKY_ALIGN ((size_t)8)
@@ -255,10 +255,11 @@ int32_t vintsaky_game_score(vintsaky_game *game);
 /* Whether the last two moves are passes. */
 bool vintsaky_game_finished(vintsaky_game *game);
 
-/* A hash of the board: equal boards have equal hashes. */
+/* A hash of the board and its size: equal boards of one size have equal hashes. So different ones show that size or board differs, and
+ * equal ones show nothing. */
 uint64_t vintsaky_game_hash(vintsaky_game *game);
 
-/* Becomes a copy of another game, with its record, its komi and its ko rule. */
+/* Becomes a copy of another game, with its record, its komi and its ko rule. A game that is given for both stays as it was. */
 void vintsaky_game_copy(vintsaky_game *game, vintsaky_game *other);
 
 /* Begins the game anew, on an empty board.
@@ -287,7 +288,7 @@ uint32_t vintsaky_game_set_komi(vintsaky_game *game, int32_t half_komi);
 uint32_t vintsaky_game_place_handicap(vintsaky_game *game, uint32_t stones);
 
 /* Writes the numbers of the points on which a colour may play next, row by row from A1, where there is room for all of them, and how
- * many these are.
+ * many these are. The number of moves doesn't count, though a full record takes no more.
  * Causes: VINTSAKY_BAD_COLOUR. Nothing is written. */
 uint32_t vintsaky_game_legal_points(vintsaky_game *game, uint32_t colour, uint32_t *points, size_t points_room, size_t *count);
 
@@ -316,6 +317,69 @@ uint32_t vintsaky_game_rule(vintsaky_game *game);
 
 /* Writes the board as text, as an engine answers showboard. */
 size_t vintsaky_game_board_text(vintsaky_game *game, char *text, size_t text_room);
+
+/* The index of a point of the board, by which a search keeps a list with a value for each point. It is counted from 0 in the board's
+ * order: row by row from A1, as A1, B1, .., A2, B2.
+ * Causes: VINTSAKY_BAD_VERTEX, also of a pass, or else VINTSAKY_OFF_BOARD. Nothing is written. */
+uint32_t vintsaky_game_index(vintsaky_game *game, uint32_t vertex, size_t *index);
+
+/* The number of the point of an index.
+ * Causes: VINTSAKY_OFF_BOARD where the board has no more points than the index says. Nothing is written. */
+uint32_t vintsaky_game_point_at(vintsaky_game *game, size_t index, uint32_t *vertex);
+
+/* Writes a byte for each point of the board, in its order, where there is room for all of them: the colour of the stone there, and 0
+ * where there is none. How many these are. */
+size_t vintsaky_game_board(vintsaky_game *game, uint8_t *bytes, size_t bytes_room);
+
+/* Writes a byte for each point of the board, in its order, where there is room for all of them, and how many these are: 1 where a
+ * colour may play next, and 0 where it may not. The number of moves doesn't count, though a full record takes no more.
+ * Causes: VINTSAKY_BAD_COLOUR. Nothing is written. */
+uint32_t vintsaky_game_legal_mask(vintsaky_game *game, uint32_t colour, uint8_t *bytes, size_t bytes_room, size_t *count);
+
+/* Whether a point is an own eye of a colour, which a playout doesn't fill: 1 where it is one, and else 0. It is empty, and has only
+ * stones of the colour beside it. The other colour has a stone on at most one of its diagonals, and on none where the point is on the
+ * edge.
+ * Causes: VINTSAKY_BAD_COLOUR, or else VINTSAKY_BAD_VERTEX, also of a pass, or else VINTSAKY_OFF_BOARD. Nothing is written. */
+uint32_t vintsaky_game_is_own_eye(vintsaky_game *game, uint32_t colour, uint32_t vertex, uint32_t *holds);
+
+/* Writes the numbers of the points of a chain's stones, row by row from A1, where there is room for all of them, and how many these
+ * are.
+ * Causes: As those of vintsaky_game_chain. */
+uint32_t vintsaky_game_chain_points(vintsaky_game *game, uint32_t vertex, uint32_t *points, size_t points_room, size_t *count);
+
+/* Writes the numbers of a chain's liberties, row by row from A1 and each once, where there is room for all of them, and how many these
+ * are.
+ * Causes: As those of vintsaky_game_chain. */
+uint32_t vintsaky_game_chain_liberties(vintsaky_game *game, uint32_t vertex, uint32_t *points, size_t points_room, size_t *count);
+
+/* The ko point of a colour: the one empty point on which its play would bring back the board before the last move. 0, as a pass, where
+ * there is none.
+ * Causes: VINTSAKY_BAD_COLOUR. Nothing is written. */
+uint32_t vintsaky_game_ko_point(vintsaky_game *game, uint32_t colour, uint32_t *vertex);
+
+/* The move that a word chooses for a colour: of the n points on which the colour may play next and that are no own eyes of it, number
+ * word mod n, counted from 0 in the board's order. A pass where there is none. The first 2^64 mod n of them are chosen by one word more
+ * than the others: the choice is even but for one word in 2^64 / n. The number of moves doesn't count, though a full record takes no
+ * more.
+ * Causes: VINTSAKY_BAD_COLOUR. Nothing is written. */
+uint32_t vintsaky_game_random_move(vintsaky_game *game, uint32_t colour, uint64_t word, uint32_t *vertex);
+
+/* A hash of the position with a colour to move: of the board, its size, that colour, and its ko point. Positions that are equal in
+ * these have equal hashes. So different ones show a difference, and equal ones show nothing. It leaves out the komi, the ko rule,
+ * whether the last move was a pass, and the record that positional ko asks.
+ * Causes: VINTSAKY_BAD_COLOUR. Nothing is written. */
+uint32_t vintsaky_game_position_hash(vintsaky_game *game, uint32_t colour, uint64_t *hash);
+
+/* Plays on at random, a colour first and then both in turn. Each plays a point that is drawn from those on which it may play and that
+ * are no own eyes of it, and passes where there is none. It ends after two passes, also of the record before, after so many moves as
+ * the limit says, or where the record has 2,000. All draws are the seed's: the same game, colour, seed and limit make the same moves.
+ * docs/library.md says how they are drawn.
+ * Causes: VINTSAKY_BAD_COLOUR. The game stays as it was. */
+uint32_t vintsaky_game_playout(vintsaky_game *game, uint32_t colour, uint64_t seed, uint32_t limit);
+
+/* The score that a game has after such a playout, as vintsaky_game_score counts it. The game stays as it was.
+ * Causes: VINTSAKY_BAD_COLOUR. Nothing is written. */
+uint32_t vintsaky_game_rollout(vintsaky_game *game, uint32_t colour, uint64_t seed, uint32_t limit, int32_t *half_points);
 
 /* ---- engines ---- */
 

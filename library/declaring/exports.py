@@ -22,7 +22,7 @@ NUMBERS = {
     "usize": ("size_t", "c_size_t"),
     "bool": ("bool", "c_bool"),
 }
-BYTES = "bytes"  # an argument of this name may have any bytes; the others are texts
+BYTES = "bytes"  # an argument of this name has bytes that are no text
 
 
 @dataclass(frozen=True)
@@ -61,7 +61,8 @@ def handle_of(kind):
 def slice_of(name, kind, is_written):
     """The two arguments of a slice."""
     if is_written:
-        number = {"u8": ("char", "c_char"), **NUMBERS}[kind]
+        byte = ("uint8_t", "c_uint8") if name == BYTES else ("char", "c_char")
+        number = {"u8": byte, **NUMBERS}[kind]
         return [Argument(name, f"{number[0]} *", f"POINTER({number[1]})"), Argument(f"{name}_room", *NUMBERS["usize"])]
     if kind != "u8":
         raise KeyError(kind)
@@ -143,7 +144,7 @@ def calls_in(path, text):
 
 def files_of(section, files):
     """The files of a section of the header: a module, or a module's folder."""
-    names = [f"{FOLDER}{section}.rt", f"{FOLDER}{section}/place.rt", f"{FOLDER}{section}/exports.rt"]
+    names = [f"{FOLDER}{section}.rt", *(f"{FOLDER}{section}/{it}.rt" for it in ("place", "exports", "searching"))]
     return [it for it in names if it in files and "no_mangle" in files[it]]
 
 
@@ -151,7 +152,7 @@ def calls_of(section, files):
     """The calls of a section of the header."""
     calls = [call for path in files_of(section, files) for call in calls_in(path, files[path])]
     if not calls:
-        raise Mistake(f"there are no exports in {FOLDER}{section}.rt, {section}/place.rt and {section}/exports.rt")
+        raise Mistake(f"there are no exports in {FOLDER}{section}.rt and {section}/")
     return calls
 
 

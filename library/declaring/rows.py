@@ -28,10 +28,13 @@ DRAWN = {
     "size": "size(w)",
     "half_komi": "komi(w)",
     "half_points": "komi(w)",
+    "word": "draw(w)",
+    "seed": "draw(w)",
     "ok": "number(w, 0, 1)",
     "id": "number(w, 0, 99) - 1",
 }
 ANY = "number(w, 0, 20)"  # for a name that isn't there
+OF_KINDS = {"i32": "SIGNED", "u64": "DRAWN_WORD"}  # how a drawn number is given that isn't a u32
 INPUTS = {"bytes": "COMMANDS", "name": "NAMES"}  # what is drawn to be read; else what a reply may say
 PLACE = "w->held[0]->at"
 FIRST = "chance(w, 9) ? (size_t)draw(w) : number(w, 0, 2)"  # mostly one of the first
@@ -77,6 +80,13 @@ TUNED = {
     "game_place_handicap": Tuned(8, "", "", {"stones": "number(w, 2, 9)"}),
     "game_legal_points": Tuned(8, "625"),
     "game_taken_by_last_move": Tuned(8, "625"),
+    "game_point_at": Tuned(8, "", "", {"index": "chance(w, 9) ? (size_t)draw(w) : number(w, 0, 30)"}),
+    "game_board": Tuned(8, "625"),
+    "game_legal_mask": Tuned(8, "625"),
+    "game_chain_points": Tuned(8, "625"),
+    "game_chain_liberties": Tuned(8, "625"),
+    "game_playout": Tuned(2, "", "", {"limit": "number(w, 0, chance(w, 2) ? 4 : 40)"}),
+    "game_rollout": Tuned(2, "", "", {"limit": "number(w, 0, chance(w, 2) ? 4 : 40)"}),
     "game_made": Tuned(8, "", "", {"number": "chance(w, 9) ? (size_t)draw(w) : number(w, 0, 20)"}),
     "game_board_text": Tuned(6, "2000"),
     "engine_place": Tuned(1),
@@ -135,20 +145,26 @@ def objects_of(call):
     return found
 
 
+def list_of(call):
+    """Which list a call writes, if it writes one: of points, or of a byte for each point of the board."""
+    if "&mut [u32]" in [kind for _, kind in call.given]:
+        return "POINT_LIST"
+    return "BYTE_LIST" if (exports.BYTES, "&mut [u8]") in call.given else None
+
+
 def shape_of(call):
     """What a call returns."""
     kinds = [kind for _, kind in call.given]
     if call.errors:
         return "CAUSE"
-    if call.c == "size_t" and "&mut [u8]" in kinds:
-        return "LENGTH"
-    return "POINTS" if "&mut [u32]" in kinds else "NUMBER"
+    if list_of(call):
+        return "POINTS"
+    return "LENGTH" if call.c == "size_t" and "&mut [u8]" in kinds else "NUMBER"
 
 
 def texts_of(call):
-    """To how many texts a call writes, or that it writes points."""
-    kinds = [kind for _, kind in call.given]
-    return "POINT_LIST" if "&mut [u32]" in kinds else str(kinds.count("&mut [u8]"))
+    """To how many texts a call writes, or which list it writes."""
+    return list_of(call) or str([kind for _, kind in call.given].count("&mut [u8]"))
 
 
 def most_of(call, tuned):
@@ -189,6 +205,10 @@ def passed(call):
             shown[name] = "INPUT"
         elif kind == "&mut [u32]":
             shown[name] = "POINT_ROOM"
+        elif (name, kind) == (exports.BYTES, "&mut [u8]"):
+            shown[name] = "BYTE_ROOM"
+        elif kind == "&mut u64":
+            shown[name] = "WIDE_VALUE"
         elif kind == "&mut [u8]":
             shown[name] = f"TEXT({texts})"
             texts += 1
@@ -210,7 +230,7 @@ def made(call, tuned):
     for at, (name, kind, number) in enumerate(drawn):
         if several:
             draws.append(f"DRAW({at}, {number})")
-        shown[name] = f"{'SIGNED' if kind == 'i32' else 'DRAWN'}({at})" if several else number
+        shown[name] = f"{OF_KINDS.get(kind, 'DRAWN')}({at})" if several else number
     text = f"{call.name}({', '.join(shown[name] for name, _ in call.given)})"
     if call.c == "int32_t":
         return f"(uint32_t){text}"

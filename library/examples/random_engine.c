@@ -44,15 +44,15 @@ static bool reply(vintsaky_engine *engine, uint32_t came) {
 }
 
 int main(int count, char **words) {
-    vintsaky_engine engine;
+    vintsaky_engine engine = {NULL};
     char in[4096];
-    if (!vintsaky_engine_new(&engine) || !vintsaky_game_new(&game)) return 1;
+    bool is_right = vintsaky_engine_new(&engine) && vintsaky_game_new(&game);
     srand(count > 1 ? (unsigned)atoi(words[1]) : 1);
-    for (ssize_t held; (held = read(0, in, sizeof in)) > 0;)
-        for (size_t at = 0, used; at < (size_t)held; at += used) {
+    for (ssize_t held; is_right && !vintsaky_engine_ended(&engine) && (held = read(0, in, sizeof in)) > 0;)
+        for (size_t at = 0, used; is_right && at < (size_t)held && !vintsaky_engine_ended(&engine); at += used) {
             uint32_t came = vintsaky_engine_feed(&engine, in + at, (size_t)held - at, &used);
-            if (came != VINTSAKY_MORE && !reply(&engine, came)) return 1;
-            if (vintsaky_engine_ended(&engine)) return 0;
+            is_right = came == VINTSAKY_MORE || reply(&engine, came);
         }
-    return 0;
+    vintsaky_engine_free(&engine), vintsaky_game_free(&game);
+    return is_right ? 0 : 1;
 }

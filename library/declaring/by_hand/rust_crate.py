@@ -40,7 +40,7 @@ OWN = {
     "Match::game", "CommandLines::words",
 }  # fmt: skip
 # the arguments: by what an argument is called, and those of calls that take one for several
-TYPES = {"uint32_t": "u32", "int32_t": "i32", "size_t": "usize"}
+TYPES = {"uint32_t": "u32", "int32_t": "i32", "uint64_t": "u64", "size_t": "usize"}
 ARGUMENTS = {
     "colour": "colour: Colour",
     "side": "side: Colour",
@@ -54,6 +54,10 @@ ARGUMENTS = {
 OTHER_ARGUMENTS = {
     "vintsaky_game_stone_at": "point: Point",
     "vintsaky_game_chain": "point: Point",
+    "vintsaky_game_chain_points": "point: Point",
+    "vintsaky_game_chain_liberties": "point: Point",
+    "vintsaky_game_index": "point: Point",
+    "vintsaky_game_is_own_eye": "colour: Colour, point: Point",
     "vintsaky_engine_choose": "choice: impl Into<Choice>",
     "vintsaky_engine_answer": "answer: Result<&str, &str>",
     "vintsaky_engine_copy_game": "game: &mut Game",

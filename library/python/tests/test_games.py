@@ -2,9 +2,8 @@
 import copy
 import pickle
 import unittest
-from unittest import mock
 
-from vintsaky import BLACK, PASS, RESIGN, WHITE, Cause, Game, KoRule, Move, Point, _library, read_vertex
+from vintsaky import BLACK, PASS, RESIGN, WHITE, Cause, Game, KoRule, Move, Point, read_vertex
 
 from .test_values import Refusing
 
@@ -161,6 +160,119 @@ class Plays(Refusing):
             print("A1" in Game())
 
 
+class Searches(Refusing):
+    def test_indexes_of_points(self):
+        game = Game(5)
+        self.assertEqual([game.index(text) for text in ("A1", "B1", "E1", "A2", (5, 5))], [0, 1, 4, 5, 24])
+        self.assertEqual([game.point(number) for number in range(25)], game.legal_points("b"))
+        self.refused(Cause.OFF_BOARD, game.index, "F1")
+        self.refused(Cause.BAD_VERTEX, game.index, PASS)
+        self.refused(Cause.OFF_BOARD, game.point, 25)
+        self.assertEqual((Game(25).index("Z25"), Game(1).point(0)), (624, (1, 1)))
+        for number in (-1, 2**64):
+            self.assertRaises(OverflowError, game.point, number)
+        self.assertRaises(TypeError, game.point, 1.0)
+
+    def test_the_whole_board(self):
+        game = played(3, "b A2, w C1, b B3")
+        self.assertEqual(game.board, bytes([0, 0, WHITE, BLACK, 0, 0, 0, BLACK, 0]))
+        self.assertEqual(Game(25).board, bytes(625))
+
+    def test_the_legal_points_marked(self):
+        game = played(3, "b A2, b B1, b C2")
+        self.assertEqual(game.legal_mask("b"), bytes([1, 0, 1, 0, 1, 0, 1, 1, 1]))
+        self.assertEqual(game.legal_mask("w"), bytes([0, 0, 0, 0, 1, 0, 1, 1, 1]))
+        self.refused(Cause.BAD_COLOUR, game.legal_mask, 3)
+        self.assertEqual(Game(25).legal_mask(WHITE), b"\1" * 625)
+
+    def test_own_eyes(self):
+        game = played(5, "b A2, b B1, b C4, b E4, b D3, b D5")
+
+        def eyes():
+            return [game.is_own_eye("b", text) for text in ("A1", "D4", "B2", "C4")]
+
+        self.assertEqual(eyes(), [True, True, False, False])
+        self.assertFalse(game.is_own_eye("w", "D4"))
+        game.play("w", "B2")  # on the edge no diagonal may be the other's
+        self.assertEqual(eyes(), [False, True, False, False])
+        game.play("w", "C3")  # inside one may
+        self.assertEqual(eyes(), [False, True, False, False])
+        game.play("w", "E3")
+        self.assertEqual(eyes(), [False, False, False, False])
+        self.refused(Cause.BAD_COLOUR, game.is_own_eye, 0, "A1")
+        self.refused(Cause.BAD_VERTEX, game.is_own_eye, "b", PASS)
+        self.refused(Cause.OFF_BOARD, game.is_own_eye, "b", "F1")
+
+    def test_the_points_of_a_chain(self):
+        game = played(3, "b A1, b A2, b B2, b C3, w C1")
+        self.assertEqual(texts(game.chain_points("B2")), "A1 A2 B2")
+        self.assertEqual(texts(game.chain_liberties("A1")), "B1 C2 A3 B3")
+        self.assertEqual((texts(game.chain_points("C3")), texts(game.chain_liberties("C1"))), ("C3", "B1 C2"))
+        for call in (game.chain_points, game.chain_liberties):
+            self.refused(Cause.NO_STONE, call, "A3")
+            self.refused(Cause.OFF_BOARD, call, "D1")
+            self.refused(Cause.BAD_VERTEX, call, PASS)
+
+    def test_the_ko_point(self):
+        for rule in KoRule:
+            game = played(4, KO, rule=rule)
+            self.assertEqual((game.ko_point("b"), game.ko_point("w")), (read_vertex("C2"), None))
+            game.play("b", PASS)
+            self.assertIsNone(game.ko_point("b"))
+        self.refused(Cause.BAD_COLOUR, game.ko_point, 3)
+
+    def test_the_hash_of_a_position(self):
+        game = played(5, "b B1, w C1, b A2, w B2, w A1")
+        other = played(5, "w A1, w B2, b A2, w C1")  # the same board, and nothing was taken
+        self.assertEqual((game.board, game.ko_point("b"), other.ko_point("b")), (other.board, (2, 1), None))
+        self.assertNotEqual(game.position_hash("b"), other.position_hash("b"))
+        self.assertEqual(game.position_hash("w"), other.position_hash("w"))
+        self.assertNotEqual(other.position_hash("b"), other.position_hash("w"))
+        self.assertNotEqual(Game(9).position_hash("b"), Game(19).position_hash("b"))
+        self.refused(Cause.BAD_COLOUR, game.position_hash, 3)
+
+    def test_a_playout_ends_after_two_passes(self):
+        for seed in (0, 1, 2**64 - 1):
+            game = Game(1, 0.5)  # where nobody may play
+            self.assertEqual((game.rollout("b", seed), len(game.moves)), (-0.5, 0))
+            game.playout("w", seed)
+            self.assertEqual((list(game.moves), game.finished), ([(WHITE, PASS), (BLACK, PASS)], True))
+            game.playout("w", seed)
+            self.assertEqual(len(game.moves), 2)
+
+    def test_a_playout_has_a_limit_and_a_seed(self):
+        def played_out(seed, limit):
+            game = played(9, "b E5")
+            score = game.rollout("w", seed, limit)
+            game.playout("w", seed, limit)
+            self.assertEqual(game.score, score)
+            return list(game.moves)
+
+        short = played_out(7, 5)
+        self.assertEqual([move.colour for move in short], [BLACK, WHITE] * 3)
+        self.assertNotIn(PASS, [move.vertex for move in short])
+        self.assertEqual(played_out(7, 2000)[:6], short)
+        self.assertNotEqual(played_out(8, 5), short)
+        self.assertEqual(len(played_out(7, 0)), 1)
+        game = Game(9)
+        for call in (game.playout, game.rollout):
+            self.refused(Cause.BAD_COLOUR, call, 3, 7)
+            self.assertRaises(OverflowError, call, "b", 2**64)
+            self.assertRaises(OverflowError, call, "b", 7, 2**32)
+        self.assertEqual(len(game.moves), 0)
+
+    def test_random_moves(self):
+        # all points but A1, Black's eye, and where the stones are: C1, then the second and the third row
+        game = played(3, "b A2, b B1")
+        candidates = ["C1", "B2", "C2", "A3", "B3", "C3"]
+        for word in (*range(12), 2**32, 2**63, 2**64 - 1):
+            self.assertEqual(str(game.random_move("b", word)), candidates[word % 6])
+        self.assertIs(played(2, "b A1, b B2").random_move("w", 7), PASS)
+        self.assertRaises(OverflowError, game.random_move, "b", 2**64)
+        self.assertRaises(OverflowError, game.random_move, "b", -1)
+        self.refused(Cause.BAD_COLOUR, game.random_move, 3, 0)
+
+
 class Records(Refusing):
     def test_moves_are_a_sequence(self):
         game = played(9, "b C3, w pass, b J9")
@@ -237,11 +349,16 @@ class Copies(Refusing):
     def test_becomes_another(self):
         game, other = Game(9), played(3, "b A1")
         game.become(other)
-        with mock.patch.object(_library.library, "vintsaky_game_copy") as call:
-            game.become(game)
-        call.assert_not_called()  # whose two arguments are two objects
         self.assertEqual((game.size, game["A1"]), (3, BLACK))
         self.assertRaises(TypeError, game.become, None)
+
+    def test_of_itself_it_stays(self):
+        game = played(4, KO, komi=1.5, rule=KoRule.POSITIONAL)
+        moves, board = list(game.moves), str(game)
+        game.become(game)
+        self.assertEqual((list(game.moves), str(game), game.komi, texts(game.taken)), (moves, board, 1.5, "C2"))
+        game.undo()
+        self.assertEqual((game["C2"], len(game.moves)), (BLACK, 7))
 
     def test_no_pickle(self):
         self.assertRaises(TypeError, pickle.dumps, Game())

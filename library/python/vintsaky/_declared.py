@@ -3,7 +3,7 @@
 library/declare writes this module. All names are those of vintsaky.h without the prefix, but the calls', which are
 whole."""
 import ctypes
-from ctypes import POINTER, c_bool, c_char, c_char_p, c_int32, c_size_t, c_uint32, c_uint64, c_void_p
+from ctypes import POINTER, c_bool, c_char, c_char_p, c_int32, c_size_t, c_uint8, c_uint32, c_uint64, c_void_p
 from typing import Any, Dict, Tuple
 
 INTERFACE = 1
@@ -116,6 +116,27 @@ CALLS: Dict[str, Tuple[Any, Tuple[Any, ...]]] = {
     "vintsaky_game_captured": (c_uint32, (POINTER(GameHandle), c_uint32, POINTER(c_uint32))),
     "vintsaky_game_rule": (c_uint32, (POINTER(GameHandle),)),
     "vintsaky_game_board_text": (c_size_t, (POINTER(GameHandle), POINTER(c_char), c_size_t)),
+    "vintsaky_game_index": (c_uint32, (POINTER(GameHandle), c_uint32, POINTER(c_size_t))),
+    "vintsaky_game_point_at": (c_uint32, (POINTER(GameHandle), c_size_t, POINTER(c_uint32))),
+    "vintsaky_game_board": (c_size_t, (POINTER(GameHandle), POINTER(c_uint8), c_size_t)),
+    "vintsaky_game_legal_mask": (
+        c_uint32,
+        (POINTER(GameHandle), c_uint32, POINTER(c_uint8), c_size_t, POINTER(c_size_t)),
+    ),
+    "vintsaky_game_is_own_eye": (c_uint32, (POINTER(GameHandle), c_uint32, c_uint32, POINTER(c_uint32))),
+    "vintsaky_game_chain_points": (
+        c_uint32,
+        (POINTER(GameHandle), c_uint32, POINTER(c_uint32), c_size_t, POINTER(c_size_t)),
+    ),
+    "vintsaky_game_chain_liberties": (
+        c_uint32,
+        (POINTER(GameHandle), c_uint32, POINTER(c_uint32), c_size_t, POINTER(c_size_t)),
+    ),
+    "vintsaky_game_ko_point": (c_uint32, (POINTER(GameHandle), c_uint32, POINTER(c_uint32))),
+    "vintsaky_game_random_move": (c_uint32, (POINTER(GameHandle), c_uint32, c_uint64, POINTER(c_uint32))),
+    "vintsaky_game_position_hash": (c_uint32, (POINTER(GameHandle), c_uint32, POINTER(c_uint64))),
+    "vintsaky_game_playout": (c_uint32, (POINTER(GameHandle), c_uint32, c_uint64, c_uint32)),
+    "vintsaky_game_rollout": (c_uint32, (POINTER(GameHandle), c_uint32, c_uint64, c_uint32, POINTER(c_int32))),
     "vintsaky_engine_place": (None, (POINTER(EngineHandle), c_void_p)),
     "vintsaky_engine_bytes": (c_size_t, ()),
     "vintsaky_engine_align": (c_size_t, ()),

@@ -101,7 +101,7 @@ class Game(Held):
         return copied
 
     def become(self, other: Game) -> None:
-        """Becomes a copy of another game."""
+        """Becomes a copy of another game. Of itself it stays as it was."""
         if not isinstance(other, Game):
             raise TypeError(f"a Game is wanted, and not a {type(other).__name__}")
         if other is not self:
@@ -173,10 +173,14 @@ class Game(Held):
         return self.why_not(colour, vertex) is None
 
     def legal_points(self, colour: AnyColour) -> List[Point]:
-        """The points on which a colour may play next, row by row from A1. Causes: BAD_COLOUR."""
+        """The points on which a colour may play next, row by row from A1. The number of moves doesn't count, though a
+        full record takes no more. Causes: BAD_COLOUR."""
+        return self._points_of(library.vintsaky_game_legal_points, colour_number(colour))
+
+    def _points_of(self, call: Any, number: int) -> List[Point]:
+        """The points that this call lists for a number, which may be refused."""
         points, count = (ctypes.c_uint32 * MOST_POINTS)(), ctypes.c_size_t()
-        number = colour_number(colour)
-        done(library.vintsaky_game_legal_points(self._held(), number, points, MOST_POINTS, ctypes.byref(count)))
+        done(call(self._held(), number, points, MOST_POINTS, ctypes.byref(count)))
         return [POINTS[point] for point in points[: count.value]]
 
     @property
@@ -203,6 +207,103 @@ class Game(Held):
         done(library.vintsaky_game_chain(self._held(), number, ctypes.byref(stones), ctypes.byref(liberties)))
         return Chain(stones.value, liberties.value)
 
+    def chain_points(self, point: AnyVertex) -> List[Point]:
+        """The stones of the chain on a point, row by row from A1. Causes: as of `chain`."""
+        return self._points_of(library.vintsaky_game_chain_points, vertex_number(point))
+
+    def chain_liberties(self, point: AnyVertex) -> List[Point]:
+        """The liberties of the chain on a point, row by row from A1. Causes: as of `chain`."""
+        return self._points_of(library.vintsaky_game_chain_liberties, vertex_number(point))
+
+    def index(self, point: AnyVertex) -> int:
+        """The index of a point, for lists with a value for each point of the board. It is counted from 0 in the board's
+        order: row by row from A1. Causes: BAD_VERTEX, also of a pass, or OFF_BOARD.
+
+        >>> Game(5).index("A2")
+        5
+        """
+        index = ctypes.c_size_t()
+        done(library.vintsaky_game_index(self._held(), vertex_number(point), ctypes.byref(index)))
+        return index.value
+
+    def point(self, index: int) -> Point:
+        """The point of an index. Causes: OFF_BOARD where the board has no more points than the index says."""
+        vertex = ctypes.c_uint32()
+        number = whole(index, "the index", 0, 2**31)
+        done(library.vintsaky_game_point_at(self._held(), number, ctypes.byref(vertex)))
+        return POINTS[vertex.value]
+
+    @property
+    def board(self) -> bytes:
+        r"""A byte for each point of the board, in its order: the colour of the stone there, and 0 where there is none.
+
+        >>> game = Game(size=2)
+        >>> game.play("w", "B1")
+        >>> game.board
+        b'\x00\x02\x00\x00'
+        """
+        stones = (ctypes.c_uint8 * MOST_POINTS)()
+        count: int = library.vintsaky_game_board(self._held(), stones, MOST_POINTS)
+        return bytes(stones[:count])
+
+    def legal_mask(self, colour: AnyColour) -> bytes:
+        """A byte for each point of the board, in its order: 1 where a colour may play next, and 0 where it may not. The
+        number of moves doesn't count, though a full record takes no more. Causes: BAD_COLOUR."""
+        marks, count = (ctypes.c_uint8 * MOST_POINTS)(), ctypes.c_size_t()
+        number = colour_number(colour)
+        done(library.vintsaky_game_legal_mask(self._held(), number, marks, MOST_POINTS, ctypes.byref(count)))
+        return bytes(marks[: count.value])
+
+    def is_own_eye(self, colour: AnyColour, point: AnyVertex) -> bool:
+        """Whether a point is an own eye of a colour, which a playout doesn't fill. It is empty, and has only stones of
+        the colour beside it. The other colour has a stone on at most one of its diagonals, and on none where the point
+        is on the edge. Causes: BAD_COLOUR, BAD_VERTEX, also of a pass, or OFF_BOARD."""
+        holds = ctypes.c_uint32()
+        number = colour_number(colour)
+        done(library.vintsaky_game_is_own_eye(self._held(), number, vertex_number(point), ctypes.byref(holds)))
+        return bool(holds.value)
+
+    def ko_point(self, colour: AnyColour) -> Optional[Point]:
+        """The empty point on which a play of this colour would bring back the board before the last move; None where
+        there is none. Causes: BAD_COLOUR."""
+        vertex = ctypes.c_uint32()
+        done(library.vintsaky_game_ko_point(self._held(), colour_number(colour), ctypes.byref(vertex)))
+        return POINTS[vertex.value] if vertex.value else None
+
+    def position_hash(self, colour: AnyColour) -> int:
+        """A hash of the position with a colour to move: of the board, its size, that colour, and its ko point.
+        Positions that are equal in these have equal hashes. So different ones show a difference, and equal ones show
+        nothing. It leaves out the komi, the ko rule, whether the last move was a pass, and the record that positional
+        ko asks. Causes: BAD_COLOUR."""
+        number = ctypes.c_uint64()
+        done(library.vintsaky_game_position_hash(self._held(), colour_number(colour), ctypes.byref(number)))
+        return number.value
+
+    def playout(self, colour: AnyColour, seed: int, limit: int = 2000) -> None:
+        """Plays on at random, a colour first and then both in turn. Each plays a point that is drawn from those on
+        which it may play and that are no own eyes of it, and passes where there is none. It ends after two passes, also
+        of the record before, after so many moves as the limit says, or where the record has 2,000. All draws are those
+        of the seed of 64 bits: the same game, colour, seed and limit make the same moves. Causes: BAD_COLOUR."""
+        number, limit = colour_number(colour), whole(limit, "the limit")
+        done(library.vintsaky_game_playout(self._held(), number, whole(seed, "the seed", 0, 2**64 - 1), limit))
+
+    def rollout(self, colour: AnyColour, seed: int, limit: int = 2000) -> float:
+        """The score after such a playout, in points. The game stays as it was. Causes: BAD_COLOUR."""
+        halves, number = ctypes.c_int32(), colour_number(colour)
+        seed, limit = whole(seed, "the seed", 0, 2**64 - 1), whole(limit, "the limit")
+        done(library.vintsaky_game_rollout(self._held(), number, seed, limit, ctypes.byref(halves)))
+        return halves.value / 2
+
+    def random_move(self, colour: AnyColour, word: int) -> Vertex:
+        """The move that a word of 64 bits chooses for a colour: of the n points on which it may play next and that are
+        no own eyes of it, number `word` mod n, counted from 0 in the board's order. PASS where there is none. The first
+        2^64 mod n of them are chosen by one word more than the others: the choice is even but for one word in 2^64 / n.
+        The number of moves doesn't count, though a full record takes no more. Causes: BAD_COLOUR."""
+        vertex = ctypes.c_uint32()
+        number, word = colour_number(colour), whole(word, "the word", 0, 2**64 - 1)
+        done(library.vintsaky_game_random_move(self._held(), number, word, ctypes.byref(vertex)))
+        return VERTICES[vertex.value]
+
     def captured(self, colour: AnyColour) -> int:
         """How many stones a colour has taken. Causes: BAD_COLOUR."""
         stones = ctypes.c_uint32()
@@ -223,7 +324,8 @@ class Game(Held):
 
     @property
     def board_hash(self) -> int:
-        """A hash of the board: equal boards have equal hashes."""
+        """A hash of the board and its size: equal boards of one size have equal hashes. So different ones show that
+        size or board differs, and equal ones show nothing."""
         number: int = library.vintsaky_game_hash(self._held())
         return number
 

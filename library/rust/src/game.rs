@@ -1,7 +1,12 @@
 //! A game of Go.
 
+mod lists;
+mod searching;
+
 use std::fmt;
 use std::marker::PhantomData;
+
+use lists::listed;
 
 use crate::NotSync;
 use crate::refusal::Refusal;
@@ -166,7 +171,8 @@ impl Game {
         self.inner.finished()
     }
 
-    /// A hash of the board: equal boards have equal hashes.
+    /// A hash of the board and its size: equal boards of one size have equal hashes. So different ones show that size
+    /// or board differs, and equal ones show nothing.
     pub fn board_hash(&self) -> u64 {
         self.inner.board_hash()
     }
@@ -195,7 +201,8 @@ impl Game {
         Ok(Chain { stones: chain.stones, liberties: chain.liberties })
     }
 
-    /// The points on which a colour may play next, row by row from A1. They are those of the game as it is now.
+    /// The points on which a colour may play next, row by row from A1. They are those of the game as it is now. The
+    /// number of moves doesn't count, though a full record takes no more.
     ///
     /// ```
     /// use vintsaky::{Colour, Game, Komi, KoRule, Refusal};
@@ -210,12 +217,12 @@ impl Game {
     /// # Ok::<(), Refusal>(())
     /// ```
     pub fn legal_points(&self, colour: Colour) -> impl ExactSizeIterator<Item = Point> + DoubleEndedIterator + use<> {
-        self.inner.legal_points(colour.inner()).into_iter().map(Point::of)
+        listed(Point::of, |points| self.inner.legal_points_into(colour.inner(), points))
     }
 
     /// The points whose stones the last move took, row by row from A1.
     pub fn taken_by_last_move(&self) -> impl ExactSizeIterator<Item = Point> + DoubleEndedIterator + use<> {
-        self.inner.taken_by_last_move().into_iter().map(Point::of)
+        listed(Point::of, |points| self.inner.taken_by_last_move_into(points))
     }
 
     /// A move of the record, counted from 0: none where the record has no such move.
