@@ -5,7 +5,7 @@
 #include <stdio.h>
 #include <string.h>
 
-enum { A1 = 257, B1 = 258, C1 = 259, A2 = 513, D4 = 1028, Q16 = 4112 };
+enum { A1 = 257, B1 = 258, C1 = 259, A2 = 513, B2 = 514, A3 = 769, D4 = 1028, F1 = 262, Q16 = 4112 };
 static char text[1024];
 static size_t count, used;
 static int wrong;
@@ -102,6 +102,134 @@ static void of_a_capture(vintsaky_game *game) {
     IS(50 - 15, vintsaky_game_score(game));
 }
 
+/* A game stays as it was where it is given for both: by one handle, and by two to the same game. */
+static void of_a_copy_of_itself(vintsaky_game *game) {
+    vintsaky_game same = *game;
+    uint32_t colour = 9, vertex = 9, stones = 9;
+    uint64_t hash;
+    IS(VINTSAKY_DONE, vintsaky_game_play(game, VINTSAKY_BLACK, B1));
+    hash = vintsaky_game_hash(game);
+    vintsaky_game_copy(game, game);
+    vintsaky_game_copy(game, &same);
+    IS(3, vintsaky_game_length(game));
+    IS(VINTSAKY_DONE, vintsaky_game_made(game, 0, &colour, &vertex));
+    IS(VINTSAKY_WHITE, colour);
+    IS(A1, vertex);
+    IS(1, hash == vintsaky_game_hash(game));
+    IS(VINTSAKY_DONE, vintsaky_game_captured(game, VINTSAKY_BLACK, &stones));
+    IS(1, stones);
+    IS(VINTSAKY_DONE, vintsaky_game_undo(game));
+    IS(VINTSAKY_DONE, vintsaky_game_stone_at(game, A1, &colour));
+    IS(VINTSAKY_WHITE, colour);
+    IS(2, vintsaky_game_length(game));
+}
+
+/* On the board of `of_a_capture`, where Black has stones on A2 and B1, and A1 is his eye. */
+static void of_points(vintsaky_game *game) {
+    uint32_t vertex = 9, points[25];
+    uint8_t bytes[25];
+    size_t index = 9, sum = 0;
+    IS(VINTSAKY_DONE, vintsaky_game_index(game, A2, &index));
+    IS(5, index);
+    IS(VINTSAKY_OFF_BOARD, vintsaky_game_index(game, F1, &index));
+    IS(VINTSAKY_DONE, vintsaky_game_point_at(game, 5, &vertex));
+    IS(A2, vertex);
+    IS(VINTSAKY_OFF_BOARD, vintsaky_game_point_at(game, 25, &vertex));
+    IS(25, vintsaky_game_board(game, bytes, sizeof bytes));
+    for (index = 0; index < sizeof bytes; index++) IS(index == 1 || index == 5 ? VINTSAKY_BLACK : 0, bytes[index]);
+    IS(VINTSAKY_DONE, vintsaky_game_legal_mask(game, VINTSAKY_WHITE, bytes, sizeof bytes, &count));
+    IS(25, count);
+    for (index = 0; index < sizeof bytes; index++) sum += bytes[index];
+    IS(22, sum);
+    IS(0, bytes[0] | bytes[1] | bytes[5]);
+    IS(VINTSAKY_DONE, vintsaky_game_chain_points(game, A2, points, 25, &count));
+    IS(1, count);
+    IS(A2, points[0]);
+    IS(VINTSAKY_DONE, vintsaky_game_chain_liberties(game, A2, points, 25, &count));
+    IS(3, count);
+    IS(A1, points[0]);
+    IS(B2, points[1]);
+    IS(A3, points[2]);
+    IS(VINTSAKY_NO_STONE, vintsaky_game_chain_points(game, A1, points, 25, &count));
+}
+
+/* There too: Black may play on 22 points but his eye, from C1 to E1, then from B2 on. White may play on the same. */
+static void of_random_moves(vintsaky_game *game) {
+    uint32_t vertex = 9, holds = 9;
+    IS(VINTSAKY_DONE, vintsaky_game_is_own_eye(game, VINTSAKY_BLACK, A1, &holds));
+    IS(1, holds);
+    IS(VINTSAKY_DONE, vintsaky_game_is_own_eye(game, VINTSAKY_WHITE, A1, &holds));
+    IS(0, holds);
+    IS(VINTSAKY_DONE, vintsaky_game_random_move(game, VINTSAKY_BLACK, 3, &vertex));
+    IS(B2, vertex);
+    IS(VINTSAKY_DONE, vintsaky_game_random_move(game, VINTSAKY_WHITE, 22 * ((uint64_t)1 << 33), &vertex));
+    IS(C1, vertex);
+}
+
+/* Where Black has a ko point: after a pass he has none, and all else of the position is the same. */
+static void of_hashes(vintsaky_game *game) {
+    uint64_t black = 9, white = 9, later = 9;
+    IS(VINTSAKY_DONE, vintsaky_game_position_hash(game, VINTSAKY_BLACK, &black));
+    IS(VINTSAKY_DONE, vintsaky_game_position_hash(game, VINTSAKY_WHITE, &white));
+    IS(0, black == white);
+    IS(VINTSAKY_DONE, vintsaky_game_play(game, VINTSAKY_BLACK, VINTSAKY_PASS));
+    IS(VINTSAKY_DONE, vintsaky_game_position_hash(game, VINTSAKY_WHITE, &later));
+    IS(1, white == later);
+    IS(VINTSAKY_DONE, vintsaky_game_position_hash(game, VINTSAKY_BLACK, &later));
+    IS(0, black == later);
+}
+
+/* Black's B1 took A1, and White's play there would take nothing. White's A1 takes B1 where C1 is White's, and B1 is the ko. */
+static void of_a_ko(vintsaky_game *game) {
+    uint32_t vertex = 9;
+    IS(VINTSAKY_DONE, vintsaky_game_ko_point(game, VINTSAKY_WHITE, &vertex));
+    IS(VINTSAKY_PASS, vertex);
+    IS(VINTSAKY_DONE, vintsaky_game_begin(game, VINTSAKY_SIMPLE, 5, 0));
+    IS(VINTSAKY_DONE, vintsaky_game_play(game, VINTSAKY_BLACK, B1));
+    IS(VINTSAKY_DONE, vintsaky_game_play(game, VINTSAKY_WHITE, C1));
+    IS(VINTSAKY_DONE, vintsaky_game_play(game, VINTSAKY_BLACK, A2));
+    IS(VINTSAKY_DONE, vintsaky_game_play(game, VINTSAKY_WHITE, B2));
+    IS(VINTSAKY_DONE, vintsaky_game_play(game, VINTSAKY_WHITE, A1));
+    IS(VINTSAKY_DONE, vintsaky_game_ko_point(game, VINTSAKY_BLACK, &vertex));
+    IS(B1, vertex);
+    IS(VINTSAKY_KO, vintsaky_game_legal(game, VINTSAKY_BLACK, B1));
+    IS(VINTSAKY_DONE, vintsaky_game_ko_point(game, VINTSAKY_WHITE, &vertex));
+    IS(VINTSAKY_PASS, vertex);
+    of_hashes(game);
+}
+
+/* On 1x1 nobody may play, so that both pass; on 9x9 the first five moves are no passes. */
+static void of_playouts(vintsaky_game *game) {
+    uint32_t colour = 9, vertex = 9, number;
+    int32_t half_points = 9;
+    IS(VINTSAKY_DONE, vintsaky_game_begin(game, VINTSAKY_SIMPLE, 1, 1));
+    IS(VINTSAKY_DONE, vintsaky_game_rollout(game, VINTSAKY_BLACK, 7, 2000, &half_points));
+    IS(-1, half_points);
+    IS(0, vintsaky_game_length(game));
+    IS(VINTSAKY_DONE, vintsaky_game_playout(game, VINTSAKY_BLACK, 7, 2000));
+    IS(2, vintsaky_game_length(game));
+    IS(1, vintsaky_game_finished(game));
+    IS(VINTSAKY_DONE, vintsaky_game_begin(game, VINTSAKY_SIMPLE, 9, 0));
+    IS(VINTSAKY_DONE, vintsaky_game_playout(game, VINTSAKY_WHITE, UINT64_MAX, 5));
+    IS(5, vintsaky_game_length(game));
+    for (number = 0; number < 5; number++) {
+        IS(VINTSAKY_DONE, vintsaky_game_made(game, number, &colour, &vertex));
+        IS(number % 2 ? VINTSAKY_BLACK : VINTSAKY_WHITE, colour);
+        IS(0, vertex == VINTSAKY_PASS);
+    }
+}
+
+static void of_searches(void) {
+    vintsaky_game game;
+    if (!vintsaky_game_new(&game)) exit(2);
+    of_a_capture(&game);
+    of_points(&game);
+    of_random_moves(&game);
+    of_a_ko(&game);
+    of_playouts(&game);
+    vintsaky_game_free(&game);
+}
+
 static void of_games(void) {
     vintsaky_game game, other;
     uint64_t hash;
@@ -116,6 +244,7 @@ static void of_games(void) {
     IS(VINTSAKY_DONE, vintsaky_game_set_komi(&game, -3));
     vintsaky_game_copy(&other, &game);
     IS(2, vintsaky_game_length(&other));
+    of_a_copy_of_itself(&game);
     IS(-3, vintsaky_game_komi(&other));
     IS(0, vintsaky_game_finished(&other));
     IS(VINTSAKY_NOT_EMPTY, vintsaky_game_place_handicap(&other, 2));
@@ -320,6 +449,7 @@ int main(void) {
     of_the_library();
     of_values();
     of_games();
+    of_searches();
     of_engines();
     of_matches();
     of_lines();

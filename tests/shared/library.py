@@ -1,6 +1,7 @@
 """What the stages of the library share, whatever the language: what they need, and how its examples are compiled and play.
 
-In each language there are two: random_engine, which plays at random, and play_match, which plays a match as twogtp does.
+In each language there are two: random_engine, which plays at random, and play_match, which plays a match as twogtp does. In C and in Rust
+there is uct_engine too, which searches a tree.
 """
 import os
 import random
@@ -15,7 +16,6 @@ from tests.shared.running import TOP
 ARCHIVE, SHARED = TOP / "bin/libvintsaky.a", TOP / "bin/libvintsaky.so.1"
 EXAMPLES = ("random_engine", "play_match")
 WARN = ("-Wall", "-Wextra", "-pedantic")
-MOST_LINES = 60  # that an example may have
 LIMIT = 300  # seconds that a match may take
 FAULTS = ["none", "none", "stop:{n}", "cut:{n}:{k}", "junk:{n}", "flood:{n}"]
 VERDICTS = {
@@ -59,10 +59,15 @@ def cc(words, folder, **how):
     return said(words, env=leaving(folder), **how)
 
 
-def compiled(name, folder):
+def most_lines(name):
+    """How many lines an example may have."""
+    return 120 if name == "uct_engine" else 60
+
+
+def compiled(name, folder, *flags):
     """Compiles an example in C into this folder. What the compiler says."""
-    source = f"library/examples/{name}.c"
-    return cc(["cc", "-std=c99", "-D_POSIX_C_SOURCE=200809L", "-O2", *WARN, "-Ilibrary", "-o", folder / name, source, ARCHIVE], folder)
+    words = ["-std=c99", "-D_POSIX_C_SOURCE=200809L", "-O2", *WARN, "-Ilibrary", *flags]
+    return cc(["cc", *words, "-o", folder / name, f"library/examples/{name}.c", ARCHIVE, "-lm"], folder)
 
 
 def twogtp(black, white, *options):

@@ -16,12 +16,13 @@ import tempfile
 from functools import lru_cache
 from pathlib import Path
 from typing import NamedTuple
+from unittest import SkipTest
 
 sys.dont_write_bytecode = True
 sys.path[0] = str(Path(__file__).resolve().parents[2])
 
 from tests.shared import checks, library, running  # noqa: E402
-from tests.shared.library import ARCHIVE, MOST_LINES, SHARED, TOP, twogtp  # noqa: E402
+from tests.shared.library import ARCHIVE, SHARED, TOP, most_lines, twogtp  # noqa: E402
 
 PARSER = checks.Parser(__doc__)
 PARSER.add_argument("--long", action="store_true", help="some minutes, with many more calls")
@@ -35,7 +36,8 @@ FOLDER = tempfile.TemporaryDirectory()  # in which all is compiled
 ROOM = Path(FOLDER.name).resolve()
 C99 = ("-std=c99", "-O1", "-g", *library.WARN, f"-I{TOP}/library")
 OBJECTS = ("causes", "drive", "guard", "inputs", "numbers", "world")
-ENGINE, MATCH = (ROOM / name for name in library.EXAMPLES)
+EXAMPLES = (*library.EXAMPLES, "uct_engine")
+ENGINE, MATCH, UCT = (ROOM / name for name in EXAMPLES)
 
 
 def said(words, **how):
@@ -182,7 +184,7 @@ class Looked(Calls):
                    told or said([ROOM / "sane/draw", 5, CALLS]))  # fmt: skip
 
     def test_threads(self):
-        """eight threads, each with 256 kB of stack, do what one after the other does."""
+        """eight threads, each with 384 kB of stack, do what one after the other does."""
         self.same("0 of 8 differ", said([ROOM / "right/draw", "--threads", 1, THREADED]))
 
     def test_sanitized_threads(self):
@@ -193,8 +195,8 @@ class Looked(Calls):
         self.same("0 of 8 differ", told or said([ROOM / "threads/draw", "--threads", 1, 300]))
 
     def test_stack(self):
-        """no family of calls takes more than 192 kB of stack."""
-        status, output, errors = running.run([ROOM / "right/stack", 1, 20_000, 192 * 1024], limit=LIMIT)
+        """no call takes more than 160 kB of stack, and none of a match more than 320 kB."""
+        status, output, errors = running.run([ROOM / "right/stack", 1, 20_000, 160 * 1024, 320 * 1024], limit=LIMIT)
         lines = (output + errors).splitlines()
         self.same((0, []), (status, [line for line in lines if not re.fullmatch("[a-z]+ [0-9]+", line)]))
         self.assertTrue(lines, "it measured no family")
@@ -206,7 +208,7 @@ class Looked(Calls):
 @lru_cache(maxsize=None)
 def examples():
     """Compiles the examples. What the compiler says of each."""
-    return {name: library.compiled(name, ROOM) for name in library.EXAMPLES}
+    return {name: library.compiled(name, ROOM) for name in EXAMPLES}
 
 
 def scored(output):
@@ -219,9 +221,9 @@ class Short(checks.Case):
 
     def test_short(self):
         """The number of their lines."""
-        for name in library.EXAMPLES:
+        for name in EXAMPLES:
             count = len((TOP / f"library/examples/{name}.c").read_text().splitlines())
-            self.check(f"the example {name} has at most {MOST_LINES} lines", True, count <= MOST_LINES)
+            self.check(f"the example {name} has at most {most_lines(name)} lines", True, count <= most_lines(name))
 
 
 class Played(Needing):
@@ -268,6 +270,60 @@ class Engine(Played):
         words = [sys.executable, "tests/references/engine/chosen.py", "--count", CONVERSATIONS, ENGINE, 3]
         status, output, errors = running.run(words, limit=LIMIT)
         self.same((0, "0 failed"), (status, (output + errors).rstrip("\n").rpartition(", ")[2]))
+
+
+# Boards of each kind, passes, a game that is taken back, and what is no command; with a quit, and without.
+SAID = ["boardsize 7", "genmove b", "genmove w", "undo", "no_command", "play b pass", "play w pass", "genmove b",
+        "boardsize 1", "genmove b", "boardsize 25", "genmove w"]  # fmt: skip
+TALK = "".join(f"{line}\n" for line in SAID)
+TALKS = {"a quit": TALK + "quit\n", "the end of the input": TALK, "a quit before all else": "quit\n", "no input": ""}
+SANE = ("-g", "-fsanitize=address,undefined", "-fno-sanitize-recover=all")
+
+
+class Searching(Played):
+    """The engine that searches."""
+
+    def test_whole(self):
+        """the engine that searches plays whole games, and wins them."""
+        came = twogtp(f"{UCT} 400 7", f"{ENGINE} 8", "--why", "--size", "7", "--komi", "4.5", "--games", "3")
+        winners = re.findall(r"^game [0-9]: ([BW]\+)[0-9.]+ moves [0-9]+ restarts 0 0$", came.output, re.M)
+        self.same((["B+"] * 3, ""), (winners, came.errors))
+
+    def test_checked(self):
+        """gtp_check finds nothing in the engine that searches."""
+        if not (TOP / "bin/gtp_check").is_file():
+            self.skipTest("bin/gtp_check is not there")
+        self.same((0, "0 complaints"), library.complaints(f"{UCT} 8"))
+
+
+LEFT = [(name, end) for name in ("random_engine", "uct_engine") for end in TALKS]
+
+
+@checks.table(LEFT, lambda it: "{} leaves no memory after {}".format(*it))
+class Leaving(Needing):
+    """What the examples leave, where a sanitizer looks at them."""
+
+    @classmethod
+    def setUpClass(cls):
+        super().setUpClass()
+        if not sanitizes("address,undefined"):
+            raise SkipTest("the sanitizer does not run here")
+        cls.folder = folder = cls.room_of_all()
+        cls.told = {name: library.compiled(name, folder, *SANE) for name in ("random_engine", "uct_engine", "play_match")}
+
+    def row(self, row):
+        name, end = row
+        words = [self.folder / name, *(["50"] if name == "uct_engine" else [])]
+        status, _, errors = running.run(words, TALKS[end], limit=LIMIT)
+        self.same(("", 0, ""), (self.told[name], status, errors))
+
+    def test_match(self):
+        """the match of the examples leaves no memory, also where an engine fails."""
+        for white in ("gtp_engine --policy random", "gtp_engine --fault stop:3", "true"):
+            words = [self.folder / "play_match", 7, 15, "gtp_engine --policy random --seed 2", white]
+            status, output, errors = running.run(words, limit=LIMIT, env=running.programs_in(None))
+            self.check(f"a match against {white} leaves no memory", ("", 0, 1, ""),
+                       (self.told["play_match"], status, output.count("\n"), re.sub(f"^{white}: .*\n", "", errors, flags=re.M)))  # fmt: skip
 
 
 # ---- the example of a match beside twogtp

@@ -32,7 +32,7 @@ from tests.references.engine import chosen, stepped, values  # noqa: E402
 from tests.references.engine import game as rules  # noqa: E402
 from tests.references.engine.conversations import KINDS  # noqa: E402
 from tests.shared import checks, library, running  # noqa: E402
-from tests.shared.library import MOST_LINES, TOP, Match, finished, twogtp  # noqa: E402
+from tests.shared.library import TOP, Match, finished, most_lines, twogtp  # noqa: E402
 
 PARSER = checks.Parser(__doc__)
 PARSER.add_argument("--library", type=Path, default=TOP / "bin", help="the folder of libvintsaky.so.1; else bin/")
@@ -102,12 +102,12 @@ class Needing(library.Needing):
 # ---- the package
 
 
-@checks.table(EXAMPLES, lambda example: f"{example.name} has at most {MOST_LINES} lines")
+@checks.table(EXAMPLES, lambda example: f"{example.name} has at most {most_lines(example.stem)} lines")
 class Examples(checks.Case):
     """The examples are short."""
 
     def row(self, example):
-        self.same(True, len(example.read_text().splitlines()) <= MOST_LINES)
+        self.same(True, len(example.read_text().splitlines()) <= most_lines(example.stem))
 
 
 def pythons():

@@ -22,7 +22,7 @@ sys.path[0] = str(Path(__file__).resolve().parents[2])
 from tests.references.engine import chosen  # noqa: E402
 from tests.references.engine.conversations import KINDS  # noqa: E402
 from tests.shared import checks, library, running  # noqa: E402
-from tests.shared.library import MOST_LINES, TOP, finished, twogtp  # noqa: E402
+from tests.shared.library import TOP, finished, most_lines, twogtp  # noqa: E402
 
 PARSER = checks.Parser(__doc__)
 PARSER.add_argument("--workspace", type=Path, help="one that cargo/strip wrote of these sources; else a new one")
@@ -140,7 +140,7 @@ class Played(InWorkspace):
     def setUpClass(cls):
         super().setUpClass()
         examples()
-        running.need("random_engine", "play_match", folder=example(""))
+        running.need("random_engine", "play_match", "uct_engine", folder=example(""))
 
 
 # ---- the crate
@@ -213,7 +213,7 @@ class Elsewhere(InWorkspace):
         self.try_it("a program in its own workspace", room / "engine", room)
 
 
-@checks.table(EXAMPLES, lambda example: f"{example.name} has at most {MOST_LINES} lines")
+@checks.table(EXAMPLES, lambda example: f"{example.name} has at most {most_lines(example.stem)} lines")
 class Examples(InWorkspace):
     """The examples."""
 
@@ -222,7 +222,7 @@ class Examples(InWorkspace):
         self.same((0, ""), examples())
 
     def row(self, source):
-        self.same(True, len(source.read_text().splitlines()) <= MOST_LINES)
+        self.same(True, len(source.read_text().splitlines()) <= most_lines(source.stem))
 
 
 # ---- the engine
@@ -255,6 +255,21 @@ class Engine(Played):
         if not (TOP / "bin/gtp_check").is_file():
             self.skipTest("there is no bin/gtp_check")
         self.same((0, "0 complaints"), library.complaints(example("random_engine")))
+
+
+class Searching(Played):
+    """The engine that searches."""
+
+    def test_whole(self):
+        """the engine that searches plays whole games, and wins them."""
+        line = twogtp(f"{example('uct_engine')} 100 7", f"{example('random_engine')} 8", "--size", "5", "--games", "3").output
+        self.same(["B+"] * 3, re.findall(r"^game [0-9]: ([BW]\+)[0-9.]+ moves [0-9]+ restarts 0 0$", line, re.M))
+
+    def test_checked(self):
+        """gtp_check finds nothing in the engine that searches."""
+        if not (TOP / "bin/gtp_check").is_file():
+            self.skipTest("there is no bin/gtp_check")
+        self.same((0, "0 complaints"), library.complaints(f"{example('uct_engine')} 8"))
 
 
 def odd_conversations(kind):

@@ -13,14 +13,17 @@
 #define REPLIES0 OF(0, replies)
 #define TEXT(which) (char *)w->texts[which].at, w->texts[which].length
 #define POINT_ROOM (uint32_t *)(void *)w->points.at, w->points.length / sizeof(uint32_t)
+#define BYTE_ROOM w->points.at, w->points.length
 #define INPUT (const char *)w->input.at, w->input.length
 #define VALUE(which) value32(w, which)
+#define WIDE_VALUE value64(w)
 #define COUNT(which) value_size(w, COUNTS + which)
 #define USED_BYTES value_size(w, USED)
 /* Numbers are drawn one after the other, before the call: C leaves open in which order its arguments are worked out. */
-#define DRAW(which, drawn) w->arguments[which] = (uint32_t)(drawn)
-#define DRAWN(which) w->arguments[which]
-#define SIGNED(which) (int32_t)w->arguments[which]
+#define DRAW(which, drawn) w->arguments[which] = (uint64_t)(drawn)
+#define DRAWN(which) (uint32_t)w->arguments[which]
+#define SIGNED(which) (int32_t)DRAWN(which)
+#define DRAWN_WORD(which) w->arguments[which]
 
 #define ROW(name, weight, objects, shape, most, causes, input, texts, made) \
     static uint64_t make_##name(world *w) { \

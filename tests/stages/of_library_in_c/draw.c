@@ -2,7 +2,7 @@
  *
  * usage: draw SEED COUNT            so many calls: prints how many, and a digest of all that they returned and wrote
  *        draw --missing SEED COUNT  and first which causes of which calls never came
- *        draw --threads SEED COUNT  in eight threads, each with its own objects, its own seed, and a stack of 256 kB: the same digests as
+ *        draw --threads SEED COUNT  in eight threads, each with its own objects, its own seed, and a stack of 384 kB: the same digests as
  *                                   those of the same seeds, one after the other */
 #define _DEFAULT_SOURCE
 #include "draw.h"
@@ -14,7 +14,7 @@
 #include <unistd.h>
 
 #ifndef STACK_KB
-#define STACK_KB 256
+#define STACK_KB 384
 #endif
 
 enum { THREADS = 8, STACK = STACK_KB * 1024 };

@@ -21,14 +21,14 @@ enum kind { GAME, ENGINE, MATCH, LINES, REPLIES, KINDS, NO_OBJECT = KINDS };
 /* how many objects of each kind a world has; how many buffers, values and drawn numbers a call is given at most; how many causes there may be */
 enum { EACH = 3, TEXTS = 2, VALUES = 8, CAUSES = 64, ARGUMENTS = 5 };
 
-/* which values have the lengths of the texts, and how many bytes of the input were used */
-enum { COUNTS = 5, USED = 7 };
+/* which value has 64 bits, which ones have the lengths of the texts, and how many bytes of the input were used */
+enum { WIDE = 4, COUNTS = 5, USED = 7 };
 
 /* for how many calls a match is driven on, or an engine on 2x2; and how many fill a record before */
 enum { SHORT = 60, FILL = 2300 };
 
-/* in place of a number of texts: a list of points is written */
-enum { POINT_LIST = 3 };
+/* in place of a number of texts: a list of points is written, or a list with a byte for each point of the board */
+enum { POINT_LIST = 3, BYTE_LIST = 4 };
 
 /* how many bytes a buffer may have, and how many its memory has */
 enum { MOST_ROOM = 16000, ROOM_BYTES = 16384 };
@@ -36,7 +36,7 @@ enum { MOST_ROOM = 16000, ROOM_BYTES = 16384 };
 /* what a call does to an object: it reads it, changes it where it isn't refused, or changes it */
 enum effect { READS, REFUSES, CHANGES };
 
-/* what a call returns: a cause, the length of its first text, how many points it has, or a number */
+/* what a call returns: a cause, the length of its first text, how long its list is, or a number */
 enum shape { CAUSE, LENGTH, POINTS, NUMBER };
 
 /* what a call is given to read */
@@ -81,9 +81,10 @@ typedef struct {
     unsigned char given[ROOM_BYTES]; /* the input's bytes, as they were given */
     const struct call *call;         /* the call that is made, and on which objects */
     object *held[2];
-    uint32_t side, arguments[ARGUMENTS];
+    uint32_t side;
+    uint64_t arguments[ARGUMENTS];
     drawn drawn;
-    long room;       /* the room of the first text or of the points, where it isn't to be drawn: else -1 */
+    long room;       /* the room of the first text or of the list, where it isn't to be drawn: else -1 */
     bool right;      /* Is the call the right one for the object that is driven? */
     unsigned driven; /* how many more calls are made while an object is driven */
     enum kind driver;
@@ -97,7 +98,7 @@ typedef struct call {
     enum kind kinds[2];
     enum effect effects[2];
     enum shape shape;
-    uint64_t most; /* the greatest number, length of the text, or number of points */
+    uint64_t most; /* the greatest number, length of the text, or length of the list */
     uint64_t causes;
     enum input input;
     unsigned texts;
@@ -131,6 +132,7 @@ void make_call(world *w);
 void make_calls(world *w, uint64_t count, enum kind family);
 uint32_t *value32(world *w, unsigned which);
 size_t *value_size(world *w, unsigned which);
+uint64_t *value64(world *w);
 
 /* causes */
 bool agrees_with_arguments(const world *w, uint64_t result);

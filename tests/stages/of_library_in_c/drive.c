@@ -51,8 +51,6 @@ static const call *drawn_call(world *w, enum kind family) {
 
 static void draw_objects(world *w) {
     for (unsigned i = 0; i < 2 && w->call->kinds[i] != NO_OBJECT; i++) w->held[i] = &w->objects[w->call->kinds[i]][below(w, EACH)];
-    object *all = w->objects[w->call->kinds[0] % KINDS];
-    if (w->call->kinds[1] != NO_OBJECT && w->held[1] == w->held[0]) w->held[1] = &all[(w->held[0] - all + 1) % EACH];
 }
 
 /* Makes so many calls, of those alone whose first object is of this kind; of all, where it is KINDS. */

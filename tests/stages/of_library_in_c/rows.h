@@ -52,6 +52,26 @@ ROW(game_made, 8, ON(GAME, READS), CAUSE, 0, C(NO_MOVE), NOTHING, 0, vintsaky_ga
 ROW(game_captured, 8, ON(GAME, READS), CAUSE, 0, C(BAD_COLOUR), NOTHING, 0, vintsaky_game_captured(GAME0, colour(w), VALUE(0)))
 ROW(game_rule, 4, ON(GAME, READS), NUMBER, 2, 0, NOTHING, 0, vintsaky_game_rule(GAME0))
 ROW(game_board_text, 6, ON(GAME, READS), LENGTH, 2000, 0, NOTHING, 1, vintsaky_game_board_text(GAME0, TEXT(0)))
+ROW(game_index, 8, ON(GAME, READS), CAUSE, 0, C(BAD_VERTEX) | C(OFF_BOARD), NOTHING, 0, vintsaky_game_index(GAME0, vertex(w), COUNT(0)))
+ROW(game_point_at, 8, ON(GAME, READS), CAUSE, 0, C(OFF_BOARD), NOTHING, 0, vintsaky_game_point_at(GAME0, chance(w, 9) ? (size_t)draw(w) :
+    number(w, 0, 30), VALUE(0)))
+ROW(game_board, 8, ON(GAME, READS), POINTS, 625, 0, NOTHING, BYTE_LIST, vintsaky_game_board(GAME0, BYTE_ROOM))
+ROW(game_legal_mask, 8, ON(GAME, READS), CAUSE, 625, C(BAD_COLOUR), NOTHING, BYTE_LIST, vintsaky_game_legal_mask(GAME0, colour(w),
+    BYTE_ROOM, COUNT(0)))
+ROW(game_is_own_eye, 8, ON(GAME, READS), CAUSE, 0, C(BAD_COLOUR) | C(BAD_VERTEX) | C(OFF_BOARD), NOTHING, 0, (DRAW(0, colour(w)), DRAW(1,
+    vertex(w)), vintsaky_game_is_own_eye(GAME0, DRAWN(0), DRAWN(1), VALUE(0))))
+ROW(game_chain_points, 8, ON(GAME, READS), CAUSE, 625, C(BAD_VERTEX) | C(OFF_BOARD) | C(NO_STONE), NOTHING, POINT_LIST,
+    vintsaky_game_chain_points(GAME0, vertex(w), POINT_ROOM, COUNT(0)))
+ROW(game_chain_liberties, 8, ON(GAME, READS), CAUSE, 625, C(BAD_VERTEX) | C(OFF_BOARD) | C(NO_STONE), NOTHING, POINT_LIST,
+    vintsaky_game_chain_liberties(GAME0, vertex(w), POINT_ROOM, COUNT(0)))
+ROW(game_ko_point, 8, ON(GAME, READS), CAUSE, 0, C(BAD_COLOUR), NOTHING, 0, vintsaky_game_ko_point(GAME0, colour(w), VALUE(0)))
+ROW(game_random_move, 8, ON(GAME, READS), CAUSE, 0, C(BAD_COLOUR), NOTHING, 0, (DRAW(0, colour(w)), DRAW(1, draw(w)),
+    vintsaky_game_random_move(GAME0, DRAWN(0), DRAWN_WORD(1), VALUE(0))))
+ROW(game_position_hash, 8, ON(GAME, READS), CAUSE, 0, C(BAD_COLOUR), NOTHING, 0, vintsaky_game_position_hash(GAME0, colour(w), WIDE_VALUE))
+ROW(game_playout, 2, ON(GAME, REFUSES), CAUSE, 0, C(BAD_COLOUR), NOTHING, 0, (DRAW(0, colour(w)), DRAW(1, draw(w)), DRAW(2, number(w, 0,
+    chance(w, 2) ? 4 : 40)), vintsaky_game_playout(GAME0, DRAWN(0), DRAWN_WORD(1), DRAWN(2))))
+ROW(game_rollout, 2, ON(GAME, READS), CAUSE, 0, C(BAD_COLOUR), NOTHING, 0, (DRAW(0, colour(w)), DRAW(1, draw(w)), DRAW(2, number(w, 0,
+    chance(w, 2) ? 4 : 40)), vintsaky_game_rollout(GAME0, DRAWN(0), DRAWN_WORD(1), DRAWN(2), (int32_t *)VALUE(0))))
 
 ROW(engine_place, 1, ON(ENGINE, CHANGES), NUMBER, 0, 0, NOTHING, 0, (vintsaky_engine_place(ENGINE0, w->held[0]->at), 0))
 ROW(engine_ended, 4, ON(ENGINE, READS), NUMBER, 1, 0, NOTHING, 0, vintsaky_engine_ended(ENGINE0))

@@ -2,7 +2,7 @@
  * can be. What the same takes without a call of the library isn't taken off.
  *
  * usage: stack SEED COUNT    prints a line a family: its name and the bytes
- *        stack SEED COUNT LIMIT    fails where a family takes more bytes than the limit */
+ *        stack SEED COUNT LIMIT OF_MATCHES    fails where a family takes more bytes than the limit, or that of matches */
 #define _DEFAULT_SOURCE
 #include "draw.h"
 #include <signal.h>
@@ -74,12 +74,12 @@ static size_t least(void) {
 int main(int words, char **word) {
     static const char *const names[] = {"games", "engines", "matches", "lines", "replies"};
     int failures = 0;
-    if (words != 3 && words != 4) return 2;
+    if (words != 3 && words != 5) return 2;
     start_worlds();
     seed = strtoull(word[1], NULL, 10), count = strtoull(word[2], NULL, 10);
     for (family = GAME; family < KINDS; family++) {
         size_t bytes = least();
-        int is_over = words == 4 && bytes > strtoull(word[3], NULL, 10);
+        int is_over = words == 5 && bytes > strtoull(word[family == MATCH ? 4 : 3], NULL, 10);
         printf("%s%s %zu\n", is_over ? "FAILED: " : "", names[family], bytes);
         fflush(stdout);
         failures += is_over;

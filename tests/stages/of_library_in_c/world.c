@@ -107,6 +107,11 @@ size_t *value_size(world *w, unsigned which) {
     return (size_t *)(void *)w->values[which].at;
 }
 
+uint64_t *value64(world *w) {
+    give(w, &w->values[WIDE], sizeof(uint64_t));
+    return (uint64_t *)(void *)w->values[WIDE].at;
+}
+
 static void mix(world *w, const void *bytes, size_t length) {
     const unsigned char *at = bytes;
     for (size_t i = 0; i < length; i++) w->digest = (w->digest ^ at[i]) * 0x100000001b3u;
@@ -160,6 +165,11 @@ static size_t draw_room(world *w) {
     }
 }
 
+/* How many bytes one of a list takes. */
+static size_t bytes_of_one(const call *c) {
+    return c->texts == POINT_LIST ? sizeof(uint32_t) : 1;
+}
+
 static void draw_arguments(world *w) {
     const call *c = w->call;
     size_t rooms[TEXTS] = {draw_room(w), draw_room(w)};
@@ -172,8 +182,8 @@ static void draw_arguments(world *w) {
         give(w, &w->input, length);
         memcpy(w->input.at, w->given, length);
     }
-    for (unsigned i = 0; i < c->texts && c->texts != POINT_LIST; i++) give(w, &w->texts[i], rooms[i]);
-    if (c->texts == POINT_LIST) give(w, &w->points, rooms[0] * sizeof(uint32_t));
+    for (unsigned i = 0; i < c->texts && c->texts <= TEXTS; i++) give(w, &w->texts[i], rooms[i]);
+    if (c->texts > TEXTS) give(w, &w->points, rooms[0] * bytes_of_one(c));
 }
 
 /* A text that has so many bytes was written with a NUL where there is room for both, else nothing was. What an engine wrote may have
@@ -201,13 +211,24 @@ static void check_points(world *w, size_t count) {
     check_buffer(w, &w->points, written * sizeof *points);
 }
 
+/* So many bytes were written where there is room for all of them, each of a colour or 0, else none. */
+static void check_list(world *w, size_t count) {
+    size_t written = count <= w->points.length ? count : 0;
+    if (count > w->call->most) failed(w, "there are more points than any");
+    for (size_t i = 0; i < written; i++)
+        if (w->points.at[i] > 2) failed(w, "what was written is no colour");
+    mix(w, w->points.at, written);
+    check_buffer(w, &w->points, written);
+}
+
 /* The values that were written, all of them where the call is done, else none. */
 static void check_values(world *w, bool done) {
     for (unsigned i = 0; i < VALUES; i++) {
         buffer *b = &w->values[i];
         if (!b->given) continue;
         if (done && memcmp(b->at, pattern + (b->at - b->all.low), b->length) == 0) failed(w, "a value wasn't written");
-        if (done && i < COUNTS) mix_number(w, *(uint32_t *)(void *)b->at, sizeof(uint32_t));
+        if (done && i < WIDE) mix_number(w, *(uint32_t *)(void *)b->at, sizeof(uint32_t));
+        if (done && i == WIDE) mix_number(w, *(uint64_t *)(void *)b->at, sizeof(uint64_t));
         if (done && i >= COUNTS) mix_number(w, *(size_t *)(void *)b->at, sizeof(uint64_t));
         check_buffer(w, b, done ? b->length : 0);
     }
@@ -224,7 +245,7 @@ static void check_input(world *w, uint64_t result) {
     check_buffer(w, &w->input, w->input.length);
 }
 
-/* What the call returned agrees with what it may, and all that it touched with that. How long its text is, or how many points. */
+/* What the call returned agrees with what it may, and all that it touched with that. How long its text or its list is. */
 static size_t check_result(world *w, uint64_t result) {
     const call *c = w->call;
     bool done = c->shape != CAUSE || result == 0;
@@ -237,15 +258,17 @@ static size_t check_result(world *w, uint64_t result) {
     w->came[(size_t)(c - calls) * CAUSES + (c->shape == CAUSE ? result : 0)]++;
     mix_number(w, result, sizeof result);
     check_input(w, result);
-    if (c->texts == POINT_LIST && done) check_points(w, length);
-    else if (c->texts == POINT_LIST) check_buffer(w, &w->points, 0);
-    for (unsigned i = 0; i < c->texts && c->texts != POINT_LIST; i++)
+    if (c->texts > TEXTS && !done) check_buffer(w, &w->points, 0);
+    else if (c->texts == POINT_LIST) check_points(w, length);
+    else if (c->texts == BYTE_LIST) check_list(w, length);
+    for (unsigned i = 0; i < c->texts && c->texts <= TEXTS; i++)
         if (done) check_text(w, &w->texts[i], i ? second : length);
         else check_buffer(w, &w->texts[i], 0);
     check_values(w, done);
+    bool is_one = c->kinds[1] != NO_OBJECT && w->held[0] == w->held[1]; /* a copy of itself, which changes nothing */
     for (unsigned i = 0; i < 2; i++)
         if (c->kinds[i] != NO_OBJECT)
-            check_object(w, w->held[i], c->effects[i] == CHANGES || (c->effects[i] == REFUSES && done));
+            check_object(w, w->held[i], !is_one && (c->effects[i] == CHANGES || (c->effects[i] == REFUSES && done)));
     return length;
 }
 
@@ -261,7 +284,7 @@ void make_call(world *w) {
     bool twice = c->texts && c->effects[0] == READS && chance(w, 2);
     long room = twice ? (long)below(w, 4) - 1 : 0;
     uint64_t start = w->state;
-    w->room = twice ? (long)(MOST_ROOM / (c->texts == POINT_LIST ? sizeof(uint32_t) : 1)) : -1;
+    w->room = twice ? (long)(MOST_ROOM / bytes_of_one(c)) : -1;
     size_t length = make_once(w);
     if (twice) {
         w->state = start;

@@ -157,6 +157,106 @@ static uint32_t wrong_stone_at(vintsaky_game *game, uint32_t vertex, uint32_t *c
 }
 #define vintsaky_game_stone_at wrong_stone_at
 
+#elif WRONG == 21 /* game_copy: begins a game anew that is copied onto itself */
+static void wrong_copy(vintsaky_game *game, vintsaky_game *other) {
+    if (game != other) vintsaky_game_copy(game, other);
+    else vintsaky_game_begin(game, VINTSAKY_SIMPLE, 19, 0);
+}
+#define vintsaky_game_copy wrong_copy
+
+#elif WRONG == 22 /* game_index: takes a pass for A1 */
+static uint32_t wrong_index(vintsaky_game *game, uint32_t vertex, size_t *index) {
+    return vintsaky_game_index(game, vertex == VINTSAKY_PASS ? 257 : vertex, index);
+}
+#define vintsaky_game_index wrong_index
+
+#elif WRONG == 23 /* game_point_at: writes a pass where it is refused */
+static uint32_t wrong_point_at(vintsaky_game *game, size_t index, uint32_t *vertex) {
+    *vertex = VINTSAKY_PASS;
+    return vintsaky_game_point_at(game, index, vertex);
+}
+#define vintsaky_game_point_at wrong_point_at
+
+#elif WRONG == 24 /* game_board: writes the points for which there is room */
+static size_t wrong_board(vintsaky_game *game, uint8_t *bytes, size_t room) {
+    uint8_t all[625];
+    size_t count = vintsaky_game_board(game, all, 625);
+    for (size_t i = 0; i < count && i < room; i++) bytes[i] = all[i];
+    return count;
+}
+#define vintsaky_game_board wrong_board
+
+#elif WRONG == 25 /* game_legal_mask: writes a NUL after the last byte */
+static uint32_t wrong_mask(vintsaky_game *game, uint32_t colour, uint8_t *bytes, size_t room, size_t *count) {
+    uint32_t cause = vintsaky_game_legal_mask(game, colour, bytes, room, count);
+    if (cause == VINTSAKY_DONE && *count <= room) bytes[*count] = 0;
+    return cause;
+}
+#define vintsaky_game_legal_mask wrong_mask
+
+#elif WRONG == 26 /* game_is_own_eye: looks at the vertex before the colour */
+static uint32_t wrong_eye(vintsaky_game *game, uint32_t colour, uint32_t vertex, uint32_t *holds) {
+    uint32_t cause = vintsaky_game_is_own_eye(game, VINTSAKY_BLACK, vertex, holds);
+    return cause != VINTSAKY_DONE ? cause : vintsaky_game_is_own_eye(game, colour, vertex, holds);
+}
+#define vintsaky_game_is_own_eye wrong_eye
+
+#elif WRONG == 27 /* game_chain_points: begins with the stone that is asked for */
+static uint32_t wrong_stones(vintsaky_game *game, uint32_t vertex, uint32_t *points, size_t room, size_t *count) {
+    uint32_t cause = vintsaky_game_chain_points(game, vertex, points, room, count);
+    for (size_t i = 1; cause == VINTSAKY_DONE && *count <= room && i < *count; i++)
+        if (points[i] == vertex) points[i] = points[0], points[0] = vertex;
+    return cause;
+}
+#define vintsaky_game_chain_points wrong_stones
+
+#elif WRONG == 28 /* game_chain_liberties: says that there are as many as it has room for */
+static uint32_t wrong_liberties(vintsaky_game *game, uint32_t vertex, uint32_t *points, size_t room, size_t *count) {
+    uint32_t cause = vintsaky_game_chain_liberties(game, vertex, points, room, count);
+    if (cause == VINTSAKY_DONE && *count > room) *count = room;
+    return cause;
+}
+#define vintsaky_game_chain_liberties wrong_liberties
+
+#elif WRONG == 29 /* game_ko_point: writes nothing where there is none */
+static uint32_t wrong_ko(vintsaky_game *game, uint32_t colour, uint32_t *vertex) {
+    uint32_t point;
+    uint32_t cause = vintsaky_game_ko_point(game, colour, &point);
+    if (cause == VINTSAKY_DONE && point != VINTSAKY_PASS) *vertex = point;
+    return cause;
+}
+#define vintsaky_game_ko_point wrong_ko
+
+#elif WRONG == 30 /* game_random_move: makes the move */
+static uint32_t wrong_move(vintsaky_game *game, uint32_t colour, uint64_t word, uint32_t *vertex) {
+    uint32_t cause = vintsaky_game_random_move(game, colour, word, vertex);
+    if (cause == VINTSAKY_DONE) vintsaky_game_play(game, colour, *vertex);
+    return cause;
+}
+#define vintsaky_game_random_move wrong_move
+
+#elif WRONG == 31 /* game_position_hash: takes what is no colour for Black */
+static uint32_t wrong_position(vintsaky_game *game, uint32_t colour, uint64_t *hash) {
+    return vintsaky_game_position_hash(game, colour == VINTSAKY_WHITE ? colour : VINTSAKY_BLACK, hash);
+}
+#define vintsaky_game_position_hash wrong_position
+
+#elif WRONG == 32 /* game_playout: makes a move where it is refused */
+static uint32_t wrong_playout(vintsaky_game *game, uint32_t colour, uint64_t seed, uint32_t limit) {
+    uint32_t cause = vintsaky_game_playout(game, colour, seed, limit);
+    if (cause == VINTSAKY_BAD_COLOUR) vintsaky_game_playout(game, VINTSAKY_BLACK, seed, 1);
+    return cause;
+}
+#define vintsaky_game_playout wrong_playout
+
+#elif WRONG == 33 /* game_rollout: leaves the game as the playout left it */
+static uint32_t wrong_rollout(vintsaky_game *game, uint32_t colour, uint64_t seed, uint32_t limit, int32_t *half_points) {
+    uint32_t cause = vintsaky_game_playout(game, colour, seed, limit);
+    if (cause == VINTSAKY_DONE) *half_points = vintsaky_game_score(game);
+    return cause;
+}
+#define vintsaky_game_rollout wrong_rollout
+
 #else
 #error "there is no such copy"
 #endif
