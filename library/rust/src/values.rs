@@ -84,6 +84,7 @@ pub struct Point(go_base::Point);
 
 impl Point {
     /// The point of a column and a row: none where one of them isn't from 1 to 25.
+    #[inline]
     pub fn new(column: u32, row: u32) -> Option<Self> {
         go_base::Point::new(column, row).map(Self)
     }
