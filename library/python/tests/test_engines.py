@@ -97,10 +97,10 @@ class InSteps(Refusing):
             self.assertEqual(steps.reply, reply)
         steps.feed(b"genmove b\n")
         self.refused(Cause.OCCUPIED, steps.choose, "A1")
-        self.assertRaisesRegex(vintsaky.Refused, "^the choice A1: A stone is on the point.$", steps.choose, "A1")
+        self.assertRaisesRegex(vintsaky.Refused, "^choose A1: A stone is on the point.$", steps.choose, "A1")
         self.refused(Cause.BAD_VERTEX, steps.choose, (26, 1))
         self.refused(Cause.BAD_TEXT, steps.choose, "resigned")
-        self.assertRaises(OverflowError, steps.choose, (2**32 + 1, 1))
+        self.refused(Cause.BAD_VERTEX, steps.choose, (2**32 + 1, 1))
         for choice in (None, 0, 65535, 1.5):
             self.assertRaises(TypeError, steps.choose, choice)
         self.assertIs(steps.wait, Event.BLACK)
@@ -138,9 +138,8 @@ class InSteps(Refusing):
         self.refused(Cause.NOT_ASKED, steps.decline)
 
     def test_rules(self):
-        for rule in (0, 3, 257):
+        for rule in (0, 3, 257, -1, 2**32 + 1):
             self.refused(Cause.BAD_RULE, Steps, rule)
-        self.assertRaises(OverflowError, Steps, 2**32 + 1)
         self.assertRaises(TypeError, Steps, "simple")
 
 
@@ -181,8 +180,8 @@ class Served(unittest.TestCase):
     def test_choices_that_are_not_lawful_come_out(self):
         for choice, kind, text in (
             ("A1", vintsaky.Refused, "A stone is on the point"), ("C1", vintsaky.Refused, "isn't on a board"),
-            (None, TypeError, "None is no Point"), (257, TypeError, "257 is no Point"),
-            ("Z99", vintsaky.Refused, "can be read"),
+            (None, TypeError, "None is no choice"), (257, TypeError, "257 is no choice"),
+            ("Z99", vintsaky.Refused, "'Z99' is no choice"),
         ):  # fmt: skip
             engine, sink = Engine(), io.BytesIO()
             engine.choose = lambda game, colour, choice=choice: choice

@@ -36,7 +36,7 @@ from .engines import Engine, Event, Failure, Steps, command
 from .games import Chain, Game, Move, Moves
 from .lines import Command, CommandLine, CommandLines, LineEvent, Replies, Reply, ReplyEvent, write_command, write_reply
 from .matches import Action, Match, Next, Owed, Report, Status, Verdict
-from .values import BLACK, PASS, RESIGN, WHITE, AnyColour, AnyVertex, Colour, Komi, KoRule, NoPoint, Point, Vertex
+from .values import BLACK, PASS, RESIGN, WHITE, AnyChoice, AnyColour, AnyVertex, Colour, Komi, KoRule, NoPoint, Point, Vertex
 from .values import komi_text, read_colour, read_komi, read_vertex, vertex_text
 
 __version__ = "1.0.0"
@@ -47,6 +47,7 @@ __all__ = [
     "RESIGN",
     "WHITE",
     "Action",
+    "AnyChoice",
     "AnyColour",
     "AnyVertex",
     "Bytes",

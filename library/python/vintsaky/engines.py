@@ -10,13 +10,13 @@ from enum import IntEnum
 from typing import Any, Callable, ClassVar, Dict, Iterator, List, Optional, Tuple, TypeVar, Union
 
 from . import _declared
-from ._held import Bytes, Held, ascii_of, bytes_of, whole
+from ._held import Bytes, Held, ascii_of, bytes_of
 from ._library import library, text_of
 from ._numbers import Cause
-from ._refused import Refused, done, or_none
+from ._refused import Refused, done, or_none, shown
 from .games import Game
-from .lines import CommandLine, words_of
-from .values import AnyVertex, Colour, KoRule, vertex_number
+from .lines import CommandLine, bad_reply, words_of
+from .values import AnyChoice, Colour, KoRule, choice_number, rule_number, shown_vertex
 
 PIECE = 4096  # the most bytes that are read at a time
 Method = TypeVar("Method", bound=Callable[..., Any])
@@ -59,7 +59,7 @@ class Steps(Held):
 
     def begin(self, rule: KoRule = KoRule.SIMPLE) -> None:
         """Begins anew. Causes: BAD_RULE."""
-        done(library.vintsaky_engine_begin(self._held(), whole(rule, "the ko rule")))
+        done(library.vintsaky_engine_begin(self._held(), rule_number(rule)))
 
     def feed(self, data: Bytes) -> Tuple[int, Event]:
         """Takes the next piece, up to and with the newline of the first line that has a word. How many bytes were used,
@@ -100,41 +100,43 @@ class Steps(Held):
         library.vintsaky_engine_copy_game(self._held(), game._held())
         return game
 
-    def choose(self, choice: AnyVertex) -> None:
+    def choose(self, choice: AnyChoice) -> None:
         """Makes the choice that is asked for: a vertex, RESIGN, or the text of either. Causes: BAD_VERTEX, NOT_ASKED,
         OFF_BOARD, OCCUPIED, SUICIDE or KO; the choice is still asked for."""
-        is_text = isinstance(choice, (str, bytes))
-        resigns = is_text and ascii_of(choice, "the choice").lower() == b"resign"  # type: ignore[arg-type]
-        number = _declared.RESIGN if resigns else vertex_number(choice)
-        shown = choice.decode() if isinstance(choice, bytes) else choice
-        done(library.vintsaky_engine_choose(self._held(), number), f"the choice {shown}")
+        number = choice_number(choice)
+        done(library.vintsaky_engine_choose(self._held(), number), f"choose {shown_vertex(number)}")
 
     def answer(self, text: Union[str, bytes] = "", ok: bool = True) -> None:
         """Answers the line of another command: by a success, or by a failure. Causes: NOT_ASKED, or BAD_TEXT where no
         reply may have the text."""
-        data = ascii_of(text, "the answer")
-        done(library.vintsaky_engine_answer(self._held(), int(bool(ok)), data, len(data)))
+        data = ascii_of(text, "text")
+        cause = library.vintsaky_engine_answer(self._held(), int(bool(ok)), data, len(data))
+        if cause == Cause.BAD_TEXT:
+            raise bad_reply(text)
+        done(cause, f"answer {shown(text)}")
 
     def decline(self) -> None:
         """Answers the line of another command by `unknown command`. Causes: NOT_ASKED."""
-        done(library.vintsaky_engine_decline(self._held()))
+        done(library.vintsaky_engine_decline(self._held()), "decline")
 
     def set_name(self, name: Union[str, bytes]) -> None:
         """Answers name by this text from now on. Causes: BAD_TEXT where it has more than 200 bytes, or no reply may
         have it."""
-        data = ascii_of(name, "the name")
-        done(library.vintsaky_engine_set_name(self._held(), data, len(data)))
+        data = ascii_of(name, "name")
+        if library.vintsaky_engine_set_name(self._held(), data, len(data)):
+            raise bad_reply(name, "name", 200)
 
     def set_version(self, version: Union[str, bytes]) -> None:
         """Answers version by this text from now on. Causes: as those of `set_name`."""
-        data = ascii_of(version, "the version")
-        done(library.vintsaky_engine_set_version(self._held(), data, len(data)))
+        data = ascii_of(version, "version")
+        if library.vintsaky_engine_set_version(self._held(), data, len(data)):
+            raise bad_reply(version, "version", 200)
 
     def add_command(self, name: Union[str, bytes]) -> None:
         """Adds a command of the author's own. Causes: BAD_LENGTH, BAD_BYTE, ONLY_DIGITS, IN_TABLE, ADDED_BEFORE or
         TOO_MANY."""
-        data = ascii_of(name, "the command's name")
-        done(library.vintsaky_engine_add_command(self._held(), data, len(data)))
+        data = ascii_of(name, "name", Cause.BAD_BYTE)
+        done(library.vintsaky_engine_add_command(self._held(), data, len(data)), f"add_command {shown(name)}")
 
 
 class Failure(Exception):
@@ -187,7 +189,7 @@ class Engine:
     rule: KoRule = KoRule.SIMPLE
     _steps: Optional[Steps] = None
 
-    def choose(self, game: Game, colour: Colour) -> AnyVertex:
+    def choose(self, game: Game, colour: Colour) -> AnyChoice:
         """What the engine plays: a legal Point, PASS or RESIGN, or the text of one. The game is a copy, on which it may
         play as it likes: up to 2,000 moves, those that it has among them. Then `play` raises Refused, with FULL.
 
