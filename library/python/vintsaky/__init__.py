@@ -37,7 +37,7 @@ from .games import Chain, Game, Move, Moves
 from .lines import Command, CommandLine, CommandLines, LineEvent, Replies, Reply, ReplyEvent, write_command, write_reply
 from .matches import Action, Match, Next, Owed, Report, Status, Verdict
 from .values import BLACK, PASS, RESIGN, WHITE, AnyChoice, AnyColour, AnyVertex, Colour, Komi, KoRule, NoPoint, Point, Vertex
-from .values import komi_text, read_colour, read_komi, read_vertex, vertex_text
+from .values import inverse_symmetry, komi_text, read_colour, read_komi, read_vertex, symmetry_map, vertex_text
 
 __version__ = "1.0.0"
 
@@ -84,10 +84,12 @@ __all__ = [
     "Verdict",
     "Vertex",
     "command",
+    "inverse_symmetry",
     "komi_text",
     "read_colour",
     "read_komi",
     "read_vertex",
+    "symmetry_map",
     "version",
     "vertex_text",
     "write_command",

@@ -5,6 +5,7 @@ import ctypes
 import math
 from enum import Enum, IntEnum
 from fractions import Fraction
+from functools import lru_cache
 from typing import Any, Dict, Final, List, Literal, NamedTuple, Tuple, Union
 
 from . import _declared
@@ -70,6 +71,23 @@ class Point(NamedTuple):
         column, row = self
         beside = [Point(column, row - 1), Point(column - 1, row), Point(column + 1, row), Point(column, row + 1)]
         return [point for point in beside if 1 <= point.column <= size and 1 <= point.row <= size]
+
+    def turned(self, size: int, symmetry: int) -> Point:
+        """Where the point comes by a symmetry of a board of this size. 0 to 3 are quarter turns to the left, so many; 4
+        to 7 change left and right first, and then are symmetry - 4 such turns. Causes: BAD_VERTEX, BAD_SIZE or
+        OFF_BOARD. A ValueError where the symmetry isn't from 0 to 7.
+
+        >>> [str(Point(1, 2).turned(9, symmetry)) for symmetry in range(8)]
+        ['A2', 'H1', 'J8', 'B9', 'J2', 'H9', 'A8', 'B1']
+        """
+        _point_number(self)
+        size, symmetry = size_number(size), symmetry_number(symmetry)
+        if max(self) > size:
+            raise Refused(Cause.OFF_BOARD, f"turned {self}")
+        column, row = (self.column if symmetry < 4 else size + 1 - self.column), self.row
+        for _ in range(symmetry % 4):
+            column, row = size + 1 - row, column
+        return Point(column, row)
 
 
 class NoPoint(Enum):
@@ -193,6 +211,41 @@ def rule_number(rule: int) -> int:
     if number not in (_declared.SIMPLE, _declared.POSITIONAL):
         raise Refused(Cause.BAD_RULE, "rule", f"{shown(rule)} is {wanted}")
     return number
+
+
+def symmetry_number(symmetry: int) -> int:
+    """The number of a symmetry of the board."""
+    return whole(symmetry, "symmetry", 0, 7)
+
+
+def inverse_symmetry(symmetry: int) -> int:
+    """The symmetry that undoes this one: after both, in either order, each point is where it was.
+
+    >>> Point(1, 2).turned(9, 1).turned(9, inverse_symmetry(1)) == Point(1, 2)
+    True
+    """
+    number = symmetry_number(symmetry)
+    return number if number >= 4 else -number % 4
+
+
+def symmetry_map(size: int, symmetry: int) -> Tuple[int, ...]:
+    """For each point of the turned board, in the board's order, the index that it had before. So the plane of a turned
+    board is `[plane[index] for index in symmetry_map(size, symmetry)]`. An index that says where something is, as that
+    of a move, becomes `symmetry_map(size, inverse_symmetry(symmetry))[index]`. Causes: BAD_SIZE. A ValueError where the
+    symmetry isn't from 0 to 7.
+
+    >>> symmetry_map(2, 1)  # A1, whose index is 0, comes to B1
+    (2, 0, 3, 1)
+    """
+    return _map(size_number(size), inverse_symmetry(symmetry))
+
+
+@lru_cache(maxsize=None)
+def _map(size: int, symmetry: int) -> Tuple[int, ...]:
+    """The index to which each point of the board comes."""
+    board = range(1, size + 1)
+    turned = [Point(column, row).turned(size, symmetry) for row in board for column in board]
+    return tuple((row - 1) * size + column - 1 for column, row in turned)
 
 
 def _read(call: Any, number: Any, text: Union[str, bytes], what: str, wanted: str) -> int:
