@@ -18,7 +18,7 @@ import vintsaky
 from vintsaky import Cause, CommandLines, Game, Match, Refused, Replies, Steps, _declared, _held, _library
 
 PACKAGE = Path(vintsaky.__file__).resolve().parent
-MODULES = ["_declared", "_library", "_numbers", "_refused", "_held", "_attributes", "values", "games", "lines", "engines", "matches"]
+MODULES = ["_declared", "_library", "_numbers", "_refused", "_held", "_attributes", "values", "moves", "games", "lines", "engines", "matches"]
 
 
 def modules():
@@ -150,7 +150,7 @@ class Objects(unittest.TestCase):
 
     def test_each_method_asks_for_the_thread(self):
         """Each call with a handle gets it from the method that looks at the thread."""
-        for name in ("games", "lines", "engines", "matches"):
+        for name in ("games", "moves", "lines", "engines", "matches"):
             text = (PACKAGE / f"{name}.py").read_text("ascii")
             self.assertNotRegex(text, r"\._(place|handle|memory)\b")
         self.assertEqual((PACKAGE / "_held.py").read_text("ascii").count("get_ident() !="), 1)
