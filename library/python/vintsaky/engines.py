@@ -150,7 +150,9 @@ def command(name: str) -> Callable[[Method], Method]:
     one. Where it raises Failure, the reply is a failure with that text. No own command changes the game.
 
     A text has at most 2,000 bytes, each a newline or 32 to 126. No two newlines follow each other, and it begins and
-    ends with neither a space nor a newline. Another one ends `serve` by Refused.
+    ends with neither a space nor a newline. Where it is another one, or no text at all, the reply is a failure, a line
+    on standard error names the command and says what is wrong, and the engine serves on. What else the method raises
+    comes out of `serve`.
 
     Errors: TypeError where the name is no str, as after `@command` without a name."""
     if not isinstance(name, str):
@@ -212,9 +214,9 @@ class Engine:
         written to standard output, by `print` or by a process that is started, goes to standard error. What else reads
         standard input finds it empty.
 
-        Errors: what `choose` or an own command raises, Refused of a choice or an answer that may not be, and what the
-        files raise. Nothing is written then; the reply to each earlier line was. A name or an own command that may not
-        be is a ValueError at once."""
+        Errors: what `choose` or an own command raises, but Failure, Refused or TypeError of a choice that may not be,
+        and what the files raise. Nothing is written then; the reply to each earlier line was. A name or an own command
+        that may not be is a ValueError at once."""
         with contextlib.ExitStack() as stack:
             if source is None or sink is None:
                 standard = stack.enter_context(standard_streams())
@@ -271,12 +273,27 @@ class Engine:
         if not words or words[0] not in commands:
             steps.decline()
             return
+        text, ok = self._said(commands[words[0]], words[1:])
         try:
-            text = getattr(self, commands[words[0]])(words[1:])
+            steps.answer(text, ok)
+        except (TypeError, ValueError) as problem:
+            tell(f"{type(self).__name__}: the command {words[0]}: its answer is wrong: {problem}")
+            steps.answer("the answer is wrong", ok=False)
+
+    def _said(self, method: str, words: List[str]) -> Tuple[Any, bool]:
+        """What an own command answers by its method, and whether that is a success."""
+        try:
+            text = getattr(self, method)(words)
         except Failure as failure:
-            steps.answer(str(failure), ok=False)
-        else:
-            steps.answer("" if text is None else text)
+            return str(failure), False
+        return "" if text is None else text, True
+
+
+def tell(line: str) -> None:
+    """Writes a line to standard error, where that takes one."""
+    with contextlib.suppress(OSError, ValueError):
+        if sys.stderr is not None:
+            print(line, file=sys.stderr, flush=True)
 
 
 def read_some(source: Any) -> bytes:
