@@ -1,10 +1,14 @@
 """The package: how it finds its library, its documentation, threads, and what can't be done with an object."""
+import abc
 import ast
 import copy
+import dataclasses
 import doctest
+import inspect
 import io
 import os
 import pickle
+import pydoc
 import re
 import subprocess
 import sys
@@ -15,10 +19,11 @@ from ctypes.util import find_library
 from pathlib import Path
 
 import vintsaky
-from vintsaky import Cause, CommandLines, Game, Match, Refused, Replies, Steps, _declared, _held, _library
+from vintsaky import Action, Cause, Chain, Colour, CommandLines, Game, Match, Move, Point, Refused, Replies, Steps
+from vintsaky import _declared, _held, _library
 
 PACKAGE = Path(vintsaky.__file__).resolve().parent
-MODULES = ["_declared", "_library", "_numbers", "_refused", "_held", "_attributes", "values", "moves", "games", "lines", "engines", "matches"]
+MODULES = ["_declared", "_brief", "_library", "_numbers", "_refused", "_held", "_attributes", "values", "moves", "games", "lines", "engines", "matches"]
 
 
 def modules():
@@ -46,13 +51,46 @@ class Documentation(unittest.TestCase):
         for module in modules():
             for node in ast.walk(ast.parse(Path(module.__file__).read_text("ascii"))):
                 if isinstance(node, ast.FunctionDef):
-                    own = [each for each in [*node.args.args, *node.args.kwonlyargs] if each.arg != "self"]
+                    own = [each for each in [*node.args.args, *node.args.kwonlyargs] if each.arg not in ("self", "cls")]
                     is_annotated = node.returns and all(each.annotation for each in own)
                     self.assertTrue(is_annotated, f"{module.__name__}.{node.name}")
 
     def test_all_names_are_there(self):
         self.assertEqual([name for name in vintsaky.__all__ if not hasattr(vintsaky, name)], [])
         self.assertEqual(len(set(vintsaky.__all__)), len(vintsaky.__all__))
+
+    def test_help_is_short_and_whole(self):
+        text = pydoc.render_doc(vintsaky, renderer=pydoc.plaintext)
+        self.assertLess(len(text.splitlines()), 1500)
+        words = " ".join(re.sub(r"^ *\|", "", text, flags=re.MULTILINE).split())
+        for cause in Cause:
+            self.assertIn(f"{cause.name}: {cause.text}", words)
+        for name in vintsaky.__all__:
+            self.assertRegex(words, rf"\b{name}\b")
+        for method in ("from_moves", "playout", "turn", "adopt", "next", "feed", "neighbours", "winner", "__getitem__"):
+            self.assertRegex(text, rf"\|  {method}\b")
+
+    def test_what_help_leaves_out_is_there(self):
+        for kind, inherited in ((Point, "count"), (Move, "_asdict"), (Cause, "bit_length"), (Colour, "__members__"), (Action, "__eq__")):
+            self.assertNotIn(inherited, dir(kind))
+            self.assertTrue(hasattr(kind, inherited))
+        self.assertTrue({"column", "row", "turned", "count", "_replace", "__add__"} <= set(dir(Point(1, 1))))
+        self.assertTrue({"BLACK", "WHITE", "other"} <= set(dir(Colour)))
+        self.assertEqual(list(inspect.signature(Point).parameters), ["column", "row"])
+        self.assertEqual(list(inspect.signature(Game).parameters), ["size", "komi", "rule"])
+        self.assertEqual([field.name for field in dataclasses.fields(Action)], ["kind", "side"])
+        self.assertEqual((Point._fields, Point(1, 2)._replace(row=5)), (("column", "row"), (1, 5)))
+        self.assertIs(type(Point._make([1, 2])), Point)
+        self.assertEqual(list(Colour), [1, 2])
+        for value in (Point(3, 4), Move(Colour.BLACK, Point(1, 1)), Chain(1, 2), Cause.KO, vintsaky.RESIGN):
+            for again in (pickle.loads(pickle.dumps(value)), copy.copy(value), copy.deepcopy(value)):
+                self.assertEqual((again, type(again)), (value, type(value)))
+        self.assertIs(pickle.loads(pickle.dumps(vintsaky.PASS)), vintsaky.PASS)
+
+        class Mine(Game, abc.ABC):
+            """A subclass may be abstract, or generic."""
+
+        self.assertEqual(Mine(5).size, 5)
 
     def test_the_example_is_an_engine_of_12_lines(self):
         text = textwrap.dedent(re.search(r"\n\n((?:    .*\n|\n)+)\n", vintsaky.__doc__)[1]).strip()

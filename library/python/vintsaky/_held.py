@@ -5,7 +5,7 @@ import ctypes
 import operator
 import sys
 from threading import get_ident
-from typing import Any, ClassVar, NoReturn, Optional, Type, Union
+from typing import Any, NoReturn, Optional, Union
 
 from ._library import library
 from ._numbers import Cause
@@ -19,8 +19,8 @@ class Held:
     the one that adopted it last."""
 
     __slots__ = ("_memory", "_handle", "_place", "_thread")
-    _kind: ClassVar[str]
-    _handle_type: ClassVar[Type[ctypes.Structure]]
+    _kind = ""  # the word for it in the names of its calls
+    _handle_type = ctypes.Structure
 
     def __init__(self) -> None:
         size: int = getattr(library, f"vintsaky_{self._kind}_bytes")()

@@ -7,6 +7,7 @@ from enum import IntEnum
 from pathlib import Path
 from typing import Any, Tuple
 
+from ._brief import BriefEnum
 from ._declared import CALLS, INTERFACE
 
 VARIABLE = "VINTSAKY_LIBRARY"
@@ -59,7 +60,11 @@ def text_of(call: Any, *arguments: Any) -> bytes:
         room = length + 1
 
 
-class Told(IntEnum):
+class Numbered(IntEnum, metaclass=BriefEnum):
+    """A number of the library."""
+
+
+class Told(Numbered):
     """A number for which the library has a sentence."""
 
     @property

@@ -4,12 +4,13 @@ from __future__ import annotations
 from enum import Enum
 from typing import Any, Optional
 
+from ._brief import Brief
 from ._numbers import Cause
 
 MOST_SHOWN = 60  # characters of a value
 
 
-class Refused(ValueError):
+class Refused(ValueError, metaclass=Brief):
     """A call is refused, and has changed nothing. `cause` says why. The text names what is refused with its value, and
     then what is wanted, or else the cause's sentence."""
 

@@ -7,9 +7,10 @@ import fcntl
 import os
 import sys
 from enum import IntEnum
-from typing import Any, Callable, ClassVar, Dict, Iterator, List, Optional, Tuple, TypeVar, Union
+from typing import Any, Callable, Dict, Iterator, List, Optional, Tuple, TypeVar, Union
 
 from . import _declared
+from ._brief import Brief, BriefEnum
 from ._held import Bytes, Held, ascii_of, bytes_of
 from ._library import library, text_of
 from ._numbers import Cause
@@ -22,7 +23,7 @@ PIECE = 4096  # the most bytes that are read at a time
 Method = TypeVar("Method", bound=Callable[..., Any])
 
 
-class Event(IntEnum):
+class Event(IntEnum, metaclass=BriefEnum):
     """What came of a piece that was fed to an engine in steps."""
 
     MORE = _declared.MORE  # All bytes were used: read on.
@@ -50,7 +51,7 @@ class Steps(Held):
     """
 
     __slots__ = ()
-    _kind: ClassVar[str] = "engine"
+    _kind = "engine"
     _handle_type = _declared.EngineHandle
 
     def __init__(self, rule: KoRule = KoRule.SIMPLE) -> None:
@@ -139,7 +140,7 @@ class Steps(Held):
         done(library.vintsaky_engine_add_command(self._held(), data, len(data)), f"add_command {shown(name)}")
 
 
-class Failure(Exception):
+class Failure(Exception, metaclass=Brief):
     """An own command fails: its reply is a failure with this text."""
 
 

@@ -5,10 +5,11 @@ import ctypes
 from copy import deepcopy
 from functools import partial
 from pickle import UnpicklingError
-from typing import Any, Callable, ClassVar, Dict, Iterable, List, NamedTuple, Optional, Tuple, Type, TypeVar
+from typing import Any, Callable, Dict, Iterable, List, NamedTuple, Optional, Tuple, Type, TypeVar
 
 from . import _declared
 from ._attributes import attributes_of, give_attributes
+from ._brief import BriefABC
 from ._held import Held, clamped, integer, whole
 from ._library import library, text_of
 from ._numbers import Cause
@@ -23,11 +24,15 @@ ILLEGAL = (Cause.OFF_BOARD, Cause.OCCUPIED, Cause.SUICIDE, Cause.KO)
 Kind = TypeVar("Kind", bound="Game")
 
 
-class Chain(NamedTuple):
-    """How many stones a chain has, and how many liberties."""
-
+class _Chain(NamedTuple):
     stones: int
     liberties: int
+
+
+class Chain(_Chain, metaclass=BriefABC):
+    """How many stones a chain has, and how many liberties."""
+
+    __slots__ = ()
 
 
 class Game(Held):
@@ -47,7 +52,7 @@ class Game(Held):
     """
 
     __slots__ = ()
-    _kind: ClassVar[str] = "game"
+    _kind = "game"
     _handle_type = _declared.GameHandle
 
     def __init__(self, size: int = 19, komi: Komi = 0, rule: KoRule = KoRule.SIMPLE) -> None:

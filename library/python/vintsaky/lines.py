@@ -3,9 +3,10 @@ from __future__ import annotations
 
 import ctypes
 from enum import IntEnum
-from typing import Any, Callable, ClassVar, Dict, List, NamedTuple, Optional, Tuple, Union
+from typing import Any, Callable, Dict, List, NamedTuple, Optional, Tuple, Union
 
 from . import _declared
+from ._brief import BriefABC, BriefEnum
 from ._held import Bytes, Held, ascii_of, bytes_of, integer, whole
 from ._library import library, text_of
 from ._numbers import Cause
@@ -15,14 +16,14 @@ from .values import colour_number, half_points, size_number, vertex_number, writ
 LONGEST_INT = 2**31 - 1
 
 
-class LineEvent(IntEnum):
+class LineEvent(IntEnum, metaclass=BriefEnum):
     """What came of a piece that was fed to a reader of command lines, where it isn't 0."""
 
     LINE = _declared.LINE
     TOO_LONG = _declared.TOO_LONG
 
 
-class ReplyEvent(IntEnum):
+class ReplyEvent(IntEnum, metaclass=BriefEnum):
     """What came of a piece that was fed to a reader of replies, where it isn't 0: a reply, or why there is none."""
 
     READ = _declared.READ
@@ -30,7 +31,7 @@ class ReplyEvent(IntEnum):
     LONG_REPLY = _declared.LONG_REPLY
 
 
-class Command(IntEnum):
+class Command(IntEnum, metaclass=BriefEnum):
     """The commands that `write_command` writes."""
 
     BOARDSIZE = _declared.BOARDSIZE
@@ -43,21 +44,29 @@ class Command(IntEnum):
     QUIT = _declared.QUIT
 
 
-class CommandLine(NamedTuple):
-    """A command line: its id, if it has one, and its words, the command's name first. Of a line that is too long only
-    that is known. Bytes of a word that aren't UTF-8 are what `os.fsencode` gives back."""
-
+class _CommandLine(NamedTuple):
     id: Optional[int]
     words: Tuple[str, ...]
     too_long: bool = False
 
 
-class Reply(NamedTuple):
-    """A reply: whether it is a success, its id, if it has one, and its text, as it came."""
+class CommandLine(_CommandLine, metaclass=BriefABC):
+    """A command line: its id, if it has one, and its words, the command's name first. Of a line that is too long only
+    that is known. Bytes of a word that aren't UTF-8 are what `os.fsencode` gives back."""
 
+    __slots__ = ()
+
+
+class _Reply(NamedTuple):
     ok: bool
     id: Optional[int]
     text: bytes
+
+
+class Reply(_Reply, metaclass=BriefABC):
+    """A reply: whether it is a success, its id, if it has one, and its text, as it came."""
+
+    __slots__ = ()
 
 
 def words_of(call: Any, place: Any) -> Tuple[str, ...]:
@@ -84,7 +93,7 @@ class CommandLines(Held):
     """
 
     __slots__ = ()
-    _kind: ClassVar[str] = "lines"
+    _kind = "lines"
     _handle_type = _declared.LinesHandle
 
     def feed(self, data: Bytes) -> List[CommandLine]:
@@ -118,7 +127,7 @@ class Replies(Held):
     """
 
     __slots__ = ("_fault",)
-    _kind: ClassVar[str] = "replies"
+    _kind = "replies"
     _handle_type = _declared.RepliesHandle
 
     def __init__(self) -> None:

@@ -4,9 +4,10 @@ from __future__ import annotations
 import ctypes
 from dataclasses import dataclass
 from enum import IntEnum
-from typing import Any, ClassVar, Optional, Tuple
+from typing import Any, Optional, Tuple
 
 from . import _declared
+from ._brief import Brief, BriefEnum
 from ._held import Bytes, Held, bytes_of, clamped, integer, whole
 from ._library import library, text_of
 from ._numbers import Cause, Ending, Loss
@@ -18,7 +19,7 @@ COMMAND_ROOM = 128  # a command has at most 64 bytes
 WROTE_ROOM = 128  # of what a side wrote at most 80 bytes are shown
 
 
-class Next(IntEnum):
+class Next(IntEnum, metaclass=BriefEnum):
     """What is to be done next."""
 
     START = _declared.START  # Start this side's engine, and call `started`.
@@ -28,7 +29,7 @@ class Next(IntEnum):
 
 
 @dataclass(frozen=True)
-class Action:
+class Action(metaclass=Brief):
     """What is to be done next, and with which side."""
 
     kind: Next
@@ -36,7 +37,7 @@ class Action:
 
 
 @dataclass(frozen=True)
-class Owed:
+class Owed(metaclass=Brief):
     """What a side owes: how many commands it hasn't answered, the oldest of them, as it was sent, and the first 80
     bytes that it wrote since its last whole reply."""
 
@@ -46,7 +47,7 @@ class Owed:
 
 
 @dataclass(frozen=True)
-class Report:
+class Report(metaclass=Brief):
     """What came of the bytes that a side wrote: why it fails, if it does; which retake of its number of a move it is,
     1 to 3, where it refused a play that is retaken, else 0; and what it owed at the loss, or else at the retake."""
 
@@ -56,7 +57,7 @@ class Report:
 
 
 @dataclass(frozen=True)
-class Status:
+class Status(metaclass=Brief):
     """How many commands a side has confirmed of those that bring it to the record, how many it hasn't answered, and
     whether a genmove is among them."""
 
@@ -66,7 +67,7 @@ class Status:
 
 
 @dataclass(frozen=True)
-class Verdict:
+class Verdict(metaclass=Brief):
     """How a match ended, and the score in points where it ended by one. `side` is who resigned, forfeited, is unfit or
     was abandoned: never who won."""
 
@@ -128,7 +129,7 @@ class Match(Held):
     """
 
     __slots__ = ()
-    _kind: ClassVar[str] = "match"
+    _kind = "match"
     _handle_type = _declared.MatchHandle
 
     def __init__(

@@ -6,6 +6,7 @@ from collections.abc import Sequence
 from functools import lru_cache
 from typing import TYPE_CHECKING, Dict, Iterator, List, NamedTuple, Union, overload
 
+from ._brief import BriefABC
 from ._library import library, untyped
 from ._numbers import Cause
 from ._refused import Refused
@@ -17,11 +18,15 @@ if TYPE_CHECKING:
 MADE = untyped(library.vintsaky_game_made)
 
 
-class Move(NamedTuple):
-    """A move of a record."""
-
+class _Move(NamedTuple):
     colour: Colour
     vertex: Vertex
+
+
+class Move(_Move, metaclass=BriefABC):
+    """A move of a record."""
+
+    __slots__ = ()
 
 
 MOVES = {(int(colour), number): Move(colour, VERTICES[number]) for colour in Colour for number in VERTICES}
@@ -39,7 +44,7 @@ def moves_by_text() -> Dict[str, Move]:
     return {text_of_move(move): move for move in MOVES.values()}
 
 
-class Moves(Sequence[Move]):
+class Moves(Sequence[Move], metaclass=BriefABC):
     """The moves of a game's record. It shows the game as it is when it is looked at; a loop goes through the moves that
     there are when it begins."""
 

@@ -9,13 +9,14 @@ from functools import lru_cache
 from typing import Any, Dict, Final, List, Literal, NamedTuple, Tuple, Union
 
 from . import _declared
+from ._brief import BriefABC, BriefEnum
 from ._held import integer, whole
 from ._library import library
 from ._numbers import Cause
 from ._refused import Refused, done, shown
 
 
-class Colour(IntEnum):
+class Colour(IntEnum, metaclass=BriefEnum):
     """The colour of a stone, and of the side that plays it."""
 
     BLACK = _declared.BLACK
@@ -42,22 +43,26 @@ BLACK = Colour.BLACK
 WHITE = Colour.WHITE
 
 
-class KoRule(IntEnum):
+class KoRule(IntEnum, metaclass=BriefEnum):
     """The boards that a play may not bring back: the one before the last move, or each one of the game."""
 
     SIMPLE = _declared.SIMPLE
     POSITIONAL = _declared.POSITIONAL
 
 
-class Point(NamedTuple):
+class _Point(NamedTuple):
+    column: int
+    row: int
+
+
+class Point(_Point, metaclass=BriefABC):
     """A point: its column and its row, both from 1 to 25, counted from the lower left corner. Its str is its text.
 
     >>> str(Point(4, 16))
     'D16'
     """
 
-    column: int
-    row: int
+    __slots__ = ()
 
     def __str__(self) -> str:
         return written(library.vintsaky_vertex_text, _point_number(self))
@@ -90,7 +95,7 @@ class Point(NamedTuple):
         return Point(column, row)
 
 
-class NoPoint(Enum):
+class NoPoint(Enum, metaclass=BriefEnum):
     """What is chosen in place of a point. Only an engine resigns."""
 
     PASS = "pass"
