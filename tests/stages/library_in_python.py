@@ -80,7 +80,7 @@ class Engine(vintsaky.Engine):
     def say_bad(self, words):
         return 5
 class Source:
-    def read1(self, most):
+    def read(self, most):
         data = os.read(0, most)
         return data and b"bad\\n" + data
 class Sink:
@@ -174,7 +174,7 @@ MISTAKES_OF_TYPES = {
     "Game().play('b', RESIGN)": "Literal[NoPoint.RESIGN]",
     "Game().moves[0].vertex.column": 'has no attribute "column"',
     "Game().play('b', 5)": "Literal[5]",
-    "Game.from_moves([('b', 5)])": '"int"',
+    "Game.from_moves([('b', 5)])": "Tuple[str, Literal[5]]",
     "{Game(): 1}[Game()].row": "row",
     "Steps().choose(None)": '"None"',
     "a: int = Game().turn.text": '"str"',
@@ -423,15 +423,12 @@ def by_steps(vintsaky, steps, name, data):
 
 
 def odd_steps(vintsaky, seed):
-    """The first call of a drawn list that returns something else than the reference's, or None. What isn't ASCII is refused."""
+    """The first call of a drawn list that returns something else than the reference's, or None."""
     rule, calls = stepped.drawn(seed, random.Random(seed))
     steps = vintsaky.Steps(vintsaky.KoRule.SIMPLE if rule == rules.SIMPLE else vintsaky.KoRule.POSITIONAL)
     for name, data, wanted in calls:
-        try:
-            got = by_steps(vintsaky, steps, name, data)
-        except ValueError as problem:
-            got = str(problem)
-        if got != wanted and (name == "feed" or data.isascii() or "not ASCII" not in got or wanted.startswith("done")):
+        got = by_steps(vintsaky, steps, name, data)
+        if got != wanted:
             return name, data, wanted, got
     return None
 

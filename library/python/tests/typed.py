@@ -44,7 +44,10 @@ class Other(Engine):
     """An engine whose choice is of any of the types that a choice may have."""
 
     def choose(self, game: Game, colour: Colour) -> AnyChoice:
-        return random.choice(game.legal_points(colour) or [PASS])
+        if len(game.moves) > 200:
+            return random.choice([*game.legal_points(colour), PASS])
+        points = game.legal_points(colour)
+        return random.choice(points) if points else "pass"
 
 
 def copies(mine: Mine, vertex: AnyVertex) -> List[Mine]:

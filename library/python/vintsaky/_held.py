@@ -82,13 +82,12 @@ def clamped(number: int) -> int:
     return number if 0 <= number < 2**32 else 2**32 - 1
 
 
-def ascii_of(text: Union[str, bytes], what: str, cause: Cause = Cause.BAD_TEXT) -> bytes:
-    """The bytes of a text. Errors: TypeError where it is neither str nor bytes, and Refused where it isn't ASCII."""
+def ascii_of(text: Union[str, bytes], what: str) -> bytes:
+    """The bytes of a text, for a call that takes ASCII: what isn't ASCII becomes such bytes as the call refuses. Errors:
+    TypeError where it is neither str nor bytes."""
     if not isinstance(text, (str, bytes)):
         raise TypeError(f"{what}: {shown(text)} is neither str nor bytes")
-    if not text.isascii():
-        raise wrong(what, f"{shown(text)} is not ASCII", cause)
-    return text.encode("ascii") if isinstance(text, str) else text
+    return text.encode("utf-8", "surrogatepass") if isinstance(text, str) else text
 
 
 def bytes_of(data: Bytes, what: str = "data") -> bytes:

@@ -136,7 +136,7 @@ class Steps(Held):
     def add_command(self, name: Union[str, bytes]) -> None:
         """Adds a command of the author's own. Causes: BAD_LENGTH, BAD_BYTE, ONLY_DIGITS, IN_TABLE, ADDED_BEFORE or
         TOO_MANY."""
-        data = ascii_of(name, "name", Cause.BAD_BYTE)
+        data = ascii_of(name, "name")
         done(library.vintsaky_engine_add_command(self._held(), data, len(data)), f"add_command {shown(name)}")
 
 
@@ -238,7 +238,7 @@ class Engine:
             try:
                 steps.add_command(name)
             except Refused as refused:
-                raise ValueError(f"there can't be an own command {name!r}: {refused}") from None
+                raise ValueError(f"there can't be an own command {name!r}: {refused.cause.text}") from None
         return steps
 
     def _commands(self) -> Dict[str, str]:

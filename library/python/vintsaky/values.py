@@ -10,7 +10,7 @@ from typing import Any, Dict, Final, List, Literal, NamedTuple, Tuple, Union
 
 from . import _declared
 from ._brief import BriefABC, BriefEnum
-from ._held import integer, whole
+from ._held import ascii_of, integer, whole
 from ._library import library
 from ._numbers import Cause
 from ._refused import Refused, done, shown
@@ -255,9 +255,7 @@ def _map(size: int, symmetry: int) -> Tuple[int, ...]:
 
 def _read(call: Any, number: Any, text: Union[str, bytes], what: str, wanted: str) -> int:
     """The number that this call reads from a text."""
-    if not isinstance(text, (str, bytes)):
-        raise TypeError(f"{what}: {shown(text)} is neither str nor bytes")
-    data = text.encode("utf-8", "surrogatepass") if isinstance(text, str) else text
+    data = ascii_of(text, what)
     if call(data, len(data), ctypes.byref(number)):
         raise Refused(Cause.BAD_TEXT, what, f"{shown(text)} is {wanted}")
     read: int = number.value
