@@ -17,6 +17,7 @@ import platform
 import random
 import re
 import shutil
+import struct
 import sys
 import tempfile
 import unittest
@@ -46,7 +47,7 @@ OURS = "bin/gtp_engine --policy random --seed 9"
 FOLDER = tempfile.TemporaryDirectory()
 ROOM = Path(FOLDER.name).resolve()
 LIMIT = 300  # seconds that a command may take
-LEAST_TESTS = 100
+LEAST_TESTS = 150
 AT_ONCE = 2  # games and matches that are played at a time
 CAUSES = {"OFF_BOARD", "OCCUPIED", "SUICIDE", "KO"}
 # What the reference of an engine in steps returns, where it isn't the name of the cause.
@@ -69,6 +70,25 @@ class Engine(vintsaky.Engine):
             return game.legal_points(colour)[-1]
         {}
 Engine().serve()
+"""
+# An engine that answers an own command wrongly, which it is told before each line of the match. Its failures are kept back.
+ANSWERS = """import os, vintsaky
+class Engine(vintsaky.Engine):
+    def choose(self, game, colour):
+        return game.legal_points(colour)[-1]
+    @vintsaky.command("bad")
+    def say_bad(self, words):
+        return 5
+class Source:
+    def read(self, most):
+        data = os.read(0, most)
+        return data and b"bad\\n" + data
+class Sink:
+    def write(self, data):
+        return os.write(1, data) if data[:1] == b"=" else len(data)
+    def flush(self):
+        pass
+Engine().serve(Source(), Sink())
 """
 
 
@@ -149,6 +169,44 @@ class Tools(Needing):
         self.same((0, ""), (status, output + errors if status else ""))
 
 
+# A line in a program that mypy has to refuse, and what it says of it.
+MISTAKES_OF_TYPES = {
+    "Game().play('b', RESIGN)": "Literal[NoPoint.RESIGN]",
+    "Game().moves[0].vertex.column": 'has no attribute "column"',
+    "Game().play('b', 5)": "Literal[5]",
+    "Game.from_moves([('b', 5)])": "Tuple[str, Literal[5]]",
+    "{Game(): 1}[Game()].row": "row",
+    "Steps().choose(None)": '"None"',
+    "a: int = Game().turn.text": '"str"',
+    "b: Point = Game().random_move('b', 1)": "Literal[NoPoint.PASS]",
+}
+
+
+class Typed(Needing):
+    """What mypy says of a user's program."""
+
+    def told(self, *words):
+        """What mypy says of a file, from outside of the package."""
+        if not shutil.which("mypy"):
+            self.skipTest("there is no mypy")
+        environment = {**os.environ, "MYPYPATH": str(PACKAGE)}
+        return run(["mypy", "--strict", "--cache-dir", os.devnull, "--no-incremental", *words], cwd=ROOM, env=environment)
+
+    def test_right(self):
+        """mypy --strict takes a user's program, in which no vertex of the library is a resignation."""
+        status, output, errors = self.told(PACKAGE / "tests/typed.py")
+        self.same((0, ""), (status, output + errors if status else ""))
+
+    def test_wrong(self):
+        """mypy refuses each line that is wrong."""
+        program = ROOM / "wrongly_typed.py"
+        program.write_text("from vintsaky import RESIGN, Game, Point, Steps\n" + "".join(f"{line}\n" for line in MISTAKES_OF_TYPES))
+        _, output, _ = self.told(program)
+        for number, (line, text) in enumerate(MISTAKES_OF_TYPES.items(), 2):
+            said = [it for it in output.splitlines() if it.startswith(f"wrongly_typed.py:{number}: error: ")]
+            self.check(f"mypy refuses `{line}`", (True, ""), (bool(said), "" if any(text in it for it in said) else output))
+
+
 # ---- the wheel
 
 INFO = "vintsaky-1.0.0.dist-info/"
@@ -182,6 +240,33 @@ def files_in(wheel):
         return {name: archive.read(name) for name in archive.namelist()}
 
 
+OLDEST = {"x86_64": 5, "aarch64": 17}.get(platform.machine(), 17)  # of glibc 2, for which installers know a tag
+TAGS = {
+    (): ["manylinux_2_5_x86_64"],
+    ("GLIBC_2.2.5",): ["manylinux_2_5_x86_64"],
+    ("GLIBC_2.2.5", "GLIBC_2.14", "GLIBC_2.9"): ["manylinux_2_14_x86_64"],
+    ("GCC_4.2.0", "GLIBC_2.100.1", "GLIBC_2.33"): ["manylinux_2_100_x86_64"],
+    ("GLIBC_2.14", "GLIBC_PRIVATE"): "make_wheel: the library needs GLIBC_PRIVATE, which is no version of glibc 2",
+    ("GLIBC_3.1",): "make_wheel: the library needs GLIBC_3.1, which is no version of glibc 2",
+}
+
+
+def needing(names):
+    """A file that has of a shared library for x86_64 what make_wheel looks at: it needs these versions, each of a library of its own."""
+    texts, places, files = b"\0vintsaky_interface_1\0", [], b""
+    for name in names:
+        places.append(len(texts))
+        texts += name.encode() + b"\0"
+    for number, place in enumerate(places, 1):
+        files += struct.pack("<HHIII", 1, 1, 0, 16, 32 if number < len(places) else 0) + struct.pack("<IHHII", 0, 0, 2, place, 0)
+    head = b"\x7fELF\x02\x01" + bytes(12) + struct.pack("<H", 62) + bytes(44)
+    sections = [(0, 0, 0, 0), (3, 64, len(texts), 0), *([(0x6FFFFFFE, 64 + len(texts), len(files), 1)] if names else [])]
+    heads = b"".join(struct.pack("<IIQQQQIIQQ", 0, kind, 0, 0, place, size, link, 0, 0, 0) for kind, place, size, link in sections)
+    start = 64 + len(texts) + len(files)
+    head = head[:0x28] + struct.pack("<Q", start) + head[0x30:0x3A] + struct.pack("<HH", 64, len(sections)) + head[0x3E:]
+    return head + texts + files + heads
+
+
 PROGRAM_HERE = os.path.realpath(sys.executable)  # a program of this processor
 NO_WHEELS = ([], [LIBRARY], ["nothing", "."], [PACKAGE / "make_wheel", "."], [PROGRAM_HERE, "."], [LIBRARY, "nothing"])
 
@@ -201,9 +286,30 @@ class Wheel(Needing):
         self.assertTrue(one.read_bytes() == other.read_bytes(), "they differ")
 
     def test_named(self):
-        """the wheel is for this processor."""
-        wanted = f"vintsaky-1.0.0-py3-none-linux_{platform.machine()}.whl"
+        """the wheel is for this processor, and for the oldest glibc that has what the library needs."""
+        if not shutil.which("readelf"):
+            self.skipTest("there is no readelf")
+        said = run(["readelf", "--version-info", "--wide", LIBRARY]).output
+        needed = [int(it) for it in re.findall(r"Name: GLIBC_2\.(\d+)", said)]
+        wanted = f"vintsaky-1.0.0-py3-none-manylinux_2_{max([OLDEST, *needed])}_{platform.machine()}.whl"
         self.same(2 * [[wanted]], [[wheel.name for wheel in made] for _, made in wheels()])
+        self.same("", "".join(it for it in re.findall(r"Name: (GLIBC_\S+)", said) if not it.startswith("GLIBC_2.")))
+
+    def test_libraries(self):
+        """the library needs none but those that each Linux of the tag has."""
+        if not shutil.which("readelf"):
+            self.skipTest("there is no readelf")
+        needed = re.findall(r"\(NEEDED\).*\[(.*)\]", run(["readelf", "--dynamic", "--wide", LIBRARY]).output)
+        self.same([], [it for it in needed if not re.fullmatch(r"lib(c|gcc_s|m|dl|pthread)\.so\.\d|ld-linux-.*\.so\.\d", it)])
+
+    def test_versions(self):
+        """The tag is that of the newest version."""
+        for names, tag in TAGS.items():
+            library, made = self.room() / "library", self.room()
+            library.write_bytes(needing(names))
+            status, output, errors = run([sys.executable, PACKAGE / "make_wheel", library, made])
+            got = re.findall("py3-none-(.*).whl", output) if status == 0 else errors.strip()
+            self.check(f"the tag of a library that needs {' '.join(names) or 'nothing'}", tag, got)
 
     def test_files(self):
         """What is in it."""
@@ -241,6 +347,9 @@ class Installed(Needing):
         words = ["--no-index", "--disable-pip-version-check", "--no-compile", "-q", wheel]
         self.check("the wheel is installed", (0, "", ""), tuple(run([python, "-m", "pip", "install", *words], cwd=ROOM)))
         self.check("nothing is missing there", 0, run([python, "-m", "pip", "check"], cwd=ROOM).status)
+        tag = wheel.name[len("vintsaky-1.0.0-"):-len(".whl")]
+        told = run([python, "-m", "pip", "debug", "--verbose"], cwd=ROOM).output
+        self.check("pip names the wheel's tag among those that it takes here", [tag], [it for it in told.split() if it == tag])
         environment = {name: value for name, value in os.environ.items() if name != "PYTHONPATH"}
         environment["VINTSAKY_LIBRARY"] = "/nothing"
         text = "import vintsaky; g = vintsaky.Game(2); g.play('b', 'A1'); print(g); print(vintsaky.__file__)"
@@ -314,15 +423,12 @@ def by_steps(vintsaky, steps, name, data):
 
 
 def odd_steps(vintsaky, seed):
-    """The first call of a drawn list that returns something else than the reference's, or None. What isn't ASCII is refused."""
+    """The first call of a drawn list that returns something else than the reference's, or None."""
     rule, calls = stepped.drawn(seed, random.Random(seed))
     steps = vintsaky.Steps(vintsaky.KoRule.SIMPLE if rule == rules.SIMPLE else vintsaky.KoRule.POSITIONAL)
     for name, data, wanted in calls:
-        try:
-            got = by_steps(vintsaky, steps, name, data)
-        except ValueError as problem:
-            got = str(problem)
-        if got != wanted and (name == "feed" or data.isascii() or "not ASCII" not in got or wanted.startswith("done")):
+        got = by_steps(vintsaky, steps, name, data)
+        if got != wanted:
             return name, data, wanted, got
     return None
 
@@ -389,6 +495,14 @@ class Conversations(Needing):
 @checks.table(WRONG, lambda name: f"an engine that {name} is told by its traceback")
 class Authors(Needing):
     """Engines of other authors."""
+
+    def test_own_command(self):
+        """an engine serves on after a wrong answer of an own command, of which standard error says what is wrong."""
+        program = self.room() / "engine.py"
+        program.write_text(ANSWERS)
+        _, line, errors = twogtp(f"{sys.executable} {program}", "bin/gtp_engine --policy first", "--size", "5", "--max-moves", "4")
+        said = "Engine: the command bad: its answer is wrong: text: 5 is neither str nor bytes\n"
+        self.same(("game 1: limit moves 4 restarts 0 0\n", True), (line, errors.count(said) > 4))
 
     def play(self, deed):
         """What comes of a match of an engine whose `choose` does this at its second move, and again after a restart."""

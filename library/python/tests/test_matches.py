@@ -160,7 +160,7 @@ class Limits(Refusing):
             self.refused(cause, Match, **setup)
         for name in ("size", "handicap", "max_moves", "max_restarts"):
             for number in (-1, 2**32, 2**32 + 2, 2**64):
-                self.assertRaises(OverflowError, Match, **{name: number})
+                self.refused(Cause[f"BAD_{name.upper()}"], Match, **{name: number})
             for number in (2.0, "2", None):
                 self.assertRaises(TypeError, Match, **{name: number})
 
@@ -178,10 +178,8 @@ class Limits(Refusing):
             match.status: (), match.lost: (), match.in_step: (), match.restarts: (),
         }  # fmt: skip
         for call, more in calls.items():
-            for side in (0, 3, 257, 2**32 - 1):
+            for side in (0, 3, 257, 2**32 - 1, -1, 2**32 + 1, 2**64 + 1):
                 self.refused(Cause.BAD_COLOUR, call, side, *more)
-            for side in (-1, 2**32 + 1, 2**64 + 1):
-                self.assertRaises(OverflowError, call, side, *more)
             for side in (None, 1.0):
                 self.assertRaises(TypeError, call, side, *more)
         self.refused(Cause.NOT_NEXT, match.started, WHITE)
@@ -196,8 +194,8 @@ class Limits(Refusing):
         match.lost(BLACK)
         self.assertEqual([match.retakes(number) for number in (0, 2001, 2**32 - 1)], [0, 0, 0])
         for number in (-1, 2**32, 2**32 + 1):
-            self.assertRaises(OverflowError, match.retakes, number)
-            self.assertRaises(OverflowError, match.result, number)
+            self.assertRaises(ValueError, match.retakes, number)
+            self.assertRaises(ValueError, match.result, number)
         self.assertRaises(TypeError, match.result, "1")
 
 
