@@ -146,6 +146,12 @@ class Game(Held):
         done(library.vintsaky_game_place_handicap(self._held(), whole(stones, "the number of handicap stones")))
 
     @property
+    def turn(self) -> Colour:
+        """The colour whose turn it is: the other one than that of the last move. Without a move that is Black, or
+        White where handicap stones were placed."""
+        return Colour(library.vintsaky_game_turn(self._held()))
+
+    @property
     def moves(self) -> Moves:
         """The moves of the record."""
         return Moves(self)

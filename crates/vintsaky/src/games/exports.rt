@@ -61,7 +61,7 @@ pub extern "C" fn vintsaky_games_restart(
 ///
 /// # Errors
 ///
-/// `NoRoom` where the planes of all games have more bytes. A game of size n has 2n² for each board.
+/// `NoRoom` where the planes of all games have more bytes. A game of size n has 2 * n * n for each board.
 #[unsafe(no_mangle)]
 pub extern "C" fn vintsaky_games_planes(
     games: &mut [GameHandle],
@@ -99,7 +99,7 @@ pub extern "C" fn vintsaky_games_planes_f32(
 ///
 /// # Errors
 ///
-/// `NoRoom` where the masks of all games have more bytes. A game of size n has n² + 1.
+/// `NoRoom` where the masks of all games have more bytes. A game of size n has n * n + 1.
 #[unsafe(no_mangle)]
 pub extern "C" fn vintsaky_games_masks(games: &mut [GameHandle], bytes: &mut [u8]) -> u32
     ensures call { Returns result (ShowGamesCall {A = ℕ} 0 1 Mask (games_of games.old)
