@@ -4,11 +4,77 @@ import random
 import unittest
 
 from vintsaky import BLACK, PASS, WHITE, Cause, Game, KoRule, Refused
-from vintsaky.batches import Games
+from vintsaky import _declared
+from vintsaky._held import whole
+from vintsaky._library import library
+from vintsaky._refused import done
+from vintsaky.values import half_points
 
 FILL = 77  # in each buffer before a call: what stays is seen
 SPARE = 3  # items that a buffer has too many
 CAUSES = {Cause.BAD_VERTEX, Cause.FULL, Cause.OCCUPIED, Cause.SUICIDE, Cause.KO}
+
+
+class Called:
+    """The calls over many games, as they are: games in one piece of memory, begun alike.
+
+    A move is a number: that of its point, row by row from A1 and from 0, or for a pass the number of points. The
+    arrays have an item for each game; planes and masks have the values of one game after those of another.
+    """
+
+    __slots__ = ("_memory", "_handles")
+
+    def __init__(self, count, size=19, komi=0, rule=KoRule.SIMPLE, handicap=0):
+        align = library.vintsaky_game_align()
+        each = library.vintsaky_game_bytes() + -library.vintsaky_game_bytes() % align
+        self._memory = ctypes.create_string_buffer(count * each + align)
+        self._handles = (_declared.GameHandle * count)()
+        start = ctypes.addressof(self._memory)
+        start += -start % align
+        begins = whole(rule, "the ko rule"), whole(size, "the size"), half_points(komi)
+        for number in range(count):
+            place = self._place(number)
+            library.vintsaky_game_place(place, start + number * each)
+            done(library.vintsaky_game_begin(place, *begins))
+            if handicap:
+                done(library.vintsaky_game_place_handicap(place, whole(handicap, "the number of handicap stones")))
+
+    def __len__(self):
+        return len(self._handles)
+
+    def _place(self, number):
+        """The handle of one game, for a call."""
+        return ctypes.byref(self._handles[number])
+
+    def _held(self):
+        """The handles, for a call, with their number."""
+        return self._handles, len(self._handles)
+
+    def play(self, moves, causes):
+        """Each game makes its move for the colour whose turn it is. Its cause is 0, or why it refuses the move."""
+        done(library.vintsaky_games_play(*self._held(), moves, len(moves), causes, len(causes)))
+
+    def restart(self, limit, over, half_points):
+        """Tells of each game whether it is over: 1 after two passes, 2 after `limit` moves, else 0. Those that are over
+        are scored in half points, and begin anew."""
+        most = whole(limit, "the limit")
+        done(library.vintsaky_games_restart(*self._held(), most, over, len(over), half_points, len(half_points)))
+
+    def planes(self, values, earlier=0):
+        """The stones of the colour whose turn it is, and those of the other one, of each game's board and of so many
+        earlier ones. The array is of c_uint8 or of c_float."""
+        call = library.vintsaky_games_planes_f32 if values._type_ is ctypes.c_float else library.vintsaky_games_planes
+        done(call(*self._held(), whole(earlier, "the number of earlier boards"), values, len(values)))
+
+    def masks(self, values):
+        """Whether the colour whose turn it is may make the move of each number. The array is of c_uint8 or c_float."""
+        call = library.vintsaky_games_masks_f32 if values._type_ is ctypes.c_float else library.vintsaky_games_masks
+        done(call(*self._held(), values, len(values)))
+
+    def rollouts(self, seeds, limit, half_points):
+        """The score of a rollout of each game by its seed, in half points."""
+        most = whole(limit, "the limit")
+        done(library.vintsaky_games_rollouts(*self._held(), seeds, len(seeds), most, half_points, len(half_points)))
 
 
 def other(colour):
@@ -73,7 +139,7 @@ class Beside(unittest.TestCase):
 
     def compared(self, seed, size, count, steps, limit, **named):
         draw = random.Random(seed)
-        games, single = Games(count, size, **named), [single_game(size, **named) for _ in range(count)]
+        games, single = Called(count, size, **named), [single_game(size, **named) for _ in range(count)]
         met = set()
         for step in range(steps):
             numbers = [self.drawn(draw, it) for it in single]
@@ -139,13 +205,13 @@ class Beside(unittest.TestCase):
         self.compared(8, 25, 2, 6, 4)
 
     def test_no_game(self):
-        games, none = Games(0), (ctypes.c_uint8 * 0)()
+        games, none = Called(0), (ctypes.c_uint8 * 0)()
         games.play((ctypes.c_uint32 * 0)(), none)
         games.planes(none)
         games.masks(none)
 
     def test_a_full_record(self):
-        games, game = Games(1, 1), Game(1)
+        games, game = Called(1, 1), Game(1)
         for _ in range(2000):
             self.moved(games, [game], [1])
         self.assertEqual(list(self.moved(games, [game], [1])), [Cause.FULL])
@@ -164,7 +230,7 @@ class Rooms(unittest.TestCase):
                 self.assertEqual(set(each) - {FILL}, set())
 
     def test_each_call(self):
-        games = Games(3, 5)
+        games = Called(3, 5)
 
         def filled(kind, many):
             return (kind * many)(*[FILL] * many)

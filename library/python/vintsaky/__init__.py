@@ -32,6 +32,7 @@ from ._held import Bytes, Held
 from ._library import version
 from ._numbers import Cause, Ending, Loss
 from ._refused import Refused
+from .batches import Games, Stepped
 from .engines import Engine, Event, Failure, Steps, command
 from .games import Chain, Game, Move, Moves
 from .lines import Command, CommandLine, CommandLines, LineEvent, Replies, Reply, ReplyEvent, write_command, write_reply
@@ -61,6 +62,7 @@ __all__ = [
     "Event",
     "Failure",
     "Game",
+    "Games",
     "Held",
     "KoRule",
     "Komi",
@@ -79,6 +81,7 @@ __all__ = [
     "ReplyEvent",
     "Report",
     "Status",
+    "Stepped",
     "Steps",
     "Verdict",
     "Vertex",
