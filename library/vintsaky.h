@@ -246,6 +246,10 @@ int32_t vintsaky_game_komi(vintsaky_game *game);
 /* How many handicap stones were placed, or 0. */
 uint32_t vintsaky_game_handicap(vintsaky_game *game);
 
+/* The number of the colour whose turn it is: the other one than that of the last move. Without a move that is Black, or White where
+ * handicap stones were placed. */
+uint32_t vintsaky_game_turn(vintsaky_game *game);
+
 /* How many moves the record has. */
 size_t vintsaky_game_length(vintsaky_game *game);
 
@@ -380,6 +384,52 @@ uint32_t vintsaky_game_playout(vintsaky_game *game, uint32_t colour, uint64_t se
 /* The score that a game has after such a playout, as vintsaky_game_score counts it. The game stays as it was.
  * Causes: VINTSAKY_BAD_COLOUR. Nothing is written. */
 uint32_t vintsaky_game_rollout(vintsaky_game *game, uint32_t colour, uint64_t seed, uint32_t limit, int32_t *half_points);
+
+/* ---- many games ---- */
+
+/* An array of handles is given with its length: games of any sizes, each placed before. No game is in it twice. */
+
+/* Each game makes the move of its number for the colour whose turn it is, which vintsaky_game_turn returns. The number of a move is the
+ * index of its point, or how many points the board has for a pass. For each game a byte is written: 0, or the cause for which that game
+ * alone refuses the move and stays as it was. That is VINTSAKY_BAD_VERTEX of a number that is higher, and else the one that
+ * vintsaky_game_play returns.
+ * Causes: VINTSAKY_NO_ROOM where moves or causes has fewer items than there are games. No move is made. */
+uint32_t vintsaky_games_play(
+    vintsaky_game *games, size_t games_length, const uint32_t *moves, size_t moves_length, uint8_t *causes, size_t causes_room);
+
+/* For each game a byte is written: 1 where its last two moves are passes, else 2 where its record has limit moves or more, or is full,
+ * and else 0. With 1 and 2 its score is written, in half points, and then the game loses its moves: size, komi, ko rule and handicap
+ * stay. With 0 the score is 0, and the game stays as it was.
+ * Causes: VINTSAKY_NO_ROOM where over or half_points has fewer items than there are games. No game changes. */
+uint32_t vintsaky_games_restart(vintsaky_game *games, size_t games_length, uint32_t limit, uint8_t *over, size_t over_room,
+    int32_t *half_points, size_t half_points_room);
+
+/* Writes the planes of each game, one game's after the other's. A plane is a byte for each point of the board, in its order: 1 where a
+ * stone of one colour is, and else 0. First come the stones of the colour whose turn it is, then those of the other one; then both
+ * again of the board one move earlier, and so on, as many moves as earlier says. Where a game has fewer moves, these planes have 0
+ * alone.
+ * Causes: VINTSAKY_NO_ROOM where the planes of all games have more bytes. A game of size n has 2 * n * n for each board. */
+uint32_t vintsaky_games_planes(vintsaky_game *games, size_t games_length, uint32_t earlier, uint8_t *bytes, size_t bytes_room);
+
+/* Writes the same planes as numbers of 32 bits with a point: 1.0 and 0.0.
+ * Causes: As those of vintsaky_games_planes. */
+uint32_t vintsaky_games_planes_f32(vintsaky_game *games, size_t games_length, uint32_t earlier, float *floats, size_t floats_room);
+
+/* Writes a mask of each game, one game's after the other's. It has a byte for the move of each number: 1 where the colour whose turn it
+ * is may make it, and else 0. The last one is a pass, which is always 1. The number of moves doesn't count, though a full record takes
+ * no more.
+ * Causes: VINTSAKY_NO_ROOM where the masks of all games have more bytes. A game of size n has n * n + 1. */
+uint32_t vintsaky_games_masks(vintsaky_game *games, size_t games_length, uint8_t *bytes, size_t bytes_room);
+
+/* Writes the same masks as numbers of 32 bits with a point: 1.0 and 0.0.
+ * Causes: As those of vintsaky_games_masks. */
+uint32_t vintsaky_games_masks_f32(vintsaky_game *games, size_t games_length, float *floats, size_t floats_room);
+
+/* Writes the score of a rollout of each game, in half points, as vintsaky_game_rollout writes it. Each game has its own seed, and the
+ * colour whose turn it is begins.
+ * Causes: VINTSAKY_NO_ROOM where seeds or half_points has fewer items than there are games. */
+uint32_t vintsaky_games_rollouts(vintsaky_game *games, size_t games_length, const uint64_t *seeds, size_t seeds_length, uint32_t limit,
+    int32_t *half_points, size_t half_points_room);
 
 /* ---- engines ---- */
 

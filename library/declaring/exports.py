@@ -21,8 +21,10 @@ NUMBERS = {
     "u64": ("uint64_t", "c_uint64"),
     "usize": ("size_t", "c_size_t"),
     "bool": ("bool", "c_bool"),
+    "f32": ("float", "c_float"),
 }
 BYTES = "bytes"  # an argument of this name has bytes that are no text
+OF_BYTES = (BYTES, "causes", "over")  # and so have these
 
 
 @dataclass(frozen=True)
@@ -60,14 +62,17 @@ def handle_of(kind):
 
 def slice_of(name, kind, is_written):
     """The two arguments of a slice."""
+    length = Argument(f"{name}_length", *NUMBERS["usize"])
+    if handle_of(kind):
+        return [Argument(name, f"vintsaky_{handle_of(kind)} *", f"POINTER({kind})"), length]
     if is_written:
-        byte = ("uint8_t", "c_uint8") if name == BYTES else ("char", "c_char")
+        byte = ("uint8_t", "c_uint8") if name in OF_BYTES else ("char", "c_char")
         number = {"u8": byte, **NUMBERS}[kind]
         return [Argument(name, f"{number[0]} *", f"POINTER({number[1]})"), Argument(f"{name}_room", *NUMBERS["usize"])]
     if kind != "u8":
-        raise KeyError(kind)
+        return [Argument(name, f"const {NUMBERS[kind][0]} *", f"POINTER({NUMBERS[kind][1]})"), length]
     pointer = ("const void *", "c_void_p") if name == BYTES else ("const char *", "c_char_p")
-    return [Argument(name, *pointer), Argument(f"{name}_length", *NUMBERS["usize"])]
+    return [Argument(name, *pointer), length]
 
 
 def given(name, kind):

@@ -19,7 +19,7 @@ HEAD_OF_DECLARED = '''"""What the library declares: the constants of vintsaky.h,
 library/declare writes this module. All names are those of vintsaky.h without the prefix, but the calls', which are
 whole."""
 import ctypes
-from ctypes import POINTER, c_bool, c_char, c_char_p, c_int32, c_size_t, c_uint8, c_uint32, c_uint64, c_void_p
+from ctypes import POINTER, c_bool, c_char, c_char_p, c_float, c_int32, c_size_t, c_uint8, c_uint32, c_uint64, c_void_p
 from typing import Any, Dict, Tuple
 '''
 HANDLE = '''

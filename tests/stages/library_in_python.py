@@ -1,8 +1,8 @@
 #!/usr/bin/env python3
-"""Looks at the Python package in library/python: its tests, its wheel, and its two examples.
+"""Looks at the Python package in library/python: its tests, its wheel, and its examples.
 
-The tests run by the Python that runs this, and by each other one from 3.9 that is there by the name python3.N. The wheel has the same
-bytes each time, and is installed into an environment of its own without a network. Drawn games are those of the plain reference. The
+The tests run by the Python that runs this, and by each other one from 3.9 that is there by the name python3.N, or with Debian's numpy. The
+environment for learning runs by a stand-in for gymnasium, and without one. The wheel has the same bytes each time, and is installed into an environment of its own without a network. Drawn games are those of the plain reference. The
 engine plays whole games under twogtp, also where it is killed; gtp_check finds nothing in it; and it stands beside the reference on drawn
 conversations. The tournament program gives twogtp's lines on drawn matches.
 
@@ -34,6 +34,7 @@ from tests.references.engine import game as rules  # noqa: E402
 from tests.references.engine.conversations import KINDS  # noqa: E402
 from tests.shared import checks, library, running  # noqa: E402
 from tests.shared.library import TOP, Match, finished, most_lines, twogtp  # noqa: E402
+from tests.stages.of_library_in_python import environments  # noqa: E402
 
 PARSER = checks.Parser(__doc__)
 PARSER.add_argument("--library", type=Path, default=TOP / "bin", help="the folder of libvintsaky.so.1; else bin/")
@@ -46,6 +47,7 @@ ENGINE = f"{sys.executable} {PACKAGE}/examples/random_engine.py"
 OURS = "bin/gtp_engine --policy random --seed 9"
 FOLDER = tempfile.TemporaryDirectory()
 ROOM = Path(FOLDER.name).resolve()
+DEBIANS = "/usr/bin/python3"  # which has Debian's numpy, where that is installed
 LIMIT = 300  # seconds that a command may take
 LEAST_TESTS = 150
 AT_ONCE = 2  # games and matches that are played at a time
@@ -134,11 +136,17 @@ def pythons():
     """Each Python that is there, by its version: this one, and those of the name python3.N."""
     others = [shutil.which(f"python3.{number}") for number in range(9, 30)]
     named = {}
-    for python in [sys.executable, *filter(None, others)]:
-        status, version, _ = run([python, "-c", "import sys; print('%d.%d' % sys.version_info[:2])"])
+    for python in [sys.executable, *filter(None, others), DEBIANS]:
+        status, version, _ = run([python, "-c", "import sys; print('%d.%d.%d' % sys.version_info[:3])"])
         if status == 0:
             named.setdefault(version.strip(), python)
     return named
+
+
+class Environments(environments.Environments, Needing):
+    """The example of an environment for learning."""
+
+    PYTHONS = staticmethod(pythons)
 
 
 class Tests(Needing):

@@ -1,5 +1,6 @@
 #!/usr/bin/env python3
-"""Does what docs/library.md shows: runs its commands, and plays the engine in Python that it shows.
+"""Does what docs/library.md shows: runs its commands, and plays the engine in Python that it shows. The loop of self-play that it shows is
+the example, which runs.
 
 The commands run in a folder that has what they name, and in which the engine is my_engine.py. Each has to end with the result line of a
 game without a restart. README.md has to show the same engine, but its name.
@@ -29,7 +30,9 @@ def blocks_of(page, language):
     return [block for of, block in blocks if of == language]
 
 
-ENGINES = blocks_of("docs/library.md", "python")
+PYTHON = blocks_of("docs/library.md", "python")
+ENGINES = [block for block in PYTHON if "vintsaky.Engine" in block]
+LOOP = TOP / "library/python/examples/self_play.py"
 COMMANDS = blocks_of("docs/library.md", "")
 
 
@@ -55,6 +58,22 @@ class Shown(checks.Case):
     def test_readme(self):
         """README.md shows the same."""
         self.same([re.sub(r"    name = .*\n\n", "", engine) for engine in ENGINES], blocks_of("README.md", "python"))
+
+
+class Loop(Needing):
+    """The loop of self-play."""
+
+    FILES = (SHARED,)
+
+    def test_page(self):
+        """the page shows the example."""
+        shown = LOOP.read_text().split('"""\n', 1)[1]
+        self.same([shown], [block for block in PYTHON if block not in ENGINES])
+
+    def test_run(self):
+        """it learns from games that end."""
+        paths = {"PYTHONPATH": str(TOP / "library/python"), "VINTSAKY_LIBRARY": str(SHARED), "PYTHONDONTWRITEBYTECODE": "1"}
+        self.same((0, "True\n", ""), tuple(running.run([sys.executable, LOOP], env={**os.environ, **paths}, limit=LIMIT)))
 
 
 @checks.table(COMMANDS, lambda block: f"a game is played by: {block.splitlines()[0]}")

@@ -1,2 +1,3 @@
 pub mod Fresh
+pub mod Games
 pub mod Lends

@@ -8,6 +8,7 @@
 
 pub mod engine;
 pub mod game;
+pub mod games;
 pub mod laws;
 pub mod library;
 pub mod lines;

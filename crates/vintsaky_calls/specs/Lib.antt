@@ -1,3 +1,4 @@
+pub mod Batches
 pub mod Codes
 pub mod Engines
 pub mod Games
@@ -9,5 +10,7 @@ pub mod Replies
 pub mod Searching
 pub mod Talks
 pub mod Texts
+pub mod Turns
 pub mod Values
 pub mod Writing
+pub mod private

@@ -85,12 +85,22 @@ pub fn code_of(made: Result<(), Cause>) -> u32
 {
     match made {
         Ok(()) => 0,
+        Err(cause) => u32::from(number_of(cause)),
+    }
+}
+
+/// The same number in a byte.
+pub(crate) fn byte_of(made: Result<(), Cause>) -> u8
+    ensures { result ≡ result_code made }
+{
+    match made {
+        Ok(()) => 0,
         Err(cause) => number_of(cause),
     }
 }
 
 /// The number of a cause.
-fn number_of(cause: Cause) -> u32
+fn number_of(cause: Cause) -> u8
     ensures { result ≡ cause_code cause }
 {
     match cause {

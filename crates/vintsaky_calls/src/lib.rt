@@ -6,6 +6,7 @@
 //! `library/declare` writes the C header.
 #![tactic(auto)]
 
+pub mod batches;
 mod causes;
 mod codes;
 mod endings;
@@ -19,6 +20,7 @@ pub mod matches;
 pub mod replies;
 pub mod searching;
 pub mod texts;
+pub mod turns;
 pub mod values;
 pub mod writing;
 

@@ -15,8 +15,9 @@ This is an engine of one's own, which `twogtp --black 'python3 engine.py'` plays
 
     MyEngine().serve()
 
-`Game` has the rules, `Match` is the controller of a match, `Engine` an engine, and `Steps` one in steps. `CommandLines`
-and `Replies` read the protocol's lines in any cuts; `write_command` and `write_reply` write them.
+`Game` has the rules, `Games` plays many games in one call, `Match` is the controller of a match, `Engine` an engine,
+and `Steps` one in steps. `CommandLines` and `Replies` read the protocol's lines in any cuts; `write_command` and
+`write_reply` write them.
 
 - A wrong type is a TypeError, and a wrong value a ValueError, also a number that is out of its range. Both name the
   argument, its value and what is wanted.
@@ -26,7 +27,8 @@ and `Replies` read the protocol's lines in any cuts; `write_command` and `write_
 - A game can be copied, pickled and compared, also one of a subclass, with its attributes. It has no hash: for a table
   take `board_hash` or `position_hash`. No other object can be copied or pickled.
 - Only the thread that made an object may use it, or the one that called its `adopt` last; another one gets a
-  RuntimeError. A game out of a pickle is of the thread that uses it first. Each call holds the interpreter's lock.
+  RuntimeError. A game out of a pickle is of the thread that uses it first. Each call holds the interpreter's lock, but
+  those of `Games`.
 
 The library is the file libvintsaky.so.1 in this package, or else the one that the variable VINTSAKY_LIBRARY names, or
 else the system's.
@@ -35,6 +37,7 @@ from ._held import Bytes, Held
 from ._library import version
 from ._numbers import Cause, Ending, Loss
 from ._refused import Refused
+from .batches import Games
 from .engines import Engine, Event, Failure, Steps, command
 from .games import Chain, Game
 from .lines import Command, CommandLine, CommandLines, LineEvent, Replies, Reply, ReplyEvent, write_command, write_reply
@@ -66,6 +69,7 @@ __all__ = [
     "Event",
     "Failure",
     "Game",
+    "Games",
     "KoRule",
     "Komi",
     "Loss",

@@ -3,7 +3,7 @@
 library/declare writes this module. All names are those of vintsaky.h without the prefix, but the calls', which are
 whole."""
 import ctypes
-from ctypes import POINTER, c_bool, c_char, c_char_p, c_int32, c_size_t, c_uint8, c_uint32, c_uint64, c_void_p
+from ctypes import POINTER, c_bool, c_char, c_char_p, c_float, c_int32, c_size_t, c_uint8, c_uint32, c_uint64, c_void_p
 from typing import Any, Dict, Tuple
 
 INTERFACE = 1
@@ -94,6 +94,7 @@ CALLS: Dict[str, Tuple[Any, Tuple[Any, ...]]] = {
     "vintsaky_game_size": (c_uint32, (POINTER(GameHandle),)),
     "vintsaky_game_komi": (c_int32, (POINTER(GameHandle),)),
     "vintsaky_game_handicap": (c_uint32, (POINTER(GameHandle),)),
+    "vintsaky_game_turn": (c_uint32, (POINTER(GameHandle),)),
     "vintsaky_game_length": (c_size_t, (POINTER(GameHandle),)),
     "vintsaky_game_score": (c_int32, (POINTER(GameHandle),)),
     "vintsaky_game_finished": (c_bool, (POINTER(GameHandle),)),
@@ -137,6 +138,22 @@ CALLS: Dict[str, Tuple[Any, Tuple[Any, ...]]] = {
     "vintsaky_game_position_hash": (c_uint32, (POINTER(GameHandle), c_uint32, POINTER(c_uint64))),
     "vintsaky_game_playout": (c_uint32, (POINTER(GameHandle), c_uint32, c_uint64, c_uint32)),
     "vintsaky_game_rollout": (c_uint32, (POINTER(GameHandle), c_uint32, c_uint64, c_uint32, POINTER(c_int32))),
+    "vintsaky_games_play": (
+        c_uint32,
+        (POINTER(GameHandle), c_size_t, POINTER(c_uint32), c_size_t, POINTER(c_uint8), c_size_t),
+    ),
+    "vintsaky_games_restart": (
+        c_uint32,
+        (POINTER(GameHandle), c_size_t, c_uint32, POINTER(c_uint8), c_size_t, POINTER(c_int32), c_size_t),
+    ),
+    "vintsaky_games_planes": (c_uint32, (POINTER(GameHandle), c_size_t, c_uint32, POINTER(c_uint8), c_size_t)),
+    "vintsaky_games_planes_f32": (c_uint32, (POINTER(GameHandle), c_size_t, c_uint32, POINTER(c_float), c_size_t)),
+    "vintsaky_games_masks": (c_uint32, (POINTER(GameHandle), c_size_t, POINTER(c_uint8), c_size_t)),
+    "vintsaky_games_masks_f32": (c_uint32, (POINTER(GameHandle), c_size_t, POINTER(c_float), c_size_t)),
+    "vintsaky_games_rollouts": (
+        c_uint32,
+        (POINTER(GameHandle), c_size_t, POINTER(c_uint64), c_size_t, c_uint32, POINTER(c_int32), c_size_t),
+    ),
     "vintsaky_engine_place": (None, (POINTER(EngineHandle), c_void_p)),
     "vintsaky_engine_bytes": (c_size_t, ()),
     "vintsaky_engine_align": (c_size_t, ()),

@@ -20,10 +20,10 @@ def _place() -> str:
     return str(beside) if beside.exists() else os.environ.get(VARIABLE) or FILE
 
 
-def _load(place: str) -> Any:
-    """The library there, with the types of its calls. It is a PyDLL, so each call holds the interpreter's lock."""
+def _load(place: str, kind: Any) -> Any:
+    """The library there, with the types of its calls. Each call of a PyDLL holds the interpreter's lock."""
     try:
-        loaded = ctypes.PyDLL(place)
+        loaded = kind(place)
     except OSError as problem:
         hint = "" if os.sep in place else f" (install it, or name its file by the variable {VARIABLE})"
         raise ImportError(f"vintsaky: its library can't be loaded: {problem}{hint}") from None
@@ -38,7 +38,8 @@ def _load(place: str) -> Any:
     return loaded
 
 
-library: Any = _load(_place())
+library: Any = _load(_place(), ctypes.PyDLL)
+unlocked: Any = _load(_place(), ctypes.CDLL)  # its calls let other threads run: those over many games alone are made so
 
 
 def untyped(call: Any) -> Any:

@@ -10,6 +10,7 @@ from typing import Any, Callable, Dict, Iterable, List, NamedTuple, Optional, Tu
 from . import _declared
 from ._attributes import attributes_of, give_attributes
 from ._brief import BriefABC
+from ._buffers import BYTES, room_of
 from ._held import Held, clamped, integer, whole
 from ._library import library, text_of
 from ._numbers import Cause
@@ -179,10 +180,7 @@ class Game(Held):
         >>> Game().turn
         <Colour.BLACK: 1>
         """
-        length = len(self.moves)
-        if length:
-            return self.moves[length - 1].colour.other
-        return Colour.WHITE if self.handicap else Colour.BLACK
+        return Colour(library.vintsaky_game_turn(self._held()))
 
     def play(self, colour: AnyColour, vertex: AnyVertex) -> None:
         """Makes a move. Causes: BAD_COLOUR, BAD_VERTEX, FULL, OFF_BOARD, OCCUPIED, SUICIDE or KO."""
@@ -302,6 +300,18 @@ class Game(Held):
         number = colour_number(colour)
         done(library.vintsaky_game_legal_mask(self._held(), number, marks, MOST_POINTS, ctypes.byref(count)))
         return bytes(marks[: count.value])
+
+    def board_into(self, board: Any) -> None:
+        """Writes the same bytes as `board` into a buffer of size * size bytes (format `B`)."""
+        room = room_of(board, "board", self.size**2, BYTES[:1])
+        library.vintsaky_game_board(self._held(), room.items, len(room.items))
+
+    def legal_into(self, colour: AnyColour, mask: Any) -> None:
+        """Writes the same bytes as `legal_mask` into a buffer of size * size bytes (format `B` or `?`). Causes:
+        BAD_COLOUR."""
+        room, number, count = room_of(mask, "mask", self.size**2, BYTES), colour_number(colour), ctypes.c_size_t()
+        size = len(room.items)
+        done(library.vintsaky_game_legal_mask(self._held(), number, room.items, size, ctypes.byref(count)))
 
     def is_own_eye(self, colour: AnyColour, point: AnyVertex) -> bool:
         """Whether a point is an own eye of a colour, which a playout doesn't fill. It is empty, and has only stones of

@@ -156,6 +156,16 @@ impl Game {
         self.inner.handicap()
     }
 
+    /// The colour whose turn it is: the other one than that of the last move. Without a move that is Black, or White
+    /// where handicap stones were placed.
+    pub fn turn(&self) -> Colour {
+        match self.inner.moves().last() {
+            Some(last) => Colour::of(last.colour.other()),
+            None if self.inner.handicap() == 0 => Colour::Black,
+            None => Colour::White,
+        }
+    }
+
     /// How many moves the record has.
     pub fn length(&self) -> usize {
         self.inner.moves().len()

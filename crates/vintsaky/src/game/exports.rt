@@ -12,11 +12,12 @@ ghost use Rattle.vintsaky_calls.specs.Games.{ListsTaken, BeginCall, PlayCall, Le
 ghost use Rattle.vintsaky_calls.specs.Games.{PlaceHandicapCall, LegalPointsCall, StoneAtCall, ChainCall, MadeCall};
 ghost use Rattle.vintsaky_calls.specs.Games.{CapturedCall};
 ghost use Rattle.vintsaky_calls.specs.Texts.{Writes};
+ghost use Rattle.vintsaky_calls.specs.Turns.{HasTurn};
 
 use crate::game::handle::GameHandle;
 use go_board::Game;
 use std::mem::{align_of, size_of};
-use vintsaky_calls::{code_of, games};
+use vintsaky_calls::{code_of, games, turns};
 
 /// How many bytes a game takes.
 #[unsafe(no_mangle)]
@@ -59,6 +60,16 @@ pub extern "C" fn vintsaky_game_handicap(game: &mut GameHandle) -> u32
     ensures object { game.new.value ≡ game.old.value }
 {
     game.lend().handicap()
+}
+
+/// The number of the colour whose turn it is: the other one than that of the last move. Without a move that is Black, or
+/// White where handicap stones were placed.
+#[unsafe(no_mangle)]
+pub extern "C" fn vintsaky_game_turn(game: &mut GameHandle) -> u32
+    ensures call { HasTurn game.old.value result }
+    ensures object { game.new.value ≡ game.old.value }
+{
+    turns::turn(game.lend())
 }
 
 /// How many moves the record has.

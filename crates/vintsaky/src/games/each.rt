@@ -1,0 +1,121 @@
+//! The calls over many games, game by game.
+ghost use Rattle.std.specs.Prelude.{◌≡◌, ◌≤◌, ◌↔◌, IsTrue, length};
+ghost use Rattle.std.specs.List.{sum_by};
+ghost use Rattle.vintsaky.specs.Games.{games_of};
+ghost use Rattle.vintsaky_calls.specs.Batches.{PlayGamesCall, RestartGamesCall, ShowGamesCall, ShowsEach, RolloutGamesCall};
+ghost use Rattle.vintsaky_calls.specs.Batches.{shown_count};
+
+use crate::game::handle::GameHandle;
+use vintsaky_calls::Cause;
+use vintsaky_calls::batches::{self, Shown};
+
+/// What `vintsaky_games_play` does.
+pub(crate) fn play(
+    games: &mut [GameHandle],
+    moves: &[u32],
+    causes: &mut [u8],
+) -> Result<(), Cause>
+    ensures { PlayGamesCall (games_of games.old) (games_of games.new) moves.now
+        causes.old causes.new result }
+{
+    let count = games.len();
+    if moves.len() < count || causes.len() < count {
+        return Err(Cause::NoRoom);
+    }
+    for place in 0..count {
+        causes[place] = batches::play(games[place].lend(), moves[place]);
+    }
+    Ok(())
+}
+
+/// What `vintsaky_games_restart` does.
+pub(crate) fn restart(
+    games: &mut [GameHandle],
+    limit: u32,
+    over: &mut [u8],
+    half_points: &mut [i32],
+) -> Result<(), Cause>
+    ensures { RestartGamesCall limit (games_of games.old) (games_of games.new) over.old over.new
+        half_points.old half_points.new result }
+{
+    let count = games.len();
+    if over.len() < count || half_points.len() < count {
+        return Err(Cause::NoRoom);
+    }
+    for place in 0..count {
+        let told = batches::restart(games[place].lend(), limit);
+        over[place] = told.over;
+        half_points[place] = told.half_points;
+    }
+    Ok(())
+}
+
+/// What the calls do that show something of each game, with these values for no and for yes.
+pub(crate) fn show<T: Copy>(
+    shown: Shown,
+    games: &mut [GameHandle],
+    zero: T,
+    one: T,
+    values: &mut [T],
+) -> Result<(), Cause>
+    ensures call { ShowGamesCall zero one shown (games_of games.old) values.old values.new result }
+    ensures objects { games_of games.new ≡ games_of games.old }
+{
+    if !is_room(shown, games, values.len()) {
+        return Err(Cause::NoRoom);
+    }
+    show_each(shown, games, zero, one, values);
+    Ok(())
+}
+
+/// Whether so many values are enough to show each game.
+fn is_room(shown: Shown, games: &mut [GameHandle], room: usize) -> bool
+    ensures enough { IsTrue result ↔ (sum_by (shown_count shown) (games_of games.old) ≤ room) }
+    ensures objects { games_of games.new ≡ games_of games.old }
+{
+    let mut left = room;
+    for place in 0..games.len() {
+        let count = batches::count(shown, games[place].lend());
+        if left < count {
+            return false;
+        }
+        left -= count;
+    }
+    true
+}
+
+/// Shows each game, one after the other.
+fn show_each<T: Copy>(shown: Shown, games: &mut [GameHandle], zero: T, one: T, values: &mut [T])
+    requires { sum_by (shown_count shown) (games_of games.old) ≤ length values.old }
+    ensures shows { ShowsEach zero one shown (games_of games.old) values.old values.new }
+    ensures objects { games_of games.new ≡ games_of games.old }
+{
+    let mut at = 0;
+    for place in 0..games.len() {
+        let game = games[place].lend();
+        let count = batches::count(shown, game);
+        batches::show(shown, game, zero, one, &mut values[at..at + count]);
+        at += count;
+    }
+}
+
+/// What `vintsaky_games_rollouts` does.
+pub(crate) fn rollouts(
+    games: &mut [GameHandle],
+    seeds: &[u64],
+    limit: u32,
+    half_points: &mut [i32],
+) -> Result<(), Cause>
+    ensures call { RolloutGamesCall limit (games_of games.old) seeds.now
+        half_points.old half_points.new result }
+    ensures objects { games_of games.new ≡ games_of games.old }
+{
+    let count = games.len();
+    if seeds.len() < count || half_points.len() < count {
+        return Err(Cause::NoRoom);
+    }
+    for place in 0..count {
+        half_points[place] = batches::rollout(games[place].lend(), seeds[place], limit);
+    }
+    Ok(())
+}

@@ -1,0 +1,2 @@
+-- Definitions that the contracts of private functions use.
+pub mod Marks

@@ -1,0 +1,99 @@
+#!/usr/bin/env python3
+"""An environment for learning, in the form of Gymnasium's vector environments: many games, with a step in all at once.
+
+Observations are planes, as `Games.planes_into` writes them, and actions are numbers of moves. `infos["action_mask"]`
+says which may be made, and `infos["refused"]` why one was not: that game stays. A game that is over begins anew in the
+same step. The reward is that of the side that has just moved: 1 where it won, -1 where it lost, else 0.
+
+Arrays are numpy's where it is there, and else memoryviews. Each step writes them anew: copy what is to be kept.
+
+usage: go_env.py [STEPS [SIZE]]    makes so many random steps in 256 games, and prints how many moves a second
+"""
+import random
+import sys
+import time
+from array import array
+from typing import Any, Dict, Tuple
+
+from vintsaky import BLACK, Games
+
+try:
+    import numpy
+except ImportError:
+    numpy = None
+try:
+    from gymnasium.spaces import Box, Discrete
+    from gymnasium.vector import VectorEnv
+    from gymnasium.vector.utils import batch_space
+except ImportError:
+    batch_space, VectorEnv = None, object
+
+
+def shaped(room: Any, *shape: int) -> Any:
+    """A buffer as an array of this shape, which sees what is written into it."""
+    view = memoryview(room)
+    view = view.cast("B").cast(view.format, shape) if len(shape) > 1 else view
+    return numpy.asarray(view) if numpy else view
+
+
+class GoEnv(VectorEnv):
+    """So many games of Go, which both sides play by turns. A game with as many moves as the limit is truncated."""
+
+    metadata: Dict[str, Any] = {"render_modes": [], "autoreset_mode": "SameStep"}
+
+    def __init__(self, num_envs: int = 1, size: int = 9, komi: float = 7, earlier: int = 0, limit: int = 500) -> None:
+        self.num_envs, self.earlier = num_envs, earlier
+        self.made = num_envs, size, komi
+        self.limit, actions, planes = limit, size * size + 1, 2 * (1 + earlier)
+        self.room, self.masks = bytearray(num_envs * planes * size * size), bytearray(num_envs * actions)
+        self.causes, self.over = bytearray(num_envs), bytearray(num_envs)
+        self.scores, self.won = array("f", [0] * num_envs), array("f", [0] * num_envs)
+        self.planes = shaped(self.room, num_envs, planes, size, size)
+        self.infos = {"action_mask": shaped(self.masks, num_envs, actions), "refused": shaped(self.causes, num_envs)}
+        if batch_space:
+            self.single_observation_space = Box(0, 1, (planes, size, size), "uint8")
+            self.single_action_space = Discrete(actions)
+            self.observation_space = batch_space(self.single_observation_space, num_envs)
+            self.action_space = batch_space(self.single_action_space, num_envs)
+        self.reset()
+
+    def reset(self, *, seed: Any = None, options: Any = None) -> Tuple[Any, Dict[str, Any]]:
+        """Begins all games anew. Nothing is drawn here, so that a seed changes nothing."""
+        count, size, komi = self.made
+        self.games = Games(count, size, komi, limit=self.limit)
+        self.causes[:] = bytes(count)
+        self.games.planes_into(self.room, self.earlier)
+        self.games.masks_into(self.masks)
+        return self.planes, self.infos
+
+    def step(self, actions: Any) -> Tuple[Any, Any, Any, Any, Dict[str, Any]]:
+        """Makes a move in each game. Returns observations, rewards, terminations, truncations and infos."""
+        movers = self.games.turns
+        self.games.step(actions, causes=self.causes, over=self.over, scores=self.scores, planes=self.room,
+                        earlier=self.earlier, masks=self.masks)  # fmt: skip
+        for number, score in enumerate(self.scores):
+            ahead = (score > 0) - (score < 0)
+            self.won[number] = ahead if movers[number] == BLACK else -ahead
+        ended, cut = (shaped(bytearray(way == it for way in self.over), self.num_envs) for it in (1, 2))
+        if numpy:
+            ended, cut = ended.view(bool), cut.view(bool)
+        return self.planes, shaped(self.won, self.num_envs), ended, cut, self.infos
+
+    def random_actions(self) -> Any:
+        """A move of each game that may be made: the next one from a drawn number on, or a pass."""
+        each = len(self.masks) // self.num_envs
+        starts = range(0, len(self.masks), each)
+        return array("I", [self.masks.index(1, at + random.randrange(each)) - at for at in starts])
+
+    def close(self) -> None:
+        """There is nothing to close."""
+
+
+if __name__ == "__main__":
+    steps, size = (int(word) for word in [*sys.argv[1:], *("200", "9")[len(sys.argv) - 1 :]])
+    env = GoEnv(256, size)
+    began, over = time.perf_counter(), 0
+    for _ in range(steps):
+        _, _, terminations, truncations, _ = env.step(env.random_actions())
+        over += sum(map(bool, terminations)) + sum(map(bool, truncations))
+    print(f"{over} games ended, {256 * steps / (time.perf_counter() - began):.0f} moves a second")

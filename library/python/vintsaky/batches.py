@@ -1,0 +1,255 @@
+"""Many games in one call, for programs that learn: moves go in, and results and planes come into buffers."""
+from __future__ import annotations
+
+import ctypes
+import operator
+import threading
+from array import array
+from contextlib import contextmanager
+from threading import get_ident
+from typing import Any, Iterator, List, NoReturn, Optional, Sequence, Tuple
+
+from . import _declared
+from ._buffers import BYTES, FLOATS, Room, apart, room_of
+from ._held import whole
+from ._library import library, unlocked
+from ._refused import done
+from .games import Game
+from .values import Komi, KoRule
+
+MOST_MOVES = 2000  # of a record
+MOST_GAMES = 2**20
+
+
+class Games:
+    """So many games of one size, komi, ko rule and handicap, which are played in one call.
+
+    Each is played by turns: after a move it is the other colour's turn, and before the first it is Black's, or White's
+    where handicap stones were placed. A move is a number: the `Game.index` of a point, and size * size for a pass.
+
+    Buffers are written by the buffer protocol: a bytearray, an `array`, or an array of numpy, in C order. Their items
+    are bytes (`B`, or `?`) or floats of 32 bits (`f`).
+
+    Its calls let other threads run. As long as one runs, each other call of the object is a RuntimeError, and `adopt`
+    is.
+
+    >>> games = Games(2, size=3)
+    >>> planes = bytearray(2 * 2 * 9)
+    >>> games.step([4, 0], planes=planes)
+    0
+    >>> list(planes[9:18])  # the first game's second plane: Black's stones, since it is White's turn
+    [0, 0, 0, 0, 1, 0, 0, 0, 0]
+    """
+
+    __slots__ = ("_size", "_limit", "_points", "_thread", "_lock", "_handles", "_memory", "_causes", "_over", "_scores")
+
+    def __init__(
+        self,
+        count: int,
+        size: int = 19,
+        komi: Komi = 0,
+        rule: KoRule = KoRule.SIMPLE,
+        handicap: int = 0,
+        limit: int = MOST_MOVES,
+    ) -> None:
+        number = whole(count, "the number of games", 1, MOST_GAMES)
+        first = Game(size, komi, rule)
+        if handicap:
+            first.place_handicap(handicap)
+        self._size, self._limit = first.size, whole(limit, "the limit of moves", 1, MOST_MOVES)
+        self._points = self._size * self._size
+        self._thread, self._lock = get_ident(), threading.Lock()
+        self._handles = (_declared.GameHandle * number)()
+        self._causes, self._over = (ctypes.c_uint8 * number)(), (ctypes.c_uint8 * number)()
+        self._scores = (ctypes.c_int32 * number)()
+        self._place(number)
+        for handle in self._handles:
+            library.vintsaky_game_copy(ctypes.byref(handle), first._held())
+
+    def _place(self, number: int) -> None:
+        """Puts the games into memory of their own, one after the other."""
+        align: int = library.vintsaky_game_align()
+        bytes_each: int = -(-library.vintsaky_game_bytes() // align) * align
+        self._memory = ctypes.create_string_buffer(number * bytes_each + align)
+        start = ctypes.addressof(self._memory)
+        start += -start % align
+        for at, handle in enumerate(self._handles):
+            library.vintsaky_game_place(ctypes.byref(handle), start + at * bytes_each)
+
+    @contextmanager
+    def _held(self) -> Iterator[Tuple[Any, int]]:
+        """The handles and their number, for a call. Errors: RuntimeError in another thread than its own, and as long as
+        a call runs."""
+        if not self._lock.acquire(blocking=False):
+            raise RuntimeError("these Games are in a call of another thread: wait until it has returned")
+        try:
+            if get_ident() != self._thread:
+                raise RuntimeError("these Games are used by another thread than their own: adopt() takes them over")
+            yield self._handles, len(self._handles)
+        finally:
+            self._lock.release()
+
+    def adopt(self) -> None:
+        """From now on this thread may use the games, and no other one. Errors: RuntimeError as long as a call runs."""
+        if not self._lock.acquire(blocking=False):
+            raise RuntimeError("these Games are in a call of another thread: wait until it has returned")
+        self._thread = get_ident()
+        self._lock.release()
+
+    def __len__(self) -> int:
+        return len(self._handles)
+
+    @property
+    def size(self) -> int:
+        """How many columns and rows each board has."""
+        return self._size
+
+    @property
+    def limit(self) -> int:
+        """With how many moves a game is over."""
+        return self._limit
+
+    def planes(self, earlier: int = 0) -> int:
+        """How many planes a game has, with so many earlier boards: two for each board."""
+        return 2 * (1 + whole(earlier, "the number of earlier boards", 0, MOST_MOVES))
+
+    def step(
+        self,
+        moves: Any,
+        *,
+        causes: Any = None,
+        over: Any = None,
+        scores: Any = None,
+        planes: Any = None,
+        earlier: int = 0,
+        masks: Any = None,
+    ) -> int:
+        """Makes a move in each game, and begins those anew that are over. How many games refused their move. It writes
+        into the buffers that are given, in this order:
+
+        - `causes`, a byte a game: 0, or the number of the `Cause` for which the game alone refused its move, and stays.
+        - `over`, a byte a game: 1 where it ended by two passes, 2 where it has as many moves as the limit, else 0.
+        - `scores`, a float a game: the score in points where it is over, positive where Black leads, else 0.
+        - `planes` and `masks`, of the games that are now there, as `planes_into` and `masks_into` write them.
+        """
+        count = len(self._handles)
+        rooms = {
+            "causes": None if causes is None else room_of(causes, "causes", count, BYTES[:1]),
+            "over": None if over is None else room_of(over, "over", count, BYTES),
+            "scores": None if scores is None else room_of(scores, "scores", count, FLOATS),
+            "planes": None if planes is None else room_of(planes, "planes", self._plane_items(earlier)),
+            "masks": None if masks is None else room_of(masks, "masks", self._mask_items()),
+        }
+        apart(rooms)
+        with self._held() as (handles, _):
+            numbers = self._numbers(moves)
+            refused = self._play(handles, numbers, rooms["causes"])
+            self._restart(handles, rooms["over"], rooms["scores"])
+            if room := rooms["planes"]:
+                self._write_planes(handles, room, earlier)
+            if room := rooms["masks"]:
+                self._write_masks(handles, room)
+            return refused
+
+    def planes_into(self, planes: Any, earlier: int = 0) -> None:
+        """Writes the planes of all games: in C order games, planes, rows from row 1, and columns from A. The first two
+        planes have 1 where the colour whose turn it is has a stone, and where the other one has, else 0. Then come the
+        same two of the board a move earlier, and so on. Those of boards before the first one are empty."""
+        room = room_of(planes, "planes", self._plane_items(earlier))
+        with self._held() as (handles, _):
+            self._write_planes(handles, room, earlier)
+
+    def masks_into(self, masks: Any) -> None:
+        """Writes the masks of all games: size * size + 1 items a game, 1 where the colour whose turn it is may make the
+        move of that number, else 0. The last one is for a pass, and 1."""
+        room = room_of(masks, "masks", self._mask_items())
+        with self._held() as (handles, _):
+            self._write_masks(handles, room)
+
+    def rollouts(self, seeds: Sequence[int], limit: int = MOST_MOVES) -> List[float]:
+        """The score of a playout of each game by its seed, in points, as `Game.rollout` returns it for the colour whose
+        turn it is. The games stay as they were."""
+        most = whole(limit, "the limit")
+        numbers = [whole(seed, "a seed", 0, 2**64 - 1) for seed in seeds]
+        if len(numbers) != len(self._handles):
+            raise ValueError(f"seeds: there are {len(numbers)}, and not {len(self._handles)}, one a game")
+        halves = (ctypes.c_int32 * len(numbers))()
+        with self._held() as (handles, count):
+            words = (ctypes.c_uint64 * count)(*numbers)
+            done(unlocked.vintsaky_games_rollouts(handles, count, words, count, most, halves, count))
+        return [half / 2 for half in halves]
+
+    def game(self, number: int) -> Game:
+        """A copy of the game of this number, counted from 0."""
+        copied = Game()
+        with self._held() as (handles, _):
+            library.vintsaky_game_copy(copied._held(), ctypes.byref(handles[self._place_of(number)]))
+        return copied
+
+    def put(self, number: int, game: Game) -> None:
+        """Makes the game of this number a copy of another one. Errors: ValueError where that has another size."""
+        if not isinstance(game, Game):
+            raise TypeError(f"a Game is wanted, and not a {type(game).__name__}")
+        if game.size != self._size:
+            raise ValueError(f"the game has size {game.size}, and not {self._size}")
+        with self._held() as (handles, _):
+            library.vintsaky_game_copy(ctypes.byref(handles[self._place_of(number)]), game._held())
+
+    @property
+    def turns(self) -> bytes:
+        """A byte a game: the colour whose turn it is."""
+        with self._held() as (handles, _):
+            return bytes(library.vintsaky_game_turn(ctypes.byref(handle)) for handle in handles)
+
+    def _place_of(self, number: int) -> int:
+        """The place of a game's number, which may count from the end, as that of any sequence."""
+        count, place = len(self._handles), operator.index(number)
+        if not -count <= place < count:
+            raise IndexError(f"the number of the game is {place}, and not from 0 to {count - 1}")
+        return place % count
+
+    def _plane_items(self, earlier: int) -> int:
+        """How many items the planes of all games have."""
+        return len(self._handles) * self.planes(earlier) * self._points
+
+    def _mask_items(self) -> int:
+        """How many items the masks of all games have."""
+        return len(self._handles) * (self._points + 1)
+
+    def _numbers(self, moves: Any) -> Any:
+        """The numbers of the moves, as the call takes them. Errors: TypeError where they are no whole numbers."""
+        try:
+            numbers = array("I", moves.tolist() if hasattr(moves, "tolist") else list(moves))
+        except OverflowError:
+            raise ValueError(f"moves: a number is not from 0 to {self._points}") from None
+        except TypeError as problem:
+            raise TypeError(f"moves: a list or an array of whole numbers is wanted ({problem})") from None
+        if len(numbers) != len(self._handles):
+            raise ValueError(f"moves: there are {len(numbers)}, and not {len(self._handles)}, one a game")
+        return (ctypes.c_uint32 * len(numbers)).from_buffer(numbers)
+
+    def _play(self, handles: Any, numbers: Any, causes: Optional[Room]) -> int:
+        """Makes the moves. How many are refused."""
+        count, written = len(handles), causes.items if causes else self._causes
+        done(unlocked.vintsaky_games_play(handles, count, numbers, count, written, count))
+        return count - bytes(written).count(0)
+
+    def _restart(self, handles: Any, over: Optional[Room], scores: Optional[Room]) -> None:
+        """Begins anew what is over."""
+        count, ways = len(handles), over.items if over else self._over
+        done(unlocked.vintsaky_games_restart(handles, count, self._limit, ways, count, self._scores, count))
+        if scores:
+            scores.items[:] = [half / 2 for half in self._scores]
+
+    def _write_planes(self, handles: Any, room: Room, earlier: int) -> None:
+        """Writes the planes of all games."""
+        call = unlocked.vintsaky_games_planes_f32 if room.is_float else unlocked.vintsaky_games_planes
+        done(call(handles, len(handles), earlier, room.items, len(room.items)))
+
+    def _write_masks(self, handles: Any, room: Room) -> None:
+        """Writes the masks of all games."""
+        call = unlocked.vintsaky_games_masks_f32 if room.is_float else unlocked.vintsaky_games_masks
+        done(call(handles, len(handles), room.items, len(room.items)))
+
+    def __reduce_ex__(self, protocol: Any) -> NoReturn:
+        raise TypeError("Games can't be copied or pickled so")
