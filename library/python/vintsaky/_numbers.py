@@ -45,6 +45,8 @@ class Cause(Told):
     BAD_COMMAND = 32  # The number is no command: it isn't from 1 to 8.
     BAD_ID = 33  # The id is negative, and not -1, which is none.
     DOWN = 34  # The side was not started or went down, or the match is over.
+    IS_OVER = 35  # The match is over.
+    BAD_REASON = 36  # The reason isn't 1 to 20 letters and spaces, or it is that of a forfeit.
 
 
 class Loss(IntEnum):
@@ -79,3 +81,5 @@ class Ending(IntEnum):
     BY_ILLEGAL_MOVE = 7  # the side answered with a move that isn't legal: it forfeits
     BY_UNFIT = 8  # the side can't be brought to the record
     BY_ABANDONED = 9  # the side went down too often
+    BY_TIME = 10  # the side ran out of time: a ruling ended the match
+    BY_RULING = 11  # the side lost by a ruling that has a reason
