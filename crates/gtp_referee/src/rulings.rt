@@ -89,7 +89,10 @@ fn is_reason_byte(byte: u8) -> bool
 fn is_forfeit_text(text: &[u8]) -> bool
     ensures { result ≡ is_forfeit_text text.now }
 {
-    text == b"refused play" || text == b"no move" || text == b"no vertex" || text == b"illegal move"
+    text == b"refused play".as_slice()
+        || text == b"no move".as_slice()
+        || text == b"no vertex".as_slice()
+        || text == b"illegal move".as_slice()
 }
 
 /// A reason of these bytes.
