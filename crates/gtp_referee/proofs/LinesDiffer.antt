@@ -1,6 +1,6 @@
 -- The line of a match that a ruling ended is the line of no match that ended by itself.
-use Rattle.std.proofs.Common.{◌≡◌, ◌≢◌, ℕ, ℤ, pos, negsuc, zero, suc, ◌+◌, ◌-◌, ◌<◌, ◌≤◌, ◌/◌, ◌%◌, Bool, true, false}
-use Rattle.std.proofs.Common.{◌&&◌, List, [], ◌∷◌, ◌++◌, drop, get_or, length, refl, sym, ap, subst, ◌∙◌, arith}
+use Rattle.std.proofs.Common.{◌≡◌, ◌≢◌, ℕ, pos, negsuc, zero, suc, ◌+◌, ◌<◌, ◌/◌, ◌%◌, Bool, true, false}
+use Rattle.std.proofs.Common.{List, [], ◌∷◌, ◌++◌, drop, get_or, length, refl, sym, ap, ◌∙◌, arith}
 use Rattle.std.proofs.Common.{append_assoc, append-nil}
 use Rattle.std.specs.Char.{is_ascii_digit}
 use Rattle.std.specs.Fmt.{decimal, digits, digits_onto, digit_glyph}
@@ -16,7 +16,6 @@ use Rattle.gtp_match.specs.declared.verdicts.Verdict.TheVariants.{Score, Resign,
 use Rattle.gtp_referee.specs.Calls.{RulingLinesDiffer}
 use Rattle.gtp_referee.specs.ResultLine.{ruled_text, ruling_text}
 use Rattle.gtp_referee.specs.Ruling.{IsRuling, is_reason_byte, is_forfeit_text}
-use Rattle.gtp_referee.specs.declared.rulings.Ruled.{Ruled}
 use Rattle.gtp_referee.specs.declared.rulings.Ruling.{Ruling}
 use Rattle.gtp_referee.specs.declared.rulings.Ruling.TheVariants.{Time, Reason}
 
@@ -52,7 +51,7 @@ onto_all : (k n : ℕ) (acc : List ℕ) → list_all is_ascii_digit acc ≡ true
 onto_all zero n acc all = all
 onto_all (suc k) n acc all =
     let more : list_all is_ascii_digit (digit_glyph false (n % 10) ∷ acc) ≡ true =
-        rw (glyph (n % 10) (omega arith)) all in
+    rw (glyph (n % 10) (omega arith)) all in
     either is_ascii_digit (n / 10 == 0) _ _ more (onto_all k (n / 10) _ more)
 
 longer : (b : Bool) (xs ys : List ℕ) → 0 < length xs → 0 < length ys → 0 < length (if b then xs else ys)
@@ -130,7 +129,7 @@ no_forfeit : (r : Ruling) → IsRuling r → (cause : ForfeitCause) (s t : List 
 no_forfeit Time is cause s t e = absurd (omega (arith, first e))
 no_forfeit (Reason kept) is cause s t e =
     let inner : kept.items ++ 41 ∷ s ≡ cause_text cause ++ 41 ∷ t =
-        sym (append_assoc kept.items (41 ∷ []) s) ∙ (ap (drop 2) e ∙ append_assoc (cause_text cause) (41 ∷ []) t) in
+    sym (append_assoc kept.items (41 ∷ []) s) ∙ (ap (drop 2) e ∙ append_assoc (cause_text cause) (41 ∷ []) t) in
     let same = same_before is_reason_byte 41 refl kept.items (cause_text cause) s t is.0.bytes (cause_bytes cause) inner in
     let wrong : false ≡ true = sym is.0.no_forfeit ∙ (ap is_forfeit_text same.0 ∙ cause_forfeits cause) in cc
 
@@ -138,7 +137,7 @@ differ : (loser : Colour) (r : Ruling) → IsRuling r → (v : Verdict) (s t : L
     → (won_against loser ++ ruling_text r) ++ s ≢ verdict_text v ++ t
 differ loser r is (Score (pos zero)) s t e =
     let wrong : false ≡ true =
-        sym (win_is_no_digit loser (ruling_text r) s) ∙ (ap is_ascii_digit (first e) ∙ first_digit 0 [] t) in cc
+    sym (win_is_no_digit loser (ruling_text r) s) ∙ (ap is_ascii_digit (first e) ∙ first_digit 0 [] t) in cc
 differ loser r is (Score (pos (suc n))) s t e =
     no_points r (suc n / 2) _ s t (sym (after_win loser (ruling_text r) s) ∙ ap (drop 2) e)
 differ loser r is (Score (negsuc n)) s t e =
@@ -167,9 +166,9 @@ shape number text counts =
 pub ruling_lines_differ : RulingLinesDiffer
 ruling_lines_differ number other c ended given verdict is e =
     let after : decimal number ++ 58 ∷ 32 ∷ (ruled_text given ++ counts_text c)
-        ≡ decimal other ++ 58 ∷ 32 ∷ (verdict_text verdict ++ counts_text ended) =
-        ap (drop 5)
-        (sym (shape number (ruled_text given) (counts_text c)) ∙ (e ∙ shape other (verdict_text verdict) (counts_text ended))) in
+    ≡ decimal other ++ 58 ∷ 32 ∷ (verdict_text verdict ++ counts_text ended) =
+    ap (drop 5)
+    (sym (shape number (ruled_text given) (counts_text c)) ∙ (e ∙ shape other (verdict_text verdict) (counts_text ended))) in
     let same = same_before is_ascii_digit 58 refl (decimal number) (decimal other) _ _ (decimal_all number) (decimal_all other)
-        after in
+    after in
     differ given.loser given.ruling is verdict (counts_text c) (counts_text ended) (ap (drop 1) same.1)

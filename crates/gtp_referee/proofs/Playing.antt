@@ -1,5 +1,5 @@
 -- Calls on a match with a referee, as calls on the match in it.
-use Rattle.std.proofs.Common.{◌≡◌, ℕ, List, [], ◌∷◌, ◌++◌, Option, Some, None, refl, sym, ap, subst, ◌∙◌}
+use Rattle.std.proofs.Common.{◌≡◌, List, [], ◌++◌, Option, Some, None, refl, sym, ap, subst, ◌∙◌}
 use Rattle.gtp_match.specs.Calls.{Call, CallsBy, CallsExactly}
 use Rattle.gtp_match.specs.Next as going
 use Rattle.gtp_match.specs.declared.controller.Controller.{Controller}

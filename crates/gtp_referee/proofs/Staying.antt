@@ -1,7 +1,5 @@
 -- After a ruling every call leaves the match as it is.
-use Rattle.std.proofs.Common.{◌≡◌, ℕ, List, Option, Some, None, refl, sym, ap, subst, ◌∙◌}
-use Rattle.gtp_match.specs.declared.losses.Loss.{Loss}
-use Rattle.gtp_match.specs.declared.reports.Retake.{Retake}
+use Rattle.std.proofs.Common.{◌≡◌, List, Some, None, refl, sym, ap, subst, ◌∙◌}
 use Rattle.gtp_match.specs.declared.verdicts.Action.{Action}
 use Rattle.gtp_referee.specs.Calls.{RefereedCall, Does, Leads, RulingsStay}
 use Rattle.gtp_referee.specs.Refereed.{Refereed, next_where, lost_where, owed_where, HearsWhere}
