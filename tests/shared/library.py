@@ -61,7 +61,7 @@ def cc(words, folder, **how):
 
 def most_lines(name):
     """How many lines an example may have."""
-    return 120 if name == "uct_engine" else 60
+    return {"uct_engine": 120, "serve_match": 90}.get(name, 60)
 
 
 def compiled(name, folder, *flags):
