@@ -462,8 +462,8 @@ SERVED = Match(5, 1, "bin/gtp_engine --policy random --seed 3", OURS)
 
 
 def connected(port):
-    """A connection to the server."""
-    return socket.create_connection(("127.0.0.1", port), LIMIT)
+    """A connection to the server. Where a program has it, it waits as a pipe does."""
+    return socket.create_connection(("127.0.0.1", port))
 
 
 class Program:
