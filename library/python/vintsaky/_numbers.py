@@ -42,6 +42,8 @@ class Cause(Told):
     BAD_COMMAND: The number is no command: it isn't from 1 to 8.
     BAD_ID: The id is negative, and not -1, which is none.
     DOWN: The side was not started or went down, or the match is over.
+    IS_OVER: The match is over.
+    BAD_REASON: The reason isn't 1 to 20 letters and spaces, or it is that of a forfeit.
     """
 
     DONE = 0
@@ -79,6 +81,8 @@ class Cause(Told):
     BAD_COMMAND = 32
     BAD_ID = 33
     DOWN = 34
+    IS_OVER = 35
+    BAD_REASON = 36
 
 
 class Loss(Numbered):
@@ -128,6 +132,8 @@ class Ending(Numbered):
     BY_ILLEGAL_MOVE: the side answered with a move that isn't legal: it forfeits
     BY_UNFIT: the side can't be brought to the record
     BY_ABANDONED: the side went down too often
+    BY_TIME: the side ran out of time: a ruling ended the match
+    BY_RULING: the side lost by a ruling that has a reason
     """
 
     BY_SCORE = 1
@@ -139,3 +145,5 @@ class Ending(Numbered):
     BY_ILLEGAL_MOVE = 7
     BY_UNFIT = 8
     BY_ABANDONED = 9
+    BY_TIME = 10
+    BY_RULING = 11

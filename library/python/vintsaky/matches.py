@@ -8,7 +8,7 @@ from typing import Any, Optional, Tuple
 
 from . import _declared
 from ._brief import Brief, BriefEnum
-from ._held import Bytes, Held, bytes_of, clamped, integer, whole
+from ._held import Bytes, Held, ascii_of, bytes_of, clamped, integer, whole
 from ._library import library, text_of
 from ._numbers import Cause, Ending, Loss
 from ._refused import Refused, done, shown
@@ -68,16 +68,17 @@ class Status(metaclass=Brief):
 
 @dataclass(frozen=True)
 class Verdict(metaclass=Brief):
-    """How a match ended, and the score in points where it ended by one. `side` is who resigned, forfeited, is unfit or
-    was abandoned: never who won."""
+    """How a match ended, the score in points where it ended by one, and the reason where a ruling has one. `side` is who
+    resigned, forfeited, is unfit, was abandoned or lost by a ruling: never who won."""
 
     ending: Ending
     side: Optional[Colour]
     score: Optional[float]
+    reason: str = ""
 
     @property
     def winner(self) -> Optional[Colour]:
-        """Who won: by the score, or since the other side resigned or forfeited. Else None.
+        """Who won: by the score, or since the other side resigned, forfeited or lost by a ruling. Else None.
 
         >>> Verdict(Ending.BY_RESIGNATION, Colour.BLACK, None).winner
         <Colour.WHITE: 2>
@@ -178,7 +179,8 @@ class Match(Held):
         return text.raw[: count.value]
 
     def hear(self, side: AnyColour, data: Bytes) -> Optional[Loss]:
-        """Hears what the side wrote, in any pieces. Why the side fails by it, or None."""
+        """Hears what the side wrote, in any pieces. Why the side fails by it, or None. After the end of the match, also by
+        a ruling, nothing is heard."""
         data, number, loss = bytes_of(data), side_number(side), ctypes.c_uint32()
         done(library.vintsaky_match_hear(self._held(), number, data, len(data), ctypes.byref(loss)))
         return Loss(loss.value) if loss.value else None
@@ -207,7 +209,7 @@ class Match(Held):
 
     def lost(self, side: AnyColour) -> None:
         """The side is gone: its output ended, or a read or a write failed. Where its start failed, this comes after
-        `started`. After a loss that is heard it isn't needed."""
+        `started`. After a loss that is heard it isn't needed, and after a ruling nothing changes."""
         done(library.vintsaky_match_lost(self._held(), side_number(side)))
 
     def in_step(self, side: AnyColour) -> bool:
@@ -227,6 +229,20 @@ class Match(Held):
         retakes: int = library.vintsaky_match_retakes(self._held(), whole(number, "number"))
         return retakes
 
+    def adjudicate(self, side: AnyColour, reason: str = "") -> None:
+        """Ends the match by a ruling: the side loses, for time where there is no reason. A reason has 1 to 20 letters and
+        spaces, and is none of "refused play", "no move", "no vertex" and "illegal move". After that nothing changes the
+        match but `begin`. Causes: IS_OVER where it is over, BAD_REASON.
+
+        >>> match = Match()
+        >>> match.adjudicate("b")
+        >>> match.result()
+        'game 1: W+T moves 0 restarts 0 0'
+        """
+        text, number = ascii_of(reason, "reason"), side_number(side)
+        cause = library.vintsaky_match_adjudicate(self._held(), number, text, len(text))
+        done(cause, f"reason {shown(reason)}" if cause == Cause.BAD_REASON else f"adjudicate {Colour(number)}")
+
     @property
     def taking_back(self) -> Optional[Colour]:
         """The side whose last move is to be taken back, because the other side refused it."""
@@ -243,7 +259,8 @@ class Match(Held):
             return None
         done(cause)
         score = halves.value / 2 if ending.value == Ending.BY_SCORE else None
-        return Verdict(Ending(ending.value), Colour(side.value) if side.value else None, score)
+        reason = text_of(library.vintsaky_match_reason, self._held()).decode("ascii")
+        return Verdict(Ending(ending.value), Colour(side.value) if side.value else None, score, reason)
 
     @property
     def game(self) -> Game:
