@@ -1,9 +1,12 @@
 """Many games in one call, with their buffers and threads. What is wanted is what single games give, move by move."""
 import random
+import re
 import threading
 import unittest
 from array import array
+from pathlib import Path
 
+import vintsaky
 from vintsaky import BLACK, WHITE, Cause, Game, Games, KoRule
 
 from .test_batches import mask, over, planes, played, single_game, turn
@@ -209,6 +212,12 @@ class Wrong(unittest.TestCase):
 
 class Threads(unittest.TestCase):
     """Other threads run while a call does, and may not touch its games."""
+
+    def test_these_calls_alone_let_other_threads_run(self):
+        texts = [path.read_text() for path in Path(vintsaky.__file__).parent.glob("*.py")]
+        names = {name for text in texts for name in re.findall(r"unlocked\.(\w+)", text)}
+        self.assertEqual(len(names), 7)
+        self.assertEqual([name for name in names if not name.startswith("vintsaky_games_")], [])
 
     def test_other_threads(self):
         games, caught = Games(2, 3), []

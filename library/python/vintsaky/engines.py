@@ -34,7 +34,7 @@ class Event(IntEnum, metaclass=BriefEnum):
     ENDED = _declared.ENDED  # The session has ended, by a quit.
 
 
-class Steps(Held):
+class Steps(Held, metaclass=Brief):
     """An engine in steps: bytes go in, and replies, or the colour for which a move is asked, come out.
 
     What is refused raises Refused, and the engine stays as it was. While it waits for a choice or an answer it uses no
