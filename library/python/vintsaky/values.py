@@ -30,7 +30,7 @@ class Colour(IntEnum, metaclass=BriefEnum):
     @property
     def text(self) -> str:
         """As the protocol spells it: b or w."""
-        return written(library.vintsaky_colour_text, int(self))
+        return COLOUR_TEXTS[self]
 
     def __str__(self) -> str:
         return self.text
@@ -130,6 +130,7 @@ def written(call: Any, *arguments: Any, what: str = "") -> str:
         room = count.value + 1
 
 
+COLOUR_TEXTS = {colour: written(library.vintsaky_colour_text, int(colour)) for colour in Colour}
 COLOURS = "use 'b', 'w', 'black', 'white' or a Colour"
 USED = {
     "vertex": "use a Point, PASS, or a text such as 'D4' or 'pass'",
