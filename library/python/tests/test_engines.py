@@ -271,7 +271,7 @@ class Served(unittest.TestCase):
                 def say_more(self, words):
                     return ""
 
-            with self.assertRaisesRegex(ValueError, text):
+            with self.assertRaisesRegex(vintsaky.Refused, text):
                 served(Commanded(), b"name\n")
 
     def test_the_game_is_a_copy(self):

@@ -158,7 +158,7 @@ def command(name: str) -> Callable[[Method], Method]:
 
     Errors: TypeError where the name is no str, as after `@command` without a name."""
     if not isinstance(name, str):
-        raise TypeError("a command has a name: @command(\"NAME\")")
+        raise TypeError(f"name: {shown(name)} is no str; a command has a name, as @command(\"NAME\")")
 
     def marked(method: Method) -> Method:
         setattr(method, "gtp_command", name)
@@ -239,7 +239,7 @@ class Engine:
             try:
                 steps.add_command(name)
             except Refused as refused:
-                raise ValueError(f"there can't be an own command {name!r}: {refused.cause.text}") from None
+                raise Refused(refused.cause, f"there can't be an own command {shown(name)}") from None
         return steps
 
     def _commands(self) -> Dict[str, str]:

@@ -68,11 +68,13 @@ class Point(_Point, metaclass=BriefABC):
         return written(library.vintsaky_vertex_text, _point_number(self))
 
     def neighbours(self, size: int) -> List[Point]:
-        """The points of a board of this size that are next to it in its row or its column.
+        """The points of a board of this size that are next to it in its row or its column. Causes: BAD_SIZE.
 
         >>> [str(point) for point in Point(1, 3).neighbours(5)]
         ['A2', 'B3', 'A4']
         """
+        if type(size) is not int or not 1 <= size <= 25:
+            size = size_number(size)
         column, row = self
         beside = [Point(column, row - 1), Point(column - 1, row), Point(column + 1, row), Point(column, row + 1)]
         return [point for point in beside if 1 <= point.column <= size and 1 <= point.row <= size]
