@@ -56,9 +56,11 @@ class Stated(Game):
 
 
 class Mirrored(Game):
-    """A subclass whose `play` counts."""
+    """A subclass whose `play` counts, by an attribute that `__init__` sets."""
 
-    plays = 0
+    def __init__(self, size=19, komi=0, rule=KoRule.SIMPLE):
+        super().__init__(size, komi, rule)
+        self.plays = 0
 
     def play(self, colour, vertex):
         super().play(colour, vertex)
@@ -209,6 +211,14 @@ class Comparisons(unittest.TestCase):
         self.assertNotEqual(one, other)
         other.place_handicap(3)
         self.assertNotEqual(one, other)
+
+    def test_handicap_stones_that_were_taken(self):
+        """Of two and of three stones nothing is left, so the boards and the moves are the same."""
+        around = [(column, row) for x in (3, 7) for y in (3, 7) for column, row in Point(x, y).neighbours(9)]
+        two, three = (Game.from_moves([("w", point) for point in around], 9, handicap=stones) for stones in (2, 3))
+        self.assertEqual((two.captured("w"), three.captured("w")), (2, 3))
+        self.assertEqual((two.board, list(two.moves)), (three.board, list(three.moves)))
+        self.assertNotEqual(two, three)
 
     def test_other_types(self):
         self.assertIs(Game().__eq__(None), NotImplemented)

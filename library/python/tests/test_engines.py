@@ -236,7 +236,11 @@ class Served(unittest.TestCase):
             self.assertEqual(sink.getvalue(), b"= first\n\n")
 
     def test_without_standard_error(self):
-        with mock.patch.object(sys, "stderr", None):
+        output = io.StringIO()
+        with mock.patch.object(sys, "stderr", None), contextlib.redirect_stdout(output):
+            self.assertEqual(served(Says(), b"bad type\nname\n"), b"? the answer is wrong\n\n= first\n\n")
+        self.assertEqual(output.getvalue(), "")
+        with open(os.devnull) as unwritable, mock.patch.object(sys, "stderr", unwritable):
             self.assertEqual(served(Says(), b"bad type\nname\n"), b"? the answer is wrong\n\n= first\n\n")
 
     def test_streams_that_do_not_block(self):
@@ -267,7 +271,7 @@ class Served(unittest.TestCase):
                 def say_more(self, words):
                     return ""
 
-            with self.assertRaisesRegex(ValueError, text):
+            with self.assertRaisesRegex(vintsaky.Refused, text):
                 served(Commanded(), b"name\n")
 
     def test_the_game_is_a_copy(self):

@@ -50,6 +50,10 @@ TYPES = [
     (lambda: MATCH.retakes("1"), "number: '1' is no int; use one from 0 to 4294967295"),
     (lambda: vintsaky.read_colour(1), "text: 1 is neither str nor bytes"),
     (lambda: vintsaky.komi_text(None), "komi: None is no int, float or Fraction"),
+    (lambda: GAME.moves["0"], "number: '0' is neither an int nor a slice of them"),
+    (lambda: GAME.moves["a":], "number: slice('a', None, None) is neither an int nor a slice of them"),
+    (lambda: Point(1, 1).neighbours("9"), "size: '9' is no int; use one from 1 to 25"),
+    (lambda: vintsaky.command(5), 'name: 5 is no str; a command has a name, as @command("NAME")'),
     (lambda: vintsaky.write_reply(5), "text: 5 is neither str nor bytes"),
     (lambda: vintsaky.write_reply(id="1"), "id: '1' is no int; use one from 0 to 2147483647"),
     (lambda: vintsaky.write_command("quit"), "command: 'quit' is no Command"),
@@ -63,6 +67,7 @@ VALUES = [
     (lambda: Game(26), Cause.BAD_SIZE, "size: 26 is not from 1 to 25"),
     (lambda: Game(-1), Cause.BAD_SIZE, "size: -1 is not from 1 to 25"),
     (lambda: Game(2**64 + 9), Cause.BAD_SIZE, "size: 18446744073709551625 is not from 1 to 25"),
+    (lambda: Point(1, 1).neighbours(0), Cause.BAD_SIZE, "size: 0 is not from 1 to 25"),
     (lambda: Game(9, 6.7), None, "komi: 6.7 is no multiple of 0.5"),
     (lambda: Game(9, float("nan")), None, "komi: nan is no multiple of 0.5"),
     (lambda: Game(9, Fraction(1, 3)), None, "komi: Fraction(1, 3) is no multiple of 0.5"),
@@ -167,6 +172,14 @@ class Errors(unittest.TestCase):
             with self.assertRaises(Refused) as caught:
                 game.play("White", vertex)
             self.assertEqual(str(caught.exception), said)
+
+    def test_a_move_that_is_not_there(self):
+        game = Game(5)
+        game.play("b", "C3")
+        for number in (1, -2, 2**70):
+            with self.assertRaises(IndexError) as caught:
+                game.moves[number]
+            self.assertEqual(str(caught.exception), f"number: {number} is no move of a record of 1")
 
     def test_causes_in_a_fixed_order(self):
         for call, cause in (

@@ -122,6 +122,9 @@ class Refusals(unittest.TestCase):
         self.assertEqual((str(refusal), refusal.cause), (Cause.KO.text, Cause.KO))
         for again in (copy.copy(refusal), pickle.loads(pickle.dumps(refusal))):
             self.assertEqual((again.cause, str(again)), (Cause.KO, Cause.KO.text))
+        for refusal, text in ((Refused(Cause.KO, "play w C3"), f"play w C3: {Cause.KO.text}"), (Refused(Cause.KO, "a", "b"), "a: b")):
+            for again in (refusal, copy.copy(refusal), pickle.loads(pickle.dumps(refusal))):
+                self.assertEqual((again.cause, str(again)), (Cause.KO, text))
 
 
 class Objects(unittest.TestCase):

@@ -45,7 +45,8 @@ class Other(Engine):
 
     def choose(self, game: Game, colour: Colour) -> AnyChoice:
         if len(game.moves) > 200:
-            return random.choice([*game.legal_points(colour), PASS])
+            choices: List[Vertex] = [*game.legal_points(colour), PASS]
+            return random.choice(choices)
         points = game.legal_points(colour)
         return random.choice(points) if points else "pass"
 

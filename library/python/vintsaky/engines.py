@@ -105,16 +105,17 @@ class Steps(Held, metaclass=Brief):
         """Makes the choice that is asked for: a vertex, RESIGN, or the text of either. Causes: BAD_VERTEX, NOT_ASKED,
         OFF_BOARD, OCCUPIED, SUICIDE or KO; the choice is still asked for."""
         number = choice_number(choice)
-        done(library.vintsaky_engine_choose(self._held(), number), f"choose {shown_vertex(number)}")
+        cause = library.vintsaky_engine_choose(self._held(), number)
+        if cause:
+            raise Refused(Cause(cause), f"choose {shown_vertex(number)}")
 
     def answer(self, text: Union[str, bytes] = "", ok: bool = True) -> None:
         """Answers the line of another command: by a success, or by a failure. Causes: NOT_ASKED, or BAD_TEXT where no
         reply may have the text."""
         data = ascii_of(text, "text")
         cause = library.vintsaky_engine_answer(self._held(), int(bool(ok)), data, len(data))
-        if cause == Cause.BAD_TEXT:
-            raise bad_reply(text)
-        done(cause, f"answer {shown(text)}")
+        if cause:
+            raise bad_reply(text) if cause == Cause.BAD_TEXT else Refused(Cause(cause), f"answer {shown(text)}")
 
     def decline(self) -> None:
         """Answers the line of another command by `unknown command`. Causes: NOT_ASKED."""
@@ -157,7 +158,7 @@ def command(name: str) -> Callable[[Method], Method]:
 
     Errors: TypeError where the name is no str, as after `@command` without a name."""
     if not isinstance(name, str):
-        raise TypeError("a command has a name: @command(\"NAME\")")
+        raise TypeError(f"name: {shown(name)} is no str; a command has a name, as @command(\"NAME\")")
 
     def marked(method: Method) -> Method:
         setattr(method, "gtp_command", name)
@@ -238,7 +239,7 @@ class Engine:
             try:
                 steps.add_command(name)
             except Refused as refused:
-                raise ValueError(f"there can't be an own command {name!r}: {refused.cause.text}") from None
+                raise Refused(refused.cause, f"there can't be an own command {shown(name)}") from None
         return steps
 
     def _commands(self) -> Dict[str, str]:

@@ -39,7 +39,8 @@ class Chain(_Chain, metaclass=BriefABC):
 class Game(Held):
     """A game: its board, its record, its komi and its ko rule. Colours and vertices may be given as their texts.
 
-    What is refused raises Refused, and the game stays as it was.
+    What is refused raises Refused, and the game stays as it was. Of a text that spells no colour or no vertex the cause
+    is BAD_TEXT.
 
     >>> game = Game(size=5, komi=0.5)
     >>> game.play("b", "C3")

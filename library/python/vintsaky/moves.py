@@ -9,7 +9,7 @@ from typing import TYPE_CHECKING, Dict, Iterator, List, NamedTuple, Union, overl
 from ._brief import BriefABC
 from ._library import library, untyped
 from ._numbers import Cause
-from ._refused import Refused
+from ._refused import Refused, shown
 from .values import VERTICES, Colour, Vertex
 
 if TYPE_CHECKING:
@@ -64,7 +64,13 @@ class Moves(Sequence[Move], metaclass=BriefABC):
     def __getitem__(self, number: slice) -> List[Move]: ...
 
     def __getitem__(self, number: Union[int, slice]) -> Union[Move, List[Move]]:
-        numbers = range(len(self))[number]  # an IndexError or a TypeError, as of any sequence
+        length = len(self)
+        try:
+            numbers = range(length)[number]
+        except IndexError:
+            raise IndexError(f"number: {shown(number)} is no move of a record of {length}") from None
+        except TypeError:
+            raise TypeError(f"number: {shown(number)} is neither an int nor a slice of them") from None
         return self._made(numbers) if isinstance(numbers, range) else self._made(range(numbers, numbers + 1))[0]
 
     def __iter__(self) -> Iterator[Move]:

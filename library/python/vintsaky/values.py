@@ -30,7 +30,7 @@ class Colour(IntEnum, metaclass=BriefEnum):
     @property
     def text(self) -> str:
         """As the protocol spells it: b or w."""
-        return written(library.vintsaky_colour_text, int(self))
+        return COLOUR_TEXTS[self]
 
     def __str__(self) -> str:
         return self.text
@@ -68,11 +68,13 @@ class Point(_Point, metaclass=BriefABC):
         return written(library.vintsaky_vertex_text, _point_number(self))
 
     def neighbours(self, size: int) -> List[Point]:
-        """The points of a board of this size that are next to it in its row or its column.
+        """The points of a board of this size that are next to it in its row or its column. Causes: BAD_SIZE.
 
         >>> [str(point) for point in Point(1, 3).neighbours(5)]
         ['A2', 'B3', 'A4']
         """
+        if type(size) is not int or not 1 <= size <= 25:
+            size = size_number(size)
         column, row = self
         beside = [Point(column, row - 1), Point(column - 1, row), Point(column + 1, row), Point(column, row + 1)]
         return [point for point in beside if 1 <= point.column <= size and 1 <= point.row <= size]
@@ -130,6 +132,7 @@ def written(call: Any, *arguments: Any, what: str = "") -> str:
         room = count.value + 1
 
 
+COLOUR_TEXTS = {colour: written(library.vintsaky_colour_text, int(colour)) for colour in Colour}
 COLOURS = "use 'b', 'w', 'black', 'white' or a Colour"
 USED = {
     "vertex": "use a Point, PASS, or a text such as 'D4' or 'pass'",
