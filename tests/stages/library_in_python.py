@@ -9,26 +9,14 @@ lines on drawn matches. The server plays a whole match over sockets, and ends on
 
 It needs the programs in bin/, and bin/libvintsaky.so.1; what isn't there is skipped.
 """
-import base64
-import contextlib
-import hashlib
 import importlib
 import importlib.util
 import os
-import platform
 import random
 import re
 import shutil
-import socket
-import struct
 import sys
-import tempfile
-import threading
-import unittest
-import zipfile
-from functools import lru_cache
 from pathlib import Path
-from unittest import SkipTest, mock
 
 sys.dont_write_bytecode = True
 sys.path[0] = str(Path(__file__).resolve().parents[2])
@@ -36,23 +24,20 @@ sys.path[0] = str(Path(__file__).resolve().parents[2])
 from tests.references.engine import chosen, stepped, values  # noqa: E402
 from tests.references.engine import game as rules  # noqa: E402
 from tests.references.engine.conversations import KINDS  # noqa: E402
-from tests.shared import checks, library, running  # noqa: E402
+from tests.shared import checks, library  # noqa: E402
 from tests.shared.library import TOP, Match, finished, most_lines, twogtp  # noqa: E402
 from tests.stages.of_library_in_python import environments  # noqa: E402
+from tests.stages.of_library_in_python.here import LIBRARY, OURS, PACKAGE, Needing, by_twogtp, run, setUpModule  # noqa: E402, F401
+from tests.stages.of_library_in_python.served import Served  # noqa: E402, F401
+from tests.stages.of_library_in_python.typed import Tools, Typed  # noqa: E402, F401
+from tests.stages.of_library_in_python.wheels import Installed, Wheel  # noqa: E402, F401
 
 PARSER = checks.Parser(__doc__)
-PARSER.add_argument("--library", type=Path, default=TOP / "bin", help="the folder of libvintsaky.so.1; else bin/")
 PARSER.add_argument("--matches", type=int, default=40, help="how many matches are drawn; else 40")
 OPTIONS = PARSER.options(__name__)
-LIBRARY = OPTIONS.library.resolve() / "libvintsaky.so.1"
-PACKAGE = TOP / "library/python"
 EXAMPLES = sorted((PACKAGE / "examples").glob("*.py"))
 ENGINE = f"{sys.executable} {PACKAGE}/examples/random_engine.py"
-OURS = "bin/gtp_engine --policy random --seed 9"
-FOLDER = tempfile.TemporaryDirectory()
-ROOM = Path(FOLDER.name).resolve()
 DEBIANS = "/usr/bin/python3"  # which has Debian's numpy, where that is installed
-LIMIT = 300  # seconds that a command may take
 LEAST_TESTS = 150
 AT_ONCE = 2  # games and matches that are played at a time
 CAUSES = {"OFF_BOARD", "OCCUPIED", "SUICIDE", "KO"}
@@ -98,31 +83,12 @@ Engine().serve(Source(), Sink())
 """
 
 
-def run(command, **how):
-    """What comes of a command."""
-    return running.run(command, limit=LIMIT, **how)
-
-
 def files_of(folder):
     """Each file below a folder, with its bytes."""
     return {path: path.read_bytes() for path in sorted(folder.rglob("*")) if path.is_file()}
 
 
 BEFORE = files_of(PACKAGE)
-
-
-def setUpModule():
-    """All processes take the package from the tree, and this library."""
-    changed = dict(VINTSAKY_LIBRARY=str(LIBRARY), PYTHONPATH=str(PACKAGE), PYTHONDONTWRITEBYTECODE="1")
-    patch = mock.patch.dict(os.environ, changed)
-    patch.start()
-    unittest.addModuleCleanup(patch.stop)
-
-
-class Needing(library.Needing):
-    """Checks that are skipped where the library or a program isn't there."""
-
-    FILES = (LIBRARY, TOP / "bin/twogtp", TOP / "bin/gtp_engine")
 
 
 # ---- the package
@@ -164,210 +130,6 @@ class Tests(Needing):
             count = int(found[1]) if found else 0
             self.check(f"{count} tests by Python {version}", (0, True, ""),
                        (status, count >= LEAST_TESTS, output[-1000:] + errors[-4000:] if status else ""))  # fmt: skip
-
-
-TOOLS = {"mypy": ["--cache-dir", os.devnull, "--no-incremental"], "ruff": ["check", "--no-cache", "vintsaky", "examples"]}
-
-
-@checks.table(TOOLS, lambda tool: f"{tool} finds nothing")
-class Tools(Needing):
-    """What mypy and ruff say, where they are there."""
-
-    def row(self, tool):
-        if not (shutil.which(tool) or importlib.util.find_spec(tool)):
-            self.skipTest(f"there is no {tool}")
-        command = [tool] if shutil.which(tool) else [sys.executable, "-m", tool]
-        status, output, errors = run([*command, *TOOLS[tool]], cwd=PACKAGE)
-        self.same((0, ""), (status, output + errors if status else ""))
-
-
-# A line in a program that mypy has to refuse, and what it says of it.
-MISTAKES_OF_TYPES = {
-    "Game().play('b', RESIGN)": "Literal[NoPoint.RESIGN]",
-    "Game().moves[0].vertex.column": 'has no attribute "column"',
-    "Game().play('b', 5)": "Literal[5]",
-    "Game.from_moves([('b', 5)])": "Tuple[str, Literal[5]]",
-    "{Game(): 1}[Game()].row": "row",
-    "Steps().choose(None)": '"None"',
-    "a: int = Game().turn.text": '"str"',
-    "b: Point = Game().random_move('b', 1)": "Literal[NoPoint.PASS]",
-}
-
-
-class Typed(Needing):
-    """What mypy says of a user's program."""
-
-    def told(self, *words):
-        """What mypy says of a file, from outside of the package."""
-        if not shutil.which("mypy"):
-            self.skipTest("there is no mypy")
-        environment = {**os.environ, "MYPYPATH": str(PACKAGE)}
-        return run(["mypy", "--strict", "--cache-dir", os.devnull, "--no-incremental", *words], cwd=ROOM, env=environment)
-
-    def test_right(self):
-        """mypy --strict takes a user's program, in which no vertex of the library is a resignation."""
-        status, output, errors = self.told(PACKAGE / "tests/typed.py")
-        self.same((0, ""), (status, output + errors if status else ""))
-
-    def test_wrong(self):
-        """mypy refuses each line that is wrong."""
-        program = ROOM / "wrongly_typed.py"
-        program.write_text("from vintsaky import RESIGN, Game, Point, Steps\n" + "".join(f"{line}\n" for line in MISTAKES_OF_TYPES))
-        _, output, _ = self.told(program)
-        for number, (line, text) in enumerate(MISTAKES_OF_TYPES.items(), 2):
-            said = [it for it in output.splitlines() if it.startswith(f"wrongly_typed.py:{number}: error: ")]
-            self.check(f"mypy refuses `{line}`", (True, ""), (bool(said), "" if any(text in it for it in said) else output))
-
-
-# ---- the wheel
-
-INFO = "vintsaky-1.0.0.dist-info/"
-
-
-def hash_of(data):
-    """A hash, as a RECORD has it."""
-    return "sha256=" + base64.urlsafe_b64encode(hashlib.sha256(data).digest()).rstrip(b"=").decode()
-
-
-@lru_cache(maxsize=None)
-def wheels():
-    """Makes the wheel twice, from two copies of the package with other rights and dates. What comes of both, and the wheels."""
-    return [wheel_of(ROOM / f"copy{number}", *how) for number, how in enumerate([(0o022, 10**9), (0o077, 1.5 * 10**9)])]
-
-
-def wheel_of(folder, umask, time):
-    """What comes of making a wheel from a copy in this folder, and the wheels that are there then."""
-    copied, made = folder / "package", folder / "made"
-    shutil.copytree(PACKAGE, copied)
-    made.mkdir()
-    for path in copied.rglob("*"):
-        path.chmod(0o777 & ~umask)
-        os.utime(path, (time, time))
-    return run([sys.executable, copied / "make_wheel", LIBRARY, made], cwd=made), list(made.glob("*.whl"))
-
-
-def files_in(wheel):
-    """Each file of a wheel, with its bytes."""
-    with zipfile.ZipFile(wheel) as archive:
-        return {name: archive.read(name) for name in archive.namelist()}
-
-
-OLDEST = {"x86_64": 5, "aarch64": 17}.get(platform.machine(), 17)  # of glibc 2, for which installers know a tag
-TAGS = {
-    (): ["manylinux_2_5_x86_64"],
-    ("GLIBC_2.2.5",): ["manylinux_2_5_x86_64"],
-    ("GLIBC_2.2.5", "GLIBC_2.14", "GLIBC_2.9"): ["manylinux_2_14_x86_64"],
-    ("GCC_4.2.0", "GLIBC_2.100.1", "GLIBC_2.33"): ["manylinux_2_100_x86_64"],
-    ("GLIBC_2.14", "GLIBC_PRIVATE"): "make_wheel: the library needs GLIBC_PRIVATE, which is no version of glibc 2",
-    ("GLIBC_3.1",): "make_wheel: the library needs GLIBC_3.1, which is no version of glibc 2",
-}
-
-
-def needing(names):
-    """A file that has of a shared library for x86_64 what make_wheel looks at: it needs these versions, each of a library of its own."""
-    texts, places, files = b"\0vintsaky_interface_1\0", [], b""
-    for name in names:
-        places.append(len(texts))
-        texts += name.encode() + b"\0"
-    for number, place in enumerate(places, 1):
-        files += struct.pack("<HHIII", 1, 1, 0, 16, 32 if number < len(places) else 0) + struct.pack("<IHHII", 0, 0, 2, place, 0)
-    head = b"\x7fELF\x02\x01" + bytes(12) + struct.pack("<H", 62) + bytes(44)
-    sections = [(0, 0, 0, 0), (3, 64, len(texts), 0), *([(0x6FFFFFFE, 64 + len(texts), len(files), 1)] if names else [])]
-    heads = b"".join(struct.pack("<IIQQQQIIQQ", 0, kind, 0, 0, place, size, link, 0, 0, 0) for kind, place, size, link in sections)
-    start = 64 + len(texts) + len(files)
-    head = head[:0x28] + struct.pack("<Q", start) + head[0x30:0x3A] + struct.pack("<HH", 64, len(sections)) + head[0x3E:]
-    return head + texts + files + heads
-
-
-PROGRAM_HERE = os.path.realpath(sys.executable)  # a program of this processor
-NO_WHEELS = ([], [LIBRARY], ["nothing", "."], [PACKAGE / "make_wheel", "."], [PROGRAM_HERE, "."], [LIBRARY, "nothing"])
-
-
-@checks.table(NO_WHEELS, lambda words: f"a mistake is said: make_wheel {' '.join(Path(word).name or '.' for word in words)}")
-class Wheel(Needing):
-    """The wheel."""
-
-    def test_made(self):
-        """Two wheels."""
-        for (status, output, errors), made in wheels():
-            self.check(f"a wheel is made: {output.strip()}", (0, "", 1), (status, errors, len(made)))
-
-    def test_same(self):
-        """the same wheel is made again."""
-        (_, [one]), (_, [other]) = wheels()
-        self.assertTrue(one.read_bytes() == other.read_bytes(), "they differ")
-
-    def test_named(self):
-        """the wheel is for this processor, and for the oldest glibc that has what the library needs."""
-        if not shutil.which("readelf"):
-            self.skipTest("there is no readelf")
-        said = run(["readelf", "--version-info", "--wide", LIBRARY]).output
-        needed = [int(it) for it in re.findall(r"Name: GLIBC_2\.(\d+)", said)]
-        wanted = f"vintsaky-1.0.0-py3-none-manylinux_2_{max([OLDEST, *needed])}_{platform.machine()}.whl"
-        self.same(2 * [[wanted]], [[wheel.name for wheel in made] for _, made in wheels()])
-        self.same("", "".join(it for it in re.findall(r"Name: (GLIBC_\S+)", said) if not it.startswith("GLIBC_2.")))
-
-    def test_libraries(self):
-        """the library needs none but those that each Linux of the tag has."""
-        if not shutil.which("readelf"):
-            self.skipTest("there is no readelf")
-        needed = re.findall(r"\(NEEDED\).*\[(.*)\]", run(["readelf", "--dynamic", "--wide", LIBRARY]).output)
-        self.same([], [it for it in needed if not re.fullmatch(r"lib(c|gcc_s|m|dl|pthread)\.so\.\d|ld-linux-.*\.so\.\d", it)])
-
-    def test_versions(self):
-        """The tag is that of the newest version."""
-        for names, tag in TAGS.items():
-            library, made = self.room() / "library", self.room()
-            library.write_bytes(needing(names))
-            status, output, errors = run([sys.executable, PACKAGE / "make_wheel", library, made])
-            got = re.findall("py3-none-(.*).whl", output) if status == 0 else errors.strip()
-            self.check(f"the tag of a library that needs {' '.join(names) or 'nothing'}", tag, got)
-
-    def test_files(self):
-        """What is in it."""
-        files = files_in(wheels()[0][1][0])
-        lines = [f"{name},{hash_of(data)},{len(data)}" for name, data in files.items() if name != INFO + "RECORD"]
-        self.check("RECORD has each file", sorted([*lines, INFO + "RECORD,,"]), sorted(files[INFO + "RECORD"].decode().splitlines()))
-        sources = {f"vintsaky/{path.name}": path.read_bytes() for path in (PACKAGE / "vintsaky").iterdir() if path.is_file()}
-        wanted = {**sources, "vintsaky/libvintsaky.so.1": LIBRARY.read_bytes()}
-        packed = {name: data for name, data in files.items() if name.startswith("vintsaky/")}
-        differing = sorted(name for name in {*wanted, *packed} if wanted.get(name) != packed.get(name))
-        self.check("the package and the library are in it", [], differing)
-        said = files[INFO + "METADATA"].decode()
-        self.check("METADATA names no licence", [], [line for line in said.splitlines() if "licen" in line.lower()])
-
-    def row(self, words):
-        status, output, errors = run([sys.executable, PACKAGE / "make_wheel", *words], cwd=self.room())
-        self.same((2 if len(words) < 2 else 1, "", 1), (status, output, errors.count("\n")))
-
-
-class Installed(Needing):
-    """the wheel, installed. The library in it is taken before any other."""
-
-    @classmethod
-    def setUpClass(cls):
-        super().setUpClass()
-        if not (importlib.util.find_spec("venv") and importlib.util.find_spec("ensurepip")):
-            raise SkipTest("there is no venv")
-        status, _, errors = run([sys.executable, "-m", "venv", ROOM / "venv"])
-        if status:
-            raise SkipTest(f"no environment can be made: {errors.strip()[-100:]}")
-
-    def test_installed(self):
-        """An environment of its own."""
-        python, ((_, [wheel]), _) = ROOM / "venv/bin/python", wheels()
-        words = ["--no-index", "--disable-pip-version-check", "--no-compile", "-q", wheel]
-        self.check("the wheel is installed", (0, "", ""), tuple(run([python, "-m", "pip", "install", *words], cwd=ROOM)))
-        self.check("nothing is missing there", 0, run([python, "-m", "pip", "check"], cwd=ROOM).status)
-        tag = wheel.name[len("vintsaky-1.0.0-"):-len(".whl")]
-        told = run([python, "-m", "pip", "debug", "--verbose"], cwd=ROOM).output
-        self.check("pip names the wheel's tag among those that it takes here", [tag], [it for it in told.split() if it == tag])
-        environment = {name: value for name, value in os.environ.items() if name != "PYTHONPATH"}
-        environment["VINTSAKY_LIBRARY"] = "/nothing"
-        text = "import vintsaky; g = vintsaky.Game(2); g.play('b', 'A1'); print(g); print(vintsaky.__file__)"
-        where = next((ROOM / "venv").glob("lib/python*/site-packages/vintsaky/__init__.py"), None)
-        wanted = (0, f". . 2\nX . 1\nA B\ncaptures B 0 W 0\n{where}\n", "")
-        self.check("the package is imported there", wanted, tuple(run([python, "-c", text], cwd=ROOM, env=environment)))
 
 
 # ---- games
@@ -544,12 +306,6 @@ MATCHES = [
 MISTAKES = ("", "9 0 cat", "26 0 cat cat", f"9 {2**32} cat cat", "x 0 cat cat", "9 0 cat ")
 
 
-@lru_cache(maxsize=None)
-def by_twogtp(match):
-    """The line that twogtp writes of a match."""
-    return match.by_twogtp()
-
-
 def played(match):
     """The line of twogtp, and what comes of the tournament program."""
     return by_twogtp(match), run([*PLAY_MATCH, *match])
@@ -575,94 +331,6 @@ class Arguments(Needing):
     def row(self, words):
         status, line, errors = run([*PLAY_MATCH, *(words.split(" ") if words else [])])
         self.same((1, "", 1), (status, line, len(errors.splitlines())))
-
-
-# ---- the server
-
-SERVE_MATCH = [sys.executable, PACKAGE / "examples/serve_match.py"]
-SERVED = Match(5, 1, "bin/gtp_engine --policy random --seed 3", OURS)
-
-
-def connected(port):
-    """A connection to the server. Where a program has it, it waits as a pipe does."""
-    return socket.create_connection(("127.0.0.1", port))
-
-
-class Program:
-    """A client that connects a program's standard streams to the server."""
-
-    def __init__(self, command):
-        self.command = command
-
-    @contextlib.contextmanager
-    def playing(self, port):
-        """It plays."""
-        with connected(port) as connection, running.started(self.command.split(), LIMIT, stdin=connection, stdout=connection):
-            yield
-
-
-class Failing:
-    """A client that answers some commands by a success. To the next it is silent, or it closes."""
-
-    def __init__(self, answered, closes):
-        self.answered, self.closes = answered, closes
-
-    def answer(self, connection):
-        """Answers, and closes at the end, or where the server does."""
-        with connection, connection.makefile("rwb", buffering=0) as lines:
-            for number in range(1, self.answered + 1):
-                lines.readline()
-                lines.write(b"=%d\n\n" % number)
-            lines.readline()
-            while not self.closes and lines.readline():
-                pass
-
-    @contextlib.contextmanager
-    def playing(self, port):
-        """It plays."""
-        thread = threading.Thread(target=self.answer, args=[connected(port)])
-        thread.start()
-        try:
-            yield
-        finally:
-            thread.join(LIMIT)
-
-
-def served(black, white, seconds):
-    """What the server of a match on 5x5 writes of these clients, without the number of its port: its output, errors and status."""
-    with running.started([*SERVE_MATCH, 5, 1, seconds], LIMIT) as server:
-        port = int(server.stdout.readline())
-        with black.playing(port), white.playing(port):
-            output, errors = server.communicate(timeout=LIMIT)
-    return output.decode(), errors.decode(), server.returncode
-
-
-ENDS = {
-    "a late Black": (Failing(3, False), Program(OURS), "game 1: W+T moves 0 restarts 0 0\n"),
-    "a late White": (Program(OURS), Failing(4, False), "game 1: B+T moves 1 restarts 0 0\n"),
-    "a Black that closes": (Failing(3, True), Program(OURS), "game 1: abandoned black moves 0 restarts 0 0\n"),
-    "a White that closes": (Program(OURS), Failing(1, True), "game 1: abandoned white moves 0 restarts 0 0\n"),
-}
-SERVER_MISTAKES = ("", "9", "9 0", "x 0 1", "9 0 soon", "26 0 1", f"9 {2**32} 1")
-
-
-@checks.table(ENDS, lambda name: f"the server ends a match with {name}")
-class Served(Needing):
-    """Matches of the server."""
-
-    def row(self, name):
-        black, white, line = ENDS[name]
-        self.same((line, "", 0), served(black, white, 4))
-
-    def test_whole(self):
-        """the server plays a whole match as twogtp does."""
-        self.same((by_twogtp(SERVED), "", 0), served(Program(SERVED.black), Program(SERVED.white), 60))
-
-    def test_mistakes(self):
-        """the server ends with a line where its arguments have a mistake."""
-        for words in SERVER_MISTAKES:
-            status, line, errors = run([*SERVE_MATCH, *words.split()])
-            self.same((1, "", 1), (status, line, len(errors.splitlines())))
 
 
 class Left(checks.Case):
