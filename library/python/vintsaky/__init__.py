@@ -40,8 +40,8 @@ from .games import Chain, Game
 from .lines import Command, CommandLine, CommandLines, LineEvent, Replies, Reply, ReplyEvent, write_command, write_reply
 from .matches import Action, Match, Next, Owed, Report, Status, Verdict
 from .moves import Move, Moves
-from .values import BLACK, PASS, RESIGN, WHITE, AnyChoice, AnyColour, AnyVertex, Colour, Komi, KoRule, NoPoint, Point, Vertex
-from .values import inverse_symmetry, komi_text, read_colour, read_komi, read_vertex, symmetry_map, vertex_text
+from .values import BLACK, PASS, RESIGN, WHITE, AnyChoice, AnyColour, AnyVertex, Colour, Komi, KoRule, NoPoint, Point
+from .values import Vertex, inverse_symmetry, komi_text, read_colour, read_komi, read_vertex, symmetry_map, vertex_text
 
 __version__ = "1.0.0"
 

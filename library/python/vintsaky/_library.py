@@ -42,8 +42,8 @@ library: Any = _load(_place())
 
 
 def untyped(call: Any) -> Any:
-    """The same call, but that the types of its arguments aren't looked at, which takes most of a call's time. All that it
-    is given has to be of ctypes."""
+    """The same call, but that the types of its arguments aren't looked at, which takes most of a call's time. All that
+    it is given has to be of ctypes."""
     same = library[call.__name__]
     same.restype = call.restype
     return same

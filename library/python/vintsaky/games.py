@@ -165,7 +165,9 @@ class Game(Held):
         """Puts handicap stones on their fixed points. Causes: NOT_EMPTY or BAD_HANDICAP."""
         number = integer(stones, "stones", "no int; use one from 2 to 9")
         cause = library.vintsaky_game_place_handicap(self._held(), clamped(number))
-        done(cause, f"handicap {shown(stones)} on size {self.size}" if cause == Cause.BAD_HANDICAP else "place_handicap")
+        if cause == Cause.BAD_HANDICAP:
+            raise Refused(Cause.BAD_HANDICAP, f"handicap {shown(stones)} on size {self.size}")
+        done(cause, "place_handicap")
 
     @property
     def moves(self) -> Moves:
