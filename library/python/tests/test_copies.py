@@ -174,6 +174,20 @@ class Subclasses(unittest.TestCase):
         self.assertEqual([(other.plays, len(other.moves)) for other in again(game)], [(2, 2)] * len(again(game)))
         self.assertRaises(TypeError, Named.from_moves, [])
 
+    def test_a_new_with_arguments(self):
+        class Newly(Game):
+            def __new__(cls, name):
+                made = super().__new__(cls)
+                made.name = name
+                return made
+
+            def __init__(self, name):
+                super().__init__(3)
+
+        game = Newly("new")
+        self.assertEqual([(type(other), other.name, other.size) for other in (game.copy(), copy.deepcopy(game))],
+                         [(Newly, "new", 3)] * 2)  # fmt: skip
+
     def test_without_init(self):
         class Lazy(Game):
             def __init__(self):

@@ -31,13 +31,13 @@ and `Replies` read the protocol's lines in any cuts; `write_command` and `write_
 The library is the file libvintsaky.so.1 in this package, or else the one that the variable VINTSAKY_LIBRARY names, or
 else the system's.
 """
-from ._held import Bytes, Held
+from ._held import Bytes
 from ._library import version
 from ._numbers import Cause, Ending, Loss
 from ._refused import Refused
 from .engines import Engine, Event, Failure, Steps, command
 from .games import Chain, Game
-from .lines import Command, CommandLine, CommandLines, LineEvent, Replies, Reply, ReplyEvent, write_command, write_reply
+from .lines import Command, CommandLine, CommandLines, Replies, Reply, ReplyEvent, write_command, write_reply
 from .matches import Action, Match, Next, Owed, Report, Status, Verdict
 from .moves import Move, Moves
 from .values import BLACK, PASS, RESIGN, WHITE, AnyChoice, AnyColour, AnyVertex, Colour, Komi, KoRule, NoPoint, Point

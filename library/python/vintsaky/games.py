@@ -409,8 +409,8 @@ def play_numbered(play: Callable[[Any, Any], None], number: int, move: Any) -> N
 
 
 def placed(kind: Type[Kind]) -> Kind:
-    """A new game of this class, of which `__init__` isn't called."""
-    game = kind.__new__(kind)
+    """A new game of this class, of which neither `__new__` nor `__init__` is called."""
+    game = object.__new__(kind)
     Held.__init__(game)
     return game
 
