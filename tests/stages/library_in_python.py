@@ -2,10 +2,10 @@
 """Looks at the Python package in library/python: its tests, its wheel, and its two examples.
 
 The tests run by the Python that runs this, and by each other one from 3.9 that is there by the name python3.N. mypy takes a user's program
-and refuses lines that are wrong. The wheel has the same bytes each time and the tag that readelf's versions say, and is installed into an
-environment of its own without a network. Drawn games are those of the plain reference. The
-engine plays whole games under twogtp, also where it is killed; gtp_check finds nothing in it; and it stands beside the reference on drawn
-conversations. The tournament program gives twogtp's lines on drawn matches.
+and refuses lines that are wrong. The wheel has the same bytes each time and the tag that the versions of readelf say, and is installed into
+an environment of its own without a network. Drawn games are those of the plain reference. The engine plays whole games under twogtp, also
+where it is killed; gtp_check finds nothing in it; and it stands beside the reference on drawn conversations. The tournament program gives
+twogtp's lines on drawn matches.
 
 It needs the programs in bin/, and bin/libvintsaky.so.1; what isn't there is skipped.
 """

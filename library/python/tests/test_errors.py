@@ -64,6 +64,7 @@ TYPES = [
     (lambda: MATCH.retakes("1"), "number: '1' is no int; use one from 0 to 4294967295"),
     (lambda: vintsaky.read_colour(1), "text: 1 is neither str nor bytes"),
     (lambda: vintsaky.komi_text(None), "komi: None is no int, float or Fraction"),
+    (lambda: Game.from_moves(None), "moves: None is no list of moves"),
     (lambda: GAME.moves["0"], "number: '0' is neither an int nor a slice of them"),
     (lambda: GAME.moves["a":], "number: slice('a', None, None) is neither an int nor a slice of them"),
     (lambda: Point(1, 1).neighbours("9"), "size: '9' is no int; use one from 1 to 25"),

@@ -82,6 +82,8 @@ class Game(Held):
         >>> Game.from_moves(game.moves, size=5) == game
         True
         """
+        if not isinstance(moves, Iterable):
+            raise TypeError(f"moves: {shown(moves)} is no list of moves")
         game = cls(size=size, komi=komi, rule=rule)
         if integer(handicap, "handicap", "no int; use 0, or one from 2 to 9"):
             game.place_handicap(handicap)
@@ -405,7 +407,7 @@ def play_numbered(play: Callable[[Any, Any], None], number: int, move: Any) -> N
     except Refused as refused:
         raise Refused(refused.cause, f"move {number}: {refused.what}", refused.said) from None
     except TypeError as problem:
-        raise TypeError(f"move {number}: {problem}") from None
+        raise TypeError(f"move {number}: {problem}") from problem  # which may be that of a subclass's own play
 
 
 def placed(kind: Type[Kind]) -> Kind:
