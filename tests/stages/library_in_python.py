@@ -2,8 +2,9 @@
 """Looks at the Python package in library/python: its tests, its wheel, and its examples.
 
 The tests run by the Python that runs this, and by each other one from 3.9 that is there by the name python3.N, or with Debian's numpy. The
-environment for learning runs by a stand-in for gymnasium, and without one. The wheel has the same bytes each time, and is installed into an
-environment of its own without a network. Drawn games are those of the plain reference. The engine plays whole games under twogtp, also where
+environment for learning runs by a stand-in for gymnasium, and without one. mypy takes a user's program, and refuses lines that are wrong. The
+wheel has the same bytes each time and the tag that the versions of readelf say, and is installed into an environment of its own without a
+network. Drawn games are those of the plain reference. The engine plays whole games under twogtp, also where
 it is killed; gtp_check finds nothing in it; and it stands beside the reference on drawn conversations. The tournament program gives twogtp's
 lines on drawn matches. The server plays a whole match over sockets, and ends one where a side is late or closes.
 

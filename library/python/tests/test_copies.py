@@ -84,14 +84,16 @@ def handicapped():
 
 class Copies(Refusing):
     def test_each_copy_is_the_same_game(self):
-        for game in (Game(), handicapped(), played(4, KO, komi=1.5, rule=KoRule.POSITIONAL), played(1, "b pass, b pass")):
+        ko = played(4, KO, komi=1.5, rule=KoRule.POSITIONAL)
+        for game in (Game(), handicapped(), ko, played(1, "b pass, b pass")):
             for other in again(game):
                 self.assertIs(type(other), Game)
                 self.assertIsNot(other, game)
-                for name in ("size", "komi", "rule", "handicap", "board", "board_hash", "taken", "score", "finished", "turn"):
+                for name in "size komi rule handicap board board_hash taken score finished turn".split():
                     self.assertEqual(getattr(other, name), getattr(game, name), name)
                 self.assertEqual((list(other.moves), str(other)), (list(game.moves), str(game)))
-                self.assertEqual((other.captured("b"), other.legal_points("b")), (game.captured("b"), game.legal_points("b")))
+                self.assertEqual(other.captured("b"), game.captured("b"))
+                self.assertEqual(other.legal_points("b"), game.legal_points("b"))
 
     def test_a_copy_goes_its_own_way(self):
         game = handicapped()
@@ -172,6 +174,20 @@ class Subclasses(unittest.TestCase):
         self.assertEqual([(other.plays, len(other.moves)) for other in again(game)], [(2, 2)] * len(again(game)))
         self.assertRaises(TypeError, Named.from_moves, [])
 
+    def test_a_new_with_arguments(self):
+        class Newly(Game):
+            def __new__(cls, name):
+                made = super().__new__(cls)
+                made.name = name
+                return made
+
+            def __init__(self, name):
+                super().__init__(3)
+
+        game = Newly("new")
+        self.assertEqual([(type(other), other.name, other.size) for other in (game.copy(), copy.deepcopy(game))],
+                         [(Newly, "new", 3)] * 2)  # fmt: skip
+
     def test_without_init(self):
         class Lazy(Game):
             def __init__(self):
@@ -238,7 +254,8 @@ class Comparisons(unittest.TestCase):
 
 class OfMoves(Refusing):
     def test_moves_are_played(self):
-        game = Game.from_moves([("b", "C3"), (WHITE, Point(4, 4)), (1, (1, 1)), Move(WHITE, PASS)], 5, 6.5, KoRule.POSITIONAL)
+        moves = [("b", "C3"), (WHITE, Point(4, 4)), (1, (1, 1)), Move(WHITE, PASS)]
+        game = Game.from_moves(moves, 5, 6.5, KoRule.POSITIONAL)
         self.assertEqual((game.size, game.komi, game.rule, game.handicap), (5, 6.5, KoRule.POSITIONAL, 0))
         self.assertEqual(list(game.moves), [(BLACK, (3, 3)), (WHITE, (4, 4)), (BLACK, (1, 1)), (WHITE, PASS)])
         self.assertEqual(Game.from_moves(game.moves, 5, 6.5, KoRule.POSITIONAL), game)
@@ -257,7 +274,8 @@ class OfMoves(Refusing):
             ([("x", "A1")], Refused, "^move 1: colour: 'x' is no colour; use 'b'"),
             ([("b", "A1"), ("b", None)], TypeError, "^move 2: vertex: None is no vertex; "),
             ([("b", "A1", 1)], TypeError, r"^move 1: \('b', 'A1', 1\) is no pair of a colour and a vertex$"),
-            (["b A1"], TypeError, "^move 1: 'b A1' is no pair of a colour and a vertex$"), ([5], TypeError, "^move 1: 5 is no pair"),
+            (["b A1"], TypeError, "^move 1: 'b A1' is no pair of a colour and a vertex$"),
+            ([5], TypeError, "^move 1: 5 is no pair"),
             ([("b", PASS)] * 2001, Refused, "^move 2001: play b pass: The record has 2,000 moves.$"),
         ):  # fmt: skip
             self.assertRaisesRegex(kind, text, Game.from_moves, moves)
@@ -290,27 +308,33 @@ def tampered(**changed):
     return pickle.dumps(Tampered())
 
 
+DAMAGED = "^the pickle of a Game is damaged: "
+
+
 class Damaged(unittest.TestCase):
     def test_what_is_read_is_looked_at(self):
         for name, wrong in {
             "kind": (int, None, "Game", KoRule, object), "size": (26, 0, -1, "9", None, 2**70, 9.0),
-            "komi": (6.7, 1e30, None, float("nan"), "6.5"), "rule": (3, 0, None, "simple"), "handicap": (1, 10, -1, "2", None),
+            "komi": (6.7, 1e30, None, float("nan"), "6.5"), "rule": (3, 0, None, "simple"),
+            "handicap": (1, 10, -1, "2", None),
             "moves": (
-                None, b"b A1", 5, [], "b", "b A1, b A1", "x A1", "b K1", "b Z99", "b A1 w", ", ", "b A1, ", "b resign", "b \udc80",
-                ", ".join(["b pass"] * 2001),
+                None, b"b A1", 5, [], "b", "b A1, b A1", "x A1", "b K1", "b Z99", "b A1 w", ", ", "b A1, ", "b resign",
+                "b \udc80", ", ".join(["b pass"] * 2001),
             ),
         }.items():  # fmt: skip
             for value in wrong:
-                with self.subTest(**{name: value}):
-                    self.assertRaisesRegex(pickle.UnpicklingError, "^the pickle of a Game is damaged: ", pickle.loads, tampered(**{name: value}))
-        self.assertEqual(pickle.loads(tampered(size=5, komi=0.5, rule=2, moves="b A1, w B2")), played(5, "b A1, w B2", komi=0.5, rule=2))
+                with self.subTest(**{name: value}), self.assertRaisesRegex(pickle.UnpicklingError, DAMAGED):
+                    pickle.loads(tampered(**{name: value}))
+        other = pickle.loads(tampered(size=5, komi=0.5, rule=2, moves="b A1, w B2"))
+        self.assertEqual(other, played(5, "b A1, w B2", komi=0.5, rule=2))
 
     def test_what_is_wrong_is_named(self):
         for changed, text in (
-            ({"moves": "b A1, w A1"}, "move 2: play w A1: A stone is on the point.$"), ({"size": 26}, "size: 26 is not from 1 to 25$"),
-            ({"kind": int}, "<class 'int'> is no Game"), ({"moves": 5}, "5 no moves"),
+            ({"moves": "b A1, w A1"}, "move 2: play w A1: A stone is on the point.$"),
+            ({"size": 26}, "size: 26 is not from 1 to 25$"), ({"kind": int}, "<class 'int'> is no Game"),
+            ({"moves": 5}, "5 no moves"),
         ):  # fmt: skip
-            self.assertRaisesRegex(pickle.UnpicklingError, f"damaged: .*{text}", pickle.loads, tampered(**changed))
+            self.assertRaisesRegex(pickle.UnpicklingError, f"{DAMAGED}.*{text}", pickle.loads, tampered(**changed))
 
     def test_any_byte_of_the_moves_may_be_another(self):
         whole, read = pickle.dumps(handicapped()), 0

@@ -67,8 +67,8 @@ class Says(First):
             raise Failure({"fails": "no\n", "refused": " "}[words[0]])
         if words[0] == "value":
             raise ValueError("a fault of its author")
-        answers = {"text": "a\n\nb", "long": "x" * 2001, "bytes": b"\xff", "accent": "é", "type": 5, "list": ["a"], "right": "right"}
-        return answers[words[0]]
+        answers = {"text": "a\n\nb", "long": "x" * 2001, "bytes": b"\xff", "accent": "é", "type": 5, "list": ["a"]}
+        return words[0] if words[0] == "right" else answers[words[0]]
 
 
 def served(engine, said):
@@ -213,9 +213,10 @@ class Served(unittest.TestCase):
 
     def test_a_wrong_answer_is_a_failure(self):
         for word, text in (
-            ("text", r"text: 'a\n\nb' may be in no reply; a reply's text has at most 2000 bytes, each a newline or 32 to 126"),
+            ("text", r"text: 'a\n\nb' may be in no reply; a reply's text has at most 2000 bytes, each a newline"),
             ("long", f"text: '{'x' * 59}.. may be in no reply; a reply's text has at most 2000 bytes"),
-            ("bytes", r"text: b'\xff' may be in no reply"), ("accent", "text: 'é' may be in no reply"), ("type", "text: 5 is neither str nor bytes"),
+            ("bytes", r"text: b'\xff' may be in no reply"), ("accent", "text: 'é' may be in no reply"),
+            ("type", "text: 5 is neither str nor bytes"),
             ("list", "text: ['a'] is neither str nor bytes"), ("fails", r"text: 'no\n' may be in no reply"),
             ("refused", "text: ' ' may be in no reply"),
         ):  # fmt: skip
@@ -263,7 +264,7 @@ class Served(unittest.TestCase):
         self.assertRaises(vintsaky.Refused, served, Named(), b"name\n")
 
     def test_bad_commands_come_out_at_once(self):
-        said = {"play": "'play': The protocol's table", "a b": "'a b': A byte of the name", "é": "^there can't be an own command 'é': A byte of the name"}
+        said = {"play": "The protocol's table", "a b": "A byte of the name", "é": "A byte of the name"}
         for name, text in said.items():
 
             class Commanded(First):
@@ -271,7 +272,7 @@ class Served(unittest.TestCase):
                 def say_more(self, words):
                     return ""
 
-            with self.assertRaisesRegex(vintsaky.Refused, text):
+            with self.assertRaisesRegex(vintsaky.Refused, f"^there can't be an own command '{name}': {text}"):
                 served(Commanded(), b"name\n")
 
     def test_the_game_is_a_copy(self):

@@ -4,19 +4,33 @@ import unittest
 from fractions import Fraction
 
 import vintsaky
-from vintsaky import BLACK, PASS, RESIGN, WHITE, Cause, Command, CommandLines, Game, Match, Point, Refused, Replies, Steps
+from vintsaky import BLACK, PASS, RESIGN, WHITE, Cause, Command, CommandLines, Game, Match, Point
+from vintsaky import Refused, Replies, Steps
 
+HANDICAP = Cause.BAD_HANDICAP.text
 COLOURS = "use 'b', 'w', 'black', 'white' or a Colour"
 VERTICES = "use a Point, PASS, or a text such as 'D4' or 'pass'"
 POINTS = "use a Point or a text such as 'D4'"
 RULES = "use KoRule.SIMPLE or KoRule.POSITIONAL"
 CHOICES = "use a Point, PASS, RESIGN, or a text such as 'D4', 'pass' or 'resign'"
-REPLY = "a reply's text has at most 2000 bytes, each a newline or 32 to 126, no empty line, and no space or newline at its ends"
+REPLY = (
+    "a reply's text has at most 2000 bytes, "
+    "each a newline or 32 to 126, no empty line, and no space or newline at its ends"
+)
+TITLE = REPLY.replace("2000", "200")
 GAME, MATCH, STEPS = Game(9), Match(), Steps()
 ASKED = Steps()
 ASKED.feed(b"genmove b\n")
 OTHER = Steps()
 OTHER.feed(b"own\n")
+
+
+def handicapped():
+    """A game with handicap stones."""
+    game = Game(9)
+    game.place_handicap(2)
+    return game
+
 
 # calls with a wrong type, and the text of the TypeError
 TYPES = [
@@ -50,6 +64,7 @@ TYPES = [
     (lambda: MATCH.retakes("1"), "number: '1' is no int; use one from 0 to 4294967295"),
     (lambda: vintsaky.read_colour(1), "text: 1 is neither str nor bytes"),
     (lambda: vintsaky.komi_text(None), "komi: None is no int, float or Fraction"),
+    (lambda: Game.from_moves(None), "moves: None is no list of moves"),
     (lambda: GAME.moves["0"], "number: '0' is neither an int nor a slice of them"),
     (lambda: GAME.moves["a":], "number: slice('a', None, None) is neither an int nor a slice of them"),
     (lambda: Point(1, 1).neighbours("9"), "size: '9' is no int; use one from 1 to 25"),
@@ -96,6 +111,7 @@ VALUES = [
     (lambda: GAME.chain_points("A3"), Cause.NO_STONE, "chain_points A3: No stone is on the point."),
     (lambda: GAME.point(81), Cause.OFF_BOARD, "index: 81 is not from 0 to 80"),
     (lambda: GAME.point(-1), Cause.OFF_BOARD, "index: -1 is not from 0 to 80"),
+    (lambda: handicapped().place_handicap(2), Cause.NOT_EMPTY, f"place_handicap: {Cause.NOT_EMPTY.text}"),
     (lambda: GAME.undo(), Cause.NOTHING_TO_UNDO, "undo: There is no move to take back."),
     (lambda: GAME.rollout("b", -1), None, "seed: -1 is not from 0 to 18446744073709551615"),
     (lambda: GAME.random_move("b", 2**64), None, "word: 18446744073709551616 is not from 0 to 18446744073709551615"),
@@ -108,8 +124,8 @@ VALUES = [
     (lambda: STEPS.decline(), Cause.NOT_ASKED, "decline: Nothing is asked for that the call hands in."),
     (lambda: OTHER.answer("a\n\nb"), Cause.BAD_TEXT, rf"text: 'a\n\nb' may be in no reply; {REPLY}"),
     (lambda: OTHER.answer("é"), Cause.BAD_TEXT, f"text: 'é' may be in no reply; {REPLY}"),
-    (lambda: STEPS.set_name(" a"), Cause.BAD_TEXT, f"name: ' a' may be in no reply; {REPLY.replace('2000', '200')}"),
-    (lambda: STEPS.set_version("é"), Cause.BAD_TEXT, f"version: 'é' may be in no reply; {REPLY.replace('2000', '200')}"),
+    (lambda: STEPS.set_name(" a"), Cause.BAD_TEXT, f"name: ' a' may be in no reply; {TITLE}"),
+    (lambda: STEPS.set_version("é"), Cause.BAD_TEXT, f"version: 'é' may be in no reply; {TITLE}"),
     (lambda: STEPS.answer("é"), Cause.NOT_ASKED, "answer 'é': Nothing is asked for that the call hands in."),
     (lambda: STEPS.add_command("play"), Cause.IN_TABLE, f"add_command 'play': {Cause.IN_TABLE.text}"),
     (lambda: STEPS.add_command("é"), Cause.BAD_BYTE, f"add_command 'é': {Cause.BAD_BYTE.text}"),
@@ -127,7 +143,7 @@ VALUES = [
     (lambda: Match(max_restarts=-1), Cause.BAD_MAX_RESTARTS, "max_restarts: -1 is not from 0 to 1000"),
     (lambda: Game(8).place_handicap(5), Cause.BAD_HANDICAP, f"handicap 5 on size 8: {Cause.BAD_HANDICAP.text}"),
     (lambda: Game(8).place_handicap(-1), Cause.BAD_HANDICAP, f"handicap -1 on size 8: {Cause.BAD_HANDICAP.text}"),
-    (lambda: Game(8).place_handicap(2**40), Cause.BAD_HANDICAP, f"handicap {2**40} on size 8: {Cause.BAD_HANDICAP.text}"),
+    (lambda: Game(8).place_handicap(2**40), Cause.BAD_HANDICAP, f"handicap {2**40} on size 8: {HANDICAP}"),
     (lambda: vintsaky.read_colour("x"), Cause.BAD_TEXT, "text: 'x' is no colour; use 'b', 'w', 'black' or 'white'"),
     (lambda: vintsaky.read_vertex("é"), Cause.BAD_TEXT, "text: 'é' is no vertex; use one such as 'D4' or 'pass'"),
     (lambda: vintsaky.read_komi("6.7"), Cause.BAD_TEXT, "text: '6.7' is no komi; use one such as '6.5' or '-7'"),
@@ -137,7 +153,8 @@ VALUES = [
     (lambda: vintsaky.write_command(9), Cause.BAD_COMMAND, "command: 9 is no Command"),
     (lambda: vintsaky.write_command(-1), Cause.BAD_COMMAND, "command: -1 is no Command"),
     (lambda: vintsaky.write_command(Command.BOARDSIZE, 0), Cause.BAD_SIZE, "size: 0 is not from 1 to 25"),
-    (lambda: vintsaky.write_command(Command.FIXED_HANDICAP, -1), Cause.BAD_HANDICAP, "stones: -1 is not from 0 to 2147483647"),
+    (lambda: vintsaky.write_command(Command.FIXED_HANDICAP, -1), Cause.BAD_HANDICAP,
+     "stones: -1 is not from 0 to 2147483647"),
     (lambda: vintsaky.write_command(Command.GENMOVE, 3), Cause.BAD_COLOUR, f"colour: 3 is no colour; {COLOURS}"),
 ]  # fmt: skip
 
@@ -166,7 +183,8 @@ class Errors(unittest.TestCase):
         for move in ("b A2", "b B1", "w C1"):
             game.play(*move.split())
         for vertex, said in (
-            ("c1", "play w C1: A stone is on the point."), (b"D5", "play w D5: The point isn't on a board of this size."),
+            ("c1", "play w C1: A stone is on the point."),
+            (b"D5", "play w D5: The point isn't on a board of this size."),
             ((1, 1), "play w A1: The new stone's chain would have no liberty."),
         ):  # fmt: skip
             with self.assertRaises(Refused) as caught:

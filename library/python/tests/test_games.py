@@ -1,8 +1,10 @@
 """Games. What is wanted comes from the rules of play: area scoring, simple or positional ko, no suicide."""
 import copy
+import ctypes
 import unittest
+from unittest import mock
 
-from vintsaky import BLACK, PASS, RESIGN, WHITE, Cause, Game, KoRule, Move, Point, read_vertex
+from vintsaky import BLACK, PASS, RESIGN, WHITE, Cause, Game, KoRule, Move, Point, moves, read_vertex
 
 from .test_values import Refusing
 
@@ -280,6 +282,23 @@ class Records(Refusing):
         self.assertRaises(TypeError, moves.__getitem__, "0")
         game.undo()
         self.assertEqual(len(moves), 2)
+
+    def test_a_loop_makes_one_call_for_each_move(self):
+        game = Game.from_moves([("b", PASS), ("w", PASS)] * 200, 5)
+        for loop in (lambda: list(game.moves), lambda: game.moves[:], lambda: [move for move in game.moves]):
+            byref = mock.patch.object(moves.ctypes, "byref", wraps=ctypes.byref)
+            with byref as referred, mock.patch.object(moves, "MADE", wraps=moves.MADE) as made:
+                self.assertEqual(len(loop()), 400)
+            self.assertEqual((made.call_count, referred.call_count), (400, 2))
+
+    def test_a_loop_goes_through_the_moves_of_its_beginning(self):
+        game = played(5, "b A1, w A2, b A3")
+        for colour, vertex in game.moves:
+            game.play(colour.other, PASS)
+        self.assertEqual(len(game.moves), 6)
+        for _ in game.moves:
+            game.undo()
+        self.assertEqual(len(game.moves), 0)
 
     def test_finished(self):
         game = played(3, "b pass")

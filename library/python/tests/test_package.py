@@ -23,7 +23,8 @@ from vintsaky import Action, Cause, Chain, Colour, CommandLines, Game, Match, Mo
 from vintsaky import _declared, _held, _library
 
 PACKAGE = Path(vintsaky.__file__).resolve().parent
-MODULES = ["_declared", "_brief", "_library", "_numbers", "_refused", "_held", "_attributes", "values", "moves", "games", "lines", "engines", "matches"]
+INNER = ["_declared", "_brief", "_library", "_numbers", "_refused", "_held", "_attributes"]
+MODULES = [*INNER, "values", "moves", "games", "lines", "engines", "matches"]
 
 
 def modules():
@@ -71,7 +72,8 @@ class Documentation(unittest.TestCase):
             self.assertRegex(text, rf"\|  {method}\b")
 
     def test_what_help_leaves_out_is_there(self):
-        for kind, inherited in ((Point, "count"), (Move, "_asdict"), (Cause, "bit_length"), (Colour, "__members__"), (Action, "__eq__")):
+        left_out = {Point: "count", Move: "_asdict", Cause: "bit_length", Colour: "__members__", Action: "__eq__"}
+        for kind, inherited in left_out.items():
             self.assertNotIn(inherited, dir(kind))
             self.assertTrue(hasattr(kind, inherited))
         self.assertTrue({"column", "row", "turned", "count", "_replace", "__add__"} <= set(dir(Point(1, 1))))
@@ -122,7 +124,8 @@ class Refusals(unittest.TestCase):
         self.assertEqual((str(refusal), refusal.cause), (Cause.KO.text, Cause.KO))
         for again in (copy.copy(refusal), pickle.loads(pickle.dumps(refusal))):
             self.assertEqual((again.cause, str(again)), (Cause.KO, Cause.KO.text))
-        for refusal, text in ((Refused(Cause.KO, "play w C3"), f"play w C3: {Cause.KO.text}"), (Refused(Cause.KO, "a", "b"), "a: b")):
+        plain, worded = Refused(Cause.KO, "play w C3"), Refused(Cause.KO, "a", "b")
+        for refusal, text in ((plain, f"play w C3: {Cause.KO.text}"), (worded, "a: b")):
             for again in (refusal, copy.copy(refusal), pickle.loads(pickle.dumps(refusal))):
                 self.assertEqual((again.cause, str(again)), (Cause.KO, text))
 
@@ -240,7 +243,8 @@ class Loading(unittest.TestCase):
         for value in (1.0, "1", None):
             self.assertRaises(TypeError, _held.whole, value, "number")
         self.assertEqual([_held.whole(number, "number") for number in (0, 2**32 - 1)], [0, 2**32 - 1])
-        self.assertEqual([_held.clamped(number) for number in (-1, 0, 2**32 - 1, 2**32)], [2**32 - 1, 0, 2**32 - 1, 2**32 - 1])
+        most = 2**32 - 1
+        self.assertEqual([_held.clamped(number) for number in (-1, 0, most, 2**32)], [most, 0, most, most])
 
     def test_a_closed_input(self):
         self.assertIsNone(vintsaky.Engine().serve(io.BytesIO(), io.BytesIO()))

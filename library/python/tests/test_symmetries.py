@@ -1,4 +1,4 @@
-"""The eight symmetries of a board. What is wanted comes from geometry: turns and mirrors of the plane, as pairs of numbers."""
+"""The eight symmetries of a board. What is wanted comes from geometry: turns and mirrors of the plane, as matrices."""
 import itertools
 import unittest
 
@@ -9,12 +9,13 @@ from .test_values import Refusing
 
 SIZES = (1, 2, 3, 4, 9, 19, 25)
 # What a symmetry does with the directions to the right and up, as columns of a matrix of the plane.
-TURNS = [((1, 0), (0, 1)), ((0, 1), (-1, 0)), ((-1, 0), (0, -1)), ((0, -1), (1, 0))]  # by 0, 90, 180, 270 degrees to the left
+# Turns to the left by 0, 90, 180 and 270 degrees.
+TURNS = [((1, 0), (0, 1)), ((0, 1), (-1, 0)), ((-1, 0), (0, -1)), ((0, -1), (1, 0))]
 MIRRORED = [((-x, -y), up) for (x, y), up in TURNS]  # first right becomes left, and then it is turned
 
 
 def turned(point, size, symmetry):
-    """The point by the matrix of the symmetry, about the centre of the board. All is doubled, so that the centre is a whole number."""
+    """The point by the matrix of the symmetry, about the centre of the board. All is doubled, so that it is whole."""
     right, up = (TURNS + MIRRORED)[symmetry]
     across, along = 2 * point[0] - size - 1, 2 * point[1] - size - 1
     column, row = (right[place] * across + up[place] * along for place in (0, 1))
@@ -102,10 +103,11 @@ class Symmetries(Refusing):
             self.refused(cause, call)
             self.assertRaisesRegex(ValueError, f"^{text}$".replace("(", r"\(").replace(")", r"\)"), call)
         for symmetry in (-1, 8, 2**40):
-            for call in (inverse_symmetry, lambda symmetry: symmetry_map(3, symmetry), lambda symmetry: Point(1, 1).turned(3, symmetry)):
-                self.assertRaisesRegex(ValueError, f"^symmetry: {symmetry} is not from 0 to 7$", call, symmetry)
+            for call, *first in ((inverse_symmetry,), (symmetry_map, 3), (Point(1, 1).turned, 3)):
+                self.assertRaisesRegex(ValueError, f"^symmetry: {symmetry} is not from 0 to 7$", call, *first, symmetry)
         for symmetry in (1.0, "1", None):
-            self.assertRaisesRegex(TypeError, "^symmetry: .* is no int; use one from 0 to 7$", inverse_symmetry, symmetry)
+            text = "^symmetry: .* is no int; use one from 0 to 7$"
+            self.assertRaisesRegex(TypeError, text, inverse_symmetry, symmetry)
         self.assertRaises(TypeError, symmetry_map, "3", 0)
 
 

@@ -109,8 +109,8 @@ class Komis(Refusing):
 
     def test_limits(self):
         for komi in (
-            10**9, -(10**9), 2**30 - 0.5, -(2**30), 2**30, -(2**30) - 1, 2**31, 2**32 + 7, 10**30, 10**400, Fraction(10**9),
-            float("inf"), -float("inf"),
+            10**9, -(10**9), 2**30 - 0.5, -(2**30), 2**30, -(2**30) - 1, 2**31, 2**32 + 7, 10**30, 10**400,
+            Fraction(10**9), float("inf"), -float("inf"),
         ):  # fmt: skip
             self.refused(Cause.BAD_KOMI, vintsaky.komi_text, komi)
 

@@ -22,10 +22,10 @@ class Brief(type):
 
 
 class BriefEnum(EnumMeta):
-    """The type of an enumeration that lists its members, and its own names alone. All that it inherits is there."""
+    """The type of an enumeration that lists its members and its own names alone. All that it inherits is there."""
 
     def __dir__(cls) -> List[str]:
-        return sorted({*listed(cls), *cls.__members__})
+        return listed(cls)
 
 
 class BriefABC(ABCMeta):

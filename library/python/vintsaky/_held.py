@@ -78,13 +78,14 @@ def whole(value: int, what: str, least: int = 0, most: int = 2**32 - 1, cause: O
 
 
 def clamped(number: int) -> int:
-    """The number, where the call's type has it; else the type's greatest, which the call refuses: ctypes would cut it."""
+    """The number, where the call's type has it; else the type's greatest, which the call refuses. ctypes would cut
+    it."""
     return number if 0 <= number < 2**32 else 2**32 - 1
 
 
 def ascii_of(text: Union[str, bytes], what: str) -> bytes:
-    """The bytes of a text, for a call that takes ASCII: what isn't ASCII becomes such bytes as the call refuses. Errors:
-    TypeError where it is neither str nor bytes."""
+    """The bytes of a text, for a call that takes ASCII: what isn't ASCII becomes such bytes as the call refuses.
+    Errors: TypeError where it is neither str nor bytes."""
     if not isinstance(text, (str, bytes)):
         raise TypeError(f"{what}: {shown(text)} is neither str nor bytes")
     return text.encode("utf-8", "surrogatepass") if isinstance(text, str) else text

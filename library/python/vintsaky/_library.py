@@ -43,8 +43,8 @@ unlocked: Any = _load(_place(), ctypes.CDLL)  # its calls let other threads run:
 
 
 def untyped(call: Any) -> Any:
-    """The same call, but that the types of its arguments aren't looked at, which takes most of a call's time. All that it
-    is given has to be of ctypes."""
+    """The same call, but that the types of its arguments aren't looked at, which takes most of a call's time. All that
+    it is given has to be of ctypes."""
     same = library[call.__name__]
     same.restype = call.restype
     return same

@@ -83,6 +83,8 @@ class Game(Held):
         >>> Game.from_moves(game.moves, size=5) == game
         True
         """
+        if not isinstance(moves, Iterable):
+            raise TypeError(f"moves: {shown(moves)} is no list of moves")
         game = cls(size=size, komi=komi, rule=rule)
         if integer(handicap, "handicap", "no int; use 0, or one from 2 to 9"):
             game.place_handicap(handicap)
@@ -166,7 +168,9 @@ class Game(Held):
         """Puts handicap stones on their fixed points. Causes: NOT_EMPTY or BAD_HANDICAP."""
         number = integer(stones, "stones", "no int; use one from 2 to 9")
         cause = library.vintsaky_game_place_handicap(self._held(), clamped(number))
-        done(cause, f"handicap {shown(stones)} on size {self.size}" if cause == Cause.BAD_HANDICAP else "place_handicap")
+        if cause == Cause.BAD_HANDICAP:
+            raise Refused(Cause.BAD_HANDICAP, f"handicap {shown(stones)} on size {self.size}")
+        done(cause, "place_handicap")
 
     @property
     def moves(self) -> Moves:
@@ -413,12 +417,12 @@ def play_numbered(play: Callable[[Any, Any], None], number: int, move: Any) -> N
     except Refused as refused:
         raise Refused(refused.cause, f"move {number}: {refused.what}", refused.said) from None
     except TypeError as problem:
-        raise TypeError(f"move {number}: {problem}") from None
+        raise TypeError(f"move {number}: {problem}") from problem  # which may be that of a subclass's own play
 
 
 def placed(kind: Type[Kind]) -> Kind:
-    """A new game of this class, of which `__init__` isn't called."""
-    game = kind.__new__(kind)
+    """A new game of this class, of which neither `__new__` nor `__init__` is called."""
+    game = object.__new__(kind)
     Held.__init__(game)
     return game
 

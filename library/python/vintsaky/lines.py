@@ -212,8 +212,8 @@ def write_command(command: Command, *arguments: Any, id: Optional[int] = None) -
 
 def bad_reply(text: Union[str, bytes], what: str = "text", most: int = 2000) -> Refused:
     """What is refused of a text that no reply may have, or that is too long."""
-    said = f"a reply's text has at most {most} bytes, each a newline or 32 to 126, no empty line, and no space or newline"
-    return Refused(Cause.BAD_TEXT, what, f"{shown(text)} may be in no reply; {said} at its ends")
+    said = f"{shown(text)} may be in no reply; a reply's text has at most {most} bytes, each a newline or 32 to 126, "
+    return Refused(Cause.BAD_TEXT, what, f"{said}no empty line, and no space or newline at its ends")
 
 
 def write_reply(text: Union[str, bytes] = "", ok: bool = True, id: Optional[int] = None) -> bytes:

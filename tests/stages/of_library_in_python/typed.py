@@ -29,7 +29,6 @@ MISTAKES_OF_TYPES = {
     "Game().moves[0].vertex.column": 'has no attribute "column"',
     "Game().play('b', 5)": "Literal[5]",
     "Game.from_moves([('b', 5)])": "Tuple[str, Literal[5]]",
-    "{Game(): 1}[Game()].row": "row",
     "Steps().choose(None)": '"None"',
     "a: int = Game().turn.text": '"str"',
     "b: Point = Game().random_move('b', 1)": "Literal[NoPoint.PASS]",
