@@ -46,7 +46,7 @@ static void (*const vintsaky_interface)(void) = vintsaky_interface_1;
 /* The memory of an object as constants: what its _bytes and _align return, or more where cargo built the library. */
 #define VINTSAKY_GAME_BYTES ((size_t)35640)
 #define VINTSAKY_ENGINE_BYTES ((size_t)41472)
-#define VINTSAKY_MATCH_BYTES ((size_t)62592)
+#define VINTSAKY_MATCH_BYTES ((size_t)62648)
 #define VINTSAKY_LINES_BYTES ((size_t)2056)
 #define VINTSAKY_REPLIES_BYTES ((size_t)16432)
 #define VINTSAKY_ALIGN ((size_t)8)
