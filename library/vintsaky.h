@@ -46,19 +46,20 @@ static void (*const vintsaky_interface)(void) = vintsaky_interface_1;
 /* The memory of an object as constants: what its _bytes and _align return, or more where cargo built the library. */
 #define VINTSAKY_GAME_BYTES ((size_t)35640)
 #define VINTSAKY_ENGINE_BYTES ((size_t)41472)
-#define VINTSAKY_MATCH_BYTES ((size_t)62592)
+#define VINTSAKY_MATCH_BYTES ((size_t)62648)
 #define VINTSAKY_LINES_BYTES ((size_t)2056)
 #define VINTSAKY_REPLIES_BYTES ((size_t)16432)
 #define VINTSAKY_ALIGN ((size_t)8)
 
 /* Room for each text of its kind, with its NUL: the line of a command, a reply, what a side wrote since its last whole reply, a board,
- * the result line of a match, its moves. And the most points of a board, and the most moves of a record. */
+ * the result line of a match, its moves, the reason of a ruling. And the most points of a board, and the most moves of a record. */
 #define VINTSAKY_COMMAND_ROOM ((size_t)65)
 #define VINTSAKY_REPLY_ROOM ((size_t)2049)
 #define VINTSAKY_WROTE_ROOM ((size_t)81)
 #define VINTSAKY_BOARD_ROOM ((size_t)2001)
 #define VINTSAKY_RESULT_ROOM ((size_t)97)
 #define VINTSAKY_RECORD_ROOM ((size_t)10001)
+#define VINTSAKY_REASON_ROOM ((size_t)21)
 #define VINTSAKY_MOST_POINTS ((size_t)625)
 #define VINTSAKY_MOST_MOVES ((size_t)2000)
 

@@ -11,6 +11,7 @@ READ = (
     "crates/vintsaky_calls/specs/*.antt",
     "crates/go_board/src/**/*.rt",
     "crates/gtp_match/src/**/*.rt",
+    "crates/gtp_referee/src/**/*.rt",
     "crates/gtp_wire/src/**/*.rt",
     "library/declaring/*.in",
     "library/vintsaky.h",

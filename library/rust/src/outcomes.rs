@@ -244,9 +244,8 @@ impl Verdict {
         match self {
             Self::Score(score) => score.leader(),
             Self::Resignation(side) | Self::RefusedPlay(side) | Self::NoMove(side) => Some(side.other()),
-            Self::NoVertex(side) | Self::IllegalMove(side) | Self::Time(side) | Self::Ruling(side) => {
-                Some(side.other())
-            }
+            Self::NoVertex(side) | Self::IllegalMove(side) => Some(side.other()),
+            Self::Time(side) | Self::Ruling(side) => Some(side.other()),
             Self::Limit | Self::Unfit(_) | Self::Abandoned(_) => None,
         }
     }

@@ -216,9 +216,8 @@ fn rulings() {
 #[test]
 fn refused_rulings() {
     let mut held = match_on(2, 0, 0);
-    for reason in
-        ["abcdefghij ABCDEFGHIJ", "late!", "sp\u{e4}t", "refused play", "no move", "no vertex", "illegal move"]
-    {
+    let forfeits = ["refused play", "no move", "no vertex", "illegal move"];
+    for reason in ["abcdefghij ABCDEFGHIJ", "late!", "sp\u{e4}t"].into_iter().chain(forfeits) {
         assert_eq!(held.adjudicate(Black, reason), Err(Refusal::BadReason), "{reason}");
     }
     assert_eq!(held.verdict(), Err(Refusal::NotOver));
