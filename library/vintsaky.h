@@ -99,6 +99,8 @@ enum {
     VINTSAKY_BAD_COMMAND = 32, /* The number is no command: it isn't from 1 to 8. */
     VINTSAKY_BAD_ID = 33, /* The id is negative, and not -1, which is none. */
     VINTSAKY_DOWN = 34, /* The side was not started or went down, or the match is over. */
+    VINTSAKY_IS_OVER = 35, /* The match is over. */
+    VINTSAKY_BAD_REASON = 36, /* The reason isn't 1 to 20 letters and spaces, or it is that of a forfeit. */
 };
 
 /* colours of stones, and the sides that play them */
@@ -151,7 +153,9 @@ enum {
     VINTSAKY_BY_NO_VERTEX = 6,    /* the side answered with what is no move: it forfeits */
     VINTSAKY_BY_ILLEGAL_MOVE = 7, /* the side answered with a move that isn't legal: it forfeits */
     VINTSAKY_BY_UNFIT = 8,        /* the side can't be brought to the record */
-    VINTSAKY_BY_ABANDONED = 9     /* the side went down too often */
+    VINTSAKY_BY_ABANDONED = 9,    /* the side went down too often */
+    VINTSAKY_BY_TIME = 10,        /* the side ran out of time: a ruling ended the match */
+    VINTSAKY_BY_RULING = 11       /* the side lost by a ruling that has a reason */
 };
 
 /* the commands that vintsaky_write_command writes */
@@ -515,7 +519,8 @@ size_t vintsaky_match_align(void);
 uint32_t vintsaky_match_begin(
     vintsaky_match *held, uint32_t size, int32_t half_komi, uint32_t handicap, uint32_t max_moves, uint32_t max_restarts);
 
-/* What is to be done next, as a number. The number of the side with which it is done is written, or 0. */
+/* What is to be done next, as a number. The number of the side with which it is done is written, or 0. After a ruling the match is
+ * over. */
 uint32_t vintsaky_match_next(vintsaky_match *held, uint32_t *side);
 
 /* A side was started. Where its start fails, vintsaky_match_lost comes next.
@@ -528,7 +533,7 @@ uint32_t vintsaky_match_started(vintsaky_match *held, uint32_t side);
 uint32_t vintsaky_match_send(vintsaky_match *held, uint32_t side, char *text, size_t text_room, size_t *count);
 
 /* Hears what a side wrote, in any pieces. Why the side fails by it is written, or 0. Of a side that is down, and after the end of the
- * match, nothing is heard.
+ * match, also by a ruling, nothing is heard.
  * Causes: VINTSAKY_BAD_COLOUR. The match stays as it was, and nothing is written. */
 uint32_t vintsaky_match_hear(vintsaky_match *held, uint32_t side, const void *bytes, size_t bytes_length, uint32_t *loss);
 
@@ -553,7 +558,7 @@ uint32_t vintsaky_match_owed(vintsaky_match *held, uint32_t side, uint32_t *unan
  * Causes: VINTSAKY_BAD_COLOUR, or else VINTSAKY_DOWN. Nothing is written. */
 uint32_t vintsaky_match_status(vintsaky_match *held, uint32_t side, uint32_t *confirmed, uint32_t *unanswered, uint32_t *asked);
 
-/* A side is gone: its output has ended, a read or a write failed, or its start did.
+/* A side is gone: its output has ended, a read or a write failed, or its start did. After a ruling nothing changes.
  * Causes: VINTSAKY_BAD_COLOUR. The match stays as it was. */
 uint32_t vintsaky_match_lost(vintsaky_match *held, uint32_t side);
 
@@ -571,19 +576,30 @@ uint32_t vintsaky_match_retakes(vintsaky_match *held, uint32_t number);
 /* The side whose last move is to be taken back, because the other side refused it, or 0. */
 uint32_t vintsaky_match_taking_back(vintsaky_match *held);
 
-/* Writes how a match ended, the side that it says it of, or 0, and the score in half points, positive where Black leads, or 0.
+/* Writes how a match ended, the side that it says it of, or 0, and the score in half points, positive where Black leads, or 0. Of a
+ * ruling it is the side that loses.
  * Causes: VINTSAKY_NOT_OVER. Nothing is written. */
 uint32_t vintsaky_match_verdict(vintsaky_match *held, uint32_t *ending, uint32_t *side, int32_t *half_points);
 
 /* Copies the match's game into another one. */
 void vintsaky_match_copy_game(vintsaky_match *held, vintsaky_game *game);
 
-/* Writes the result line of a match that is over, without its newline, and its length. The number is that of the game in it.
+/* Writes the result line of a match that is over, without its newline, and its length. The number is that of the game in it. Where
+ * Black loses by a ruling, the verdict is W+T, or W+F(REASON) where there is a reason.
  * Causes: VINTSAKY_NOT_OVER. Nothing is written. */
 uint32_t vintsaky_match_result(vintsaky_match *held, uint32_t number, char *text, size_t text_room, size_t *count);
 
 /* Writes the moves of a match, as --record of twogtp prints them, without the newline. How many bytes they have. */
 size_t vintsaky_match_record(vintsaky_match *held, char *text, size_t text_room);
+
+/* Ends a match that isn't over: the side loses. Where the reason is empty, it loses for time. Else the reason is of 1 to 20 letters and
+ * spaces, and none of refused play, no move, no vertex and illegal move. After that nothing changes the match but vintsaky_match_begin.
+ * Causes: VINTSAKY_BAD_COLOUR, or else VINTSAKY_IS_OVER, or else VINTSAKY_BAD_REASON. The match stays as it was. */
+uint32_t vintsaky_match_adjudicate(vintsaky_match *held, uint32_t side, const char *reason, size_t reason_length);
+
+/* Writes the reason of the ruling that ended a match. How many bytes it has: 0 where the side lost for time, and where there is no
+ * ruling. */
+size_t vintsaky_match_reason(vintsaky_match *held, char *text, size_t text_room);
 
 /* ---- readers of command lines ---- */
 

@@ -40,7 +40,7 @@ KINDS = {
     "events": Kind("engines", ("number_of_event",)),
     "actions": Kind("matches", ("next",), "", {"Done": "OVER"}),
     "losses": Kind("losses", ("number_of_fault", "number_of_cause", "number_of_rule"), "LOSS_"),
-    "endings": Kind("endings", ("number_of_ending",), "BY_", {"Resign": "RESIGNATION"}),
+    "endings": Kind("endings", ("number_of_ending", "number_of_ruling"), "BY_", {"Resign": "RESIGNATION", "Reason": "RULING"}),
     "commands": Kind("writing", ("command_of",), arm=ARM_OF_COMMANDS),
     "lines": Kind("lines", ("feed",), "", {"Command": "LINE"}),
     "replies": Kind("replies", ("feed",), "", {"Ok": "READ", "NoStatus": "NO_REPLY", "Overlong": "LONG_REPLY"}),

@@ -38,16 +38,18 @@ CALLS: Dict[str, Tuple[Any, Tuple[Any, ...]]] = {
 HEAD_OF_NUMBERS = '''"""Numbers of the library with what is said of each: why a call is refused, why a side fails, and how a match ends.
 
 library/declare writes this module. All names are those of vintsaky.h without the prefix."""
-from enum import IntEnum
-
-from ._library import Told
+from ._library import Numbered, Told
 '''
 CLASS = '''
 
 class {}({}):
-    """{}"""
+    """{}
 
-'''
+{}
+    """
+
+{}'''
+DONE = "It was done."  # what the library says of the number of no cause
 
 
 def constants_of(files):
@@ -84,29 +86,32 @@ def declared(files):
     return f"{HEAD_OF_DECLARED}\n{constants}{handles}{HEAD_OF_TABLE}{''.join(rows)}}}\n"
 
 
-def member_of(value):
-    """The lines of a member, with what is said of it: behind it where that fits, else above."""
-    line = f"    {value.name} = {value.number}"
-    if not value.said:
-        return f"{line}\n"
-    if len(f"{line}  # {value.said}") <= WIDTH:
-        return f"{line}  # {value.said}\n"
-    above = textwrap.wrap(value.said, WIDTH, initial_indent="    # ", subsequent_indent="    # ", break_on_hyphens=False)
-    return "\n".join(above) + f"\n{line}\n"
+def said_of(values):
+    """Each value with what is said of it. What is said of several is said of the first."""
+    said = ""
+    for value in values:
+        said = value.said or said
+        yield value, said
 
 
-def enumeration(name, base, said, values):
-    """An enumeration."""
-    return CLASS.format(name, base, said) + "".join(map(member_of, values))
+def lines_of(value, said):
+    """The lines of a docstring about a value."""
+    return textwrap.wrap(f"{value.name}: {said}", WIDTH, initial_indent="    ", subsequent_indent="        ", break_on_hyphens=False)
+
+
+def enumeration(name, base, head, values):
+    """An enumeration. Its docstring says what each member means, so that `help` does."""
+    lines = [line for value, said in said_of(values) for line in lines_of(value, said)]
+    return CLASS.format(name, base, head, "\n".join(lines), "".join(f"    {it.name} = {it.number}\n" for it in values))
 
 
 def named(files):
     """The module of the numbers of which much is said."""
-    causes = [numbers.Value("DONE", 0, ""), *(it.value for it in numbers.causes_of(files))]
+    causes = [numbers.Value("DONE", 0, DONE), *(it.value for it in numbers.causes_of(files))]
     losses = [numbers.Value(it.name[len("LOSS_"):], it.number, it.said) for it in numbers.values_of("losses", files)]
     return (
         HEAD_OF_NUMBERS
         + enumeration("Cause", "Told", "Why a call is refused.", causes)
-        + enumeration("Loss", "IntEnum", "Why a side fails by what it writes.", losses)
-        + enumeration("Ending", "IntEnum", "How a match ended.", numbers.values_of("endings", files))
+        + enumeration("Loss", "Numbered", "Why a side fails by what it writes.", losses)
+        + enumeration("Ending", "Numbered", "How a match ended.", numbers.values_of("endings", files))
     )

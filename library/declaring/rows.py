@@ -119,6 +119,8 @@ TUNED = {
     "match_copy_game": Tuned(3),
     "match_result": Tuned(10, "200", "", {"number": "number(w, 0, 9)"}),
     "match_record": Tuned(8, "10000"),
+    "match_adjudicate": Tuned(2),
+    "match_reason": Tuned(8, "20"),
     "lines_place": Tuned(1),
     "lines_feed": Tuned(60, "2"),
     "lines_id": Tuned(15),

@@ -378,6 +378,37 @@ static void begin(vintsaky_match *held) {
     IS(VINTSAKY_DONE, vintsaky_match_started(held, VINTSAKY_BLACK));
 }
 
+/* A referee ends a match: White is late, and what it writes then isn't heard. The next match ends for a reason. */
+static void of_rulings(vintsaky_match *held) {
+    uint32_t ending = 9, side = 9, loss = 9;
+    int32_t half_points = 9;
+    begin(held);
+    IS(VINTSAKY_BAD_COLOUR, vintsaky_match_adjudicate(held, 3, GIVEN("late")));
+    IS(VINTSAKY_BAD_REASON, vintsaky_match_adjudicate(held, VINTSAKY_WHITE, GIVEN("no move")));
+    IS(VINTSAKY_DONE, vintsaky_match_adjudicate(held, VINTSAKY_WHITE, GIVEN("")));
+    IS(VINTSAKY_IS_OVER, vintsaky_match_adjudicate(held, VINTSAKY_BLACK, GIVEN("late!")));
+    IS(VINTSAKY_OVER, vintsaky_match_next(held, &side));
+    IS(0, side);
+    IS(VINTSAKY_DONE, vintsaky_match_hear(held, VINTSAKY_BLACK, GIVEN("hello\n"), &loss));
+    IS(0, loss);
+    IS(VINTSAKY_DONE, vintsaky_match_lost(held, VINTSAKY_BLACK));
+    IS(VINTSAKY_DONE, vintsaky_match_verdict(held, &ending, &side, &half_points));
+    IS(VINTSAKY_BY_TIME, ending);
+    IS(VINTSAKY_WHITE, side);
+    IS(0, half_points);
+    IS(VINTSAKY_DONE, vintsaky_match_result(held, 3, TEXT, &count));
+    SAYS("game 3: B+T moves 0 restarts 0 0", count);
+    SAYS("", vintsaky_match_reason(held, TEXT));
+    begin(held);
+    IS(VINTSAKY_DONE, vintsaky_match_adjudicate(held, VINTSAKY_BLACK, GIVEN("too late")));
+    IS(VINTSAKY_DONE, vintsaky_match_verdict(held, &ending, &side, &half_points));
+    IS(VINTSAKY_BY_RULING, ending);
+    IS(VINTSAKY_BLACK, side);
+    SAYS("too late", vintsaky_match_reason(held, TEXT));
+    IS(VINTSAKY_DONE, vintsaky_match_result(held, 4, TEXT, &count));
+    SAYS("game 4: W+F(too late) moves 0 restarts 0 0", count);
+}
+
 static void of_matches(void) {
     vintsaky_match match, *held = &match;
     vintsaky_game game;
@@ -412,6 +443,7 @@ static void of_matches(void) {
     SAYS("B1", vintsaky_match_record(held, TEXT));
     vintsaky_match_copy_game(held, &game);
     IS(1, vintsaky_game_length(&game));
+    of_rulings(held);
     vintsaky_match_free(held);
     vintsaky_game_free(&game);
 }

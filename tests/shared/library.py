@@ -61,7 +61,7 @@ def cc(words, folder, **how):
 
 def most_lines(name):
     """How many lines an example may have."""
-    return 120 if name in ("uct_engine", "go_env") else 60
+    return {"uct_engine": 120, "go_env": 120, "serve_match": 90}.get(name, 60)
 
 
 def compiled(name, folder, *flags):

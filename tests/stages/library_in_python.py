@@ -2,28 +2,21 @@
 """Looks at the Python package in library/python: its tests, its wheel, and its examples.
 
 The tests run by the Python that runs this, and by each other one from 3.9 that is there by the name python3.N, or with Debian's numpy. The
-environment for learning runs by a stand-in for gymnasium, and without one. The wheel has the same bytes each time, and is installed into an environment of its own without a network. Drawn games are those of the plain reference. The
-engine plays whole games under twogtp, also where it is killed; gtp_check finds nothing in it; and it stands beside the reference on drawn
-conversations. The tournament program gives twogtp's lines on drawn matches.
+environment for learning runs by a stand-in for gymnasium, and without one. The wheel has the same bytes each time, and is installed into an
+environment of its own without a network. Drawn games are those of the plain reference. The engine plays whole games under twogtp, also where
+it is killed; gtp_check finds nothing in it; and it stands beside the reference on drawn conversations. The tournament program gives twogtp's
+lines on drawn matches. The server plays a whole match over sockets, and ends one where a side is late or closes.
 
 It needs the programs in bin/, and bin/libvintsaky.so.1; what isn't there is skipped.
 """
-import base64
-import hashlib
 import importlib
 import importlib.util
 import os
-import platform
 import random
 import re
 import shutil
 import sys
-import tempfile
-import unittest
-import zipfile
-from functools import lru_cache
 from pathlib import Path
-from unittest import SkipTest, mock
 
 sys.dont_write_bytecode = True
 sys.path[0] = str(Path(__file__).resolve().parents[2])
@@ -31,24 +24,21 @@ sys.path[0] = str(Path(__file__).resolve().parents[2])
 from tests.references.engine import chosen, stepped, values  # noqa: E402
 from tests.references.engine import game as rules  # noqa: E402
 from tests.references.engine.conversations import KINDS  # noqa: E402
-from tests.shared import checks, library, running  # noqa: E402
+from tests.shared import checks, library  # noqa: E402
 from tests.shared.library import TOP, Match, finished, most_lines, twogtp  # noqa: E402
 from tests.stages.of_library_in_python import environments  # noqa: E402
+from tests.stages.of_library_in_python.here import LIBRARY, OURS, PACKAGE, Needing, by_twogtp, run, setUpModule  # noqa: E402, F401
+from tests.stages.of_library_in_python.served import Served  # noqa: E402, F401
+from tests.stages.of_library_in_python.typed import Tools, Typed  # noqa: E402, F401
+from tests.stages.of_library_in_python.wheels import Installed, Wheel  # noqa: E402, F401
 
 PARSER = checks.Parser(__doc__)
-PARSER.add_argument("--library", type=Path, default=TOP / "bin", help="the folder of libvintsaky.so.1; else bin/")
 PARSER.add_argument("--matches", type=int, default=40, help="how many matches are drawn; else 40")
 OPTIONS = PARSER.options(__name__)
-LIBRARY = OPTIONS.library.resolve() / "libvintsaky.so.1"
-PACKAGE = TOP / "library/python"
 EXAMPLES = sorted((PACKAGE / "examples").glob("*.py"))
 ENGINE = f"{sys.executable} {PACKAGE}/examples/random_engine.py"
-OURS = "bin/gtp_engine --policy random --seed 9"
-FOLDER = tempfile.TemporaryDirectory()
-ROOM = Path(FOLDER.name).resolve()
 DEBIANS = "/usr/bin/python3"  # which has Debian's numpy, where that is installed
-LIMIT = 300  # seconds that a command may take
-LEAST_TESTS = 100
+LEAST_TESTS = 150
 AT_ONCE = 2  # games and matches that are played at a time
 CAUSES = {"OFF_BOARD", "OCCUPIED", "SUICIDE", "KO"}
 # What the reference of an engine in steps returns, where it isn't the name of the cause.
@@ -72,11 +62,25 @@ class Engine(vintsaky.Engine):
         {}
 Engine().serve()
 """
-
-
-def run(command, **how):
-    """What comes of a command."""
-    return running.run(command, limit=LIMIT, **how)
+# An engine that answers an own command wrongly, which it is told before each line of the match. Its failures are kept back.
+ANSWERS = """import os, vintsaky
+class Engine(vintsaky.Engine):
+    def choose(self, game, colour):
+        return game.legal_points(colour)[-1]
+    @vintsaky.command("bad")
+    def say_bad(self, words):
+        return 5
+class Source:
+    def read(self, most):
+        data = os.read(0, most)
+        return data and b"bad\\n" + data
+class Sink:
+    def write(self, data):
+        return os.write(1, data) if data[:1] == b"=" else len(data)
+    def flush(self):
+        pass
+Engine().serve(Source(), Sink())
+"""
 
 
 def files_of(folder):
@@ -85,20 +89,6 @@ def files_of(folder):
 
 
 BEFORE = files_of(PACKAGE)
-
-
-def setUpModule():
-    """All processes take the package from the tree, and this library."""
-    changed = dict(VINTSAKY_LIBRARY=str(LIBRARY), PYTHONPATH=str(PACKAGE), PYTHONDONTWRITEBYTECODE="1")
-    patch = mock.patch.dict(os.environ, changed)
-    patch.start()
-    unittest.addModuleCleanup(patch.stop)
-
-
-class Needing(library.Needing):
-    """Checks that are skipped where the library or a program isn't there."""
-
-    FILES = (LIBRARY, TOP / "bin/twogtp", TOP / "bin/gtp_engine")
 
 
 # ---- the package
@@ -140,121 +130,6 @@ class Tests(Needing):
             count = int(found[1]) if found else 0
             self.check(f"{count} tests by Python {version}", (0, True, ""),
                        (status, count >= LEAST_TESTS, output[-1000:] + errors[-4000:] if status else ""))  # fmt: skip
-
-
-TOOLS = {"mypy": ["--cache-dir", os.devnull, "--no-incremental"], "ruff": ["check", "--no-cache", "vintsaky", "examples"]}
-
-
-@checks.table(TOOLS, lambda tool: f"{tool} finds nothing")
-class Tools(Needing):
-    """What mypy and ruff say, where they are there."""
-
-    def row(self, tool):
-        if not (shutil.which(tool) or importlib.util.find_spec(tool)):
-            self.skipTest(f"there is no {tool}")
-        command = [tool] if shutil.which(tool) else [sys.executable, "-m", tool]
-        status, output, errors = run([*command, *TOOLS[tool]], cwd=PACKAGE)
-        self.same((0, ""), (status, output + errors if status else ""))
-
-
-# ---- the wheel
-
-INFO = "vintsaky-1.0.0.dist-info/"
-
-
-def hash_of(data):
-    """A hash, as a RECORD has it."""
-    return "sha256=" + base64.urlsafe_b64encode(hashlib.sha256(data).digest()).rstrip(b"=").decode()
-
-
-@lru_cache(maxsize=None)
-def wheels():
-    """Makes the wheel twice, from two copies of the package with other rights and dates. What comes of both, and the wheels."""
-    return [wheel_of(ROOM / f"copy{number}", *how) for number, how in enumerate([(0o022, 10**9), (0o077, 1.5 * 10**9)])]
-
-
-def wheel_of(folder, umask, time):
-    """What comes of making a wheel from a copy in this folder, and the wheels that are there then."""
-    copied, made = folder / "package", folder / "made"
-    shutil.copytree(PACKAGE, copied)
-    made.mkdir()
-    for path in copied.rglob("*"):
-        path.chmod(0o777 & ~umask)
-        os.utime(path, (time, time))
-    return run([sys.executable, copied / "make_wheel", LIBRARY, made], cwd=made), list(made.glob("*.whl"))
-
-
-def files_in(wheel):
-    """Each file of a wheel, with its bytes."""
-    with zipfile.ZipFile(wheel) as archive:
-        return {name: archive.read(name) for name in archive.namelist()}
-
-
-PROGRAM_HERE = os.path.realpath(sys.executable)  # a program of this processor
-NO_WHEELS = ([], [LIBRARY], ["nothing", "."], [PACKAGE / "make_wheel", "."], [PROGRAM_HERE, "."], [LIBRARY, "nothing"])
-
-
-@checks.table(NO_WHEELS, lambda words: f"a mistake is said: make_wheel {' '.join(Path(word).name or '.' for word in words)}")
-class Wheel(Needing):
-    """The wheel."""
-
-    def test_made(self):
-        """Two wheels."""
-        for (status, output, errors), made in wheels():
-            self.check(f"a wheel is made: {output.strip()}", (0, "", 1), (status, errors, len(made)))
-
-    def test_same(self):
-        """the same wheel is made again."""
-        (_, [one]), (_, [other]) = wheels()
-        self.assertTrue(one.read_bytes() == other.read_bytes(), "they differ")
-
-    def test_named(self):
-        """the wheel is for this processor."""
-        wanted = f"vintsaky-1.0.0-py3-none-linux_{platform.machine()}.whl"
-        self.same(2 * [[wanted]], [[wheel.name for wheel in made] for _, made in wheels()])
-
-    def test_files(self):
-        """What is in it."""
-        files = files_in(wheels()[0][1][0])
-        lines = [f"{name},{hash_of(data)},{len(data)}" for name, data in files.items() if name != INFO + "RECORD"]
-        self.check("RECORD has each file", sorted([*lines, INFO + "RECORD,,"]), sorted(files[INFO + "RECORD"].decode().splitlines()))
-        sources = {f"vintsaky/{path.name}": path.read_bytes() for path in (PACKAGE / "vintsaky").iterdir() if path.is_file()}
-        wanted = {**sources, "vintsaky/libvintsaky.so.1": LIBRARY.read_bytes()}
-        packed = {name: data for name, data in files.items() if name.startswith("vintsaky/")}
-        differing = sorted(name for name in {*wanted, *packed} if wanted.get(name) != packed.get(name))
-        self.check("the package and the library are in it", [], differing)
-        said = files[INFO + "METADATA"].decode()
-        self.check("METADATA names no licence", [], [line for line in said.splitlines() if "licen" in line.lower()])
-
-    def row(self, words):
-        status, output, errors = run([sys.executable, PACKAGE / "make_wheel", *words], cwd=self.room())
-        self.same((2 if len(words) < 2 else 1, "", 1), (status, output, errors.count("\n")))
-
-
-class Installed(Needing):
-    """the wheel, installed. The library in it is taken before any other."""
-
-    @classmethod
-    def setUpClass(cls):
-        super().setUpClass()
-        if not (importlib.util.find_spec("venv") and importlib.util.find_spec("ensurepip")):
-            raise SkipTest("there is no venv")
-        status, _, errors = run([sys.executable, "-m", "venv", ROOM / "venv"])
-        if status:
-            raise SkipTest(f"no environment can be made: {errors.strip()[-100:]}")
-
-    def test_installed(self):
-        """An environment of its own."""
-        python, ((_, [wheel]), _) = ROOM / "venv/bin/python", wheels()
-        words = ["--no-index", "--disable-pip-version-check", "--no-compile", "-q", wheel]
-        self.check("the wheel is installed", (0, "", ""), tuple(run([python, "-m", "pip", "install", *words], cwd=ROOM)))
-        self.check("nothing is missing there", 0, run([python, "-m", "pip", "check"], cwd=ROOM).status)
-        environment = {name: value for name, value in os.environ.items() if name != "PYTHONPATH"}
-        environment["VINTSAKY_LIBRARY"] = "/nothing"
-        text = "import vintsaky; g = vintsaky.Game(2); g.play('b', 'A1'); print(g); print(vintsaky.__file__)"
-        where = next((ROOM / "venv").glob("lib/python*/site-packages/vintsaky/__init__.py"), None)
-        wanted = (0, f". . 2\nX . 1\nA B\ncaptures B 0 W 0\n{where}\n", "")
-        self.check("the package is imported there", wanted, tuple(run([python, "-c", text], cwd=ROOM, env=environment)))
 
 
 # ---- games
@@ -322,15 +197,12 @@ def by_steps(vintsaky, steps, name, data):
 
 
 def odd_steps(vintsaky, seed):
-    """The first call of a drawn list that returns something else than the reference's, or None. What isn't ASCII is refused."""
+    """The first call of a drawn list that returns something else than the reference's, or None."""
     rule, calls = stepped.drawn(seed, random.Random(seed))
     steps = vintsaky.Steps(vintsaky.KoRule.SIMPLE if rule == rules.SIMPLE else vintsaky.KoRule.POSITIONAL)
     for name, data, wanted in calls:
-        try:
-            got = by_steps(vintsaky, steps, name, data)
-        except ValueError as problem:
-            got = str(problem)
-        if got != wanted and (name == "feed" or data.isascii() or "not ASCII" not in got or wanted.startswith("done")):
+        got = by_steps(vintsaky, steps, name, data)
+        if got != wanted:
             return name, data, wanted, got
     return None
 
@@ -398,6 +270,14 @@ class Conversations(Needing):
 class Authors(Needing):
     """Engines of other authors."""
 
+    def test_own_command(self):
+        """an engine serves on after a wrong answer of an own command, of which standard error says what is wrong."""
+        program = self.room() / "engine.py"
+        program.write_text(ANSWERS)
+        _, line, errors = twogtp(f"{sys.executable} {program}", "bin/gtp_engine --policy first", "--size", "5", "--max-moves", "4")
+        said = "Engine: the command bad: its answer is wrong: text: 5 is neither str nor bytes\n"
+        self.same(("game 1: limit moves 4 restarts 0 0\n", True), (line, errors.count(said) > 4))
+
     def play(self, deed):
         """What comes of a match of an engine whose `choose` does this at its second move, and again after a restart."""
         program = self.room() / "engine.py"
@@ -424,12 +304,6 @@ MATCHES = [
     Match(5, 0, "no_such_program", "cat"), Match(9, 1, "bin/gtp_engine", "cat"), Match(2, 0, "bin/gtp_engine", "bin/gtp_engine"),
 ]  # fmt: skip
 MISTAKES = ("", "9 0 cat", "26 0 cat cat", f"9 {2**32} cat cat", "x 0 cat cat", "9 0 cat ")
-
-
-@lru_cache(maxsize=None)
-def by_twogtp(match):
-    """The line that twogtp writes of a match."""
-    return match.by_twogtp()
 
 
 def played(match):

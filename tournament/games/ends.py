@@ -4,12 +4,13 @@ from typing import NamedTuple, Optional
 from . import notes, results
 from .output import Mistake
 
-FORFEITS = [f"forfeit ({it})" for it in results.FORFEITS]
+FORFEIT = "forfeit "  # how each way begins in which a side forfeits
+FORFEITS = [f"{FORFEIT}({it})" for it in results.FORFEITS]  # those of twogtp; a server may have others
 
 
 class End(NamedTuple):
     """How a game ended: the side that won and the one that is to blame, Black 0 and White 1, and in which way: `late` is abandoned, since
-    an answer was late."""
+    an answer was late, and `time` is lost on time, by a server."""
 
     winner: Optional[int]
     blamed: Optional[int]
@@ -24,8 +25,10 @@ def end_of(verdict):
     if text[1] != "+":
         way, side = text.split(" ")
         return End(None, ("black", "white").index(side), way)
-    winner = "BW".index(text[0])
-    return End(winner, 1 - winner, f"forfeit {text[3:]}") if text[2] == "F" else End(winner, None, "R" if text[2:] == "R" else "won")
+    winner, way = "BW".index(text[0]), text[2:]
+    if way[0] in "FT":
+        return End(winner, 1 - winner, "time" if way == "T" else f"{FORFEIT}{way[1:]}")
+    return End(winner, None, "R" if way == "R" else "won")
 
 
 class Ends:

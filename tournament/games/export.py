@@ -7,7 +7,7 @@ import os
 from itertools import chain
 
 from . import notes, output, results, sgf
-from .ends import FORFEITS, Ends, losing_ways
+from .ends import FORFEIT, FORFEITS, Ends, losing_ways
 from .folder import read_plan
 from .output import Mistake
 from .plan import Share
@@ -21,7 +21,7 @@ LONGEST = 64  # characters of a machine's name
 FORMS = ("--pgn", "--csv", "--jsonl", "--sgf")
 POINTS = {0: "0-1", 1: "1-0", None: "*"}  # of the winner's side, as PGN has it: White's first
 TERMINATIONS = {**dict.fromkeys(("won", "R", "0"), "normal"), **dict.fromkeys(FORFEITS, "rules infraction"), "late": "time forfeit",
-                "abandoned": "abandoned"}  # fmt: skip
+                "time": "time forfeit", "abandoned": "abandoned"}  # fmt: skip
 
 
 class Exports:
@@ -95,12 +95,17 @@ def as_pgn(games, event):
     for row, end, _ in games:
         points = "1/2-1/2" if end.way == "0" else POINTS[end.winner]
         tags = {"Event": event, "Site": row["host"] or "?", "Date": "????.??.??", "Round": row["seed"], "White": row["white"],
-                "Black": row["black"], "Result": points, "Termination": TERMINATIONS.get(end.way, "unterminated"),
+                "Black": row["black"], "Result": points, "Termination": termination(end.way),
                 "Verdict": row["verdict"], "Moves": row["moves"], "Opening": row["opening"], "BlackSeconds": row["black_seconds"],
                 "WhiteSeconds": row["white_seconds"], "BlackVersion": row["black_version"], "WhiteVersion": row["white_version"],
                 "ControllerVersion": row["twogtp_version"]}  # fmt: skip
         lines = [f'[{name} "{quoted(value)}"]' for name, value in tags.items() if value is not None]
         yield "\n".join([*lines, "", points, ""])
+
+
+def termination(way):
+    """How PGN says that a game ended in this way."""
+    return TERMINATIONS.get(way, "adjudication" if way.startswith(FORFEIT) else "unterminated")
 
 
 def quoted(value):

@@ -1,6 +1,6 @@
 """The results: what is one, and which games have one. All commands go by this.
 
-A result is a file of twogtp: the line of game 1, a line with as many moves as the line says, and under `--show` the last board. Each move is
+A result is a file of twogtp, or of a server over the library: the line of game 1, a line with as many moves as the line says, and under `--show` the last board. Each move is
 `pass` or a point of the plan's board, and a score is one that this board and komi can have. A file that has less, more or something else is
 damaged, or of another plan, and its game is to be played.
 """
@@ -14,6 +14,7 @@ from .setup import Setup
 FORFEITS = ("illegal move", "no vertex", "no move", "refused play")
 OTHERS = ("limit", "B+R", "W+R", *(f"{winner}+F({why})" for winner in "BW" for why in FORFEITS),
           *(f"{what} {side}" for what in ("unfit", "abandoned") for side in ("black", "white")))  # fmt: skip
+RULED = re.compile(rb"[BW]\+(?:T|F\([A-Za-z ]{1,20}\))")  # verdicts of a server that ended the match: for time, or for a reason of its own
 BOARD_END = re.compile(rb"captures B [0-9]+ W [0-9]+\n\n\Z")
 SHOWN = 10  # files that can't be read, of which a line says so
 PIECE = 16384  # bytes, which a result seldom has
@@ -31,10 +32,14 @@ class Rule:
         line = r"game 1: ([BWalu0][^\n]*) moves ([0-9]{1,4}) restarts ([0-9]{1,4}) ([0-9]{1,4})"
         self.whole = re.compile(f"{line}\n((?:{move}(?: {move})*)?)\n".encode())
 
+    def has(self, verdict):
+        """May a match of the plan end so?"""
+        return verdict in self.verdicts or RULED.fullmatch(verdict) is not None
+
     def parts_of(self, text):
         """The parts of a whole result. None where it isn't whole."""
         parts = self.whole.match(text)
-        if not parts or parts[1] not in self.verdicts or (parts[5].count(b" ") + 1 if parts[5] else 0) != int(parts[2]):
+        if not parts or not self.has(parts[1]) or (parts[5].count(b" ") + 1 if parts[5] else 0) != int(parts[2]):
             return None
         return parts if (BOARD_END.search(text, parts.end()) if self.has_board else parts.end() == len(text)) else None
 

@@ -36,7 +36,7 @@ def result(verdict, end):
         return "0"
     if end.winner is None:
         return "Void"
-    won = {"won": verdict[2:], "R": "R", "late": "T"}.get(end.way, "F")
+    won = {"won": verdict[2:], "R": "R", "late": "T", "time": "T"}.get(end.way, "F")
     return f"{'BW'[end.winner]}+{won}"
 
 

@@ -7,7 +7,7 @@ from collections import Counter
 from functools import lru_cache
 
 from . import output, results, scores
-from .ends import FORFEITS, Ends, losing_ways
+from .ends import FORFEIT, FORFEITS, Ends, losing_ways
 from .folder import read_plan
 from .help import HELP
 from .output import Mistake
@@ -16,7 +16,7 @@ from .sequential import Test, asked_of
 from .words import Words
 
 HAS_LOG = 4  # a game without a result, of which there is a log
-TO_LOOK_INTO = [*FORFEITS, "unfit", "abandoned", "late"]
+OTHERS_TO_LOOK_INTO = ["unfit", "abandoned", "late", "time"]
 SHOWN = 10  # groups of games that are the same
 
 
@@ -126,6 +126,8 @@ class Sums:
         for sides, ends in zip(counts.games.sides, counts.ends):
             for end, count in ends.items():
                 self.add(sides, end, count)
+        rulings = sorted({way for _, way in self.blamed if way.startswith(FORFEIT)} - set(FORFEITS))
+        self.ways = [*FORFEITS, *rulings, *OTHERS_TO_LOOK_INTO]  # in which an engine may be to blame
         self.order = sorted(self.engines, key=lambda it: -2 * self.rows[it,].won - self.rows[it,].drawn)
 
     def add(self, sides, end, count):
@@ -139,7 +141,7 @@ class Sums:
     def to_look_into(self):
         """How often each engine was to blame, and restarted: each with its way and its count."""
         for it in self.engines:
-            counts = [(way, self.blamed[it, way]) for way in TO_LOOK_INTO] + [("restarts", self.counts.restarts[it])]
+            counts = [(way, self.blamed[it, way]) for way in self.ways] + [("restarts", self.counts.restarts[it])]
             yield from ((it, way, count) for way, count in counts if count)
 
     def two(self):
@@ -198,7 +200,8 @@ class Table:
         decided = {way: self.counts.with_winner(way) for way in ("abandoned", "late")}
         lost = "".join(f", {count} {way}" for way, count in decided.items() if count)
         won = f"Black won {self.counts.won_by(0)}, White {self.counts.won_by(1)}"
-        yield f"{won}; {ended('R')} by resignation, {ended(*FORFEITS)} by forfeit{lost}"
+        forfeits, on_time = self.counts.sum(lambda end: end.way.startswith(FORFEIT)), ended("time")
+        yield f"{won}; {ended('R')} by resignation, {forfeits} by forfeit{f', {on_time} on time' if on_time else ''}{lost}"
         left, late = (ended(way) - decided[way] for way in ("abandoned", "late"))
         nobody = f"{ended('0')} drawn, {ended('limit')} at the limit of moves, {ended('unfit')} unfit, {left} abandoned"
         yield f"no winner: {nobody}{f', {late} late' if late else ''}"

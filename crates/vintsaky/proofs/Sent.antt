@@ -57,6 +57,10 @@ use Rattle.gtp_match.specs.contracts.retakes.Retakes.TheInside as retakes_fields
 use Rattle.gtp_match.specs.contracts.controller.Controller as controller_type
 use Rattle.gtp_match.specs.contracts.matches.Match as match_type
 use Rattle.gtp_match.specs.contracts.matches.Match.TheInside as match_fields
+use Rattle.gtp_referee.specs.contracts.rulings.Ruling as ruling_type
+use Rattle.gtp_referee.specs.contracts.rulings.Ruled as ruled_type
+use Rattle.gtp_referee.specs.contracts.refereed.RefereedMatch as refereed_type
+use Rattle.gtp_referee.specs.contracts.refereed.RefereedMatch.TheInside as refereed_fields
 use Rattle.gtp_session.specs.contracts.events.Wait as wait_type
 use Rattle.gtp_session.specs.contracts.own_commands.OwnName as own_name_type
 use Rattle.gtp_session.specs.contracts.own_commands.OwnName.TheInside as own_name_fields
@@ -244,8 +248,22 @@ controller = declared_send controller_type.the_type (search (of_fields, setup, g
 match_inside : IsSend match_fields.the_row
 match_inside = declared_send match_fields.the_type (search (of_fields, controller, reply) depth 20)
 
-pub match : IsSend match_type.the_row
+match : IsSend match_type.the_row
 match = search (of_fields, match_inside) depth 20
+
+-- ---- gtp_referee
+
+ruling : IsSend ruling_type.the_row
+ruling = search of_fields depth 20
+
+ruled : IsSend ruled_type.the_row
+ruled = declared_send ruled_type.the_type (search (of_fields, colour, ruling) depth 20)
+
+refereed_inside : IsSend refereed_fields.the_row
+refereed_inside = declared_send refereed_fields.the_type (search (of_fields, match, ruled) depth 20)
+
+pub refereed : IsSend refereed_type.the_row
+refereed = search (of_fields, refereed_inside) depth 20
 
 -- ---- gtp_session
 

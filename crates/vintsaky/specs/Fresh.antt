@@ -2,9 +2,9 @@
 use Rattle.std.specs.Prelude.{pos}
 use Rattle.go_board.specs.Game.{GameRecord, fresh_game_under}
 use Rattle.go_board.specs.declared.rules.KoRule.TheVariants.{Simple}
-use Rattle.gtp_match.specs.Controller as controller
 use Rattle.gtp_match.specs.Setup.{setup_of}
-use Rattle.gtp_match.specs.declared.controller.Controller.{Controller}
+use Rattle.gtp_referee.specs.Refereed as referee
+use Rattle.gtp_referee.specs.Refereed.{Refereed}
 use Rattle.gtp_session.specs.Steps.{StepsState, fresh_steps}
 
 -- size 19, no komi, simple ko
@@ -15,6 +15,6 @@ fresh_game = fresh_game_under Simple
 abbrev pub fresh_engine : StepsState
 fresh_engine = fresh_steps Simple
 
--- size 19, no komi, no handicap, 2,000 moves at most, no restart
-abbrev pub fresh_match : Controller
-fresh_match = controller.new (setup_of 19 (pos 0) 0 2000 0)
+-- size 19, no komi, no handicap, 2,000 moves at most, no restart, no ruling
+abbrev pub fresh_match : Refereed
+fresh_match = referee.new (setup_of 19 (pos 0) 0 2000 0)

@@ -9,16 +9,19 @@ use Rattle.gtp_wire.proofs.line_reading.OneAfterOther.{lines_anew}
 use Rattle.gtp_wire.specs.Lines.{lines}
 use Rattle.gtp_wire.specs.declared.lines.Line.{Line}
 use Rattle.gtp_match.specs.Controller.{sent, next_text}
-use Rattle.gtp_match.specs.Next.{next}
+use Rattle.gtp_match.specs.Next as going
 use Rattle.gtp_match.specs.Sides.{side_of}
 use Rattle.gtp_match.specs.Sound.{IsSound}
 use Rattle.gtp_match.specs.declared.controller.Controller.{Controller}
 use Rattle.gtp_match.specs.declared.sides.EngineRun.{EngineRun}
 use Rattle.gtp_match.specs.declared.sides.SideState.{SideState}
 use Rattle.gtp_match.specs.declared.unanswered.SentCommand.{SentCommand}
+use Rattle.gtp_match.specs.declared.verdicts.Action.{Action}
 use Rattle.gtp_match.specs.declared.verdicts.Action.TheVariants as action
 use Rattle.gtp_match.proofs.hearing.LeftAlone.{send_leaves, sent_is_owed}
 use Rattle.gtp_match.proofs.scripts.Lines.{sent_line}
+use Rattle.gtp_referee.specs.Refereed.{Refereed, next_where}
+use Rattle.gtp_referee.specs.declared.rulings.Ruled.{Ruled}
 use Rattle.vintsaky_calls.specs.Laws.{unanswered_by, unanswered_of, WroteOneMore, SentWereWritten, WrittenWereSent}
 use Rattle.vintsaky_calls.specs.Matches.{most_command, Sends}
 use Rattle.vintsaky_calls.specs.Texts.{Puts}
@@ -37,12 +40,16 @@ first_line text line later one =
     ap lines (append_assoc text (10 ∷ []) later) ∙ lines_anew text later
     ∙ ap (λ (first : List Line). first ++ lines later) one
 
+-- what a side of the match itself has unanswered
+abbrev unanswered_in : Controller → Colour → List SentCommand
+unanswered_in c side = unanswered_by (side_of c.sides side).up
+
 -- the side that is sent the command
 at_side : (c : Controller) (s : Colour) (up : Option EngineRun) (text before after : List ℕ) (count : ℕ)
-    → (side_of c.sides s).up ≡ up → IsSound c → next c ≡ action.Send s
+    → (side_of c.sides s).up ≡ up → IsSound c → going.next c ≡ action.Send s
     → MatchOption up ⊥ (λ engine. text ≡ next_text c s engine) → Puts text before after
     → most_command < length before → count ≡ length text
-    → WroteOneMore (unanswered_of c s) (unanswered_of (sent c s) s) after count
+    → WroteOneMore (unanswered_in c s) (unanswered_in (sent c s) s) after count
 at_side c s None text before after count up sound due is puts room counted = absurd is
 at_side c s (Some engine) text before after count up sound due is puts room counted =
     let owes = sent_is_owed c s engine sound due up in
@@ -60,38 +67,47 @@ at_side c s (Some engine) text before after count up sound due is puts room coun
 -- either side
 abbrev Leaves : Controller → Colour → Colour → List ℕ → ℕ → Type 0
 Leaves c s side after count =
-    (unanswered_of (sent c s) side ≡ unanswered_of c side)
-    ⊎ WroteOneMore (unanswered_of c side) (unanswered_of (sent c s) side) after count
+    (unanswered_in (sent c s) side ≡ unanswered_in c side)
+    ⊎ WroteOneMore (unanswered_in c side) (unanswered_in (sent c s) side) after count
 
 by_side : (c : Controller) (s side : Colour) (after : List ℕ) (count : ℕ)
-    → WroteOneMore (unanswered_of c s) (unanswered_of (sent c s) s) after count → Leaves c s side after count
+    → WroteOneMore (unanswered_in c s) (unanswered_in (sent c s) s) after count → Leaves c s side after count
 by_side c Black Black after count wrote = inr wrote
 by_side c White White after count wrote = inr wrote
 by_side c Black White after count wrote = inl (ap (λ (side : SideState). unanswered_by side.up) (send_leaves c Black))
 by_side c White Black after count wrote = inl (ap (λ (side : SideState). unanswered_by side.up) (send_leaves c White))
 
-where_sent : (old new : Controller) (number : ℕ) (before after : List ℕ) (count : ℕ) (side : Colour) → IsSound old
-    → Sends old number before after count new
+-- what is due to a match with a referee is due to the match in it: there is no ruling
+due_in_match : (c : Controller) (ruled : Option Ruled) (due : Action) → next_where c ruled ≡ Some due
+    → going.next c ≡ due
+due_in_match c None due e = cc
+due_in_match c (Some given) due e = cc
+
+wrote_more : (old new : Refereed) (number : ℕ) (before after : List ℕ) (count : ℕ) → IsSound old.controller
+    → (sends : Sends old number before after count new)
+    → WroteOneMore (unanswered_of old sends.side) (unanswered_in (sent old.controller sends.side) sends.side) after count
+wrote_more old new number before after count sound sends =
+    at_side old.controller sends.side _ sends.text before after count refl sound
+    (due_in_match old.controller old.ruled (action.Send sends.side) sends.due) sends.is sends.puts sends.room sends.count_is
+
+where_sent : (old new : Refereed) (number : ℕ) (before after : List ℕ) (count : ℕ) (side : Colour)
+    → IsSound old.controller → Sends old number before after count new
     → (unanswered_of new side ≡ unanswered_of old side)
     ⊎ WroteOneMore (unanswered_of old side) (unanswered_of new side) after count
 where_sent old new number before after count side sound sends =
     rw sends.new_is
-    (by_side old sends.side side after count
-    (at_side old sends.side _ sends.text before after count refl sound sends.due sends.is sends.puts sends.room
-    sends.count_is))
+    (by_side old.controller sends.side side after count (wrote_more old new number before after count sound sends))
 
 pub were_sent : WrittenWereSent
 were_sent number old new text_old text_new count_old count_new sound did =
     let sends = did.sent in (
       sends.side,
       sends.number_is,
-      rw sends.new_is
-          (at_side old sends.side _ sends.text text_old text_new count_new refl sound sends.due sends.is sends.puts
-          sends.room sends.count_is),
+      rw sends.new_is (wrote_more old new number text_old text_new count_new sound sends),
     )
 
 pub were_written : SentWereWritten
 were_written number old new text_old text_new count_old count_new (Ok done) side sound did =
     where_sent old new number text_old text_new count_new side sound did.sent
 were_written number old new text_old text_new count_old count_new (Err why) side sound did =
-    inl (ap (λ (c : Controller). unanswered_of c side) did.kept.0)
+    inl (ap (λ (r : Refereed). unanswered_of r side) did.kept.0)

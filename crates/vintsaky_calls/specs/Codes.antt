@@ -96,6 +96,8 @@ cause_code cause.NoLine = 31
 cause_code cause.BadCommand = 32
 cause_code cause.BadId = 33
 cause_code cause.Down = 34
+cause_code cause.IsOver = 35
+cause_code cause.BadReason = 36
 
 -- the number stands for no cause
 abbrev pub NoCause : ℕ → Type 0

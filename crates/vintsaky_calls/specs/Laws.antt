@@ -11,9 +11,9 @@ use Rattle.gtp_wire.specs.Words.{CommandWords, id_words, is_written_word, most_l
 use Rattle.gtp_wire.specs.declared.lines.Line.TheVariants as line
 use Rattle.gtp_match.specs.Sides.{side_of}
 use Rattle.gtp_match.specs.Sound.{IsSound}
-use Rattle.gtp_match.specs.declared.controller.Controller.{Controller}
 use Rattle.gtp_match.specs.declared.sides.EngineRun.{EngineRun}
 use Rattle.gtp_match.specs.declared.unanswered.SentCommand.{SentCommand}
+use Rattle.gtp_referee.specs.Refereed.{Refereed}
 use Rattle.gtp_session.specs.Steps.{StepsState, IsOpen}
 use Rattle.gtp_session.specs.declared.events.Wait.TheVariants as wait
 use Rattle.vintsaky_calls.specs.Codes.{CallResult, colour_code}
@@ -27,8 +27,8 @@ unanswered_by None = []
 unanswered_by (Some engine) = engine.unanswered
 
 -- what a side has unanswered: nothing, where it is down
-abbrev pub unanswered_of : Controller → Colour → List SentCommand
-unanswered_of c side = unanswered_by (side_of c.sides side).up
+abbrev pub unanswered_of : Refereed → Colour → List SentCommand
+unanswered_of r side = unanswered_by (side_of r.controller.sides side).up
 
 -- One command more is unanswered, and the first bytes of the buffer are its line: whatever is written after them, this
 -- line comes first, and then those of what follows.
@@ -42,15 +42,15 @@ pub record WroteOneMore (before after : List SentCommand) (text : List ℕ) (cou
 -- more, which stands in the buffer.
 abbrev pub SentWereWritten : Type 0
 SentWereWritten =
-    (number : ℕ) (old new : Controller) (text_old text_new : List ℕ) (count_old count_new : ℕ) (made : CallResult)
-    (side : Colour) → IsSound old → SendCall number old new text_old text_new count_old count_new made
+    (number : ℕ) (old new : Refereed) (text_old text_new : List ℕ) (count_old count_new : ℕ) (made : CallResult)
+    (side : Colour) → IsSound old.controller → SendCall number old new text_old text_new count_old count_new made
     → (unanswered_of new side ≡ unanswered_of old side)
     ⊎ WroteOneMore (unanswered_of old side) (unanswered_of new side) text_new count_new
 
 -- What was written counts as sent: where `send` succeeds, the side of its number has one command more unanswered.
 abbrev pub WrittenWereSent : Type 0
 WrittenWereSent =
-    (number : ℕ) (old new : Controller) (text_old text_new : List ℕ) (count_old count_new : ℕ) → IsSound old
+    (number : ℕ) (old new : Refereed) (text_old text_new : List ℕ) (count_old count_new : ℕ) → IsSound old.controller
     → SendCall number old new text_old text_new count_old count_new (Ok tt)
     → (side : Colour) × (number ≡ colour_code side)
     × WroteOneMore (unanswered_of old side) (unanswered_of new side) text_new count_new

@@ -1,8 +1,7 @@
--- The calls of a match.
+-- The calls of a match, which a referee may end.
 use Rattle.std.specs.Prelude.{◌≡◌, ◌≢◌, ℕ, ℤ, pos, Bool, List, [], ◌∷◌, ◌++◌, ◌<◌, ◌≤◌, length}
 use Rattle.std.specs.Prelude.{Option, Some, None, MatchOption, OnOk, OnErr, IfErr, if◌then◌else◌}
 use Rattle.std.specs.List.{join_with_byte}
-use Rattle.std.specs.Option.{option_to_list}
 use Rattle.go_base.specs.Bytes.{space}
 use Rattle.go_base.specs.Int.{written_int}
 use Rattle.go_base.specs.Komi.{IsKomi}
@@ -11,7 +10,6 @@ use Rattle.go_base.specs.declared.colours.Colour.{Colour}
 use Rattle.go_board.specs.declared.faults.PlayFault.{PlayFault}
 use Rattle.go_board.specs.declared.faults.PlayFault.TheVariants as play_fault
 use Rattle.gtp_wire.specs.Commands.{words_of}
-use Rattle.gtp_match.specs.declared.controller.Controller.{Controller}
 use Rattle.gtp_match.specs.declared.losses.Loss.{Loss}
 use Rattle.gtp_match.specs.declared.losses.LossCause.{LossCause}
 use Rattle.gtp_match.specs.declared.losses.LossCause.TheVariants as loss
@@ -28,25 +26,27 @@ use Rattle.gtp_match.specs.declared.verdicts.ForfeitCause.TheVariants as forfeit
 use Rattle.gtp_match.specs.declared.verdicts.Verdict.{Verdict}
 use Rattle.gtp_match.specs.declared.verdicts.Verdict.TheVariants as verdict
 use Rattle.gtp_match.specs.Controller as controller
-use Rattle.gtp_match.specs.Hearing.{HearsAllExactly}
-use Rattle.gtp_match.specs.Losing.{HearsAllReporting, owed}
-use Rattle.gtp_match.specs.Next.{next}
-use Rattle.gtp_match.specs.ResultLine.{result_text}
-use Rattle.gtp_match.specs.Retaking.{HearsAllRetakes}
 use Rattle.gtp_match.specs.Setup.{SetupRecord, IsSetup, RefusesSetup}
 use Rattle.gtp_match.specs.Sides.{side_of, restarts}
 use Rattle.gtp_match.specs.Unanswered.{has_genmove}
+use Rattle.gtp_referee.specs.Refereed as referee
+use Rattle.gtp_referee.specs.Refereed.{Refereed, GoesOn, next, owed}
+use Rattle.gtp_referee.specs.ResultLine.{line_of}
+use Rattle.gtp_referee.specs.declared.rulings.Ruled.{Ruled}
+use Rattle.gtp_referee.specs.declared.rulings.Ruling.{Ruling}
+use Rattle.gtp_referee.specs.declared.rulings.Ruling.TheVariants as ruling
+use Rattle.gtp_referee.specs.declared.rulings.RulingFault.TheVariants as ruling_fault
 use Rattle.vintsaky_calls.specs.Codes.{colour_code, NoColour, CallResult}
 use Rattle.vintsaky_calls.specs.Texts.{Puts}
 use Rattle.vintsaky_calls.specs.declared.causes.Cause.{Cause}
 use Rattle.vintsaky_calls.specs.declared.causes.Cause.TheVariants as cause
 
--- a match of these values has not begun
-pub record BeginsMatch (setup : SetupRecord) (new : Controller) : Type 0 where
+-- a match of these values has not begun, and has no ruling
+pub record BeginsMatch (setup : SetupRecord) (new : Refereed) : Type 0 where
   pub size : IsSize setup.size
   pub komi : IsKomi setup.komi
   pub is : IsSetup setup
-  pub new_is : new ≡ controller.new setup
+  pub new_is : new ≡ referee.new setup
 
 -- why it isn't begun: the first value that is out of its limits
 abbrev pub RefusesMatch : SetupRecord → Cause → Type 0
@@ -61,7 +61,7 @@ RefusesMatch setup cause.BadMaxRestarts =
 RefusesMatch setup _ = ⊥
 
 -- A match is begun anew; or it stays as it was, for a cause.
-pub record BeginCall (setup : SetupRecord) (old new : Controller) (made : CallResult) : Type 0 where
+pub record BeginCall (setup : SetupRecord) (old new : Refereed) (made : CallResult) : Type 0 where
   pub begun : OnOk made (BeginsMatch setup new)
   pub kept : OnErr made (new ≡ old)
   pub why : IfErr made (RefusesMatch setup)
@@ -80,10 +80,19 @@ action_side (action.Send side) = colour_code side
 action_side (action.Wait side) = colour_code side
 action_side (action.Done verdict) = 0
 
+-- the same where a ruling may have ended the match: nothing is to be done then
+abbrev pub next_code : Option Action → ℕ
+next_code None = 4
+next_code (Some due) = action_code due
+
+abbrev pub next_side : Option Action → ℕ
+next_side None = 0
+next_side (Some due) = action_side due
+
 -- what is to be done next, and with which side
-pub record NextCall (c : Controller) (number side : ℕ) : Type 0 where
-  pub action : number ≡ action_code (next c)
-  pub side_is : side ≡ action_side (next c)
+pub record NextCall (r : Refereed) (number side : ℕ) : Type 0 where
+  pub action : number ≡ next_code (next r)
+  pub side_is : side ≡ next_side (next r)
 
 -- the number is that of a side, of which this holds
 pub record IsSide (number : ℕ) (Holds : Colour → Type 0) : Type 0 where
@@ -92,54 +101,55 @@ pub record IsSide (number : ℕ) (Holds : Colour → Type 0) : Type 0 where
   pub holds : Holds side
 
 -- a side was started, as was to be done
-abbrev pub Starts : Controller → ℕ → Controller → Type 0
+abbrev pub Starts : Refereed → ℕ → Refereed → Type 0
 Starts old number new =
-    IsSide number (λ side. (next old ≡ action.Start side) × (new ≡ controller.started old side))
+    IsSide number (λ side. (next old ≡ Some (action.Start side)) × (new ≡ referee.started old side))
 
 -- why it wasn't: the number is no side, or something else is next
-abbrev pub RefusesStart : Controller → ℕ → Cause → Type 0
+abbrev pub RefusesStart : Refereed → ℕ → Cause → Type 0
 RefusesStart old number cause.BadColour = NoColour number
-RefusesStart old number cause.NotNext = IsSide number (λ side. next old ≢ action.Start side)
+RefusesStart old number cause.NotNext = IsSide number (λ side. next old ≢ Some (action.Start side))
 RefusesStart old number _ = ⊥
 
 -- A side was started; or the match stays as it was, for a cause.
-pub record StartedCall (side : ℕ) (old new : Controller) (made : CallResult) : Type 0 where
+pub record StartedCall (side : ℕ) (old new : Refereed) (made : CallResult) : Type 0 where
   pub started : OnOk made (Starts old side new)
   pub kept : OnErr made (new ≡ old)
   pub why : IfErr made (RefusesStart old side)
 
 -- the text of the next command for a side
-abbrev pub IsNextText : Controller → Colour → List ℕ → Type 0
+abbrev pub IsNextText : Refereed → Colour → List ℕ → Type 0
 IsNextText old side bytes =
-    MatchOption (side_of old.sides side).up ⊥ (λ engine. bytes ≡ controller.next_text old side engine)
+    MatchOption (side_of old.controller.sides side).up ⊥
+    (λ engine. bytes ≡ controller.next_text old.controller side engine)
 
 -- the most bytes of a command's line
 abbrev pub most_command : ℕ
 most_command = 64
 
 -- the next command is put into the caller's buffer, and counts as sent
-pub record Sends (old : Controller) (number : ℕ) (before after : List ℕ) (count : ℕ) (new : Controller)
+pub record Sends (old : Refereed) (number : ℕ) (before after : List ℕ) (count : ℕ) (new : Refereed)
     : Type 0 where
   pub side : Colour
   pub number_is : number ≡ colour_code side
-  pub due : next old ≡ action.Send side
+  pub due : next old ≡ Some (action.Send side)
   pub room : most_command < length before
-  pub new_is : new ≡ controller.sent old side
+  pub new_is : new ≡ referee.sent old side
   pub text : List ℕ
   pub is : IsNextText old side text
   pub puts : Puts text before after
   pub count_is : count ≡ length text
 
 -- why it isn't: the number is no side, something else is next, or the buffer may be too short
-abbrev pub RefusesSend : Controller → ℕ → List ℕ → Cause → Type 0
+abbrev pub RefusesSend : Refereed → ℕ → List ℕ → Cause → Type 0
 RefusesSend old number before cause.BadColour = NoColour number
-RefusesSend old number before cause.NotNext = IsSide number (λ side. next old ≢ action.Send side)
+RefusesSend old number before cause.NotNext = IsSide number (λ side. next old ≢ Some (action.Send side))
 RefusesSend old number before cause.NoRoom =
-    IsSide number (λ side. next old ≡ action.Send side) × (length before ≤ most_command)
+    IsSide number (λ side. next old ≡ Some (action.Send side)) × (length before ≤ most_command)
 RefusesSend old number before _ = ⊥
 
 -- The next command is written and counts as sent; or the match stays as it was, and nothing is written, for a cause.
-pub record SendCall (side : ℕ) (old new : Controller) (text_old text_new : List ℕ) (count_old count_new : ℕ)
+pub record SendCall (side : ℕ) (old new : Refereed) (text_old text_new : List ℕ) (count_old count_new : ℕ)
     (made : CallResult) : Type 0 where
   pub sent : OnOk made (Sends old side text_old text_new count_new new)
   pub kept : OnErr made ((new ≡ old) × (text_new ≡ text_old) × (count_new ≡ count_old))
@@ -179,23 +189,17 @@ abbrev pub loss_code : Option Loss → ℕ
 loss_code None = 0
 loss_code (Some lost) = loss_cause_code lost.cause
 
--- All that a side wrote is heard, and the first loss by it is this one.
-pub record HearsLoss (side : Colour) (old : Controller) (bytes : List ℕ) (lost : Option Loss) (new : Controller)
-    : Type 0 where
-  pub fault : Option SideFault
-  pub heard : HearsAllExactly side old bytes fault new
-  pub reported : HearsAllReporting side old bytes lost new
-
--- what a side wrote is heard
-pub record Hears (old : Controller) (number : ℕ) (bytes : List ℕ) (shown : ℕ) (new : Controller) : Type 0 where
+-- what a side wrote is heard, and its loss is shown
+pub record Hears (old : Refereed) (number : ℕ) (bytes : List ℕ) (shown : ℕ) (new : Refereed) : Type 0 where
   pub side : Colour
   pub lost : Option Loss
+  pub retaken : Option Retake
   pub number_is : number ≡ colour_code side
   pub shown_is : shown ≡ loss_code lost
-  pub heard : HearsLoss side old bytes lost new
+  pub heard : referee.Hears side old bytes lost retaken new
 
 -- Bytes of a side are heard, and its loss is shown; or the number is no side, the match stays, and nothing is written.
-pub record HearCall (side : ℕ) (bytes : List ℕ) (old new : Controller) (loss_old loss_new : ℕ) (made : CallResult)
+pub record HearCall (side : ℕ) (bytes : List ℕ) (old new : Refereed) (loss_old loss_new : ℕ) (made : CallResult)
     : Type 0 where
   pub heard : OnOk made (Hears old side bytes loss_new new)
   pub kept : OnErr made ((new ≡ old) × (loss_new ≡ loss_old))
@@ -251,26 +255,18 @@ pub record PutsOwed (owes : Owed) (old new : OwedOut) : Type 0 where
   pub wrote : Puts owes.bytes.items old.wrote new.wrote
   pub wrote_count_is : new.wrote_count ≡ length owes.bytes.items
 
--- Bytes of this side are heard, and the first loss and the retake by them are reported.
-pub record HearsReport (old : Controller) (number : ℕ) (bytes : List ℕ) (lost : Option Loss) (retaken : Option Retake)
-    (new : Controller) : Type 0 where
-  pub side : Colour
-  pub number_is : number ≡ colour_code side
-  pub heard : HearsLoss side old bytes lost new
-  pub retakes : HearsAllRetakes side old bytes (option_to_list retaken) new
-
 -- What is reported of bytes that are heard is written: the loss, the retake, and what the side owed at it.
-pub record ReportsHeard (side : ℕ) (bytes : List ℕ) (old new : Controller) (loss retake : ℕ) (out_old out_new : OwedOut)
+pub record ReportsHeard (side : ℕ) (bytes : List ℕ) (old new : Refereed) (loss retake : ℕ) (out_old out_new : OwedOut)
     : Type 0 where
   pub lost : Option Loss
   pub retaken : Option Retake
-  pub heard : HearsReport old side bytes lost retaken new
+  pub heard : IsSide side (λ s. referee.Hears s old bytes lost retaken new)
   pub loss_is : loss ≡ loss_code lost
   pub retake_is : retake ≡ retake_code retaken
   pub owed : PutsOwed (reported_owed lost retaken) out_old out_new
 
 -- Bytes of a side are heard and reported; or the number is no side, the match stays, and nothing is written.
-pub record HearReportingCall (side : ℕ) (bytes : List ℕ) (old new : Controller) (loss_old loss_new : ℕ)
+pub record HearReportingCall (side : ℕ) (bytes : List ℕ) (old new : Refereed) (loss_old loss_new : ℕ)
     (retake_old retake_new : ℕ) (out_old out_new : OwedOut) (made : CallResult) : Type 0 where
   pub heard : OnOk made (ReportsHeard side bytes old new loss_new retake_new out_old out_new)
   pub kept : OnErr made
@@ -278,61 +274,61 @@ pub record HearReportingCall (side : ℕ) (bytes : List ℕ) (old new : Controll
   pub why : IfErr made (λ why. (why ≡ cause.BadColour) × NoColour side)
 
 -- why what a side owes isn't written: the number is no side, or nothing is known of what that side owes
-abbrev pub LacksOwed : Controller → ℕ → Cause → Type 0
-LacksOwed c number cause.BadColour = NoColour number
-LacksOwed c number cause.Down = IsSide number (λ side. owed c side ≡ None)
-LacksOwed c number _ = ⊥
+abbrev pub LacksOwed : Refereed → ℕ → Cause → Type 0
+LacksOwed r number cause.BadColour = NoColour number
+LacksOwed r number cause.Down = IsSide number (λ side. owed r side ≡ None)
+LacksOwed r number _ = ⊥
 
 -- the number is that of a side, and what that side owes is written
-abbrev pub WritesOwed : Controller → ℕ → OwedOut → OwedOut → Type 0
-WritesOwed c number old new =
-    IsSide number (λ side. MatchOption (owed c side) ⊥ (λ owes. PutsOwed owes old new))
+abbrev pub WritesOwed : Refereed → ℕ → OwedOut → OwedOut → Type 0
+WritesOwed r number old new =
+    IsSide number (λ side. MatchOption (owed r side) ⊥ (λ owes. PutsOwed owes old new))
 
 -- What a side owes is written; or nothing is, for a cause.
-pub record OwedCall (c : Controller) (side : ℕ) (old new : OwedOut) (made : CallResult) : Type 0 where
-  pub written : OnOk made (WritesOwed c side old new)
+pub record OwedCall (r : Refereed) (side : ℕ) (old new : OwedOut) (made : CallResult) : Type 0 where
+  pub written : OnOk made (WritesOwed r side old new)
   pub kept : OnErr made (new ≡ old)
-  pub why : IfErr made (LacksOwed c side)
+  pub why : IfErr made (LacksOwed r side)
 
 -- the side is up, with these numbers
-pub record HasStatus (c : Controller) (number confirmed unanswered asked : ℕ) : Type 0 where
+pub record HasStatus (r : Refereed) (number confirmed unanswered asked : ℕ) : Type 0 where
   pub side : Colour
   pub engine : EngineRun
   pub number_is : number ≡ colour_code side
-  pub up : (side_of c.sides side).up ≡ Some engine
+  pub up : (side_of r.controller.sides side).up ≡ Some engine
   pub confirmed_is : confirmed ≡ engine.confirmed
   pub unanswered_is : unanswered ≡ length engine.unanswered
   pub asked_is : asked ≡ bool_code (has_genmove engine.unanswered)
 
 -- why it has none: the number is no side, or the side is down
-abbrev pub LacksStatus : Controller → ℕ → Cause → Type 0
-LacksStatus c number cause.BadColour = NoColour number
-LacksStatus c number cause.Down = IsSide number (λ side. (side_of c.sides side).up ≡ None)
-LacksStatus c number _ = ⊥
+abbrev pub LacksStatus : Refereed → ℕ → Cause → Type 0
+LacksStatus r number cause.BadColour = NoColour number
+LacksStatus r number cause.Down = IsSide number (λ side. (side_of r.controller.sides side).up ≡ None)
+LacksStatus r number _ = ⊥
 
 -- How far a side is up is written; or nothing is, for a cause.
-pub record StatusCall (c : Controller) (side confirmed_old confirmed_new unanswered_old unanswered_new : ℕ)
+pub record StatusCall (r : Refereed) (side confirmed_old confirmed_new unanswered_old unanswered_new : ℕ)
     (asked_old asked_new : ℕ) (made : CallResult) : Type 0 where
-  pub found : OnOk made (HasStatus c side confirmed_new unanswered_new asked_new)
+  pub found : OnOk made (HasStatus r side confirmed_new unanswered_new asked_new)
   pub kept : OnErr made
       ((confirmed_new ≡ confirmed_old) × (unanswered_new ≡ unanswered_old) × (asked_new ≡ asked_old))
-  pub why : IfErr made (LacksStatus c side)
+  pub why : IfErr made (LacksStatus r side)
 
 -- A side is lost; or the number is no side, and the match stays as it was.
-pub record LostCall (side : ℕ) (old new : Controller) (made : CallResult) : Type 0 where
-  pub lost : OnOk made (IsSide side (λ s. new ≡ controller.lost old s))
+pub record LostCall (side : ℕ) (old new : Refereed) (made : CallResult) : Type 0 where
+  pub lost : OnOk made (IsSide side (λ s. new ≡ referee.lost old s))
   pub kept : OnErr made (new ≡ old)
   pub why : IfErr made (λ why. (why ≡ cause.BadColour) × NoColour side)
 
 -- Whether a side is in step is written; or the number is no side, and nothing is written.
-pub record InStepCall (c : Controller) (side old new : ℕ) (made : CallResult) : Type 0 where
-  pub found : OnOk made (IsSide side (λ s. new ≡ bool_code (controller.in_step c s)))
+pub record InStepCall (r : Refereed) (side old new : ℕ) (made : CallResult) : Type 0 where
+  pub found : OnOk made (IsSide side (λ s. new ≡ bool_code (controller.in_step r.controller s)))
   pub kept : OnErr made (new ≡ old)
   pub why : IfErr made (λ why. (why ≡ cause.BadColour) × NoColour side)
 
 -- How often a side was started again is written; or the number is no side, and nothing is written.
-pub record RestartsCall (c : Controller) (side old new : ℕ) (made : CallResult) : Type 0 where
-  pub found : OnOk made (IsSide side (λ s. new ≡ restarts (side_of c.sides s)))
+pub record RestartsCall (r : Refereed) (side old new : ℕ) (made : CallResult) : Type 0 where
+  pub found : OnOk made (IsSide side (λ s. new ≡ restarts (side_of r.controller.sides s)))
   pub kept : OnErr made (new ≡ old)
   pub why : IfErr made (λ why. (why ≡ cause.BadColour) × NoColour side)
 
@@ -371,31 +367,65 @@ ending_score (verdict.Forfeit side cause) = pos 0
 ending_score (verdict.Unfit side) = pos 0
 ending_score (verdict.Abandoned side) = pos 0
 
--- the match is over, and ended so
-pub record EndsAs (c : Controller) (ending side : ℕ) (half_points : ℤ) : Type 0 where
+-- the number of what a side lost by, where a ruling ended the match
+abbrev pub ruling_code : Ruling → ℕ
+ruling_code ruling.Time = 10
+ruling_code (ruling.Reason kept) = 11
+
+-- the match ended so, by a verdict of its own
+pub record EndsByVerdict (r : Refereed) (ending side : ℕ) (half_points : ℤ) : Type 0 where
   pub given : Verdict
-  pub over : c.verdict ≡ Some given
+  pub over : r.controller.verdict ≡ Some given
   pub ending_is : ending ≡ ending_code given
   pub side_is : side ≡ ending_side given
   pub score_is : half_points ≡ ending_score given
 
+-- the ruling ended it so
+pub record EndsByRuling (given : Ruled) (ending side : ℕ) (half_points : ℤ) : Type 0 where
+  pub ending_is : ending ≡ ruling_code given.ruling
+  pub side_is : side ≡ colour_code given.loser
+  pub score_is : half_points ≡ pos 0
+
+abbrev pub EndsWhere : Refereed → ℕ → ℕ → ℤ → Option Ruled → Type 0
+EndsWhere r ending side half_points None = EndsByVerdict r ending side half_points
+EndsWhere r ending side half_points (Some given) = EndsByRuling given ending side half_points
+
+-- the match is over, and ended so
+abbrev pub EndsAs : Refereed → ℕ → ℕ → ℤ → Type 0
+EndsAs r ending side half_points = EndsWhere r ending side half_points r.ruled
+
 -- How a match ended is written; or it isn't over, and nothing is written.
-pub record VerdictCall (c : Controller) (ending_old ending_new side_old side_new : ℕ) (points_old points_new : ℤ)
+pub record VerdictCall (r : Refereed) (ending_old ending_new side_old side_new : ℕ) (points_old points_new : ℤ)
     (made : CallResult) : Type 0 where
-  pub found : OnOk made (EndsAs c ending_new side_new points_new)
+  pub found : OnOk made (EndsAs r ending_new side_new points_new)
   pub kept : OnErr made ((ending_new ≡ ending_old) × (side_new ≡ side_old) × (points_new ≡ points_old))
-  pub why : IfErr made (λ why. (why ≡ cause.NotOver) × (c.verdict ≡ None))
+  pub why : IfErr made (λ why. (why ≡ cause.NotOver) × GoesOn r)
 
 -- the line of a match that is over is put into the caller's buffer
-pub record PutsResult (c : Controller) (number : ℕ) (old new : List ℕ) (count : ℕ) : Type 0 where
-  pub verdict : Verdict
-  pub over : c.verdict ≡ Some verdict
-  pub puts : Puts (result_text number c verdict) old new
-  pub count_is : count ≡ length (result_text number c verdict)
+pub record PutsResult (r : Refereed) (number : ℕ) (old new : List ℕ) (count : ℕ) : Type 0 where
+  pub line : List ℕ
+  pub over : line_of number r ≡ Some line
+  pub puts : Puts line old new
+  pub count_is : count ≡ length line
 
 -- The line of a match is written; or the match isn't over, and nothing is written.
-pub record ResultCall (c : Controller) (number : ℕ) (old new : List ℕ) (count_old count_new : ℕ) (made : CallResult)
+pub record ResultCall (r : Refereed) (number : ℕ) (old new : List ℕ) (count_old count_new : ℕ) (made : CallResult)
     : Type 0 where
-  pub written : OnOk made (PutsResult c number old new count_new)
+  pub written : OnOk made (PutsResult r number old new count_new)
   pub kept : OnErr made ((new ≡ old) × (count_new ≡ count_old))
-  pub why : IfErr made (λ why. (why ≡ cause.NotOver) × (c.verdict ≡ None))
+  pub why : IfErr made (λ why. (why ≡ cause.NotOver) × GoesOn r)
+
+-- why a side doesn't lose by a ruling: the number is no side, or that of the match
+abbrev pub RefusesRuling : Refereed → ℕ → List ℕ → Cause → Type 0
+RefusesRuling old number reason cause.BadColour = NoColour number
+RefusesRuling old number reason cause.IsOver =
+    IsSide number (λ side. referee.RefusesRuling old reason ruling_fault.Over)
+RefusesRuling old number reason cause.BadReason =
+    IsSide number (λ side. referee.RefusesRuling old reason ruling_fault.BadReason)
+RefusesRuling old number reason _ = ⊥
+
+-- A side loses by a ruling; or the match stays as it was, for a cause.
+pub record AdjudicateCall (side : ℕ) (reason : List ℕ) (old new : Refereed) (made : CallResult) : Type 0 where
+  pub ruled : OnOk made (IsSide side (λ s. referee.Adjudicates old s reason new))
+  pub kept : OnErr made (new ≡ old)
+  pub why : IfErr made (RefusesRuling old side reason)

@@ -77,6 +77,10 @@ pub enum Cause {
     BadId,
     /// The side was not started or went down, or the match is over.
     Down,
+    /// The match is over.
+    IsOver,
+    /// The reason isn't 1 to 20 letters and spaces, or it is that of a forfeit.
+    BadReason,
 }
 
 /// The number of what a call came to: 0 where it was done, and else that of the cause.
@@ -138,6 +142,8 @@ fn number_of(cause: Cause) -> u8
         Cause::BadCommand => 32,
         Cause::BadId => 33,
         Cause::Down => 34,
+        Cause::IsOver => 35,
+        Cause::BadReason => 36,
     }
 }
 
@@ -181,6 +187,8 @@ pub(crate) fn cause_of(number: u32) -> Option<Cause>
         32 => Some(Cause::BadCommand),
         33 => Some(Cause::BadId),
         34 => Some(Cause::Down),
+        35 => Some(Cause::IsOver),
+        36 => Some(Cause::BadReason),
         _ => None,
     }
 }

@@ -1,22 +1,11 @@
 //! How a match ended, in numbers.
 ghost use Rattle.std.specs.Prelude.{◌≡◌};
-ghost use Rattle.vintsaky_calls.specs.Matches.{maybe_side_code, ending_code, ending_side, ending_score};
+ghost use Rattle.vintsaky_calls.specs.Matches.{maybe_side_code, ending_code, ending_side, ending_score, ruling_code};
 
 use crate::codes::number_of_colour;
 use go_base::Side;
-use gtp_match::laws::next_is_due;
-use gtp_match::{Action, ForfeitCause, Match, Verdict};
-
-/// How a match ended, if it did.
-pub(crate) fn verdict_of(held: &Match) -> Option<Verdict>
-    ensures { result ≡ held.now.verdict }
-{
-    next_is_due();
-    match held.next() {
-        Action::Done(given) => Some(given),
-        Action::Start(_) | Action::Send(_) | Action::Wait(_) => None,
-    }
-}
+use gtp_match::{ForfeitCause, Verdict};
+use gtp_referee::Ruling;
 
 /// The number of a side, or 0.
 pub(crate) fn number_of_side(side: Option<Side>) -> u32
@@ -51,6 +40,18 @@ pub(crate) fn number_of_ending(given: Verdict) -> u32
         Verdict::Unfit(_) => 8,
         // the side went down too often
         Verdict::Abandoned(_) => 9,
+    }
+}
+
+/// The number of why a side loses by a ruling.
+pub(crate) fn number_of_ruling(ruling: &Ruling) -> u32
+    ensures { result ≡ ruling_code ruling.now }
+{
+    match ruling {
+        // the side ran out of time: a ruling ended the match
+        Ruling::Time => 10,
+        // the side lost by a ruling that has a reason
+        Ruling::Reason(_) => 11,
     }
 }
 

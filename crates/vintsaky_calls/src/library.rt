@@ -75,5 +75,8 @@ fn sentence(cause: Cause) -> &'static [u8]
         Cause::BadCommand => b"The number is no command: it isn't from 1 to 8.",
         Cause::BadId => b"The id is negative, and not -1, which is none.",
         Cause::Down => b"The side was not started or went down, or the match is over.",
+        Cause::IsOver => b"The match is over.",
+        Cause::BadReason =>
+            b"The reason isn't 1 to 20 letters and spaces, or it is that of a forfeit.",
     }
 }

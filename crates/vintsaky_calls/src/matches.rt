@@ -1,4 +1,4 @@
-//! The calls of a match: the controller between two engines.
+//! The calls of a match: the controller between two engines, and the rulings of a referee.
 ghost use Rattle.std.specs.Prelude.{◌≡◌};
 ghost use Rattle.gtp_match.specs.ResultLine.{record_text};
 ghost use Rattle.gtp_match.specs.Retakes.{retakes_of};
@@ -6,24 +6,26 @@ ghost use Rattle.gtp_match.specs.Setup.{setup_of};
 ghost use Rattle.gtp_match.specs.Taking.{taking_back};
 ghost use Rattle.vintsaky_calls.specs.Matches.{maybe_side_code, BeginCall, NextCall, StartedCall, SendCall, HearCall};
 ghost use Rattle.vintsaky_calls.specs.Matches.{HearReportingCall, owed_out, OwedCall, StatusCall, LostCall, InStepCall};
-ghost use Rattle.vintsaky_calls.specs.Matches.{RestartsCall, VerdictCall, ResultCall};
+ghost use Rattle.vintsaky_calls.specs.Matches.{RestartsCall, VerdictCall, ResultCall, AdjudicateCall};
+ghost use Rattle.gtp_referee.specs.Ruling.{reason_of};
 ghost use Rattle.vintsaky_calls.specs.Texts.{Writes};
 
 use crate::causes::Cause;
 use crate::codes::{colour_of, number_of_colour};
 use crate::endings::{
-    number_of_ending, number_of_side, score_of_ending, side_of_ending, verdict_of,
+    number_of_ending, number_of_ruling, number_of_side, score_of_ending, side_of_ending,
 };
 use crate::losses::{number_of_loss, number_of_retake, put_owed, put_reported};
 use crate::texts::put;
 use go_base::{Komi, Size};
 use go_board::Game;
-use gtp_match::{Action, Match, Setup, SetupFault, Status, record_line, result_line};
+use gtp_match::{Action, Setup, SetupFault, Status, record_line};
+use gtp_referee::{RefereedMatch, RulingFault, result_line};
 use gtp_wire::MOST_COMMAND_BYTES;
 
 /// What `vintsaky_match_begin` does.
 pub fn begin(
-    held: &mut Match,
+    held: &mut RefereedMatch,
     size: u32,
     half_komi: i32,
     handicap: u32,
@@ -37,7 +39,7 @@ pub fn begin(
     let komi = Komi::from_half_points(half_komi).ok_or(Cause::BadKomi)?;
     match Setup::new(size, komi, handicap, max_moves, max_restarts) {
         Ok(setup) => {
-            *held = Match::new(setup);
+            *held = RefereedMatch::new(setup);
             Ok(())
         }
         Err(SetupFault::Handicap) => Err(Cause::BadHandicap),
@@ -47,25 +49,25 @@ pub fn begin(
 }
 
 /// What `vintsaky_match_next` does.
-pub fn next(held: &Match, side: &mut u32) -> u32
+pub fn next(held: &RefereedMatch, side: &mut u32) -> u32
     ensures { NextCall held.now result side.new }
 {
     let (action, with) = match held.next() {
-        Action::Start(with) => (1, number_of_colour(with)),
-        Action::Send(with) => (2, number_of_colour(with)),
-        Action::Wait(with) => (3, number_of_colour(with)),
-        Action::Done(_verdict) => (4, 0),
+        Some(Action::Start(with)) => (1, number_of_colour(with)),
+        Some(Action::Send(with)) => (2, number_of_colour(with)),
+        Some(Action::Wait(with)) => (3, number_of_colour(with)),
+        None | Some(Action::Done(_)) => (4, 0),
     };
     *side = with;
     action
 }
 
 /// What `vintsaky_match_started` does.
-pub fn started(held: &mut Match, side: u32) -> Result<(), Cause>
+pub fn started(held: &mut RefereedMatch, side: u32) -> Result<(), Cause>
     ensures { StartedCall side held.old held.new result }
 {
     let side = colour_of(side)?;
-    if held.next() != Action::Start(side) {
+    if held.next() != Some(Action::Start(side)) {
         return Err(Cause::NotNext);
     }
     held.started(side);
@@ -73,11 +75,11 @@ pub fn started(held: &mut Match, side: u32) -> Result<(), Cause>
 }
 
 /// What `vintsaky_match_send` does.
-pub fn send(held: &mut Match, side: u32, text: &mut [u8], count: &mut usize) -> Result<(), Cause>
+pub fn send(held: &mut RefereedMatch, side: u32, text: &mut [u8], count: &mut usize) -> Result<(), Cause>
     ensures { SendCall side held.old held.new text.old text.new count.old count.new result }
 {
     let side = colour_of(side)?;
-    if held.next() != Action::Send(side) {
+    if held.next() != Some(Action::Send(side)) {
         return Err(Cause::NotNext);
     }
     if text.len() <= MOST_COMMAND_BYTES {
@@ -89,7 +91,7 @@ pub fn send(held: &mut Match, side: u32, text: &mut [u8], count: &mut usize) -> 
 }
 
 /// What `vintsaky_match_hear` does.
-pub fn hear(held: &mut Match, side: u32, bytes: &[u8], loss: &mut u32) -> Result<(), Cause>
+pub fn hear(held: &mut RefereedMatch, side: u32, bytes: &[u8], loss: &mut u32) -> Result<(), Cause>
     ensures { HearCall side bytes.now held.old held.new loss.old loss.new result }
 {
     let side = colour_of(side)?;
@@ -100,7 +102,7 @@ pub fn hear(held: &mut Match, side: u32, bytes: &[u8], loss: &mut u32) -> Result
 
 /// What `vintsaky_match_hear_reporting` does.
 pub fn hear_reporting(
-    held: &mut Match,
+    held: &mut RefereedMatch,
     side: u32,
     bytes: &[u8],
     loss: &mut u32,
@@ -133,7 +135,7 @@ pub fn hear_reporting(
 
 /// What `vintsaky_match_owed` does.
 pub fn owed(
-    held: &Match,
+    held: &RefereedMatch,
     side: u32,
     unanswered: &mut u32,
     command: &mut [u8],
@@ -160,7 +162,7 @@ pub fn owed(
 
 /// What `vintsaky_match_status` does.
 pub fn status(
-    held: &Match,
+    held: &RefereedMatch,
     side: u32,
     confirmed: &mut u32,
     unanswered: &mut u32,
@@ -170,7 +172,7 @@ pub fn status(
         asked.old asked.new result }
 {
     let side = colour_of(side)?;
-    match held.status(side) {
+    match held.played().status(side) {
         Status::Down => Err(Cause::Down),
         Status::Up {
             confirmed: count,
@@ -186,7 +188,7 @@ pub fn status(
 }
 
 /// What `vintsaky_match_lost` does.
-pub fn lost(held: &mut Match, side: u32) -> Result<(), Cause>
+pub fn lost(held: &mut RefereedMatch, side: u32) -> Result<(), Cause>
     ensures { LostCall side held.old held.new result }
 {
     held.lost(colour_of(side)?);
@@ -194,39 +196,39 @@ pub fn lost(held: &mut Match, side: u32) -> Result<(), Cause>
 }
 
 /// What `vintsaky_match_in_step` does.
-pub fn in_step(held: &Match, side: u32, holds: &mut u32) -> Result<(), Cause>
+pub fn in_step(held: &RefereedMatch, side: u32, holds: &mut u32) -> Result<(), Cause>
     ensures { InStepCall held.now side holds.old holds.new result }
 {
     let side = colour_of(side)?;
-    *holds = if held.in_step(side) { 1 } else { 0 };
+    *holds = if held.played().in_step(side) { 1 } else { 0 };
     Ok(())
 }
 
 /// What `vintsaky_match_restarts` does.
-pub fn restarts(held: &Match, side: u32, restarts: &mut u32) -> Result<(), Cause>
+pub fn restarts(held: &RefereedMatch, side: u32, restarts: &mut u32) -> Result<(), Cause>
     ensures { RestartsCall held.now side restarts.old restarts.new result }
 {
-    *restarts = held.restarts(colour_of(side)?);
+    *restarts = held.played().restarts(colour_of(side)?);
     Ok(())
 }
 
 /// What `vintsaky_match_retakes` does.
-pub fn retakes(held: &Match, number: u32) -> u32
-    ensures { result ≡ retakes_of held.now.retakes number }
+pub fn retakes(held: &RefereedMatch, number: u32) -> u32
+    ensures { result ≡ retakes_of held.now.controller.retakes number }
 {
-    held.retakes(number)
+    held.played().retakes(number)
 }
 
 /// What `vintsaky_match_taking_back` does.
-pub fn taking_back(held: &Match) -> u32
-    ensures { result ≡ maybe_side_code (taking_back held.now) }
+pub fn taking_back(held: &RefereedMatch) -> u32
+    ensures { result ≡ maybe_side_code (taking_back held.now.controller) }
 {
-    number_of_side(held.taking_back())
+    number_of_side(held.played().taking_back())
 }
 
 /// What `vintsaky_match_verdict` does.
 pub fn verdict(
-    held: &Match,
+    held: &RefereedMatch,
     ending: &mut u32,
     side: &mut u32,
     half_points: &mut i32,
@@ -234,26 +236,28 @@ pub fn verdict(
     ensures { VerdictCall held.now ending.old ending.new side.old side.new
         half_points.old half_points.new result }
 {
-    match verdict_of(held) {
-        None => Err(Cause::NotOver),
-        Some(given) => {
-            *ending = number_of_ending(given);
-            *side = side_of_ending(given);
-            *half_points = score_of_ending(given);
-            Ok(())
-        }
+    if let Some(given) = held.ruled() {
+        *ending = number_of_ruling(&given.ruling);
+        *side = number_of_colour(given.loser);
+        *half_points = 0;
+        return Ok(());
     }
+    let given = held.verdict().ok_or(Cause::NotOver)?;
+    *ending = number_of_ending(given);
+    *side = side_of_ending(given);
+    *half_points = score_of_ending(given);
+    Ok(())
 }
 
 /// What `vintsaky_match_copy_game` does.
-pub fn copy_game(held: &Match, game: &mut Game)
-    ensures { game.new ≡ held.now.game }
+pub fn copy_game(held: &RefereedMatch, game: &mut Game)
+    ensures { game.new ≡ held.now.controller.game }
 {
-    game.copy_from(held.game());
+    game.copy_from(held.played().game());
 }
 
 /// What `vintsaky_match_result` does.
-pub fn result(held: &Match, number: u32, text: &mut [u8], count: &mut usize) -> Result<(), Cause>
+pub fn result(held: &RefereedMatch, number: u32, text: &mut [u8], count: &mut usize) -> Result<(), Cause>
     ensures { ResultCall held.now number text.old text.new count.old count.new result }
 {
     let line = result_line(number, held).ok_or(Cause::NotOver)?;
@@ -262,8 +266,27 @@ pub fn result(held: &Match, number: u32, text: &mut [u8], count: &mut usize) -> 
 }
 
 /// What `vintsaky_match_record` does.
-pub fn record(held: &Match, text: &mut [u8]) -> usize
-    ensures { Writes (record_text held.now.game) text.old text.new result }
+pub fn record(held: &RefereedMatch, text: &mut [u8]) -> usize
+    ensures { Writes (record_text held.now.controller.game) text.old text.new result }
 {
-    put(&record_line(held), text)
+    put(&record_line(held.played()), text)
+}
+
+/// What `vintsaky_match_adjudicate` does.
+pub fn adjudicate(held: &mut RefereedMatch, side: u32, reason: &[u8]) -> Result<(), Cause>
+    ensures { AdjudicateCall side reason.now held.old held.new result }
+{
+    let side = colour_of(side)?;
+    match held.adjudicate(side, reason) {
+        Ok(()) => Ok(()),
+        Err(RulingFault::Over) => Err(Cause::IsOver),
+        Err(RulingFault::BadReason) => Err(Cause::BadReason),
+    }
+}
+
+/// What `vintsaky_match_reason` does.
+pub fn reason(held: &RefereedMatch, text: &mut [u8]) -> usize
+    ensures { Writes (reason_of held.now.ruled) text.old text.new result }
+{
+    put(held.reason(), text)
 }

@@ -19,6 +19,7 @@ CODES = {
     "rule_loss_code": ("LOSS_", {}),
     "loss_cause_code": ("LOSS_", {}),
     "ending_code": ("BY_", {"Resign": "RESIGNATION"}),
+    "ruling_code": ("BY_", {"Reason": "RULING"}),
     "command_code": ("", {}),
     "line_code": ("", {"Command": "LINE"}),
     "read_code": ("", {"Ok": "READ", "NoStatus": "NO_REPLY", "Overlong": "LONG_REPLY"}),

@@ -16,7 +16,7 @@ def modules(files):
 @once
 def used_in(text):
     """The calls that a module names, as patterns: a part of a name may be filled in."""
-    names = {re.escape(it) for it in re.findall(r"\blibrary\.(vintsaky_\w+)", text)}
+    names = {re.escape(it) for it in re.findall(r"\b(?:library|unlocked)\.(vintsaky_\w+)", text)}
     filled = re.findall(r'f"(vintsaky_[\w{}.]*)"', text)
     return names | {re.sub(r"\{[\w.]*\}", r"[a-z0-9]+", it) for it in filled}
 

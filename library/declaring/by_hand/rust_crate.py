@@ -49,6 +49,7 @@ ARGUMENTS = {
     "vertex": "vertex: impl Into<Vertex>",
     "bytes": "bytes: &[u8]",
     "text": "text: &str",
+    "reason": "reason: &str",
     "name": "name: &str",
 }
 OTHER_ARGUMENTS = {

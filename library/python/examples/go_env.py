@@ -9,6 +9,7 @@ Arrays are numpy's where it is there, and else memoryviews. Each step writes the
 
 usage: go_env.py [STEPS [SIZE]]    makes so many random steps in 256 games, and prints how many moves a second
 """
+import importlib
 import random
 import sys
 import time
@@ -17,16 +18,19 @@ from typing import Any, Dict, Tuple
 
 from vintsaky import BLACK, Games
 
-try:
-    import numpy
-except ImportError:
-    numpy = None
-try:
-    from gymnasium.spaces import Box, Discrete
-    from gymnasium.vector import VectorEnv
-    from gymnasium.vector.utils import batch_space
-except ImportError:
-    batch_space, VectorEnv = None, object
+
+
+def found(name: str) -> Any:
+    """A module, or None where it isn't there."""
+    try:
+        return importlib.import_module(name)
+    except ImportError:
+        return None
+
+
+numpy, spaces, vector = found("numpy"), found("gymnasium.spaces"), found("gymnasium.vector")
+VectorEnv: Any = vector.VectorEnv if vector else object
+batch_space: Any = found("gymnasium.vector.utils").batch_space if vector else None
 
 
 def shaped(room: Any, *shape: int) -> Any:
@@ -36,7 +40,7 @@ def shaped(room: Any, *shape: int) -> Any:
     return numpy.asarray(view) if numpy else view
 
 
-class GoEnv(VectorEnv):
+class GoEnv(VectorEnv):  # type: ignore[misc]
     """So many games of Go, which both sides play by turns. A game with as many moves as the limit is truncated."""
 
     metadata: Dict[str, Any] = {"render_modes": [], "autoreset_mode": "SameStep"}
@@ -48,11 +52,11 @@ class GoEnv(VectorEnv):
         self.room, self.masks = bytearray(num_envs * planes * size * size), bytearray(num_envs * actions)
         self.causes, self.over = bytearray(num_envs), bytearray(num_envs)
         self.scores, self.won = array("f", [0] * num_envs), array("f", [0] * num_envs)
-        self.planes = shaped(self.room, num_envs, planes, size, size)
+        self.planes: Any = shaped(self.room, num_envs, planes, size, size)
         self.infos = {"action_mask": shaped(self.masks, num_envs, actions), "refused": shaped(self.causes, num_envs)}
         if batch_space:
-            self.single_observation_space = Box(0, 1, (planes, size, size), "uint8")
-            self.single_action_space = Discrete(actions)
+            self.single_observation_space = spaces.Box(0, 1, (planes, size, size), "uint8")
+            self.single_action_space = spaces.Discrete(actions)
             self.observation_space = batch_space(self.single_observation_space, num_envs)
             self.action_space = batch_space(self.single_action_space, num_envs)
         self.reset()
@@ -92,8 +96,8 @@ class GoEnv(VectorEnv):
 if __name__ == "__main__":
     steps, size = (int(word) for word in [*sys.argv[1:], *("200", "9")[len(sys.argv) - 1 :]])
     env = GoEnv(256, size)
-    began, over = time.perf_counter(), 0
-    for _ in range(steps):
+    began, ends = time.perf_counter(), 0
+    for step in range(steps):
         _, _, terminations, truncations, _ = env.step(env.random_actions())
-        over += sum(map(bool, terminations)) + sum(map(bool, truncations))
-    print(f"{over} games ended, {256 * steps / (time.perf_counter() - began):.0f} moves a second")
+        ends += sum(map(bool, terminations)) + sum(map(bool, truncations))
+    print(f"{ends} games ended, {256 * steps / (time.perf_counter() - began):.0f} moves a second")

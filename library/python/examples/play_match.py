@@ -53,7 +53,7 @@ if __name__ == "__main__":
         if not black.split() or not white.split():
             raise ValueError("a command has no word")
         match = Match(int(size), int(half_komi) / 2, max_moves=1000, max_restarts=2)
-    except (ValueError, OverflowError) as problem:
+    except ValueError as problem:
         sys.exit(f"play_match: {problem}; usage: play_match.py SIZE HALF_KOMI BLACK WHITE")
     print(play(match, {BLACK: black, WHITE: white}))
     end(BLACK)

@@ -1,9 +1,11 @@
 """Engines, in steps and served. What is wanted is what the protocol says of each reply."""
+import contextlib
 import io
 import os
 import subprocess
 import sys
 import unittest
+from unittest import mock
 
 import vintsaky
 from vintsaky import BLACK, PASS, RESIGN, WHITE, Cause, CommandLine, Engine, Event, Failure, KoRule, Steps, command
@@ -56,6 +58,19 @@ class Second(First):
         return "at last"
 
 
+class Says(First):
+    """Has a command that answers wrongly."""
+
+    @command("bad")
+    def say_bad(self, words):
+        if words[0] in ("fails", "refused"):
+            raise Failure({"fails": "no\n", "refused": " "}[words[0]])
+        if words[0] == "value":
+            raise ValueError("a fault of its author")
+        answers = {"text": "a\n\nb", "long": "x" * 2001, "bytes": b"\xff", "accent": "é", "type": 5, "list": ["a"], "right": "right"}
+        return answers[words[0]]
+
+
 def served(engine, said):
     """What the engine writes that is told this."""
     sink = io.BytesIO()
@@ -97,10 +112,10 @@ class InSteps(Refusing):
             self.assertEqual(steps.reply, reply)
         steps.feed(b"genmove b\n")
         self.refused(Cause.OCCUPIED, steps.choose, "A1")
-        self.assertRaisesRegex(vintsaky.Refused, "^the choice A1: A stone is on the point.$", steps.choose, "A1")
+        self.assertRaisesRegex(vintsaky.Refused, "^choose A1: A stone is on the point.$", steps.choose, "A1")
         self.refused(Cause.BAD_VERTEX, steps.choose, (26, 1))
         self.refused(Cause.BAD_TEXT, steps.choose, "resigned")
-        self.assertRaises(OverflowError, steps.choose, (2**32 + 1, 1))
+        self.refused(Cause.BAD_VERTEX, steps.choose, (2**32 + 1, 1))
         for choice in (None, 0, 65535, 1.5):
             self.assertRaises(TypeError, steps.choose, choice)
         self.assertIs(steps.wait, Event.BLACK)
@@ -138,9 +153,8 @@ class InSteps(Refusing):
         self.refused(Cause.NOT_ASKED, steps.decline)
 
     def test_rules(self):
-        for rule in (0, 3, 257):
+        for rule in (0, 3, 257, -1, 2**32 + 1):
             self.refused(Cause.BAD_RULE, Steps, rule)
-        self.assertRaises(OverflowError, Steps, 2**32 + 1)
         self.assertRaises(TypeError, Steps, "simple")
 
 
@@ -181,8 +195,8 @@ class Served(unittest.TestCase):
     def test_choices_that_are_not_lawful_come_out(self):
         for choice, kind, text in (
             ("A1", vintsaky.Refused, "A stone is on the point"), ("C1", vintsaky.Refused, "isn't on a board"),
-            (None, TypeError, "None is no Point"), (257, TypeError, "257 is no Point"),
-            ("Z99", vintsaky.Refused, "can be read"),
+            (None, TypeError, "None is no choice"), (257, TypeError, "257 is no choice"),
+            ("Z99", vintsaky.Refused, "'Z99' is no choice"),
         ):  # fmt: skip
             engine, sink = Engine(), io.BytesIO()
             engine.choose = lambda game, colour, choice=choice: choice
@@ -190,17 +204,44 @@ class Served(unittest.TestCase):
                 engine.serve(io.BytesIO(b"boardsize 2\nplay b A1\ngenmove w\nname\n"), sink)
             self.assertEqual(sink.getvalue(), b"=\n\n=\n\n")
 
-    def test_answers_that_may_not_be_come_out(self):
-        class Says(First):
-            @command("bad")
-            def say_bad(self, words):
-                return {"text": "a\n\nb", "type": 5, "accent": "é"}[words[0]]
+    def answered(self, engine, said):
+        """What the engine writes that is told this, and the lines on standard error."""
+        errors = io.StringIO()
+        with contextlib.redirect_stderr(errors):
+            output = served(engine, said)
+        return output, errors.getvalue().splitlines()
 
-        kinds = {"text": vintsaky.Refused, "type": TypeError, "accent": ValueError, "other": KeyError}
-        for word, kind in kinds.items():
+    def test_a_wrong_answer_is_a_failure(self):
+        for word, text in (
+            ("text", r"text: 'a\n\nb' may be in no reply; a reply's text has at most 2000 bytes, each a newline or 32 to 126"),
+            ("long", f"text: '{'x' * 59}.. may be in no reply; a reply's text has at most 2000 bytes"),
+            ("bytes", r"text: b'\xff' may be in no reply"), ("accent", "text: 'é' may be in no reply"), ("type", "text: 5 is neither str nor bytes"),
+            ("list", "text: ['a'] is neither str nor bytes"), ("fails", r"text: 'no\n' may be in no reply"),
+            ("refused", "text: ' ' may be in no reply"),
+        ):  # fmt: skip
+            with self.subTest(word):
+                said = b"1 name\n2 bad %s\n3 genmove b\n4 bad right\n" % word.encode()
+                output, errors = self.answered(Says(), said)
+                self.assertEqual(output, b"=1 first\n\n?2 the answer is wrong\n\n=3 A1\n\n=4 right\n\n")
+                self.assertEqual(len(errors), 1)
+                self.assertTrue(errors[0].startswith(f"Says: the command bad: its answer is wrong: {text}"), errors)
+
+    def test_right_answers_write_nothing(self):
+        self.assertEqual(self.answered(First(), b"fails\nnothing\nkgs-chat a\n"), (b"? not today\n\n=\n\n= a\n\n", []))
+
+    def test_what_an_own_command_raises_comes_out(self):
+        for word, kind in (("other", KeyError), ("value", ValueError)):
             sink = io.BytesIO()
-            self.assertRaises(kind, Says().serve, io.BytesIO(b"name\nbad %s\n" % word.encode()), sink)
+            self.assertRaises(kind, Says().serve, io.BytesIO(b"name\nbad %s\nname\n" % word.encode()), sink)
             self.assertEqual(sink.getvalue(), b"= first\n\n")
+
+    def test_without_standard_error(self):
+        output = io.StringIO()
+        with mock.patch.object(sys, "stderr", None), contextlib.redirect_stdout(output):
+            self.assertEqual(served(Says(), b"bad type\nname\n"), b"? the answer is wrong\n\n= first\n\n")
+        self.assertEqual(output.getvalue(), "")
+        with open(os.devnull) as unwritable, mock.patch.object(sys, "stderr", unwritable):
+            self.assertEqual(served(Says(), b"bad type\nname\n"), b"? the answer is wrong\n\n= first\n\n")
 
     def test_streams_that_do_not_block(self):
         source, sink = io.BytesIO(b"name\n"), io.BytesIO()
@@ -222,7 +263,7 @@ class Served(unittest.TestCase):
         self.assertRaises(vintsaky.Refused, served, Named(), b"name\n")
 
     def test_bad_commands_come_out_at_once(self):
-        said = {"play": "'play': The protocol's table", "a b": "'a b': A byte of the name", "é": "not ASCII"}
+        said = {"play": "'play': The protocol's table", "a b": "'a b': A byte of the name", "é": "^there can't be an own command 'é': A byte of the name"}
         for name, text in said.items():
 
             class Commanded(First):
@@ -230,7 +271,7 @@ class Served(unittest.TestCase):
                 def say_more(self, words):
                     return ""
 
-            with self.assertRaisesRegex(ValueError, text):
+            with self.assertRaisesRegex(vintsaky.Refused, text):
                 served(Commanded(), b"name\n")
 
     def test_the_game_is_a_copy(self):
@@ -288,7 +329,26 @@ print("output is back")
 """
 
 
+ANSWERS = """
+import vintsaky
+class Answers(vintsaky.Engine):
+    def choose(self, game, colour):
+        return "A1"
+    @vintsaky.command("bad")
+    def say_bad(self, words):
+        return "caf\\xe9" if words else 5
+Answers().serve()
+"""
+
+
 class Standard(unittest.TestCase):
+    def test_wrong_answers_of_an_own_command(self):
+        status, output, errors = run(ANSWERS, b"1 bad\n2 bad x\n3 genmove b\n4 quit\n")
+        self.assertEqual((status, output), (0, b"?1 the answer is wrong\n\n?2 the answer is wrong\n\n=3 A1\n\n=4\n\n"))
+        first, second = errors.splitlines()
+        self.assertEqual(first, "Answers: the command bad: its answer is wrong: text: 5 is neither str nor bytes")
+        self.assertRegex(second, "its answer is wrong: text: 'caf.*' may be in no reply; ")
+
     def test_what_else_is_printed_goes_to_standard_error(self):
         status, output, errors = run(NOISY, b"1 genmove b\n2 quit\n")
         self.assertEqual((status, output), (0, f"=1 pass\n\n=2\n\noutput is back{os.linesep}".encode()))

@@ -1,6 +1,5 @@
 """Games. What is wanted comes from the rules of play: area scoring, simple or positional ko, no suicide."""
 import copy
-import pickle
 import unittest
 
 from vintsaky import BLACK, PASS, RESIGN, WHITE, Cause, Game, KoRule, Move, Point, read_vertex
@@ -34,14 +33,11 @@ class Beginnings(Refusing):
         self.assertEqual((game.size, game.komi, game.rule), (25, -3.5, KoRule.POSITIONAL))
 
     def test_limits(self):
-        for size in (0, 26, 275, 2**32 - 1):
+        for size in (0, 26, 275, 2**32 - 1, -1, 2**32, 2**32 + 9, 2**64 + 9):
             self.refused(Cause.BAD_SIZE, Game, size)
-        for rule in (0, 3, 257, 2**32 - 1):
+        for rule in (0, 3, 257, 2**32 - 1, -1, 2**32 + 1, 2**64 + 1):
             self.refused(Cause.BAD_RULE, Game, 9, 0, rule)
         self.refused(Cause.BAD_KOMI, Game, 9, 10**9)
-        for number in (-1, 2**32, 2**32 + 9, 2**64 + 9):
-            self.assertRaises(OverflowError, Game, number)
-            self.assertRaises(OverflowError, Game, 9, 0, number)
         for number in (9.0, "9", None, b"9"):
             self.assertRaises(TypeError, Game, number)
             self.assertRaises(TypeError, Game, 9, 0, number)
@@ -134,14 +130,11 @@ class Plays(Refusing):
 
     def test_numbers_of_colours_and_vertices(self):
         game = Game(9)
-        for colour in (0, 3, 257, 2**32 - 1):
+        for colour in (0, 3, 257, 2**32 - 1, -1, 2**32 + 1, 2**64 + 1):
             for call in (game.play, game.legal, game.why_not):
                 self.refused(Cause.BAD_COLOUR, call, colour, "A1")
             self.refused(Cause.BAD_COLOUR, game.captured, colour)
             self.refused(Cause.BAD_COLOUR, game.legal_points, colour)
-        for colour in (-1, 2**32 + 1, 2**64 + 1):
-            for call in (game.play, game.legal):
-                self.assertRaises(OverflowError, call, colour, "A1")
         for colour in (None, 1.0, [1]):
             self.assertRaises(TypeError, game.play, colour, "A1")
         for vertex in (RESIGN, (26, 1), (0, 0)):
@@ -170,7 +163,7 @@ class Searches(Refusing):
         self.refused(Cause.OFF_BOARD, game.point, 25)
         self.assertEqual((Game(25).index("Z25"), Game(1).point(0)), (624, (1, 1)))
         for number in (-1, 2**64):
-            self.assertRaises(OverflowError, game.point, number)
+            self.refused(Cause.OFF_BOARD, game.point, number)
         self.assertRaises(TypeError, game.point, 1.0)
 
     def test_the_whole_board(self):
@@ -257,8 +250,8 @@ class Searches(Refusing):
         game = Game(9)
         for call in (game.playout, game.rollout):
             self.refused(Cause.BAD_COLOUR, call, 3, 7)
-            self.assertRaises(OverflowError, call, "b", 2**64)
-            self.assertRaises(OverflowError, call, "b", 7, 2**32)
+            self.assertRaises(ValueError, call, "b", 2**64)
+            self.assertRaises(ValueError, call, "b", 7, 2**32)
         self.assertEqual(len(game.moves), 0)
 
     def test_random_moves(self):
@@ -268,8 +261,8 @@ class Searches(Refusing):
         for word in (*range(12), 2**32, 2**63, 2**64 - 1):
             self.assertEqual(str(game.random_move("b", word)), candidates[word % 6])
         self.assertIs(played(2, "b A1, b B2").random_move("w", 7), PASS)
-        self.assertRaises(OverflowError, game.random_move, "b", 2**64)
-        self.assertRaises(OverflowError, game.random_move, "b", -1)
+        self.assertRaises(ValueError, game.random_move, "b", 2**64)
+        self.assertRaises(ValueError, game.random_move, "b", -1)
         self.refused(Cause.BAD_COLOUR, game.random_move, 3, 0)
 
 
@@ -313,10 +306,8 @@ class Records(Refusing):
         self.assertEqual((game.handicap, len(black), len(game.moves)), (5, 5, 0))
         self.refused(Cause.NOT_EMPTY, game.place_handicap, 2)
         self.refused(Cause.NOTHING_TO_UNDO, game.undo)
-        for size, stones in ((19, 1), (19, 10), (19, 0), (8, 5), (6, 2), (19, 2**32 - 1)):
+        for size, stones in ((19, 1), (19, 10), (19, 0), (8, 5), (6, 2), (19, 2**32 - 1), (19, -1), (19, 2**32 + 2)):
             self.refused(Cause.BAD_HANDICAP, Game(size).place_handicap, stones)
-        for stones in (-1, 2**32 + 2):
-            self.assertRaises(OverflowError, Game(19).place_handicap, stones)
         self.assertRaises(TypeError, Game(19).place_handicap, 2.0)
 
     def test_legal_points_are_all(self):
@@ -359,9 +350,6 @@ class Copies(Refusing):
         self.assertEqual((list(game.moves), str(game), game.komi, texts(game.taken)), (moves, board, 1.5, "C2"))
         game.undo()
         self.assertEqual((game["C2"], len(game.moves)), (BLACK, 7))
-
-    def test_no_pickle(self):
-        self.assertRaises(TypeError, pickle.dumps, Game())
 
 
 if __name__ == "__main__":

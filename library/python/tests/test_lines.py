@@ -80,15 +80,15 @@ class Writers(Refusing):
 
     def test_refused_commands(self):
         for cause, command, *arguments in (
-            (Cause.BAD_COMMAND, 9), (Cause.BAD_COMMAND, 0), (Cause.BAD_COMMAND, 2**32 - 1),
+            (Cause.BAD_COMMAND, 9), (Cause.BAD_COMMAND, 0), (Cause.BAD_COMMAND, 2**32 - 1), (Cause.BAD_COMMAND, -1),
+            (Cause.BAD_COMMAND, 2**32 + 8), (Cause.BAD_SIZE, Command.BOARDSIZE, 2**32 + 9),
+            (Cause.BAD_COLOUR, Command.GENMOVE, 2**32 + 1), (Cause.BAD_HANDICAP, Command.FIXED_HANDICAP, 2**31),
             (Cause.BAD_SIZE, Command.BOARDSIZE, 26), (Cause.BAD_SIZE, Command.BOARDSIZE, -1),
             (Cause.BAD_KOMI, Command.KOMI, 10**9), (Cause.BAD_HANDICAP, Command.FIXED_HANDICAP, -1),
             (Cause.BAD_COLOUR, Command.GENMOVE, 3), (Cause.BAD_COLOUR, Command.PLAY, 0, PASS),
             (Cause.BAD_VERTEX, Command.PLAY, 1, RESIGN), (Cause.BAD_VERTEX, Command.PLAY, 1, (26, 1)),
         ):  # fmt: skip
             self.refused(cause, write_command, command, *arguments)
-        for command, *arguments in ((Command.BOARDSIZE, 2**32 + 9), (Command.GENMOVE, 2**32 + 1), (-1,), (2**32 + 8,)):
-            self.assertRaises(OverflowError, write_command, command, *arguments)
         for command, *arguments in (
             (Command.PLAY, "b"), (Command.QUIT, 1), (Command.BOARDSIZE,), (Command.BOARDSIZE, "9"), ("quit",), (None,),
         ):  # fmt: skip
@@ -108,10 +108,8 @@ class Writers(Refusing):
 
     def test_ids(self):
         for write in (write_reply, lambda id: write_command(Command.QUIT, id=id)):
-            for number in (-1, -2, -(2**31)):
+            for number in (-1, -2, -(2**31), 2**31, 2**32 - 1, -(2**31) - 1, 2**64):
                 self.refused(Cause.BAD_ID, write, id=number)
-            for number in (2**31, 2**32 - 1, -(2**31) - 1, 2**64):
-                self.assertRaises(OverflowError, write, id=number)
             self.assertRaises(TypeError, write, id="1")
 
 

@@ -1,10 +1,14 @@
 """The package: how it finds its library, its documentation, threads, and what can't be done with an object."""
+import abc
 import ast
 import copy
+import dataclasses
 import doctest
+import inspect
 import io
 import os
 import pickle
+import pydoc
 import re
 import subprocess
 import sys
@@ -15,10 +19,11 @@ from ctypes.util import find_library
 from pathlib import Path
 
 import vintsaky
-from vintsaky import Cause, CommandLines, Game, Match, Refused, Replies, Steps, _declared, _held, _library
+from vintsaky import Action, Cause, Chain, Colour, CommandLines, Game, Match, Move, Point, Refused, Replies, Steps
+from vintsaky import _declared, _held, _library
 
 PACKAGE = Path(vintsaky.__file__).resolve().parent
-MODULES = ["_declared", "_library", "_numbers", "_refused", "_held", "values", "games", "lines", "engines", "matches"]
+MODULES = ["_declared", "_brief", "_library", "_numbers", "_refused", "_held", "_attributes", "values", "moves", "games", "lines", "engines", "matches"]
 
 
 def modules():
@@ -46,13 +51,46 @@ class Documentation(unittest.TestCase):
         for module in modules():
             for node in ast.walk(ast.parse(Path(module.__file__).read_text("ascii"))):
                 if isinstance(node, ast.FunctionDef):
-                    own = [each for each in [*node.args.args, *node.args.kwonlyargs] if each.arg != "self"]
+                    own = [each for each in [*node.args.args, *node.args.kwonlyargs] if each.arg not in ("self", "cls")]
                     is_annotated = node.returns and all(each.annotation for each in own)
                     self.assertTrue(is_annotated, f"{module.__name__}.{node.name}")
 
     def test_all_names_are_there(self):
         self.assertEqual([name for name in vintsaky.__all__ if not hasattr(vintsaky, name)], [])
         self.assertEqual(len(set(vintsaky.__all__)), len(vintsaky.__all__))
+
+    def test_help_is_short_and_whole(self):
+        text = pydoc.render_doc(vintsaky, renderer=pydoc.plaintext)
+        self.assertLess(len(text.splitlines()), 1500)
+        words = " ".join(re.sub(r"^ *\|", "", text, flags=re.MULTILINE).split())
+        for cause in Cause:
+            self.assertIn(f"{cause.name}: {cause.text}", words)
+        for name in vintsaky.__all__:
+            self.assertRegex(words, rf"\b{name}\b")
+        for method in ("from_moves", "playout", "turn", "adopt", "next", "feed", "neighbours", "winner", "__getitem__"):
+            self.assertRegex(text, rf"\|  {method}\b")
+
+    def test_what_help_leaves_out_is_there(self):
+        for kind, inherited in ((Point, "count"), (Move, "_asdict"), (Cause, "bit_length"), (Colour, "__members__"), (Action, "__eq__")):
+            self.assertNotIn(inherited, dir(kind))
+            self.assertTrue(hasattr(kind, inherited))
+        self.assertTrue({"column", "row", "turned", "count", "_replace", "__add__"} <= set(dir(Point(1, 1))))
+        self.assertTrue({"BLACK", "WHITE", "other"} <= set(dir(Colour)))
+        self.assertEqual(list(inspect.signature(Point).parameters), ["column", "row"])
+        self.assertEqual(list(inspect.signature(Game).parameters), ["size", "komi", "rule"])
+        self.assertEqual([field.name for field in dataclasses.fields(Action)], ["kind", "side"])
+        self.assertEqual((Point._fields, Point(1, 2)._replace(row=5)), (("column", "row"), (1, 5)))
+        self.assertIs(type(Point._make([1, 2])), Point)
+        self.assertEqual(list(Colour), [1, 2])
+        for value in (Point(3, 4), Move(Colour.BLACK, Point(1, 1)), Chain(1, 2), Cause.KO, vintsaky.RESIGN):
+            for again in (pickle.loads(pickle.dumps(value)), copy.copy(value), copy.deepcopy(value)):
+                self.assertEqual((again, type(again)), (value, type(value)))
+        self.assertIs(pickle.loads(pickle.dumps(vintsaky.PASS)), vintsaky.PASS)
+
+        class Mine(Game, abc.ABC):
+            """A subclass may be abstract, or generic."""
+
+        self.assertEqual(Mine(5).size, 5)
 
     def test_the_example_is_an_engine_of_12_lines(self):
         text = textwrap.dedent(re.search(r"\n\n((?:    .*\n|\n)+)\n", vintsaky.__doc__)[1]).strip()
@@ -84,6 +122,9 @@ class Refusals(unittest.TestCase):
         self.assertEqual((str(refusal), refusal.cause), (Cause.KO.text, Cause.KO))
         for again in (copy.copy(refusal), pickle.loads(pickle.dumps(refusal))):
             self.assertEqual((again.cause, str(again)), (Cause.KO, Cause.KO.text))
+        for refusal, text in ((Refused(Cause.KO, "play w C3"), f"play w C3: {Cause.KO.text}"), (Refused(Cause.KO, "a", "b"), "a: b")):
+            for again in (refusal, copy.copy(refusal), pickle.loads(pickle.dumps(refusal))):
+                self.assertEqual((again.cause, str(again)), (Cause.KO, text))
 
 
 class Objects(unittest.TestCase):
@@ -99,12 +140,11 @@ class Objects(unittest.TestCase):
             self.assertLessEqual(start, held._handle.at)
             self.assertLessEqual(held._handle.at + size, start + len(held._memory))
 
-    def test_no_object_is_pickled_or_copied_unseen(self):
-        for kind in self.KINDS:
-            self.assertRaises(TypeError, pickle.dumps, kind())
-            if kind is not Game:
-                self.assertRaises(TypeError, copy.copy, kind())
-                self.assertRaises(TypeError, copy.deepcopy, kind())
+    def test_no_other_object_is_pickled_or_copied(self):
+        for kind in self.KINDS[1:]:
+            text = f"^a {kind.__name__} can't be copied or pickled: of the library's objects only a Game can$"
+            for call in (pickle.dumps, copy.copy, copy.deepcopy, lambda held: copy.deepcopy([held])):
+                self.assertRaisesRegex(TypeError, text, call, kind())
 
     def in_thread(self, call):
         """What the call raises in another thread."""
@@ -151,7 +191,7 @@ class Objects(unittest.TestCase):
 
     def test_each_method_asks_for_the_thread(self):
         """Each call with a handle gets it from the method that looks at the thread."""
-        for name in ("games", "lines", "engines", "matches"):
+        for name in ("games", "moves", "lines", "engines", "matches"):
             text = (PACKAGE / f"{name}.py").read_text("ascii")
             self.assertNotRegex(text, r"\._(place|handle|memory)\b")
         self.assertEqual((PACKAGE / "_held.py").read_text("ascii").count("get_ident() !="), 1)
@@ -196,11 +236,11 @@ class Loading(unittest.TestCase):
 
     def test_each_number_is_looked_at(self):
         for value in (-1, 2**32):
-            self.assertRaises(OverflowError, _held.whole, value, "the number")
+            self.assertRaises(ValueError, _held.whole, value, "number")
         for value in (1.0, "1", None):
-            self.assertRaises(TypeError, _held.whole, value, "the number")
-        self.assertEqual([_held.whole(number, "the number") for number in (0, 2**32 - 1)], [0, 2**32 - 1])
-        self.assertRaisesRegex(OverflowError, "^the size is -1, and not from 0 to 4294967295$", Game, -1)
+            self.assertRaises(TypeError, _held.whole, value, "number")
+        self.assertEqual([_held.whole(number, "number") for number in (0, 2**32 - 1)], [0, 2**32 - 1])
+        self.assertEqual([_held.clamped(number) for number in (-1, 0, 2**32 - 1, 2**32)], [2**32 - 1, 0, 2**32 - 1, 2**32 - 1])
 
     def test_a_closed_input(self):
         self.assertIsNone(vintsaky.Engine().serve(io.BytesIO(), io.BytesIO()))

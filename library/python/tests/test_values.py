@@ -67,7 +67,7 @@ class Vertices(Refusing):
 
     def test_numbers_never_wrap_around(self):
         for point in ((-1, 1), (1, -1), (2**32 + 1, 1), (1, 2**32 + 1), (2**64 + 1, 1)):
-            self.assertRaises(OverflowError, vintsaky.vertex_text, point)
+            self.refused(Cause.BAD_VERTEX, vintsaky.vertex_text, point)
 
     def test_wrong_types(self):
         for vertex in (None, 257, 4.0, (1.0, 1), (1, "1"), Point(1.0, 1), (1,), (1, 1, 1), [1, 1], {}):
@@ -79,7 +79,7 @@ class Vertices(Refusing):
     def test_texts_are_ascii(self):
         for read in (vintsaky.read_vertex, vintsaky.read_colour, vintsaky.read_komi):
             for text in ("Ａ1", "é", b"\xff", "\udc80"):
-                self.assertRaisesRegex(ValueError, "not ASCII", read, text)
+                self.refused(Cause.BAD_TEXT, read, text)
 
     def test_neighbours(self):
         wanted = {(1, 1): ["B1", "A2"], (2, 2): ["B1", "A2", "C2", "B3"], (3, 3): ["C2", "B3"], (3, 1): ["B1", "C2"]}
@@ -108,10 +108,11 @@ class Komis(Refusing):
             self.assertEqual(vintsaky.komi_text(komi), text)
 
     def test_limits(self):
-        for komi in (10**9, -(10**9), 2**30 - 0.5, -(2**30)):
+        for komi in (
+            10**9, -(10**9), 2**30 - 0.5, -(2**30), 2**30, -(2**30) - 1, 2**31, 2**32 + 7, 10**30, 10**400, Fraction(10**9),
+            float("inf"), -float("inf"),
+        ):  # fmt: skip
             self.refused(Cause.BAD_KOMI, vintsaky.komi_text, komi)
-        for komi in (2**30, -(2**30) - 1, 2**31, 2**32 + 7, 10**30, float("inf"), -float("inf")):
-            self.assertRaises(OverflowError, vintsaky.komi_text, komi)
 
     def test_whole_half_points_alone(self):
         for komi in (6.7, 0.25, Fraction(1, 3), 5e-324, float("nan")):

@@ -15,15 +15,20 @@ This is an engine of one's own, which `twogtp --black 'python3 engine.py'` plays
 
     MyEngine().serve()
 
-`Game` has the rules, `Match` is the controller of a match, `Engine` an engine, and `Steps` one in steps. `CommandLines`
-and `Replies` read the protocol's lines in any cuts; `write_command` and `write_reply` write them.
+`Game` has the rules, `Games` plays many games in one call, `Match` is the controller of a match, `Engine` an engine,
+and `Steps` one in steps. `CommandLines` and `Replies` read the protocol's lines in any cuts; `write_command` and
+`write_reply` write them.
 
-- A call that is refused raises `Refused`, a ValueError whose `cause` says why, and has changed nothing.
-- A number that the library's type doesn't have is an OverflowError, and a wrong type a TypeError. Texts are ASCII.
-- Komis and scores are in points: floats, of which each is a multiple of 0.5.
+- A wrong type is a TypeError, and a wrong value a ValueError, also a number that is out of its range. Both name the
+  argument, its value and what is wanted.
+- `Refused` is the ValueError for which the library has a cause: its `cause` says why, and nothing has changed. It names
+  the call and its arguments, as `play w C3: A stone is on the point.`; `Cause` lists what each cause means.
+- Texts are ASCII. Komis and scores are in points: floats, of which each is a multiple of 0.5.
+- A game can be copied, pickled and compared, also one of a subclass, with its attributes. It has no hash: for a table
+  take `board_hash` or `position_hash`. No other object can be copied or pickled.
 - Only the thread that made an object may use it, or the one that called its `adopt` last; another one gets a
-  RuntimeError. Each call holds the interpreter's lock.
-- An object can't be pickled. `Game.copy` makes a copy of a game.
+  RuntimeError. A game out of a pickle is of the thread that uses it first. Each call holds the interpreter's lock, but
+  those of `Games`.
 
 The library is the file libvintsaky.so.1 in this package, or else the one that the variable VINTSAKY_LIBRARY names, or
 else the system's.
@@ -32,13 +37,14 @@ from ._held import Bytes, Held
 from ._library import version
 from ._numbers import Cause, Ending, Loss
 from ._refused import Refused
-from .batches import Games, Stepped
+from .batches import Games
 from .engines import Engine, Event, Failure, Steps, command
-from .games import Chain, Game, Move, Moves
+from .games import Chain, Game
 from .lines import Command, CommandLine, CommandLines, LineEvent, Replies, Reply, ReplyEvent, write_command, write_reply
 from .matches import Action, Match, Next, Owed, Report, Status, Verdict
-from .values import BLACK, PASS, RESIGN, WHITE, AnyColour, AnyVertex, Colour, Komi, KoRule, NoPoint, Point, Vertex
-from .values import komi_text, read_colour, read_komi, read_vertex, vertex_text
+from .moves import Move, Moves
+from .values import BLACK, PASS, RESIGN, WHITE, AnyChoice, AnyColour, AnyVertex, Colour, Komi, KoRule, NoPoint, Point, Vertex
+from .values import inverse_symmetry, komi_text, read_colour, read_komi, read_vertex, symmetry_map, vertex_text
 
 __version__ = "1.0.0"
 
@@ -48,6 +54,7 @@ __all__ = [
     "RESIGN",
     "WHITE",
     "Action",
+    "AnyChoice",
     "AnyColour",
     "AnyVertex",
     "Bytes",
@@ -63,10 +70,8 @@ __all__ = [
     "Failure",
     "Game",
     "Games",
-    "Held",
     "KoRule",
     "Komi",
-    "LineEvent",
     "Loss",
     "Match",
     "Move",
@@ -81,15 +86,16 @@ __all__ = [
     "ReplyEvent",
     "Report",
     "Status",
-    "Stepped",
     "Steps",
     "Verdict",
     "Vertex",
     "command",
+    "inverse_symmetry",
     "komi_text",
     "read_colour",
     "read_komi",
     "read_vertex",
+    "symmetry_map",
     "version",
     "vertex_text",
     "write_command",

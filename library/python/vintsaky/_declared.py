@@ -227,6 +227,8 @@ CALLS: Dict[str, Tuple[Any, Tuple[Any, ...]]] = {
     "vintsaky_match_copy_game": (None, (POINTER(MatchHandle), POINTER(GameHandle))),
     "vintsaky_match_result": (c_uint32, (POINTER(MatchHandle), c_uint32, POINTER(c_char), c_size_t, POINTER(c_size_t))),
     "vintsaky_match_record": (c_size_t, (POINTER(MatchHandle), POINTER(c_char), c_size_t)),
+    "vintsaky_match_adjudicate": (c_uint32, (POINTER(MatchHandle), c_uint32, c_char_p, c_size_t)),
+    "vintsaky_match_reason": (c_size_t, (POINTER(MatchHandle), POINTER(c_char), c_size_t)),
     "vintsaky_lines_place": (None, (POINTER(LinesHandle), c_void_p)),
     "vintsaky_lines_bytes": (c_size_t, ()),
     "vintsaky_lines_align": (c_size_t, ()),

@@ -7,6 +7,7 @@ from enum import IntEnum
 from pathlib import Path
 from typing import Any, Tuple
 
+from ._brief import BriefEnum
 from ._declared import CALLS, INTERFACE
 
 VARIABLE = "VINTSAKY_LIBRARY"
@@ -41,6 +42,14 @@ library: Any = _load(_place(), ctypes.PyDLL)
 unlocked: Any = _load(_place(), ctypes.CDLL)  # its calls let other threads run: those over many games alone are made so
 
 
+def untyped(call: Any) -> Any:
+    """The same call, but that the types of its arguments aren't looked at, which takes most of a call's time. All that it
+    is given has to be of ctypes."""
+    same = library[call.__name__]
+    same.restype = call.restype
+    return same
+
+
 def text_of(call: Any, *arguments: Any) -> bytes:
     """The text that this call writes, whose result is its length."""
     room = 256
@@ -52,7 +61,11 @@ def text_of(call: Any, *arguments: Any) -> bytes:
         room = length + 1
 
 
-class Told(IntEnum):
+class Numbered(IntEnum, metaclass=BriefEnum):
+    """A number of the library."""
+
+
+class Told(Numbered):
     """A number for which the library has a sentence."""
 
     @property

@@ -1,22 +1,45 @@
-"""What is refused, and why."""
+"""What is refused, and why; and values, as errors name them."""
 from __future__ import annotations
 
+from enum import Enum
 from typing import Any, Optional
 
+from ._brief import Brief
 from ._numbers import Cause
 
+MOST_SHOWN = 60  # characters of a value
 
-class Refused(ValueError):
-    """A call is refused, and has changed nothing. `cause` says why; the text is the cause's, after what is refused
-    where that is known."""
 
-    def __init__(self, cause: Cause, what: str = "") -> None:
-        super().__init__(cause, what)
+class Refused(ValueError, metaclass=Brief):
+    """A call is refused, and has changed nothing. `cause` says why. The text names what is refused with its value, and
+    then what is wanted, or else the cause's sentence."""
+
+    def __init__(self, cause: Cause, what: str = "", said: str = "") -> None:
+        super().__init__(cause, what, said)
         self.cause = cause
         self.what = what
+        self.said = said
 
     def __str__(self) -> str:
-        return f"{self.what}: {self.cause.text}" if self.what else self.cause.text
+        said = self.said or self.cause.text
+        return f"{self.what}: {said}" if self.what else said
+
+
+def shown(value: Any) -> str:
+    """A value as an error names it: as it is written in Python, and cut where that is long."""
+    if isinstance(value, Enum):
+        return value.name
+    try:
+        text = f"{type(value).__name__}{tuple(value)!r}" if hasattr(value, "_fields") else repr(value)
+    except Exception:  # the author's own, or that of a number with too many digits
+        return f"a {type(value).__name__}"
+    text = text.replace("\n", " ")
+    return text if len(text) <= MOST_SHOWN else f"{text[:MOST_SHOWN]}.."
+
+
+def wrong(what: str, said: str, cause: Optional[Cause] = None) -> ValueError:
+    """The error of an argument whose value is wrong: a Refused where there is a cause for it."""
+    return ValueError(f"{what}: {said}") if cause is None else Refused(cause, what, said)
 
 
 def done(cause: int, what: str = "") -> None:

@@ -7,9 +7,10 @@ import threading
 from array import array
 from contextlib import contextmanager
 from threading import get_ident
-from typing import Any, Iterator, List, NamedTuple, NoReturn, Optional, Sequence, Tuple
+from typing import Any, Iterator, List, NoReturn, Optional, Sequence, Tuple
 
 from . import _declared
+from ._brief import Brief
 from ._buffers import BYTES, FLOATS, Room, apart, room_of
 from ._held import whole
 from ._library import library, unlocked
@@ -21,14 +22,7 @@ MOST_MOVES = 2000  # of a record
 MOST_GAMES = 2**20
 
 
-class Stepped(NamedTuple):
-    """What came of a step: how many games refused their move, and how many are over."""
-
-    refused: int
-    over: int
-
-
-class Games:
+class Games(metaclass=Brief):
     """So many games of one size, komi, ko rule and handicap, which are played in one call.
 
     Each is played by turns: after a move it is the other colour's turn, and before the first it is Black's, or White's
@@ -43,10 +37,12 @@ class Games:
     >>> games = Games(2, size=3)
     >>> planes = bytearray(2 * 2 * 9)
     >>> games.step([4, 0], planes=planes)
-    Stepped(refused=0, over=0)
+    0
     >>> list(planes[9:18])  # the first game's second plane: Black's stones, since it is White's turn
     [0, 0, 0, 0, 1, 0, 0, 0, 0]
     """
+
+    __slots__ = ("_size", "_limit", "_points", "_thread", "_lock", "_handles", "_memory", "_causes", "_over", "_scores")
 
     def __init__(
         self,
@@ -128,9 +124,9 @@ class Games:
         planes: Any = None,
         earlier: int = 0,
         masks: Any = None,
-    ) -> Stepped:
-        """Makes a move in each game, begins those anew that are over, and writes into the buffers that are given, in
-        this order:
+    ) -> int:
+        """Makes a move in each game, and begins those anew that are over. How many games refused their move. It writes
+        into the buffers that are given, in this order:
 
         - `causes`, a byte a game: 0, or the number of the `Cause` for which the game alone refused its move, and stays.
         - `over`, a byte a game: 1 where it ended by two passes, 2 where it has as many moves as the limit, else 0.
@@ -149,12 +145,12 @@ class Games:
         with self._held() as (handles, _):
             numbers = self._numbers(moves)
             refused = self._play(handles, numbers, rooms["causes"])
-            ended = self._restart(handles, rooms["over"], rooms["scores"])
+            self._restart(handles, rooms["over"], rooms["scores"])
             if room := rooms["planes"]:
                 self._write_planes(handles, room, earlier)
             if room := rooms["masks"]:
                 self._write_masks(handles, room)
-            return Stepped(refused, ended)
+            return refused
 
     def planes_into(self, planes: Any, earlier: int = 0) -> None:
         """Writes the planes of all games: in C order games, planes, rows from row 1, and columns from A. The first two
@@ -239,13 +235,12 @@ class Games:
         done(unlocked.vintsaky_games_play(handles, count, numbers, count, written, count))
         return count - bytes(written).count(0)
 
-    def _restart(self, handles: Any, over: Optional[Room], scores: Optional[Room]) -> int:
-        """Begins anew what is over. How many are."""
+    def _restart(self, handles: Any, over: Optional[Room], scores: Optional[Room]) -> None:
+        """Begins anew what is over."""
         count, ways = len(handles), over.items if over else self._over
         done(unlocked.vintsaky_games_restart(handles, count, self._limit, ways, count, self._scores, count))
         if scores:
             scores.items[:] = [half / 2 for half in self._scores]
-        return count - bytes(ways).count(0)
 
     def _write_planes(self, handles: Any, room: Room, earlier: int) -> None:
         """Writes the planes of all games."""

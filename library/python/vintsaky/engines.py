@@ -7,22 +7,23 @@ import fcntl
 import os
 import sys
 from enum import IntEnum
-from typing import Any, Callable, ClassVar, Dict, Iterator, List, Optional, Tuple, TypeVar, Union
+from typing import Any, Callable, Dict, Iterator, List, Optional, Tuple, TypeVar, Union
 
 from . import _declared
-from ._held import Bytes, Held, ascii_of, bytes_of, whole
+from ._brief import Brief, BriefEnum
+from ._held import Bytes, Held, ascii_of, bytes_of
 from ._library import library, text_of
 from ._numbers import Cause
-from ._refused import Refused, done, or_none
+from ._refused import Refused, done, or_none, shown
 from .games import Game
-from .lines import CommandLine, words_of
-from .values import AnyVertex, Colour, KoRule, vertex_number
+from .lines import CommandLine, bad_reply, words_of
+from .values import AnyChoice, Colour, KoRule, choice_number, rule_number, shown_vertex
 
 PIECE = 4096  # the most bytes that are read at a time
 Method = TypeVar("Method", bound=Callable[..., Any])
 
 
-class Event(IntEnum):
+class Event(IntEnum, metaclass=BriefEnum):
     """What came of a piece that was fed to an engine in steps."""
 
     MORE = _declared.MORE  # All bytes were used: read on.
@@ -33,7 +34,7 @@ class Event(IntEnum):
     ENDED = _declared.ENDED  # The session has ended, by a quit.
 
 
-class Steps(Held):
+class Steps(Held, metaclass=Brief):
     """An engine in steps: bytes go in, and replies, or the colour for which a move is asked, come out.
 
     What is refused raises Refused, and the engine stays as it was. While it waits for a choice or an answer it uses no
@@ -50,7 +51,7 @@ class Steps(Held):
     """
 
     __slots__ = ()
-    _kind: ClassVar[str] = "engine"
+    _kind = "engine"
     _handle_type = _declared.EngineHandle
 
     def __init__(self, rule: KoRule = KoRule.SIMPLE) -> None:
@@ -59,7 +60,7 @@ class Steps(Held):
 
     def begin(self, rule: KoRule = KoRule.SIMPLE) -> None:
         """Begins anew. Causes: BAD_RULE."""
-        done(library.vintsaky_engine_begin(self._held(), whole(rule, "the ko rule")))
+        done(library.vintsaky_engine_begin(self._held(), rule_number(rule)))
 
     def feed(self, data: Bytes) -> Tuple[int, Event]:
         """Takes the next piece, up to and with the newline of the first line that has a word. How many bytes were used,
@@ -100,44 +101,47 @@ class Steps(Held):
         library.vintsaky_engine_copy_game(self._held(), game._held())
         return game
 
-    def choose(self, choice: AnyVertex) -> None:
+    def choose(self, choice: AnyChoice) -> None:
         """Makes the choice that is asked for: a vertex, RESIGN, or the text of either. Causes: BAD_VERTEX, NOT_ASKED,
         OFF_BOARD, OCCUPIED, SUICIDE or KO; the choice is still asked for."""
-        is_text = isinstance(choice, (str, bytes))
-        resigns = is_text and ascii_of(choice, "the choice").lower() == b"resign"  # type: ignore[arg-type]
-        number = _declared.RESIGN if resigns else vertex_number(choice)
-        shown = choice.decode() if isinstance(choice, bytes) else choice
-        done(library.vintsaky_engine_choose(self._held(), number), f"the choice {shown}")
+        number = choice_number(choice)
+        cause = library.vintsaky_engine_choose(self._held(), number)
+        if cause:
+            raise Refused(Cause(cause), f"choose {shown_vertex(number)}")
 
     def answer(self, text: Union[str, bytes] = "", ok: bool = True) -> None:
         """Answers the line of another command: by a success, or by a failure. Causes: NOT_ASKED, or BAD_TEXT where no
         reply may have the text."""
-        data = ascii_of(text, "the answer")
-        done(library.vintsaky_engine_answer(self._held(), int(bool(ok)), data, len(data)))
+        data = ascii_of(text, "text")
+        cause = library.vintsaky_engine_answer(self._held(), int(bool(ok)), data, len(data))
+        if cause:
+            raise bad_reply(text) if cause == Cause.BAD_TEXT else Refused(Cause(cause), f"answer {shown(text)}")
 
     def decline(self) -> None:
         """Answers the line of another command by `unknown command`. Causes: NOT_ASKED."""
-        done(library.vintsaky_engine_decline(self._held()))
+        done(library.vintsaky_engine_decline(self._held()), "decline")
 
     def set_name(self, name: Union[str, bytes]) -> None:
         """Answers name by this text from now on. Causes: BAD_TEXT where it has more than 200 bytes, or no reply may
         have it."""
-        data = ascii_of(name, "the name")
-        done(library.vintsaky_engine_set_name(self._held(), data, len(data)))
+        data = ascii_of(name, "name")
+        if library.vintsaky_engine_set_name(self._held(), data, len(data)):
+            raise bad_reply(name, "name", 200)
 
     def set_version(self, version: Union[str, bytes]) -> None:
         """Answers version by this text from now on. Causes: as those of `set_name`."""
-        data = ascii_of(version, "the version")
-        done(library.vintsaky_engine_set_version(self._held(), data, len(data)))
+        data = ascii_of(version, "version")
+        if library.vintsaky_engine_set_version(self._held(), data, len(data)):
+            raise bad_reply(version, "version", 200)
 
     def add_command(self, name: Union[str, bytes]) -> None:
         """Adds a command of the author's own. Causes: BAD_LENGTH, BAD_BYTE, ONLY_DIGITS, IN_TABLE, ADDED_BEFORE or
         TOO_MANY."""
-        data = ascii_of(name, "the command's name")
-        done(library.vintsaky_engine_add_command(self._held(), data, len(data)))
+        data = ascii_of(name, "name")
+        done(library.vintsaky_engine_add_command(self._held(), data, len(data)), f"add_command {shown(name)}")
 
 
-class Failure(Exception):
+class Failure(Exception, metaclass=Brief):
     """An own command fails: its reply is a failure with this text."""
 
 
@@ -148,11 +152,13 @@ def command(name: str) -> Callable[[Method], Method]:
     one. Where it raises Failure, the reply is a failure with that text. No own command changes the game.
 
     A text has at most 2,000 bytes, each a newline or 32 to 126. No two newlines follow each other, and it begins and
-    ends with neither a space nor a newline. Another one ends `serve` by Refused.
+    ends with neither a space nor a newline. Where it is another one, or no text at all, the reply is a failure, a line
+    on standard error names the command and says what is wrong, and the engine serves on. What else the method raises
+    comes out of `serve`.
 
     Errors: TypeError where the name is no str, as after `@command` without a name."""
     if not isinstance(name, str):
-        raise TypeError("a command has a name: @command(\"NAME\")")
+        raise TypeError(f"name: {shown(name)} is no str; a command has a name, as @command(\"NAME\")")
 
     def marked(method: Method) -> Method:
         setattr(method, "gtp_command", name)
@@ -187,7 +193,7 @@ class Engine:
     rule: KoRule = KoRule.SIMPLE
     _steps: Optional[Steps] = None
 
-    def choose(self, game: Game, colour: Colour) -> AnyVertex:
+    def choose(self, game: Game, colour: Colour) -> AnyChoice:
         """What the engine plays: a legal Point, PASS or RESIGN, or the text of one. The game is a copy, on which it may
         play as it likes: up to 2,000 moves, those that it has among them. Then `play` raises Refused, with FULL.
 
@@ -210,9 +216,9 @@ class Engine:
         written to standard output, by `print` or by a process that is started, goes to standard error. What else reads
         standard input finds it empty.
 
-        Errors: what `choose` or an own command raises, Refused of a choice or an answer that may not be, and what the
-        files raise. Nothing is written then; the reply to each earlier line was. A name or an own command that may not
-        be is a ValueError at once."""
+        Errors: what `choose` or an own command raises, but Failure, Refused or TypeError of a choice that may not be,
+        and what the files raise. Nothing is written then; the reply to each earlier line was. A name or an own command
+        that may not be is a ValueError at once."""
         with contextlib.ExitStack() as stack:
             if source is None or sink is None:
                 standard = stack.enter_context(standard_streams())
@@ -233,7 +239,7 @@ class Engine:
             try:
                 steps.add_command(name)
             except Refused as refused:
-                raise ValueError(f"there can't be an own command {name!r}: {refused}") from None
+                raise Refused(refused.cause, f"there can't be an own command {shown(name)}") from None
         return steps
 
     def _commands(self) -> Dict[str, str]:
@@ -269,12 +275,27 @@ class Engine:
         if not words or words[0] not in commands:
             steps.decline()
             return
+        text, ok = self._said(commands[words[0]], words[1:])
         try:
-            text = getattr(self, commands[words[0]])(words[1:])
+            steps.answer(text, ok)
+        except (TypeError, ValueError) as problem:
+            tell(f"{type(self).__name__}: the command {words[0]}: its answer is wrong: {problem}")
+            steps.answer("the answer is wrong", ok=False)
+
+    def _said(self, method: str, words: List[str]) -> Tuple[Any, bool]:
+        """What an own command answers by its method, and whether that is a success."""
+        try:
+            text = getattr(self, method)(words)
         except Failure as failure:
-            steps.answer(str(failure), ok=False)
-        else:
-            steps.answer("" if text is None else text)
+            return str(failure), False
+        return "" if text is None else text, True
+
+
+def tell(line: str) -> None:
+    """Writes a line to standard error, where that takes one."""
+    with contextlib.suppress(OSError, ValueError):
+        if sys.stderr is not None:
+            print(line, file=sys.stderr, flush=True)
 
 
 def read_some(source: Any) -> bytes:

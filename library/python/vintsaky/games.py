@@ -2,74 +2,45 @@
 from __future__ import annotations
 
 import ctypes
-from collections.abc import Sequence
-from typing import Any, ClassVar, List, NamedTuple, Optional, Union, overload
+from copy import deepcopy
+from functools import partial
+from pickle import UnpicklingError
+from typing import Any, Callable, Dict, Iterable, List, NamedTuple, Optional, Tuple, Type, TypeVar
 
 from . import _declared
+from ._attributes import attributes_of, give_attributes
+from ._brief import BriefABC
 from ._buffers import BYTES, room_of
-from ._held import Held, whole
+from ._held import Held, clamped, integer, whole
 from ._library import library, text_of
 from ._numbers import Cause
-from ._refused import Refused, done
-from .values import POINTS, VERTICES, AnyColour, AnyVertex, Colour, Komi, KoRule, Point, Vertex
-from .values import colour_number, half_points, vertex_number
+from ._refused import Refused, done, shown
+from .moves import Moves, moves_by_text, text_of_move
+from .values import POINTS, VERTICES, AnyColour, AnyVertex, Colour, Komi, KoRule, Point, Vertex, colour_number
+from .values import half_points, refused_point, rule_number, shown_vertex, size_number, vertex_number
 
 MOST_POINTS = 625  # of the largest board
+MOST_WORD = 2**64 - 1
 ILLEGAL = (Cause.OFF_BOARD, Cause.OCCUPIED, Cause.SUICIDE, Cause.KO)
+Kind = TypeVar("Kind", bound="Game")
 
 
-class Move(NamedTuple):
-    """A move of a record."""
-
-    colour: Colour
-    vertex: Vertex
-
-
-class Chain(NamedTuple):
-    """How many stones a chain has, and how many liberties."""
-
+class _Chain(NamedTuple):
     stones: int
     liberties: int
 
 
-class Moves(Sequence[Move]):
-    """The moves of a game's record. It shows the game as it is when it is looked at."""
+class Chain(_Chain, metaclass=BriefABC):
+    """How many stones a chain has, and how many liberties."""
 
-    __slots__ = ("_game",)
-
-    def __init__(self, game: Game) -> None:
-        self._game = game
-
-    def __len__(self) -> int:
-        length: int = library.vintsaky_game_length(self._game._held())
-        return length
-
-    @overload
-    def __getitem__(self, number: int) -> Move: ...
-
-    @overload
-    def __getitem__(self, number: slice) -> List[Move]: ...
-
-    def __getitem__(self, number: Union[int, slice]) -> Union[Move, List[Move]]:
-        length = len(self)
-        if isinstance(number, slice):
-            return [self._made(each) for each in range(*number.indices(length))]
-        place = range(length)[number]  # an IndexError or a TypeError, as of any sequence
-        return self._made(place)
-
-    def _made(self, number: int) -> Move:
-        colour, vertex = ctypes.c_uint32(), ctypes.c_uint32()
-        done(library.vintsaky_game_made(self._game._held(), number, ctypes.byref(colour), ctypes.byref(vertex)))
-        return Move(Colour(colour.value), VERTICES[vertex.value])
-
-    def __repr__(self) -> str:
-        return f"<vintsaky.Moves {' '.join(str(move.vertex) for move in self)}>"
+    __slots__ = ()
 
 
 class Game(Held):
     """A game: its board, its record, its komi and its ko rule. Colours and vertices may be given as their texts.
 
-    What is refused raises Refused, and the game stays as it was.
+    What is refused raises Refused, and the game stays as it was. Of a text that spells no colour or no vertex the cause
+    is BAD_TEXT.
 
     >>> game = Game(size=5, komi=0.5)
     >>> game.play("b", "C3")
@@ -83,7 +54,7 @@ class Game(Held):
     """
 
     __slots__ = ()
-    _kind: ClassVar[str] = "game"
+    _kind = "game"
     _handle_type = _declared.GameHandle
 
     def __init__(self, size: int = 19, komi: Komi = 0, rule: KoRule = KoRule.SIMPLE) -> None:
@@ -92,27 +63,76 @@ class Game(Held):
 
     def begin(self, size: int = 19, komi: Komi = 0, rule: KoRule = KoRule.SIMPLE) -> None:
         """Begins anew, on an empty board. Causes: BAD_RULE, BAD_SIZE or BAD_KOMI."""
-        halves = half_points(komi)
-        done(library.vintsaky_game_begin(self._held(), whole(rule, "the ko rule"), whole(size, "the size"), halves))
+        numbers = rule_number(rule), size_number(size), half_points(komi)
+        done(library.vintsaky_game_begin(self._held(), *numbers))
 
-    def copy(self) -> Game:
-        """A copy: a game of its own. To hand it to another thread, have that one call its `adopt`."""
-        copied = Game()
-        copied.become(self)
-        return copied
+    @classmethod
+    def from_moves(
+        cls: Type[Kind],
+        moves: Iterable[Tuple[AnyColour, AnyVertex]],
+        size: int = 19,
+        komi: Komi = 0,
+        rule: KoRule = KoRule.SIMPLE,
+        handicap: int = 0,
+    ) -> Kind:
+        """A game with these moves, each a colour and a vertex, as `play` takes them. `handicap` says how many stones
+        are placed before, or 0. Of a subclass `__init__` is called with the size, the komi and the rule by their names.
+        Causes: as of `begin`, `place_handicap` and `play`, with the number of the move, from 1.
+
+        >>> game = Game.from_moves([("b", "C3"), ("w", "pass")], size=5)
+        >>> Game.from_moves(game.moves, size=5) == game
+        True
+        """
+        game = cls(size=size, komi=komi, rule=rule)
+        if integer(handicap, "handicap", "no int; use 0, or one from 2 to 9"):
+            game.place_handicap(handicap)
+        for number, move in enumerate(moves, 1):
+            play_numbered(game.play, number, move)
+        return game
+
+    def copy(self: Kind) -> Kind:
+        """A copy: a game of its own. That of a subclass has the same attributes, and its `__init__` isn't called. To
+        hand it to another thread, have that one call its `adopt`."""
+        return self.__copy__()
 
     def become(self, other: Game) -> None:
         """Becomes a copy of another game. Of itself it stays as it was."""
         if not isinstance(other, Game):
-            raise TypeError(f"a Game is wanted, and not a {type(other).__name__}")
+            raise TypeError(f"other: {shown(other)} is no Game")
         if other is not self:
             library.vintsaky_game_copy(self._held(), other._held())
 
-    def __copy__(self) -> Game:
-        return self.copy()
+    def __copy__(self: Kind) -> Kind:
+        copied = placed(type(self))
+        library.vintsaky_game_copy(copied._held(), self._held())
+        if type(self) is not Game:
+            give_attributes(copied, attributes_of(self))
+        return copied
 
-    def __deepcopy__(self, memory: Any) -> Game:
-        return self.copy()
+    def __deepcopy__(self: Kind, memory: Dict[int, Any]) -> Kind:
+        copied = placed(type(self))
+        library.vintsaky_game_copy(copied._held(), self._held())
+        memory[id(self)] = copied  # before its attributes, since they may lead back to it
+        if type(self) is not Game:
+            give_attributes(copied, deepcopy(attributes_of(self), memory))
+        return copied
+
+    def __reduce_ex__(self, protocol: Any) -> Any:
+        game = placed(Game)
+        library.vintsaky_game_copy(game._held(), self._held_to_copy())
+        moves = ", ".join(map(text_of_move, game.moves))
+        setup = type(self), game.size, game.komi, int(game.rule), game.handicap, moves
+        return unpickled, setup, attributes_of(self)
+
+    def __eq__(self, other: object) -> bool:
+        """Whether the other is a game with the same size, komi, rule, handicap and moves."""
+        if not isinstance(other, Game):
+            return NotImplemented
+        return self is other or self._setup() == other._setup() and list(self.moves) == list(other.moves)
+
+    def _setup(self) -> Tuple[Any, ...]:
+        """What is compared before the moves are. Equal games have equal boards."""
+        return self.size, self.komi, self.rule, self.handicap, len(self.moves), self.board_hash
 
     @property
     def size(self) -> int:
@@ -144,26 +164,35 @@ class Game(Held):
 
     def place_handicap(self, stones: int) -> None:
         """Puts handicap stones on their fixed points. Causes: NOT_EMPTY or BAD_HANDICAP."""
-        done(library.vintsaky_game_place_handicap(self._held(), whole(stones, "the number of handicap stones")))
-
-    @property
-    def turn(self) -> Colour:
-        """The colour whose turn it is: the other one than that of the last move. Without a move that is Black, or
-        White where handicap stones were placed."""
-        return Colour(library.vintsaky_game_turn(self._held()))
+        number = integer(stones, "stones", "no int; use one from 2 to 9")
+        cause = library.vintsaky_game_place_handicap(self._held(), clamped(number))
+        done(cause, f"handicap {shown(stones)} on size {self.size}" if cause == Cause.BAD_HANDICAP else "place_handicap")
 
     @property
     def moves(self) -> Moves:
         """The moves of the record."""
         return Moves(self)
 
+    @property
+    def turn(self) -> Colour:
+        """The colour whose turn it is: the other one than that of the last move. Without a move it is Black, or White
+        where handicap stones were placed.
+
+        >>> Game().turn
+        <Colour.BLACK: 1>
+        """
+        return Colour(library.vintsaky_game_turn(self._held()))
+
     def play(self, colour: AnyColour, vertex: AnyVertex) -> None:
         """Makes a move. Causes: BAD_COLOUR, BAD_VERTEX, FULL, OFF_BOARD, OCCUPIED, SUICIDE or KO."""
-        done(library.vintsaky_game_play(self._held(), colour_number(colour), vertex_number(vertex)))
+        number, point = colour_number(colour), vertex_number(vertex)
+        cause = library.vintsaky_game_play(self._held(), number, point)
+        if cause:
+            raise Refused(Cause(cause), f"play {Colour(number)} {shown_vertex(point)}")
 
     def undo(self) -> None:
         """Takes back the last move. Causes: NOTHING_TO_UNDO."""
-        done(library.vintsaky_game_undo(self._held()))
+        done(library.vintsaky_game_undo(self._held()), "undo")
 
     def why_not(self, colour: AnyColour, vertex: AnyVertex) -> Optional[Cause]:
         """Why a colour may not make a move next: OFF_BOARD, OCCUPIED, SUICIDE or KO; None where it may. Whether the
@@ -184,10 +213,12 @@ class Game(Held):
         full record takes no more. Causes: BAD_COLOUR."""
         return self._points_of(library.vintsaky_game_legal_points, colour_number(colour))
 
-    def _points_of(self, call: Any, number: int) -> List[Point]:
-        """The points that this call lists for a number, which may be refused."""
+    def _points_of(self, call: Any, number: int, what: str = "") -> List[Point]:
+        """The points that this call lists for a number, which may be refused: a point, where the call is named."""
         points, count = (ctypes.c_uint32 * MOST_POINTS)(), ctypes.c_size_t()
-        done(call(self._held(), number, points, MOST_POINTS, ctypes.byref(count)))
+        cause = call(self._held(), number, points, MOST_POINTS, ctypes.byref(count))
+        if cause:
+            raise refused_point(cause, what, number)
         return [POINTS[point] for point in points[: count.value]]
 
     @property
@@ -201,7 +232,10 @@ class Game(Held):
         """The colour of the stone on a point; None where there is none. Causes: BAD_VERTEX, also of a pass, or
         OFF_BOARD."""
         colour = ctypes.c_uint32()
-        done(library.vintsaky_game_stone_at(self._held(), vertex_number(point), ctypes.byref(colour)))
+        number = vertex_number(point, "point")
+        cause = library.vintsaky_game_stone_at(self._held(), number, ctypes.byref(colour))
+        if cause:
+            raise refused_point(cause, "point", number)
         return Colour(colour.value) if colour.value else None
 
     __iter__ = None  # board and record are both there: `legal_points` and `moves` are what can be gone through
@@ -210,17 +244,21 @@ class Game(Held):
     def chain(self, point: AnyVertex) -> Chain:
         """The chain of the stone on a point. Causes: BAD_VERTEX, also of a pass, OFF_BOARD or NO_STONE."""
         stones, liberties = ctypes.c_uint32(), ctypes.c_uint32()
-        number = vertex_number(point)
-        done(library.vintsaky_game_chain(self._held(), number, ctypes.byref(stones), ctypes.byref(liberties)))
+        number = vertex_number(point, "point")
+        cause = library.vintsaky_game_chain(self._held(), number, ctypes.byref(stones), ctypes.byref(liberties))
+        if cause:
+            raise refused_point(cause, "chain", number)
         return Chain(stones.value, liberties.value)
 
     def chain_points(self, point: AnyVertex) -> List[Point]:
         """The stones of the chain on a point, row by row from A1. Causes: as of `chain`."""
-        return self._points_of(library.vintsaky_game_chain_points, vertex_number(point))
+        number = vertex_number(point, "point")
+        return self._points_of(library.vintsaky_game_chain_points, number, "chain_points")
 
     def chain_liberties(self, point: AnyVertex) -> List[Point]:
         """The liberties of the chain on a point, row by row from A1. Causes: as of `chain`."""
-        return self._points_of(library.vintsaky_game_chain_liberties, vertex_number(point))
+        number = vertex_number(point, "point")
+        return self._points_of(library.vintsaky_game_chain_liberties, number, "chain_liberties")
 
     def index(self, point: AnyVertex) -> int:
         """The index of a point, for lists with a value for each point of the board. It is counted from 0 in the board's
@@ -230,13 +268,16 @@ class Game(Held):
         5
         """
         index = ctypes.c_size_t()
-        done(library.vintsaky_game_index(self._held(), vertex_number(point), ctypes.byref(index)))
+        number = vertex_number(point, "point")
+        cause = library.vintsaky_game_index(self._held(), number, ctypes.byref(index))
+        if cause:
+            raise refused_point(cause, "index", number)
         return index.value
 
     def point(self, index: int) -> Point:
         """The point of an index. Causes: OFF_BOARD where the board has no more points than the index says."""
         vertex = ctypes.c_uint32()
-        number = whole(index, "the index", 0, 2**31)
+        number = whole(index, "index", 0, self.size**2 - 1, Cause.OFF_BOARD)
         done(library.vintsaky_game_point_at(self._held(), number, ctypes.byref(vertex)))
         return POINTS[vertex.value]
 
@@ -278,8 +319,10 @@ class Game(Held):
         the colour beside it. The other colour has a stone on at most one of its diagonals, and on none where the point
         is on the edge. Causes: BAD_COLOUR, BAD_VERTEX, also of a pass, or OFF_BOARD."""
         holds = ctypes.c_uint32()
-        number = colour_number(colour)
-        done(library.vintsaky_game_is_own_eye(self._held(), number, vertex_number(point), ctypes.byref(holds)))
+        number, vertex = colour_number(colour), vertex_number(point, "point")
+        cause = library.vintsaky_game_is_own_eye(self._held(), number, vertex, ctypes.byref(holds))
+        if cause:
+            raise refused_point(cause, "is_own_eye", vertex)
         return bool(holds.value)
 
     def ko_point(self, colour: AnyColour) -> Optional[Point]:
@@ -303,13 +346,13 @@ class Game(Held):
         which it may play and that are no own eyes of it, and passes where there is none. It ends after two passes, also
         of the record before, after so many moves as the limit says, or where the record has 2,000. All draws are those
         of the seed of 64 bits: the same game, colour, seed and limit make the same moves. Causes: BAD_COLOUR."""
-        number, limit = colour_number(colour), whole(limit, "the limit")
-        done(library.vintsaky_game_playout(self._held(), number, whole(seed, "the seed", 0, 2**64 - 1), limit))
+        number, seed, limit = colour_number(colour), whole(seed, "seed", 0, MOST_WORD), whole(limit, "limit")
+        done(library.vintsaky_game_playout(self._held(), number, seed, limit))
 
     def rollout(self, colour: AnyColour, seed: int, limit: int = 2000) -> float:
         """The score after such a playout, in points. The game stays as it was. Causes: BAD_COLOUR."""
-        halves, number = ctypes.c_int32(), colour_number(colour)
-        seed, limit = whole(seed, "the seed", 0, 2**64 - 1), whole(limit, "the limit")
+        number, seed, limit = colour_number(colour), whole(seed, "seed", 0, MOST_WORD), whole(limit, "limit")
+        halves = ctypes.c_int32()
         done(library.vintsaky_game_rollout(self._held(), number, seed, limit, ctypes.byref(halves)))
         return halves.value / 2
 
@@ -319,7 +362,7 @@ class Game(Held):
         2^64 mod n of them are chosen by one word more than the others: the choice is even but for one word in 2^64 / n.
         The number of moves doesn't count, though a full record takes no more. Causes: BAD_COLOUR."""
         vertex = ctypes.c_uint32()
-        number, word = colour_number(colour), whole(word, "the word", 0, 2**64 - 1)
+        number, word = colour_number(colour), whole(word, "word", 0, MOST_WORD)
         done(library.vintsaky_game_random_move(self._held(), number, word, ctypes.byref(vertex)))
         return VERTICES[vertex.value]
 
@@ -354,3 +397,45 @@ class Game(Held):
 
     def __repr__(self) -> str:
         return f"<vintsaky.Game of size {self.size} with {len(self.moves)} moves>"
+
+
+# ---- what makes games of games
+
+
+def play_numbered(play: Callable[[Any, Any], None], number: int, move: Any) -> None:
+    """Plays the move of this number, which an error names."""
+    try:
+        colour, vertex = move
+    except (TypeError, ValueError):
+        raise TypeError(f"move {number}: {shown(move)} is no pair of a colour and a vertex") from None
+    try:
+        play(colour, vertex)
+    except Refused as refused:
+        raise Refused(refused.cause, f"move {number}: {refused.what}", refused.said) from None
+    except TypeError as problem:
+        raise TypeError(f"move {number}: {problem}") from None
+
+
+def placed(kind: Type[Kind]) -> Kind:
+    """A new game of this class, of which `__init__` isn't called."""
+    game = kind.__new__(kind)
+    Held.__init__(game)
+    return game
+
+
+def unpickled(kind: Any, size: Any, komi: Any, rule: Any, handicap: Any, moves: Any) -> Any:
+    """The game of a pickle, in which all is looked at: it is played anew, and is of the thread that uses it first.
+    Errors: UnpicklingError where there can't be such a game."""
+    if not (isinstance(kind, type) and issubclass(kind, Game) and isinstance(moves, str)):
+        raise UnpicklingError(f"the pickle of a Game is damaged: {shown(kind)} is no Game, or {shown(moves)} no moves")
+    game, known = placed(kind), moves_by_text()
+    try:
+        Game.begin(game, size, komi, rule)
+        if integer(handicap, "handicap", "no int"):
+            Game.place_handicap(game, handicap)
+        for number, text in enumerate(moves.split(", ") if moves else [], 1):
+            play_numbered(partial(Game.play, game), number, known.get(text) or text.split(" "))
+    except (TypeError, ValueError) as problem:
+        raise UnpicklingError(f"the pickle of a Game is damaged: {problem}") from None
+    game._release()
+    return game

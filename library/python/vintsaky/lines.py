@@ -3,26 +3,27 @@ from __future__ import annotations
 
 import ctypes
 from enum import IntEnum
-from typing import Any, ClassVar, Dict, List, NamedTuple, Optional, Tuple, Union
+from typing import Any, Callable, Dict, List, NamedTuple, Optional, Tuple, Union
 
 from . import _declared
-from ._held import Bytes, Held, ascii_of, bytes_of, whole
+from ._brief import Brief, BriefABC, BriefEnum
+from ._held import Bytes, Held, ascii_of, bytes_of, integer, whole
 from ._library import library, text_of
 from ._numbers import Cause
-from ._refused import Refused, done, or_none
-from .values import colour_number, half_points, vertex_number, written
+from ._refused import Refused, done, or_none, shown
+from .values import colour_number, half_points, size_number, vertex_number, written
 
 LONGEST_INT = 2**31 - 1
 
 
-class LineEvent(IntEnum):
+class LineEvent(IntEnum, metaclass=BriefEnum):
     """What came of a piece that was fed to a reader of command lines, where it isn't 0."""
 
     LINE = _declared.LINE
     TOO_LONG = _declared.TOO_LONG
 
 
-class ReplyEvent(IntEnum):
+class ReplyEvent(IntEnum, metaclass=BriefEnum):
     """What came of a piece that was fed to a reader of replies, where it isn't 0: a reply, or why there is none."""
 
     READ = _declared.READ
@@ -30,7 +31,7 @@ class ReplyEvent(IntEnum):
     LONG_REPLY = _declared.LONG_REPLY
 
 
-class Command(IntEnum):
+class Command(IntEnum, metaclass=BriefEnum):
     """The commands that `write_command` writes."""
 
     BOARDSIZE = _declared.BOARDSIZE
@@ -43,21 +44,29 @@ class Command(IntEnum):
     QUIT = _declared.QUIT
 
 
-class CommandLine(NamedTuple):
-    """A command line: its id, if it has one, and its words, the command's name first. Of a line that is too long only
-    that is known. Bytes of a word that aren't UTF-8 are what `os.fsencode` gives back."""
-
+class _CommandLine(NamedTuple):
     id: Optional[int]
     words: Tuple[str, ...]
     too_long: bool = False
 
 
-class Reply(NamedTuple):
-    """A reply: whether it is a success, its id, if it has one, and its text, as it came."""
+class CommandLine(_CommandLine, metaclass=BriefABC):
+    """A command line: its id, if it has one, and its words, the command's name first. Of a line that is too long only
+    that is known. Bytes of a word that aren't UTF-8 are what `os.fsencode` gives back."""
 
+    __slots__ = ()
+
+
+class _Reply(NamedTuple):
     ok: bool
     id: Optional[int]
     text: bytes
+
+
+class Reply(_Reply, metaclass=BriefABC):
+    """A reply: whether it is a success, its id, if it has one, and its text, as it came."""
+
+    __slots__ = ()
 
 
 def words_of(call: Any, place: Any) -> Tuple[str, ...]:
@@ -73,7 +82,7 @@ def words_of(call: Any, place: Any) -> Tuple[str, ...]:
         words.append(text.raw[: count.value].decode("utf-8", "surrogateescape"))
 
 
-class CommandLines(Held):
+class CommandLines(Held, metaclass=Brief):
     """A reader of command lines.
 
     >>> lines = CommandLines()
@@ -84,7 +93,7 @@ class CommandLines(Held):
     """
 
     __slots__ = ()
-    _kind: ClassVar[str] = "lines"
+    _kind = "lines"
     _handle_type = _declared.LinesHandle
 
     def feed(self, data: Bytes) -> List[CommandLine]:
@@ -107,7 +116,7 @@ class CommandLines(Held):
         return CommandLine(number_or_none, words_of(library.vintsaky_lines_word, place))
 
 
-class Replies(Held):
+class Replies(Held, metaclass=Brief):
     """A reader of replies.
 
     >>> replies = Replies()
@@ -118,7 +127,7 @@ class Replies(Held):
     """
 
     __slots__ = ("_fault",)
-    _kind: ClassVar[str] = "replies"
+    _kind = "replies"
     _handle_type = _declared.RepliesHandle
 
     def __init__(self) -> None:
@@ -152,12 +161,41 @@ class Replies(Held):
 
 def id_number(id: Optional[int]) -> int:
     """The number of an id, which is -1 for none. Causes: BAD_ID."""
-    if id is None:
-        return -1
-    number = whole(id, "the id", -(2**31), LONGEST_INT)
-    if number < 0:
-        raise Refused(Cause.BAD_ID)
-    return number
+    return -1 if id is None else whole(id, "id", 0, LONGEST_INT, Cause.BAD_ID)
+
+
+def command_number(command: int) -> Command:
+    """The command of a number. Causes: BAD_COMMAND."""
+    number = integer(command, "command", "no Command")
+    if number not in list(Command):
+        raise Refused(Cause.BAD_COMMAND, "command", f"{shown(command)} is no Command")
+    return Command(number)
+
+
+TAKEN = {
+    Command.BOARDSIZE: "a size",
+    Command.KOMI: "a komi",
+    Command.FIXED_HANDICAP: "a number of stones",
+    Command.PLAY: "a colour and a vertex",
+    Command.GENMOVE: "a colour",
+}
+
+
+def arguments_of(kind: Command, arguments: Tuple[Any, ...]) -> Tuple[int, int]:
+    """The two numbers that a call takes as a command's arguments: 0 for what isn't there."""
+    taken = TAKEN.get(kind, "none")
+    if len(arguments) != (0 if taken == "none" else taken.count(" and ") + 1):
+        given = "1 argument is" if len(arguments) == 1 else f"{len(arguments)} arguments are"
+        raise TypeError(f"{kind.name}: {given} given; it takes {taken}")
+    if kind is Command.PLAY:
+        return colour_number(arguments[0]), vertex_number(arguments[1])
+    numbers: Dict[Command, Callable[[Any], int]] = {
+        Command.BOARDSIZE: size_number,
+        Command.KOMI: half_points,
+        Command.FIXED_HANDICAP: lambda stones: whole(stones, "stones", 0, LONGEST_INT, Cause.BAD_HANDICAP),
+        Command.GENMOVE: colour_number,
+    }
+    return (numbers[kind](arguments[0]) if arguments else 0), 0
 
 
 def write_command(command: Command, *arguments: Any, id: Optional[int] = None) -> bytes:
@@ -168,20 +206,14 @@ def write_command(command: Command, *arguments: Any, id: Optional[int] = None) -
     >>> write_command(Command.PLAY, "b", "D4", id=5)
     b'5 play b D4\\n'
     """
-    kind, number = whole(command, "the command"), id_number(id)
-    counts: Dict[int, int] = {Command.PLAY: 2, Command.CLEAR_BOARD: 0, Command.UNDO: 0, Command.QUIT: 0}
-    wanted = counts.get(kind, 1)
-    if kind in list(Command) and len(arguments) != wanted:
-        raise TypeError(f"{Command(kind).name} has {wanted} arguments, and not {len(arguments)}")
-    value = vertex = 0
-    if kind == Command.KOMI:
-        value = half_points(arguments[0])
-    elif kind in (Command.PLAY, Command.GENMOVE):
-        value = whole(colour_number(arguments[0]), "the colour", 0, LONGEST_INT)
-        vertex = vertex_number(arguments[1]) if kind == Command.PLAY else 0
-    elif arguments:
-        value = whole(arguments[0], "the argument", -(2**31), LONGEST_INT)
-    return written(library.vintsaky_write_command, number, kind, value, vertex).encode("ascii")
+    number, kind = id_number(id), command_number(command)
+    return written(library.vintsaky_write_command, number, kind, *arguments_of(kind, arguments)).encode("ascii")
+
+
+def bad_reply(text: Union[str, bytes], what: str = "text", most: int = 2000) -> Refused:
+    """What is refused of a text that no reply may have, or that is too long."""
+    said = f"a reply's text has at most {most} bytes, each a newline or 32 to 126, no empty line, and no space or newline"
+    return Refused(Cause.BAD_TEXT, what, f"{shown(text)} may be in no reply; {said} at its ends")
 
 
 def write_reply(text: Union[str, bytes] = "", ok: bool = True, id: Optional[int] = None) -> bytes:
@@ -190,5 +222,8 @@ def write_reply(text: Union[str, bytes] = "", ok: bool = True, id: Optional[int]
     >>> write_reply("D4", id=7), write_reply("no", ok=False)
     (b'=7 D4\\n\\n', b'? no\\n\\n')
     """
-    data = ascii_of(text, "the text")
-    return written(library.vintsaky_write_reply, id_number(id), int(bool(ok)), data, len(data)).encode("ascii")
+    number, data = id_number(id), ascii_of(text, "text")
+    try:
+        return written(library.vintsaky_write_reply, number, int(bool(ok)), data, len(data)).encode("ascii")
+    except Refused:
+        raise bad_reply(text) from None

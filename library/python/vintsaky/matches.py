@@ -4,21 +4,22 @@ from __future__ import annotations
 import ctypes
 from dataclasses import dataclass
 from enum import IntEnum
-from typing import Any, ClassVar, Optional, Tuple
+from typing import Any, Optional, Tuple
 
 from . import _declared
-from ._held import Bytes, Held, bytes_of, whole
+from ._brief import Brief, BriefEnum
+from ._held import Bytes, Held, ascii_of, bytes_of, clamped, integer, whole
 from ._library import library, text_of
 from ._numbers import Cause, Ending, Loss
-from ._refused import done
+from ._refused import Refused, done, shown
 from .games import Game
-from .values import AnyColour, Colour, Komi, colour_number, half_points, written
+from .values import AnyColour, Colour, Komi, colour_number, half_points, size_number, written
 
 COMMAND_ROOM = 128  # a command has at most 64 bytes
 WROTE_ROOM = 128  # of what a side wrote at most 80 bytes are shown
 
 
-class Next(IntEnum):
+class Next(IntEnum, metaclass=BriefEnum):
     """What is to be done next."""
 
     START = _declared.START  # Start this side's engine, and call `started`.
@@ -28,7 +29,7 @@ class Next(IntEnum):
 
 
 @dataclass(frozen=True)
-class Action:
+class Action(metaclass=Brief):
     """What is to be done next, and with which side."""
 
     kind: Next
@@ -36,7 +37,7 @@ class Action:
 
 
 @dataclass(frozen=True)
-class Owed:
+class Owed(metaclass=Brief):
     """What a side owes: how many commands it hasn't answered, the oldest of them, as it was sent, and the first 80
     bytes that it wrote since its last whole reply."""
 
@@ -46,7 +47,7 @@ class Owed:
 
 
 @dataclass(frozen=True)
-class Report:
+class Report(metaclass=Brief):
     """What came of the bytes that a side wrote: why it fails, if it does; which retake of its number of a move it is,
     1 to 3, where it refused a play that is retaken, else 0; and what it owed at the loss, or else at the retake."""
 
@@ -56,7 +57,7 @@ class Report:
 
 
 @dataclass(frozen=True)
-class Status:
+class Status(metaclass=Brief):
     """How many commands a side has confirmed of those that bring it to the record, how many it hasn't answered, and
     whether a genmove is among them."""
 
@@ -66,17 +67,18 @@ class Status:
 
 
 @dataclass(frozen=True)
-class Verdict:
-    """How a match ended, and the score in points where it ended by one. `side` is who resigned, forfeited, is unfit or
-    was abandoned: never who won."""
+class Verdict(metaclass=Brief):
+    """How a match ended, the score in points where it ended by one, and the reason where a ruling has one. `side` is who
+    resigned, forfeited, is unfit, was abandoned or lost by a ruling: never who won."""
 
     ending: Ending
     side: Optional[Colour]
     score: Optional[float]
+    reason: str = ""
 
     @property
     def winner(self) -> Optional[Colour]:
-        """Who won: by the score, or since the other side resigned or forfeited. Else None.
+        """Who won: by the score, or since the other side resigned, forfeited or lost by a ruling. Else None.
 
         >>> Verdict(Ending.BY_RESIGNATION, Colour.BLACK, None).winner
         <Colour.WHITE: 2>
@@ -86,6 +88,11 @@ class Verdict:
         if self.side is None or self.ending in (Ending.BY_UNFIT, Ending.BY_ABANDONED):
             return None
         return self.side.other
+
+
+def side_number(side: AnyColour) -> int:
+    """The number of a side. Causes: BAD_COLOUR, or BAD_TEXT of a text."""
+    return colour_number(side, "side")
 
 
 class OwedRoom:
@@ -107,7 +114,7 @@ class OwedRoom:
         return Owed(self.unanswered.value, command, self.wrote.raw[: self.wrote_count.value])
 
 
-class Match(Held):
+class Match(Held, metaclass=Brief):
     """A match between two engines that are not started yet. Sides may be given as the texts of their colours.
 
     What is refused raises Refused, and the match stays as it was: BAD_COLOUR of a side that is none, and what each
@@ -123,7 +130,7 @@ class Match(Held):
     """
 
     __slots__ = ()
-    _kind: ClassVar[str] = "match"
+    _kind = "match"
     _handle_type = _declared.MatchHandle
 
     def __init__(
@@ -136,16 +143,20 @@ class Match(Held):
         self, size: int = 19, komi: Komi = 0, handicap: int = 0, max_moves: int = 2000, max_restarts: int = 0
     ) -> None:
         """Begins anew. Causes: BAD_SIZE, BAD_KOMI, BAD_HANDICAP, BAD_MAX_MOVES or BAD_MAX_RESTARTS."""
-        done(
-            library.vintsaky_match_begin(
-                self._held(),
-                whole(size, "the size"),
-                half_points(komi),
-                whole(handicap, "the number of handicap stones"),
-                whole(max_moves, "the limit of moves"),
-                whole(max_restarts, "the limit of restarts"),
-            )
-        )
+        numbers = [
+            integer(handicap, "handicap", "no int; use 0, or one from 2 to 9"),
+            integer(max_moves, "max_moves", "no int; use one from 1 to 2000"),
+            integer(max_restarts, "max_restarts", "no int; use one from 0 to 1000"),
+        ]
+        board = size_number(size), half_points(komi)
+        cause = library.vintsaky_match_begin(self._held(), *board, *map(clamped, numbers))
+        if cause:
+            said = {
+                Cause.BAD_HANDICAP: (f"handicap {shown(handicap)} on size {size}", ""),
+                Cause.BAD_MAX_MOVES: ("max_moves", f"{shown(max_moves)} is not from 1 to 2000"),
+                Cause.BAD_MAX_RESTARTS: ("max_restarts", f"{shown(max_restarts)} is not from 0 to 1000"),
+            }
+            raise Refused(Cause(cause), *said[Cause(cause)])
 
     def next(self) -> Action:
         """What is to be done next."""
@@ -156,24 +167,27 @@ class Match(Held):
     def started(self, side: AnyColour) -> None:
         """The side was started, or its start failed: then `lost` comes next. Causes: NOT_NEXT where its start isn't
         what is next."""
-        done(library.vintsaky_match_started(self._held(), colour_number(side)))
+        number = side_number(side)
+        done(library.vintsaky_match_started(self._held(), number), f"started {Colour(number)}")
 
     def send(self, side: AnyColour) -> bytes:
         """The next command for the side, which counts as sent. Causes: NOT_NEXT where that isn't what is next."""
         text, count = ctypes.create_string_buffer(COMMAND_ROOM), ctypes.c_size_t()
-        number = colour_number(side)
-        done(library.vintsaky_match_send(self._held(), number, text, COMMAND_ROOM, ctypes.byref(count)))
+        number = side_number(side)
+        cause = library.vintsaky_match_send(self._held(), number, text, COMMAND_ROOM, ctypes.byref(count))
+        done(cause, f"send {Colour(number)}")
         return text.raw[: count.value]
 
     def hear(self, side: AnyColour, data: Bytes) -> Optional[Loss]:
-        """Hears what the side wrote, in any pieces. Why the side fails by it, or None."""
-        data, number, loss = bytes_of(data), colour_number(side), ctypes.c_uint32()
+        """Hears what the side wrote, in any pieces. Why the side fails by it, or None. After the end of the match, also by
+        a ruling, nothing is heard."""
+        data, number, loss = bytes_of(data), side_number(side), ctypes.c_uint32()
         done(library.vintsaky_match_hear(self._held(), number, data, len(data), ctypes.byref(loss)))
         return Loss(loss.value) if loss.value else None
 
     def report(self, side: AnyColour, data: Bytes) -> Report:
         """Hears what the side wrote as `hear` does, and says more of what came of it."""
-        data, number, room = bytes_of(data), colour_number(side), OwedRoom()
+        data, number, room = bytes_of(data), side_number(side), OwedRoom()
         loss, retake = ctypes.c_uint32(), ctypes.c_uint32()
         written_to = (ctypes.byref(loss), ctypes.byref(retake), *room.arguments())
         done(library.vintsaky_match_hear_reporting(self._held(), number, data, len(data), *written_to))
@@ -182,38 +196,52 @@ class Match(Held):
 
     def owed(self, side: AnyColour) -> Owed:
         """What the side owes. Causes: DOWN where it wasn't started or went down, or the match is over."""
-        room = OwedRoom()
-        done(library.vintsaky_match_owed(self._held(), colour_number(side), *room.arguments()))
+        room, number = OwedRoom(), side_number(side)
+        done(library.vintsaky_match_owed(self._held(), number, *room.arguments()), f"owed {Colour(number)}")
         return room.owed()
 
     def status(self, side: AnyColour) -> Status:
         """How far the side is. Causes: DOWN where it wasn't started or went down."""
         confirmed, unanswered, asked = ctypes.c_uint32(), ctypes.c_uint32(), ctypes.c_uint32()
-        places = (ctypes.byref(confirmed), ctypes.byref(unanswered), ctypes.byref(asked))
-        done(library.vintsaky_match_status(self._held(), colour_number(side), *places))
+        places, number = (ctypes.byref(confirmed), ctypes.byref(unanswered), ctypes.byref(asked)), side_number(side)
+        done(library.vintsaky_match_status(self._held(), number, *places), f"status {Colour(number)}")
         return Status(confirmed.value, unanswered.value, bool(asked.value))
 
     def lost(self, side: AnyColour) -> None:
         """The side is gone: its output ended, or a read or a write failed. Where its start failed, this comes after
-        `started`. After a loss that is heard it isn't needed."""
-        done(library.vintsaky_match_lost(self._held(), colour_number(side)))
+        `started`. After a loss that is heard it isn't needed, and after a ruling nothing changes."""
+        done(library.vintsaky_match_lost(self._held(), side_number(side)))
 
     def in_step(self, side: AnyColour) -> bool:
         """Whether the side is up, owes nothing, and has confirmed all that brings it to the record."""
         holds = ctypes.c_uint32()
-        done(library.vintsaky_match_in_step(self._held(), colour_number(side), ctypes.byref(holds)))
+        done(library.vintsaky_match_in_step(self._held(), side_number(side), ctypes.byref(holds)))
         return bool(holds.value)
 
     def restarts(self, side: AnyColour) -> int:
         """How often the side was started again."""
         restarts = ctypes.c_uint32()
-        done(library.vintsaky_match_restarts(self._held(), colour_number(side), ctypes.byref(restarts)))
+        done(library.vintsaky_match_restarts(self._held(), side_number(side), ctypes.byref(restarts)))
         return restarts.value
 
     def retakes(self, number: int) -> int:
         """How many refusals of the move of this number, counted from 1, were met by a retake: 3 at most."""
-        retakes: int = library.vintsaky_match_retakes(self._held(), whole(number, "the number of the move"))
+        retakes: int = library.vintsaky_match_retakes(self._held(), whole(number, "number"))
         return retakes
+
+    def adjudicate(self, side: AnyColour, reason: str = "") -> None:
+        """Ends the match by a ruling: the side loses, for time where there is no reason. A reason has 1 to 20 letters and
+        spaces, and is none of "refused play", "no move", "no vertex" and "illegal move". After that nothing changes the
+        match but `begin`. Causes: IS_OVER where it is over, BAD_REASON.
+
+        >>> match = Match()
+        >>> match.adjudicate("b")
+        >>> match.result()
+        'game 1: W+T moves 0 restarts 0 0'
+        """
+        text, number = ascii_of(reason, "reason"), side_number(side)
+        cause = library.vintsaky_match_adjudicate(self._held(), number, text, len(text))
+        done(cause, f"reason {shown(reason)}" if cause == Cause.BAD_REASON else f"adjudicate {Colour(number)}")
 
     @property
     def taking_back(self) -> Optional[Colour]:
@@ -231,7 +259,8 @@ class Match(Held):
             return None
         done(cause)
         score = halves.value / 2 if ending.value == Ending.BY_SCORE else None
-        return Verdict(Ending(ending.value), Colour(side.value) if side.value else None, score)
+        reason = text_of(library.vintsaky_match_reason, self._held()).decode("ascii")
+        return Verdict(Ending(ending.value), Colour(side.value) if side.value else None, score, reason)
 
     @property
     def game(self) -> Game:
@@ -242,7 +271,8 @@ class Match(Held):
 
     def result(self, number: int = 1) -> str:
         """The line of the match, as the game of this number. Causes: NOT_OVER."""
-        return written(library.vintsaky_match_result, self._held(), whole(number, "the number of the game"))
+        line = library.vintsaky_match_result
+        return written(line, self._held(), whole(number, "number"), what=f"result {number}")
 
     @property
     def record(self) -> str:

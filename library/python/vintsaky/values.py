@@ -2,17 +2,21 @@
 from __future__ import annotations
 
 import ctypes
+import math
 from enum import Enum, IntEnum
 from fractions import Fraction
-from typing import Any, Dict, List, NamedTuple, Tuple, Union
+from functools import lru_cache
+from typing import Any, Dict, Final, List, Literal, NamedTuple, Tuple, Union
 
 from . import _declared
-from ._held import ascii_of, whole
+from ._brief import BriefABC, BriefEnum
+from ._held import ascii_of, integer, whole
 from ._library import library
-from ._refused import done
+from ._numbers import Cause
+from ._refused import Refused, done, shown
 
 
-class Colour(IntEnum):
+class Colour(IntEnum, metaclass=BriefEnum):
     """The colour of a stone, and of the side that plays it."""
 
     BLACK = _declared.BLACK
@@ -26,7 +30,7 @@ class Colour(IntEnum):
     @property
     def text(self) -> str:
         """As the protocol spells it: b or w."""
-        return written(library.vintsaky_colour_text, int(self))
+        return COLOUR_TEXTS[self]
 
     def __str__(self) -> str:
         return self.text
@@ -39,38 +43,61 @@ BLACK = Colour.BLACK
 WHITE = Colour.WHITE
 
 
-class KoRule(IntEnum):
+class KoRule(IntEnum, metaclass=BriefEnum):
     """The boards that a play may not bring back: the one before the last move, or each one of the game."""
 
     SIMPLE = _declared.SIMPLE
     POSITIONAL = _declared.POSITIONAL
 
 
-class Point(NamedTuple):
+class _Point(NamedTuple):
+    column: int
+    row: int
+
+
+class Point(_Point, metaclass=BriefABC):
     """A point: its column and its row, both from 1 to 25, counted from the lower left corner. Its str is its text.
 
     >>> str(Point(4, 16))
     'D16'
     """
 
-    column: int
-    row: int
+    __slots__ = ()
 
     def __str__(self) -> str:
-        return vertex_text(self)
+        return written(library.vintsaky_vertex_text, _point_number(self))
 
     def neighbours(self, size: int) -> List[Point]:
-        """The points of a board of this size that are next to it in its row or its column.
+        """The points of a board of this size that are next to it in its row or its column. Causes: BAD_SIZE.
 
         >>> [str(point) for point in Point(1, 3).neighbours(5)]
         ['A2', 'B3', 'A4']
         """
+        if type(size) is not int or not 1 <= size <= 25:
+            size = size_number(size)
         column, row = self
         beside = [Point(column, row - 1), Point(column - 1, row), Point(column + 1, row), Point(column, row + 1)]
         return [point for point in beside if 1 <= point.column <= size and 1 <= point.row <= size]
 
+    def turned(self, size: int, symmetry: int) -> Point:
+        """Where the point comes by a symmetry of a board of this size. 0 to 3 are quarter turns to the left, so many; 4
+        to 7 change left and right first, and then are symmetry - 4 such turns. Causes: BAD_VERTEX, BAD_SIZE or
+        OFF_BOARD. A ValueError where the symmetry isn't from 0 to 7.
 
-class NoPoint(Enum):
+        >>> [str(Point(1, 2).turned(9, symmetry)) for symmetry in range(8)]
+        ['A2', 'H1', 'J8', 'B9', 'J2', 'H9', 'A8', 'B1']
+        """
+        _point_number(self)
+        size, symmetry = size_number(size), symmetry_number(symmetry)
+        if max(self) > size:
+            raise Refused(Cause.OFF_BOARD, f"turned {self}")
+        column, row = (self.column if symmetry < 4 else size + 1 - self.column), self.row
+        for _ in range(symmetry % 4):
+            column, row = size + 1 - row, column
+        return Point(column, row)
+
+
+class NoPoint(Enum, metaclass=BriefEnum):
     """What is chosen in place of a point. Only an engine resigns."""
 
     PASS = "pass"
@@ -80,55 +107,162 @@ class NoPoint(Enum):
         return self.value
 
 
-PASS = NoPoint.PASS
-RESIGN = NoPoint.RESIGN
+PASS: Final = NoPoint.PASS
+RESIGN: Final = NoPoint.RESIGN
 
-Vertex = Union[Point, NoPoint]
+Vertex = Union[Point, Literal[NoPoint.PASS]]
 AnyColour = Union[Colour, int, str, bytes]
-AnyVertex = Union[Point, NoPoint, Tuple[int, int], str, bytes]
+AnyVertex = Union[Point, Literal[NoPoint.PASS], Tuple[int, int], str, bytes]
+AnyChoice = Union[Point, NoPoint, Tuple[int, int], str, bytes]
 Komi = Union[int, float, Fraction]
 
 POINTS: Dict[int, Point] = {row << 8 | column: Point(column, row) for row in range(1, 26) for column in range(1, 26)}
 VERTICES: Dict[int, Vertex] = {_declared.PASS: PASS, **POINTS}
 
 
-def written(call: Any, *arguments: Any) -> str:
-    """The text that this call writes with its length, which may be refused."""
+def written(call: Any, *arguments: Any, what: str = "") -> str:
+    """The text that this call writes with its length, which may be refused: then `what` is."""
     room = 256
     while True:
         text = ctypes.create_string_buffer(room)
         count = ctypes.c_size_t()
-        done(call(*arguments, text, room, ctypes.byref(count)))
+        done(call(*arguments, text, room, ctypes.byref(count)), what)
         if count.value < room:
             return text.raw[: count.value].decode("ascii")
         room = count.value + 1
 
 
-def colour_number(colour: AnyColour) -> int:
-    """The number of a colour, which may be given as its text."""
+COLOUR_TEXTS = {colour: written(library.vintsaky_colour_text, int(colour)) for colour in Colour}
+COLOURS = "use 'b', 'w', 'black', 'white' or a Colour"
+USED = {
+    "vertex": "use a Point, PASS, or a text such as 'D4' or 'pass'",
+    "point": "use a Point or a text such as 'D4'",
+    "choice": "use a Point, PASS, RESIGN, or a text such as 'D4', 'pass' or 'resign'",
+}
+MOST_KOMI = 999_999_999.5  # points
+
+
+def colour_number(colour: AnyColour, what: str = "colour") -> int:
+    """The number of a colour, which may be given as its text. Causes: BAD_COLOUR, or BAD_TEXT of a text."""
+    if type(colour) is Colour:
+        return colour
     if isinstance(colour, (str, bytes)):
-        return read_colour(colour)
-    return colour if type(colour) is Colour else whole(colour, "the colour")
+        return _read(library.vintsaky_read_colour, ctypes.c_uint32(), colour, what, f"no colour; {COLOURS}")
+    number = integer(colour, what, f"no colour; {COLOURS}")
+    if number not in (_declared.BLACK, _declared.WHITE):
+        raise Refused(Cause.BAD_COLOUR, what, f"{shown(colour)} is no colour; {COLOURS}")
+    return number
 
 
-def vertex_number(vertex: AnyVertex) -> int:
-    """The number of a vertex, which may be given as its text. That of RESIGN is no vertex."""
+def vertex_number(vertex: AnyChoice, what: str = "vertex") -> int:
+    """The number of a vertex, which may be given as its text. It is called a vertex or a point in errors. Causes:
+    BAD_VERTEX, or BAD_TEXT of a text."""
     if type(vertex) is Point:  # the quickest, since it comes most often
         column, row = vertex
         if type(column) is int and type(row) is int and 1 <= column <= 25 and 1 <= row <= 25:
             return row << 8 | column
     if vertex is PASS:
         return _declared.PASS
-    if vertex is RESIGN:
-        return _declared.RESIGN
+    wanted = f"no {what}; {USED[what]}"
     if isinstance(vertex, (str, bytes)):
-        return _read_vertex(vertex)
+        return _read(library.vintsaky_read_vertex, ctypes.c_uint32(), vertex, what, wanted)
+    if vertex is RESIGN:
+        said = f"no move on a board; {USED[what]}" if what == "vertex" else wanted
+        raise Refused(Cause.BAD_VERTEX, what, f"RESIGN is {said}")
     if not isinstance(vertex, tuple) or len(vertex) != 2:
-        raise TypeError(f"{vertex!r} is no Point, no text of a vertex, and neither PASS nor RESIGN")
-    column, row = whole(vertex[0], "the column"), whole(vertex[1], "the row")
+        raise TypeError(f"{what}: {shown(vertex)} is {wanted}")
+    return _point_number(vertex, what)
+
+
+def _point_number(point: Tuple[Any, Any], what: str = "") -> int:
+    """The number of a column and a row."""
+    named = f"{what}: {shown(point)}" if what else shown(point)
+    for name, value in zip(("column", "row"), point):
+        if not hasattr(type(value), "__index__"):
+            raise TypeError(f"{named}: a {name} is an int from 1 to 25")
+        if not 1 <= value <= 25:
+            raise Refused(Cause.BAD_VERTEX, named, f"a {name} is from 1 to 25")
     number = ctypes.c_uint32()
-    done(library.vintsaky_point(column, row, ctypes.byref(number)))
+    done(library.vintsaky_point(point[0], point[1], ctypes.byref(number)))
     return number.value
+
+
+def choice_number(choice: AnyChoice) -> int:
+    """The number of a choice: of a vertex, or of a resignation."""
+    text = choice.decode("ascii", "replace") if isinstance(choice, bytes) else choice
+    if choice is RESIGN or isinstance(text, str) and text.lower() == "resign":
+        return _declared.RESIGN
+    return vertex_number(choice, "choice")
+
+
+def shown_vertex(number: int) -> str:
+    """The vertex of a number, or the resignation, as the protocol spells it."""
+    return str(VERTICES.get(number, RESIGN))
+
+
+def refused_point(cause: int, call: str, number: int) -> Refused:
+    """What is refused of a point, by a call of this name."""
+    if cause == Cause.BAD_VERTEX:
+        return Refused(Cause.BAD_VERTEX, "point", f"PASS is no point; {USED['point']}")
+    return Refused(Cause(cause), f"{call} {shown_vertex(number)}")
+
+
+def size_number(size: int) -> int:
+    """The size of a board. Causes: BAD_SIZE."""
+    return whole(size, "size", 1, 25, Cause.BAD_SIZE)
+
+
+def rule_number(rule: int) -> int:
+    """The number of a ko rule. Causes: BAD_RULE."""
+    wanted = "no ko rule; use KoRule.SIMPLE or KoRule.POSITIONAL"
+    number = integer(rule, "rule", wanted)
+    if number not in (_declared.SIMPLE, _declared.POSITIONAL):
+        raise Refused(Cause.BAD_RULE, "rule", f"{shown(rule)} is {wanted}")
+    return number
+
+
+def symmetry_number(symmetry: int) -> int:
+    """The number of a symmetry of the board."""
+    return whole(symmetry, "symmetry", 0, 7)
+
+
+def inverse_symmetry(symmetry: int) -> int:
+    """The symmetry that undoes this one: after both, in either order, each point is where it was.
+
+    >>> Point(1, 2).turned(9, 1).turned(9, inverse_symmetry(1)) == Point(1, 2)
+    True
+    """
+    number = symmetry_number(symmetry)
+    return number if number >= 4 else -number % 4
+
+
+def symmetry_map(size: int, symmetry: int) -> Tuple[int, ...]:
+    """For each point of the turned board, in the board's order, the index that it had before. So the plane of a turned
+    board is `[plane[index] for index in symmetry_map(size, symmetry)]`. An index that says where something is, as that
+    of a move, becomes `symmetry_map(size, inverse_symmetry(symmetry))[index]`. Causes: BAD_SIZE. A ValueError where the
+    symmetry isn't from 0 to 7.
+
+    >>> symmetry_map(2, 1)  # A1, whose index is 0, comes to B1
+    (2, 0, 3, 1)
+    """
+    return _map(size_number(size), inverse_symmetry(symmetry))
+
+
+@lru_cache(maxsize=None)
+def _map(size: int, symmetry: int) -> Tuple[int, ...]:
+    """The index to which each point of the board comes."""
+    board = range(1, size + 1)
+    turned = [Point(column, row).turned(size, symmetry) for row in board for column in board]
+    return tuple((row - 1) * size + column - 1 for column, row in turned)
+
+
+def _read(call: Any, number: Any, text: Union[str, bytes], what: str, wanted: str) -> int:
+    """The number that this call reads from a text."""
+    data = ascii_of(text, what)
+    if call(data, len(data), ctypes.byref(number)):
+        raise Refused(Cause.BAD_TEXT, what, f"{shown(text)} is {wanted}")
+    read: int = number.value
+    return read
 
 
 def read_colour(text: Union[str, bytes]) -> Colour:
@@ -137,18 +271,8 @@ def read_colour(text: Union[str, bytes]) -> Colour:
     >>> read_colour("White").other
     <Colour.BLACK: 1>
     """
-    data = ascii_of(text, "the colour")
-    number = ctypes.c_uint32()
-    done(library.vintsaky_read_colour(data, len(data), ctypes.byref(number)))
-    return Colour(number.value)
-
-
-def _read_vertex(text: Union[str, bytes]) -> int:
-    """The number of the vertex that a text spells."""
-    data = ascii_of(text, "the vertex")
-    number = ctypes.c_uint32()
-    done(library.vintsaky_read_vertex(data, len(data), ctypes.byref(number)))
-    return number.value
+    wanted = "no colour; use 'b', 'w', 'black' or 'white'"
+    return Colour(_read(library.vintsaky_read_colour, ctypes.c_uint32(), text, "text", wanted))
 
 
 def read_vertex(text: Union[str, bytes]) -> Vertex:
@@ -157,7 +281,8 @@ def read_vertex(text: Union[str, bytes]) -> Vertex:
     >>> read_vertex("j9"), read_vertex("pass")
     (Point(column=9, row=9), <NoPoint.PASS: 'pass'>)
     """
-    return VERTICES[_read_vertex(text)]
+    wanted = "no vertex; use one such as 'D4' or 'pass'"
+    return VERTICES[_read(library.vintsaky_read_vertex, ctypes.c_uint32(), text, "text", wanted)]
 
 
 def vertex_text(vertex: AnyVertex) -> str:
@@ -165,15 +290,17 @@ def vertex_text(vertex: AnyVertex) -> str:
     return written(library.vintsaky_vertex_text, vertex_number(vertex))
 
 
-def half_points(komi: Komi) -> int:
-    """A komi in points as half points. Errors: TypeError where it is no number, ValueError where it is no whole number
-    of half points, and OverflowError where 32 bits don't have it."""
+def half_points(komi: Komi, what: str = "komi") -> int:
+    """A komi in points as half points. Errors: TypeError where it is no number, ValueError where it is no multiple of
+    0.5, and Refused, with BAD_KOMI, where it is more or less than a komi may be."""
     if not isinstance(komi, (int, float, Fraction)):
-        raise TypeError(f"the komi is a {type(komi).__name__}, and no int, float or Fraction")
-    halves = Fraction(komi) * 2
-    if halves.denominator != 1:
-        raise ValueError(f"the komi is {komi}, and no whole number of half points")
-    return whole(halves.numerator, "the komi in half points", -(2**31), 2**31 - 1)
+        raise TypeError(f"{what}: {shown(komi)} is no int, float or Fraction")
+    endless = isinstance(komi, float) and math.isinf(komi)
+    if komi != komi or not endless and Fraction(komi).denominator > 2:
+        raise ValueError(f"{what}: {shown(komi)} is no multiple of 0.5")
+    if endless or not -MOST_KOMI <= komi <= MOST_KOMI:
+        raise Refused(Cause.BAD_KOMI, what, f"{shown(komi)} is not from -{MOST_KOMI} to {MOST_KOMI}")
+    return int(komi * 2)
 
 
 def read_komi(text: Union[str, bytes]) -> float:
@@ -182,10 +309,8 @@ def read_komi(text: Union[str, bytes]) -> float:
     >>> read_komi("+6.50")
     6.5
     """
-    data = ascii_of(text, "the komi")
-    halves = ctypes.c_int32()
-    done(library.vintsaky_read_komi(data, len(data), ctypes.byref(halves)))
-    return halves.value / 2
+    wanted = "no komi; use one such as '6.5' or '-7'"
+    return _read(library.vintsaky_read_komi, ctypes.c_int32(), text, "text", wanted) / 2
 
 
 def komi_text(komi: Komi) -> str:

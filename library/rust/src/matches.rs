@@ -3,7 +3,8 @@
 use std::fmt;
 use std::marker::PhantomData;
 
-use gtp_match::{record_line, result_line};
+use gtp_match::record_line;
+use gtp_referee::{RefereedMatch, result_line};
 
 use crate::NotSync;
 use crate::game::Game;
@@ -70,7 +71,7 @@ impl Default for Setup {
 /// assert_eq!(next, Some(vintsaky::Action::Start(vintsaky::Colour::Black)));
 /// ```
 pub struct Match {
-    inner: Box<gtp_match::Match>,
+    inner: Box<RefereedMatch>,
     _not_sync: NotSync,
 }
 
@@ -86,7 +87,7 @@ impl Match {
     ///
     /// As those of [`begin`](Self::begin).
     pub fn with(setup: Setup) -> Result<Self, Refusal> {
-        let inner = Box::new(gtp_match::Match::new(setup.inner()?));
+        let inner = Box::new(RefereedMatch::new(setup.inner()?));
         Ok(Self { inner, _not_sync: PhantomData })
     }
 
@@ -97,13 +98,13 @@ impl Match {
     /// [`Refusal::BadSize`], [`Refusal::BadHandicap`], [`Refusal::BadMaxMoves`] or [`Refusal::BadMaxRestarts`], the
     /// first of these that holds.
     pub fn begin(&mut self, setup: Setup) -> Result<(), Refusal> {
-        *self.inner = gtp_match::Match::new(setup.inner()?);
+        *self.inner = RefereedMatch::new(setup.inner()?);
         Ok(())
     }
 
-    /// What is to be done next. Ask each time.
+    /// What is to be done next. Ask each time. After a ruling the match is over.
     pub fn next_action(&self) -> Action {
-        Action::of(self.inner.next())
+        self.inner.next().map_or(Action::Over, Action::of)
     }
 
     /// Whether this is what is next.
@@ -132,7 +133,8 @@ impl Match {
         Ok(texts::string_of(&self.inner.send(side.inner())))
     }
 
-    /// Hears what a side wrote, in any pieces. Returns why the side fails by it, where it does.
+    /// Hears what a side wrote, in any pieces. Returns why the side fails by it, where it does. After the end of the match,
+    /// also by a ruling, nothing is heard.
     pub fn hear(&mut self, side: Colour, bytes: &[u8]) -> Option<Loss> {
         self.inner.hear_reporting(side.inner(), bytes).loss.as_ref().map(Loss::of)
     }
@@ -157,32 +159,32 @@ impl Match {
     ///
     /// [`Refusal::Down`] where the side was not started or went down.
     pub fn status(&self, side: Colour) -> Result<Status, Refusal> {
-        Status::of(self.inner.status(side.inner())).ok_or(Refusal::Down)
+        Status::of(self.inner.played().status(side.inner())).ok_or(Refusal::Down)
     }
 
-    /// A side is gone: it can't be started, written to or read any more.
+    /// A side is gone: it can't be started, written to or read any more. After a ruling nothing changes.
     pub fn lost(&mut self, side: Colour) {
         self.inner.lost(side.inner());
     }
 
     /// Whether a side is in step: it has confirmed all that brings it to the record.
     pub fn is_in_step(&self, side: Colour) -> bool {
-        self.inner.in_step(side.inner())
+        self.inner.played().in_step(side.inner())
     }
 
     /// How often a side was started again.
     pub fn restarts(&self, side: Colour) -> u32 {
-        self.inner.restarts(side.inner())
+        self.inner.played().restarts(side.inner())
     }
 
     /// How many refusals of the move of this number, counted from 1, were met by a retake: 3 at most.
     pub fn retakes(&self, number: u32) -> u32 {
-        self.inner.retakes(number)
+        self.inner.played().retakes(number)
     }
 
     /// The side whose last move is to be taken back, because the other side refused it.
     pub fn taking_back(&self) -> Option<Colour> {
-        self.inner.taking_back().map(Colour::of)
+        self.inner.played().taking_back().map(Colour::of)
     }
 
     /// How the match ended.
@@ -191,23 +193,47 @@ impl Match {
     ///
     /// [`Refusal::NotOver`].
     pub fn verdict(&self) -> Result<Verdict, Refusal> {
-        match self.inner.next() {
-            gtp_match::Action::Done(verdict) => Ok(Verdict::of(verdict)),
-            _ => Err(Refusal::NotOver),
-        }
+        let ruled = self.inner.ruled().as_ref().map(Verdict::of_ruling);
+        ruled.or(self.inner.verdict().map(Verdict::of)).ok_or(Refusal::NotOver)
     }
 
+    /// Ends a match that isn't over: the side loses. Where the reason is empty, it loses for time. Else the reason is of 1
+    /// to 20 letters and spaces, and none of `refused play`, `no move`, `no vertex` and `illegal move`. After that nothing
+    /// changes the match but [`begin`](Self::begin).
+    ///
+    /// ```
+    /// use vintsaky::{Colour, Match, Refusal, Verdict};
+    ///
+    /// let mut held = Match::new();
+    /// held.adjudicate(Colour::Black, "")?;
+    /// assert_eq!(held.verdict()?, Verdict::Time(Colour::Black));
+    /// assert_eq!(held.result(1)?, "game 1: W+T moves 0 restarts 0 0");
+    /// # Ok::<(), Refusal>(())
+    /// ```
+    ///
+    /// # Errors
+    ///
+    /// [`Refusal::IsOver`], or else [`Refusal::BadReason`].
+    pub fn adjudicate(&mut self, side: Colour, reason: &str) -> Result<(), Refusal> {
+        self.inner.adjudicate(side.inner(), reason.as_bytes()).map_err(Refusal::of_ruling)
+    }
+
+    /// The reason of the ruling that ended the match: empty where the side lost for time, and where there is no ruling.
+    pub fn reason(&self) -> String {
+        texts::string_of(self.inner.reason())
+    }
     /// A copy of the match's game.
     pub fn game(&self) -> Game {
-        Game::copy_of(self.inner.game())
+        Game::copy_of(self.inner.played().game())
     }
 
     /// Copies the match's game into one that is there already.
     pub fn copy_game(&self, game: &mut Game) {
-        game.copy(self.inner.game());
+        game.copy(self.inner.played().game());
     }
 
-    /// The line of a match that is over, with this number: that of `twogtp`.
+    /// The line of a match that is over, with this number: that of `twogtp`. Where Black loses by a ruling, its verdict is
+    /// `W+T`, or `W+F(REASON)` where there is a reason.
     ///
     /// # Errors
     ///
@@ -218,7 +244,7 @@ impl Match {
 
     /// The moves of the match: their vertices, with a space between any two.
     pub fn record(&self) -> String {
-        texts::string_of(&record_line(&self.inner))
+        texts::string_of(&record_line(self.inner.played()))
     }
 }
 

@@ -4,6 +4,7 @@ use std::fmt;
 
 use go_board::PlayFault;
 use gtp_match::{ForfeitCause, LossCause, SideFault};
+use gtp_referee::{Ruled, Ruling};
 use gtp_wire::write_command;
 
 use crate::texts;
@@ -204,6 +205,10 @@ pub enum Verdict {
     Unfit(Colour),
     /// This side went down too often.
     Abandoned(Colour),
+    /// This side ran out of time: a ruling ended the match.
+    Time(Colour),
+    /// This side lost by a ruling, whose reason [`Match::reason`](crate::Match::reason) returns.
+    Ruling(Colour),
 }
 
 impl Verdict {
@@ -215,6 +220,13 @@ impl Verdict {
             gtp_match::Verdict::Forfeit(side, cause) => Self::of_forfeit(Colour::of(side), cause),
             gtp_match::Verdict::Unfit(side) => Self::Unfit(Colour::of(side)),
             gtp_match::Verdict::Abandoned(side) => Self::Abandoned(Colour::of(side)),
+        }
+    }
+
+    pub(crate) fn of_ruling(ruled: &Ruled) -> Self {
+        match ruled.ruling {
+            Ruling::Time => Self::Time(Colour::of(ruled.loser)),
+            Ruling::Reason(_) => Self::Ruling(Colour::of(ruled.loser)),
         }
     }
 
@@ -232,7 +244,9 @@ impl Verdict {
         match self {
             Self::Score(score) => score.leader(),
             Self::Resignation(side) | Self::RefusedPlay(side) | Self::NoMove(side) => Some(side.other()),
-            Self::NoVertex(side) | Self::IllegalMove(side) => Some(side.other()),
+            Self::NoVertex(side) | Self::IllegalMove(side) | Self::Time(side) | Self::Ruling(side) => {
+                Some(side.other())
+            }
             Self::Limit | Self::Unfit(_) | Self::Abandoned(_) => None,
         }
     }

@@ -5,6 +5,7 @@ use std::fmt;
 
 use go_board::{HandicapFault, PlayFault};
 use gtp_match::SetupFault;
+use gtp_referee::RulingFault;
 use gtp_session::steps::{AnswerFault, ChoiceFault, CommandFault};
 use vintsaky_calls::library::cause_text;
 
@@ -109,6 +110,14 @@ impl Refusal {
             SetupFault::Handicap => Self::BadHandicap,
             SetupFault::MaxMoves => Self::BadMaxMoves,
             SetupFault::MaxRestarts => Self::BadMaxRestarts,
+        }
+    }
+
+    /// Why a ruling is refused.
+    pub(crate) fn of_ruling(fault: RulingFault) -> Self {
+        match fault {
+            RulingFault::Over => Self::IsOver,
+            RulingFault::BadReason => Self::BadReason,
         }
     }
 }

@@ -1,6 +1,6 @@
 //! The controller of a match. What is expected is what the pages of the controller say.
 
-use vintsaky::{Action, Colour, Loss, Match, Refusal, Setup, Verdict};
+use vintsaky::{Action, Colour, Loss, Match, Refusal, Report, Setup, Verdict};
 
 use Colour::{Black, White};
 
@@ -192,4 +192,56 @@ fn held_script(held: &mut Match, side: Option<Colour>, lines: &str) -> String {
         held.hear(side.expect("a side is waited for"), format!("={id}\n\n").as_bytes());
     }
     last
+}
+
+#[test]
+fn rulings() {
+    for (side, reason, verdict, words) in [
+        (Black, "", Verdict::Time(Black), "W+T"),
+        (White, "", Verdict::Time(White), "B+T"),
+        (Black, "too late", Verdict::Ruling(Black), "W+F(too late)"),
+        (White, "abcdefghij ABCDEFGHI", Verdict::Ruling(White), "B+F(abcdefghij ABCDEFGHI)"),
+    ] {
+        let mut held = match_on(2, 0, 0);
+        choose(&mut held, "A1");
+        assert_eq!(held.adjudicate(side, reason), Ok(()));
+        assert_eq!(held.next_action(), Action::Over);
+        assert_eq!(held.verdict(), Ok(verdict));
+        assert_eq!(verdict.winner(), Some(side.other()));
+        assert_eq!(held.reason(), reason);
+        assert_eq!(held.result(2), Ok(format!("game 2: {words} moves 1 restarts 0 0")));
+    }
+}
+
+#[test]
+fn refused_rulings() {
+    let mut held = match_on(2, 0, 0);
+    for reason in
+        ["abcdefghij ABCDEFGHIJ", "late!", "sp\u{e4}t", "refused play", "no move", "no vertex", "illegal move"]
+    {
+        assert_eq!(held.adjudicate(Black, reason), Err(Refusal::BadReason), "{reason}");
+    }
+    assert_eq!(held.verdict(), Err(Refusal::NotOver));
+    assert_eq!(held.adjudicate(White, "slow"), Ok(()));
+    for reason in ["", "slow", "late!"] {
+        assert_eq!(held.adjudicate(Black, reason), Err(Refusal::IsOver), "{reason}");
+    }
+    assert_eq!(held.verdict(), Ok(Verdict::Ruling(White)));
+    assert_eq!(held.begin(Setup::default()), Ok(()));
+    assert_eq!((held.verdict(), held.reason()), (Err(Refusal::NotOver), String::new()));
+}
+
+#[test]
+fn a_ruling_stays() {
+    let mut held = match_on(2, 0, 1);
+    let (side, id) = genmove(&mut held);
+    let status = held.status(side);
+    assert_eq!(held.adjudicate(side, ""), Ok(()));
+    assert_eq!(held.hear(side, format!("={id} A1\n\n").as_bytes()), None);
+    assert_eq!(held.hear_reporting(side, b"hello"), Report::default());
+    held.lost(side);
+    assert_eq!(held.owed(side), Err(Refusal::Down));
+    assert_eq!((held.started(side), held.send(side)), (Err(Refusal::NotNext), Err(Refusal::NotNext)));
+    assert_eq!((held.status(side), held.restarts(side), held.record()), (status, 0, String::new()));
+    assert_eq!(held.verdict(), Ok(Verdict::Time(side)));
 }

@@ -69,7 +69,7 @@ KINDS = [
     Kind("a type of the table in Python", "library/python/vintsaky/_declared.py", r"^CALLS.*", r"\bc_(?:uint32|size_t)\b", other_c_type),
     Kind("a row of the table in Python that is gone", "library/python/vintsaky/_declared.py", EVERYWHERE, r'^    "[^\n]*\),\n', nothing),
     Kind("a number of a cause in Python", "library/python/vintsaky/_numbers.py", EVERYWHERE, r"(?<= = )\d+", more),
-    Kind("what Python says of a number", "library/python/vintsaky/_numbers.py", EVERYWHERE, r"(?<=# )\w+", longer),
+    Kind("what Python says of a number", "library/python/vintsaky/_numbers.py", EVERYWHERE, r"(?<=[A-Z]: )\w+", longer),
     Kind("a number of a cause in Rust", "library/rust/src/refusal/causes.rs", EVERYWHERE, r"(?<= = )\d+", more),
     Kind("what Rust says of a cause", "library/rust/src/refusal/causes.rs", EVERYWHERE, r'(?<= ")\w+', longer),
     Kind("a sentence in the code", "crates/vintsaky_calls/src/library.rt", r"^    match cause \{\n.*?^    \}", r'(?<=b")The \w+', longer),

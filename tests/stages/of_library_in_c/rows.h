@@ -130,6 +130,9 @@ ROW(match_copy_game, 3, BOTH(MATCH, READS, GAME, CHANGES), NUMBER, 0, 0, NOTHING
 ROW(match_result, 10, ON(MATCH, READS), CAUSE, 200, C(NOT_OVER), NOTHING, 1, vintsaky_match_result(MATCH0, number(w, 0, 9), TEXT(0),
     COUNT(0)))
 ROW(match_record, 8, ON(MATCH, READS), LENGTH, 10000, 0, NOTHING, 1, vintsaky_match_record(MATCH0, TEXT(0)))
+ROW(match_adjudicate, 2, ON(MATCH, REFUSES), CAUSE, 0, C(BAD_COLOUR) | C(IS_OVER) | C(BAD_REASON), SAID, 0,
+    vintsaky_match_adjudicate(MATCH0, w->side, INPUT))
+ROW(match_reason, 8, ON(MATCH, READS), LENGTH, 20, 0, NOTHING, 1, vintsaky_match_reason(MATCH0, TEXT(0)))
 
 ROW(lines_place, 1, ON(LINES, CHANGES), NUMBER, 0, 0, NOTHING, 0, (vintsaky_lines_place(LINES0, w->held[0]->at), 0))
 ROW(lines_feed, 60, ON(LINES, CHANGES), NUMBER, 2, 0, COMMANDS, 0, vintsaky_lines_feed(LINES0, INPUT, USED_BYTES))

@@ -87,6 +87,21 @@ Black won 5, White 4; 3 by resignation, 0 by forfeit
 no winner: 2 drawn, 1 at the limit of moves, 0 unfit, 0 abandoned
 """
 
+# Games that a server ended. Black, a, was late in 1_a_b, and so was Black, b, in 2_b_a. White, a, lost 1_b_a by the server's own reason, and
+# Black, a, lost 2_a_b by a cause of twogtp. So a won one game with White, and b one of two with Black and both with White.
+SERVED = {"1_a_b": "W+T", "1_b_a": "B+F(left the hall)", "2_a_b": "W+F(no move)", "2_b_a": "W+T"}
+SERVED_COUNTED = """\
+b            3      3     75.0   1 of 2         2 of 2
+a            1      1     25.0   0 of 2         1 of 2
+Black won 1, White 3; 0 by resignation, 2 by forfeit, 2 on time
+no winner: 0 drawn, 0 at the limit of moves, 0 unfit, 0 abandoned
+to look into:
+  a: forfeit (no move): 1
+  a: forfeit (left the hall): 1
+  a: time: 1
+  b: time: 1
+"""
+
 
 # Four engines in the order d c a b: a and b won a game each, c drew two games, and b and d one each.
 FOUR = {"1_a_b": "B+1", "1_b_a": "B+1", "1_c_d": "0", "1_d_c": "limit", "1_b_c": "0", "1_c_b": "limit"}
@@ -150,6 +165,16 @@ class Tallies(Case):
             for words, line in OTHERWISE.items():
                 self.check(f"tally {' '.join(words)}: its pairs", [line], pairs_in(here.run("tally", "two", *words).output))
             self.check("the tally without output: status 1", 1, here.run("bash", "-c", "tally three > /dev/full").status)
+
+    def test_served(self):
+        """Games that a server ended: on time, or by a forfeit with a reason of its own."""
+        with room() as here:
+            results_of(here, "served", "ab", 2, {game: f"{verdict} moves 30 restarts 0 0" for game, verdict in SERVED.items()})
+            status, output, errors = here.run("tally", "served")
+            wanted = SERVED_COUNTED.splitlines(keepends=True)
+            self.check("the tally of a server's games", (0, wanted, ""), (status, [it for it in output.splitlines(True) if it in wanted], errors))
+            ways = json.loads(here.run("tally", "served", "--json").output)["ended"]
+            self.check("the same as JSON", {"forfeit (left the hall)": 1, "forfeit (no move)": 1, "time": 2}, ways)
 
 
 def pairs_in(output):

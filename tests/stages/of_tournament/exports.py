@@ -56,6 +56,15 @@ def written(here):
     (here.at / "all/tried/far/versions").write_text('engine a old 1\nengine a A, "the" 1.2\nengine b \ntwogtp 1.0\n')
 
 
+def served(here):
+    """A folder with two games that a server ended."""
+    (here.at / "served/games").mkdir(parents=True)
+    lines = ["folder /x", "engine a x", "engine b y", "option --size", "option 9", "option --komi=5", "seeds 1", "limit 600"]
+    (here.at / "served/plan").write_text("".join(f"{line}\n" for line in lines))
+    (here.at / "served/games/1_a_b").write_text("game 1: W+T moves 2 restarts 0 0\nD4 E5\n")
+    (here.at / "served/games/1_b_a").write_text("game 1: B+F(left the hall) moves 1 restarts 0 0\nD4\n")
+
+
 class Exported(Case):
     """What is exported of games that were written by hand."""
 
@@ -112,6 +121,19 @@ class Exported(Case):
             self.check("PGN: the tags of a game", wanted, found["1_a_b"])
             ways = ["normal", "normal", "normal", "rules infraction", "unterminated", "unterminated", "abandoned", "time forfeit"]
             self.check("PGN: how the games ended", ways, [tags["Termination"] for tags in found.values()])
+
+    def test_served(self):
+        """Games that a server ended: on time, or by a forfeit with a reason of its own."""
+        with room() as here:
+            served(here)
+            rows = list(csv.DictReader(io.StringIO(here.run("tournament", "export", "served", "--csv").output)))
+            won = [("1_a_b", "W+T", "white"), ("1_b_a", "B+F(left the hall)", "black")]
+            self.check("CSV: a server's games", won, [(it["game"], it["verdict"], it["winner"]) for it in rows])
+            tags = re.findall(r'^\[(?:Termination|Result) "(.*)"\]$', here.run("tournament", "export", "served", "--pgn").output, re.MULTILINE)
+            self.check("PGN: a server's games", ["1-0", "time forfeit", "0-1", "adjudication"], tags)
+            came = here.run("tournament", "export", "served", "--sgf", "records")
+            found = [value_of("RE", (here.at / f"records/{it}.sgf").read_text()) for it in ("1_a_b", "1_b_a")]
+            self.check("SGF: a server's games", (0, ["W+T", "B+F"]), (came.status, found))
 
     def test_reader(self):
         """pgn-extract reads all games, and finds those of a result and of a player."""

@@ -6,16 +6,17 @@ ghost use Rattle.gtp_match.specs.Setup.{setup_of};
 ghost use Rattle.gtp_match.specs.Taking.{taking_back};
 ghost use Rattle.std.specs.Align.{type_align};
 ghost use Rattle.std.specs.Mem.{type_size};
-ghost use Rattle.gtp_match.specs.contracts.matches.Match.{the_row as match_row};
+ghost use Rattle.gtp_referee.specs.Ruling.{reason_of};
+ghost use Rattle.gtp_referee.specs.contracts.refereed.RefereedMatch.{the_row as match_row};
 ghost use Rattle.vintsaky_calls.specs.Codes.{Returns};
 ghost use Rattle.vintsaky_calls.specs.Matches.{maybe_side_code, BeginCall, NextCall, StartedCall, SendCall, HearCall};
 ghost use Rattle.vintsaky_calls.specs.Matches.{HearReportingCall, owed_out, OwedCall, StatusCall, LostCall, InStepCall};
-ghost use Rattle.vintsaky_calls.specs.Matches.{RestartsCall, VerdictCall, ResultCall};
+ghost use Rattle.vintsaky_calls.specs.Matches.{RestartsCall, VerdictCall, ResultCall, AdjudicateCall};
 ghost use Rattle.vintsaky_calls.specs.Texts.{Writes};
 
 use crate::game::handle::GameHandle;
 use crate::matches::handle::MatchHandle;
-use gtp_match::Match;
+use gtp_referee::RefereedMatch;
 use std::mem::{align_of, size_of};
 use vintsaky_calls::{code_of, matches};
 
@@ -24,7 +25,7 @@ use vintsaky_calls::{code_of, matches};
 pub extern "C" fn vintsaky_match_bytes() -> usize
     ensures { result ≡ type_size match_row }
 {
-    size_of::<Match>()
+    size_of::<RefereedMatch>()
 }
 
 /// Of what number the address of a match is a multiple.
@@ -32,7 +33,7 @@ pub extern "C" fn vintsaky_match_bytes() -> usize
 pub extern "C" fn vintsaky_match_align() -> usize
     ensures { result ≡ type_align match_row }
 {
-    align_of::<Match>()
+    align_of::<RefereedMatch>()
 }
 
 /// Begins a match between two engines that are not started yet.
@@ -63,7 +64,8 @@ pub extern "C" fn vintsaky_match_begin(
     ))
 }
 
-/// What is to be done next, as a number. The number of the side with which it is done is written, or 0.
+/// What is to be done next, as a number. The number of the side with which it is done is written, or 0. After a ruling
+/// the match is over.
 #[unsafe(no_mangle)]
 pub extern "C" fn vintsaky_match_next(held: &mut MatchHandle, side: &mut u32) -> u32
     ensures call { NextCall held.old.value result side.new }
@@ -104,7 +106,7 @@ pub extern "C" fn vintsaky_match_send(
 }
 
 /// Hears what a side wrote, in any pieces. Why the side fails by it is written, or 0. Of a side that is down, and after
-/// the end of the match, nothing is heard.
+/// the end of the match, also by a ruling, nothing is heard.
 ///
 /// # Errors
 ///
@@ -217,7 +219,7 @@ pub extern "C" fn vintsaky_match_status(
     code_of(matches::status(held.lend(), side, confirmed, unanswered, asked))
 }
 
-/// A side is gone: its output has ended, a read or a write failed, or its start did.
+/// A side is gone: its output has ended, a read or a write failed, or its start did. After a ruling nothing changes.
 ///
 /// # Errors
 ///
@@ -264,7 +266,7 @@ pub extern "C" fn vintsaky_match_restarts(
 /// that has none.
 #[unsafe(no_mangle)]
 pub extern "C" fn vintsaky_match_retakes(held: &mut MatchHandle, number: u32) -> u32
-    ensures call { result ≡ retakes_of held.old.value.retakes number }
+    ensures call { result ≡ retakes_of held.old.value.controller.retakes number }
     ensures object { held.new.value ≡ held.old.value }
 {
     matches::retakes(held.lend(), number)
@@ -273,14 +275,14 @@ pub extern "C" fn vintsaky_match_retakes(held: &mut MatchHandle, number: u32) ->
 /// The side whose last move is to be taken back, because the other side refused it, or 0.
 #[unsafe(no_mangle)]
 pub extern "C" fn vintsaky_match_taking_back(held: &mut MatchHandle) -> u32
-    ensures call { result ≡ maybe_side_code (taking_back held.old.value) }
+    ensures call { result ≡ maybe_side_code (taking_back held.old.value.controller) }
     ensures object { held.new.value ≡ held.old.value }
 {
     matches::taking_back(held.lend())
 }
 
 /// Writes how a match ended, the side that it says it of, or 0, and the score in half points, positive where Black
-/// leads, or 0.
+/// leads, or 0. Of a ruling it is the side that loses.
 ///
 /// # Errors
 ///
@@ -302,14 +304,14 @@ pub extern "C" fn vintsaky_match_verdict(
 /// Copies the match's game into another one.
 #[unsafe(no_mangle)]
 pub extern "C" fn vintsaky_match_copy_game(held: &mut MatchHandle, game: &mut GameHandle)
-    ensures call { game.new.value ≡ held.old.value.game }
+    ensures call { game.new.value ≡ held.old.value.controller.game }
     ensures object { held.new.value ≡ held.old.value }
 {
     matches::copy_game(held.lend(), game.lend())
 }
 
 /// Writes the result line of a match that is over, without its newline, and its length. The number is that of the game
-/// in it.
+/// in it. Where Black loses by a ruling, the verdict is `W+T`, or `W+F(REASON)` where there is a reason.
 ///
 /// # Errors
 ///
@@ -331,8 +333,36 @@ pub extern "C" fn vintsaky_match_result(
 /// Writes the moves of a match, as `--record` of `twogtp` prints them, without the newline. How many bytes they have.
 #[unsafe(no_mangle)]
 pub extern "C" fn vintsaky_match_record(held: &mut MatchHandle, text: &mut [u8]) -> usize
-    ensures call { Writes (record_text held.old.value.game) text.old text.new result }
+    ensures call { Writes (record_text held.old.value.controller.game) text.old text.new result }
     ensures object { held.new.value ≡ held.old.value }
 {
     matches::record(held.lend(), text)
+}
+
+/// Ends a match that isn't over: the side loses. Where the reason is empty, it loses for time. Else the reason is of 1 to
+/// 20 letters and spaces, and none of `refused play`, `no move`, `no vertex` and `illegal move`. After that
+/// nothing changes the match but [`vintsaky_match_begin`].
+///
+/// # Errors
+///
+/// `BadColour`, or else `IsOver`, or else `BadReason`. The match stays as it was.
+#[unsafe(no_mangle)]
+pub extern "C" fn vintsaky_match_adjudicate(
+    held: &mut MatchHandle,
+    side: u32,
+    reason: &[u8],
+) -> u32
+    ensures call { Returns result (AdjudicateCall side reason.now held.old.value held.new.value) }
+{
+    code_of(matches::adjudicate(held.lend(), side, reason))
+}
+
+/// Writes the reason of the ruling that ended a match. How many bytes it has: 0 where the side lost for time, and where
+/// there is no ruling.
+#[unsafe(no_mangle)]
+pub extern "C" fn vintsaky_match_reason(held: &mut MatchHandle, text: &mut [u8]) -> usize
+    ensures call { Writes (reason_of held.old.value.ruled) text.old text.new result }
+    ensures object { held.new.value ≡ held.old.value }
+{
+    matches::reason(held.lend(), text)
 }

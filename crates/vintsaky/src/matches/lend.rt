@@ -1,21 +1,21 @@
 //! What the handle of a match lends.
 ghost use Rattle.std.specs.Prelude.{◌≡◌};
 ghost use Rattle.std.specs.Borrow.{sem};
-ghost use Rattle.gtp_match.specs.contracts.matches.Match.{the_row as match_row};
+ghost use Rattle.gtp_referee.specs.contracts.refereed.RefereedMatch.{the_row as match_row};
 ghost use Rattle.vintsaky.specs.Lends.{Lends};
 ghost use Rattle.vintsaky.specs.contracts.matches.handle.MatchHandle.{the_row};
 
 use crate::matches::handle::MatchHandle;
-use gtp_match::Match;
+use gtp_referee::RefereedMatch;
 
 impl MatchHandle {
     /// A match that lies in the memory. The handle sees what is done to it.
-    pub fn lend(&mut self) -> &mut Match
+    pub fn lend(&mut self) -> &mut RefereedMatch
         ensures* writes_back { sem 𝓛
             (Lends the_row match_row (λ h v. record h { value = v }) self.entry result) }
         ensures value { result.now ≡ self.old.value }
     {
         // SAFETY: a match lies at the address, and the handle owns it: `also_owns` of its model has that.
-        unsafe { &mut *(self.at as *mut Match) }
+        unsafe { &mut *(self.at as *mut RefereedMatch) }
     }
 }

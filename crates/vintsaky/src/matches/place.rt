@@ -3,23 +3,24 @@ ghost use Rattle.std.specs.Prelude.{◌≡◌};
 ghost use Rattle.std.specs.Borrow.{full_share, sem};
 ghost use Rattle.std.specs.Ptr.{lies_at, room_at};
 ghost use base.Fml.{fsep};
-ghost use Rattle.gtp_match.specs.contracts.matches.Match.{the_row as match_row};
+ghost use Rattle.gtp_referee.specs.contracts.refereed.RefereedMatch.{the_row as match_row};
 ghost use Rattle.vintsaky.specs.contracts.matches.handle.MatchHandle.{the_row};
 ghost use Rattle.vintsaky.specs.Fresh.{fresh_match};
 
 use crate::matches::handle::MatchHandle;
 use go_base::{Komi, Size};
-use gtp_match::{Match, Setup};
+use gtp_match::Setup;
+use gtp_referee::RefereedMatch;
 
 /// A match of size 19 without komi, handicap and restarts.
-pub(crate) fn fresh_match() -> Match
+pub(crate) fn fresh_match() -> RefereedMatch
     ensures { result ≡ fresh_match }
 {
     let (Some(size), Some(komi)) = (Size::new(19), Komi::from_half_points(0)) else {
         unreachable!()
     };
     match Setup::new(size, komi, 0, 2000, 0) {
-        Ok(setup) => Match::new(setup),
+        Ok(setup) => RefereedMatch::new(setup),
         Err(_) => unreachable!(),
     }
 }
@@ -38,6 +39,6 @@ pub unsafe extern "C" fn vintsaky_match_place(out: *mut MatchHandle, at: *mut u8
         (lies_at the_row full_share out (record { at = at; value = fresh_match })) }
 {
     let fresh = fresh_match();
-    (at as *mut Match).write(fresh);
+    (at as *mut RefereedMatch).write(fresh);
     out.write(MatchHandle { at });
 }

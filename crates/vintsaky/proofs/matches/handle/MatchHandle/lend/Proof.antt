@@ -1,5 +1,5 @@
 -- `lend` meets its contract: a match is lent.
-use Rattle.gtp_match.specs.contracts.matches.Match.{the_row}
+use Rattle.gtp_referee.specs.contracts.refereed.RefereedMatch.{the_row}
 use Rattle.vintsaky.specs.declared.matches.handle.MatchHandle.{MatchHandle}
 use Rattle.vintsaky.specs.contracts.matches.handle.MatchHandle.{the_type, the_codes}
 use Rattle.vintsaky.specs.contracts.matches.handle.MatchHandle.lend as f

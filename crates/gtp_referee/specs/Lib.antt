@@ -1,0 +1,4 @@
+pub mod Ruling
+pub mod Refereed
+pub mod ResultLine
+pub mod Calls

@@ -1,0 +1,14 @@
+//! A match that a referee may end: the controller of a match, and a ruling by which a side loses.
+//!
+//! A [`RefereedMatch`] is a [`Match`](gtp_match::Match) until a ruling is given. Then it is over, and what its sides
+//! do changes nothing.
+#![tactic(auto)]
+
+pub mod laws;
+mod refereed;
+mod result_lines;
+mod rulings;
+
+pub use refereed::RefereedMatch;
+pub use result_lines::result_line;
+pub use rulings::{ReasonText, Ruled, Ruling, RulingFault};

@@ -1,0 +1,203 @@
+//! A match that a referee may end.
+ghost use Rattle.std.specs.Prelude.{◌≡◌, ◌≢◌, [], Some, IfSome, IfOk, IfErr};
+ghost use Rattle.gtp_match.specs.declared.verdicts.Action.TheVariants as action;
+ghost use Rattle.gtp_referee.specs.Ruling.{IsReason, Rules};
+ghost use Rattle.gtp_referee.specs.declared.rulings.RulingFault.TheVariants as fault;
+
+use crate::rulings::{Ruled, Ruling, RulingFault, is_reason, kept_reason};
+use go_base::Side;
+use gtp_match::laws::next_is_due;
+use gtp_match::{Action, Match, Owed, Report, Setup, Verdict};
+use gtp_wire::CommandText;
+use std::marker::Model;
+
+/// A match between two engines that a referee may end by a ruling.
+///
+/// Without a ruling it is the [`Match`] that it has. Once there is a ruling the match is over: that and the ruling stay
+/// as they are, whatever its sides do.
+#[derive(Drop)]
+pub struct RefereedMatch {
+    played: Match,
+    ruled: Option<Ruled>,
+}
+
+impl Model for RefereedMatch {
+    ghost use Rattle.gtp_referee.specs.Refereed.{Refereed, IsRefereed};
+
+    ghost Value = { Refereed };
+
+    ghost view = { λ m. record { controller = m.played; ruled = m.ruled } };
+
+    ghost invariant = { λ m. IsRefereed (record { controller = m.played; ruled = m.ruled }) };
+}
+
+impl RefereedMatch {
+    ghost use Rattle.std.specs.Prelude.{MatchOption, IsNone};
+    ghost use Rattle.gtp_match.specs.Controller.{next_text};
+    ghost use Rattle.gtp_match.specs.Losing.{CanBeShown};
+    ghost use Rattle.gtp_match.specs.Sides.{side_of};
+    ghost use Rattle.gtp_match.specs.Sound.{IsSound};
+    ghost use Rattle.gtp_referee.specs.Ruling.{reason_of};
+    ghost use Rattle.gtp_referee.specs.Refereed.{new, next, owed, started, sent, lost, Hears, IsRefereed, AdjudicateCall};
+
+    /// A match of this setup that has not begun, without a ruling.
+    pub fn new(setup: Setup) -> RefereedMatch
+        ensures { result ≡ new setup }
+    {
+        RefereedMatch {
+            played: Match::new(setup),
+            ruled: None,
+        }
+    }
+
+    /// The match itself. After a ruling it is as it was when the ruling was given.
+    pub fn played(&self) -> &Match
+        ensures played { result.now ≡ self.now.controller }
+        ensures sound { IsSound self.now.controller }
+    {
+        // A look: the match is sound.
+        let _ = self.played.game();
+        &self.played
+    }
+
+    /// The ruling, if there is one.
+    pub fn ruled(&self) -> &Option<Ruled>
+        ensures ruled { result.now ≡ self.now.ruled }
+        ensures given { IsRefereed self.now }
+    {
+        &self.ruled
+    }
+
+    /// The reason of the ruling, or an empty text where it is for time or there is none.
+    pub fn reason(&self) -> &[u8]
+        ensures { result.now ≡ reason_of self.now.ruled }
+    {
+        match &self.ruled {
+            Some(given) => given.ruling.reason(),
+            None => &[],
+        }
+    }
+
+    /// The verdict of the match's own, if it has one. With a ruling it has none.
+    pub fn verdict(&self) -> Option<Verdict>
+        ensures verdict { result ≡ self.now.controller.verdict }
+        ensures given { IsRefereed self.now }
+    {
+        next_is_due();
+        match self.played.next() {
+            Action::Done(given) => Some(given),
+            Action::Start(_) | Action::Send(_) | Action::Wait(_) => None,
+        }
+    }
+
+    /// What is to be done next. None after a ruling: nothing then.
+    pub fn next(&self) -> Option<Action>
+        ensures { result ≡ next self.now }
+    {
+        match &self.ruled {
+            None => Some(self.played.next()),
+            Some(_) => None,
+        }
+    }
+
+    /// The side's engine was started. Where the start failed, `lost` follows.
+    ///
+    /// `next` says `Start` of that side.
+    pub fn started(&mut self, side: Side)
+        requires { next self.old ≡ Some (action.Start side) }
+        ensures { self.new ≡ started self.old side }
+    {
+        self.played.started(side);
+    }
+
+    /// The bytes of the side's next command, which count as sent. Where they can't be written, `lost` follows.
+    ///
+    /// `next` says `Send` of that side.
+    pub fn send(&mut self, side: Side) -> CommandText
+        requires { next self.old ≡ Some (action.Send side) }
+        ensures sent { self.new ≡ sent self.old side }
+        ensures text { MatchOption (side_of self.old.controller.sides side).up ⊥ (λ engine.
+            result.items ≡ next_text self.old.controller side engine) }
+    {
+        self.played.send(side)
+    }
+
+    /// The side's engine wrote these bytes. All of them are heard, and what they report is returned, as
+    /// `hear_reporting` of the match does. After a ruling nothing is heard and nothing changes.
+    pub fn hear_reporting(&mut self, side: Side, bytes: &[u8]) -> Report
+        ensures heard { Hears side self.old bytes.now result.loss result.retake self.new }
+        ensures loss_shown { IfSome result.loss (λ loss. CanBeShown loss.owed) }
+        ensures retake_shown { IfSome result.retake (λ retake. CanBeShown retake.owed) }
+    {
+        match &self.ruled {
+            None => self.played.hear_reporting(side, bytes),
+            Some(_) => Report {
+                retake: None,
+                loss: None,
+            },
+        }
+    }
+
+    /// What a side owes. None where it is down, or the match is over.
+    pub fn owed(&self, side: Side) -> Option<Owed>
+        ensures owed { result ≡ owed self.now side }
+        ensures shown { IfSome result CanBeShown }
+    {
+        match &self.ruled {
+            None => self.played.owed(side),
+            Some(_) => None,
+        }
+    }
+
+    /// The side is down now: its stream ended, a read or write failed, or it exited. After a ruling nothing changes.
+    pub fn lost(&mut self, side: Side)
+        ensures { self.new ≡ lost self.old side }
+    {
+        if self.ruled.is_none() {
+            self.played.lost(side);
+        }
+    }
+
+    /// Ends the match: the side loses, for time where the reason is empty, and else for this reason.
+    ///
+    /// # Errors
+    ///
+    /// In this order: `Over` where the match is over, by a verdict of its own or by a ruling; `BadReason` where the
+    /// reason isn't empty and isn't 1 to 20 letters from `a` to `z` or `A` to `Z` and spaces, or is the cause of a
+    /// forfeit: `refused play`, `no move`, `no vertex` or `illegal move`. All stays.
+    pub fn adjudicate(&mut self, side: Side, reason: &[u8]) -> Result<(), RulingFault>
+        ensures { AdjudicateCall side reason.now self.old self.new result }
+    {
+        if self.ruled.is_some() {
+            return Err(RulingFault::Over);
+        }
+        if self.verdict().is_some() {
+            return Err(RulingFault::Over);
+        }
+        let ruling = ruling_of(reason)?;
+        self.ruled = Some(Ruled {
+            loser: side,
+            ruling,
+        });
+        Ok(())
+    }
+}
+
+/// For what a side loses by this reason.
+///
+/// # Errors
+///
+/// `BadReason` where it is neither empty nor a reason.
+fn ruling_of(reason: &[u8]) -> Result<Ruling, RulingFault>
+    ensures rules { IfOk result (Rules reason.now) }
+    ensures refused { IfErr result (λ why. (why ≡ fault.BadReason)
+        × (reason.now ≢ []) × (¬ IsReason reason.now)) }
+{
+    if reason.is_empty() {
+        return Ok(Ruling::Time);
+    }
+    if !is_reason(reason) {
+        return Err(RulingFault::BadReason);
+    }
+    Ok(Ruling::Reason(kept_reason(reason)))
+}

@@ -1,0 +1,97 @@
+//! The line of a match that is over, by a verdict of its own or by a ruling.
+ghost use Rattle.std.specs.Prelude.{◌≡◌, ◌+◌, ◌≤◌, ◌++◌, length, Some, IfSome, IfNone};
+ghost use Rattle.arrayvec.specs.ArrayVec.{array_vec_len};
+ghost use Rattle.gtp_match.specs.ResultLine.{won_against, counts_text};
+ghost use Rattle.gtp_referee.specs.Refereed.{GoesOn};
+ghost use Rattle.gtp_referee.specs.ResultLine.{line_of, ruled_head, ruled_line, ruling_text};
+
+use crate::refereed::RefereedMatch;
+use crate::rulings::{Ruled, Ruling};
+use arrayvec::ArrayVec;
+use go_base::{Side, push, write_int};
+use gtp_match::{Match, ResultText};
+
+/// The most bytes before the ruling: `game `, ten digits and `: `.
+const MOST_NUMBER_BYTES: usize = 17;
+
+/// The most bytes of a ruling: those of `W+F()` and of a reason.
+const MOST_RULING_BYTES: usize = 25;
+
+/// The most bytes up to the end of the ruling.
+const MOST_HEAD_BYTES: usize = MOST_NUMBER_BYTES + MOST_RULING_BYTES;
+
+/// The line of a match that is over, without its newline: `game N: VERDICT moves M restarts RB RW`. `None` before the
+/// end. Where a ruling ended it, the verdict is `W+T` or `W+F(REASON)` where Black loses, `B+T` or `B+F(REASON)` where
+/// White does.
+pub fn result_line(game: u32, ended: &RefereedMatch) -> Option<ResultText>
+    ensures some { IfSome result (λ text. line_of game ended.now ≡ Some text.items) }
+    ensures none { IfNone result (GoesOn ended.now) }
+{
+    match ended.ruled() {
+        None => gtp_match::result_line(game, ended.played()),
+        Some(given) => Some(ruled_line(game, ended.played(), given)),
+    }
+}
+
+/// The line of a match that a ruling ended.
+fn ruled_line(game: u32, ended: &Match, given: &Ruled) -> ResultText
+    ensures { result.items ≡ ruled_line game ended.now given.now }
+{
+    let mut text = ArrayVec::new();
+    push_head(&mut text, game, given);
+    push_counts(&mut text, ended);
+    text
+}
+
+/// Appends the game's number and the ruling.
+fn push_head(text: &mut ResultText, game: u32, given: &Ruled)
+    requires { array_vec_len text.old ≡ 0 }
+    ensures bytes { text.new.items ≡ text.old.items ++ ruled_head game given.now }
+    ensures len { array_vec_len text.new ≤ MOST_HEAD_BYTES }
+{
+    push(text, b"game ");
+    push(text, &write_int(game));
+    push(text, b": ");
+    push(text, won_against(given.loser));
+    push_ruling(text, &given.ruling);
+}
+
+/// Appends why a side lost.
+fn push_ruling(text: &mut ResultText, ruling: &Ruling)
+    requires { array_vec_len text.old ≤ MOST_NUMBER_BYTES + 2 }
+    ensures bytes { text.new.items ≡ text.old.items ++ ruling_text ruling.now }
+    ensures len { array_vec_len text.new ≤ array_vec_len text.old + 23 }
+{
+    match ruling {
+        Ruling::Time => push(text, b"T"),
+        Ruling::Reason(kept) => {
+            push(text, b"F(");
+            push(text, kept);
+            push(text, b")");
+        }
+    }
+}
+
+/// Who won, where this side loses.
+fn won_against(side: Side) -> &'static [u8]
+    ensures text { result.now ≡ won_against side }
+    ensures few { length result.now ≤ 2 }
+{
+    match side {
+        Side::Black => b"W+",
+        Side::White => b"B+",
+    }
+}
+
+/// Appends the numbers of moves and restarts.
+fn push_counts(text: &mut ResultText, ended: &Match)
+    requires { array_vec_len text.old ≤ MOST_HEAD_BYTES }
+    ensures { text.new.items ≡ text.old.items ++ counts_text ended.now }
+{
+    push(text, b" moves ");
+    push(text, &write_int(ended.game().moves().len() as u32));
+    push(text, b" restarts ");
+    push(text, &write_int(ended.restarts(Side::Black)));
+    push(text, b" ");
+    push(text, &write_int(ended.restarts(Side::White)));
+}

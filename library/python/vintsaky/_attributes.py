@@ -1,0 +1,34 @@
+"""The attributes that a subclass gives its objects: how a copy and a pickle take them, as those of any object."""
+from __future__ import annotations
+
+import copyreg
+from typing import Any
+
+from ._held import Held
+
+
+def attributes_of(held: Held) -> Any:
+    """The attributes of an object: what its own `__getstate__` says, or else its `__dict__`, and with it what its
+    `__slots__` have, if anything. None where there are none."""
+    own, inherited = getattr(type(held), "__getstate__", None), getattr(object, "__getstate__", None)
+    if own is not inherited and own is not None:
+        return own(held)
+    names = set(getattr(copyreg, "_slotnames")(type(held))) - set(Held.__slots__)
+    slots = {name: getattr(held, name) for name in sorted(names) if hasattr(held, name)}
+    attributes = getattr(held, "__dict__", None) or None
+    return (attributes, slots) if slots else attributes
+
+
+def give_attributes(held: Held, state: Any) -> None:
+    """Gives an object the attributes of another one: by its own `__setstate__`, if it has one."""
+    if state is None:
+        return
+    own = getattr(held, "__setstate__", None)
+    if own is not None:
+        own(state)
+        return
+    attributes, slots = state if isinstance(state, tuple) else (state, None)
+    if attributes:
+        vars(held).update(attributes)
+    for name, value in (slots or {}).items():
+        setattr(held, name, value)

@@ -1,0 +1,36 @@
+"""Classes of which `dir`, and so `help`, lists less: not what they inherit from Python's own classes."""
+from __future__ import annotations
+
+from abc import ABCMeta
+from enum import EnumMeta
+from typing import List
+
+STANDARD = ("builtins", "collections.abc", "enum", "typing")  # where the classes are whose attributes aren't listed
+
+
+def listed(kind: type) -> List[str]:
+    """The public names that a class has of its own, or of a class before it that isn't Python's."""
+    own = [base for base in kind.__mro__ if base.__module__ not in STANDARD]
+    return sorted({"__doc__", "__module__", *(name for base in own for name in vars(base) if not name.startswith("_"))})
+
+
+class Brief(type):
+    """The type of a class that lists its own names alone. All that it inherits is there."""
+
+    def __dir__(cls) -> List[str]:
+        return listed(cls)
+
+
+class BriefEnum(EnumMeta):
+    """The type of an enumeration that lists its members, and its own names alone. All that it inherits is there."""
+
+    def __dir__(cls) -> List[str]:
+        return sorted({*listed(cls), *cls.__members__})
+
+
+class BriefABC(ABCMeta):
+    """The type of a sequence that lists its own names alone. All that it inherits is there. The head of a NamedTuple
+    can't name it, so a class has it that has a NamedTuple before it."""
+
+    def __dir__(cls) -> List[str]:
+        return listed(cls)

@@ -1,0 +1,92 @@
+"""The moves of a game's record."""
+from __future__ import annotations
+
+import ctypes
+from collections.abc import Sequence
+from functools import lru_cache
+from typing import TYPE_CHECKING, Dict, Iterator, List, NamedTuple, Union, overload
+
+from ._brief import BriefABC
+from ._library import library, untyped
+from ._numbers import Cause
+from ._refused import Refused, shown
+from .values import VERTICES, Colour, Vertex
+
+if TYPE_CHECKING:
+    from .games import Game
+
+MADE = untyped(library.vintsaky_game_made)
+
+
+class _Move(NamedTuple):
+    colour: Colour
+    vertex: Vertex
+
+
+class Move(_Move, metaclass=BriefABC):
+    """A move of a record."""
+
+    __slots__ = ()
+
+
+MOVES = {(int(colour), number): Move(colour, VERTICES[number]) for colour in Colour for number in VERTICES}
+
+
+@lru_cache(maxsize=None)
+def text_of_move(move: Move) -> str:
+    """A move, as a pickle has it: `b D4`."""
+    return f"{move.colour} {move.vertex}"
+
+
+@lru_cache(maxsize=None)
+def moves_by_text() -> Dict[str, Move]:
+    """Each move by its text."""
+    return {text_of_move(move): move for move in MOVES.values()}
+
+
+class Moves(Sequence[Move], metaclass=BriefABC):
+    """The moves of a game's record. It shows the game as it is when it is looked at; a loop goes through the moves that
+    there are when it begins."""
+
+    __slots__ = ("_game",)
+
+    def __init__(self, game: Game) -> None:
+        self._game = game
+
+    def __len__(self) -> int:
+        length: int = library.vintsaky_game_length(self._game._held())
+        return length
+
+    @overload
+    def __getitem__(self, number: int) -> Move: ...
+
+    @overload
+    def __getitem__(self, number: slice) -> List[Move]: ...
+
+    def __getitem__(self, number: Union[int, slice]) -> Union[Move, List[Move]]:
+        length = len(self)
+        try:
+            numbers = range(length)[number]
+        except IndexError:
+            raise IndexError(f"number: {shown(number)} is no move of a record of {length}") from None
+        except TypeError:
+            raise TypeError(f"number: {shown(number)} is neither an int nor a slice of them") from None
+        return self._made(numbers) if isinstance(numbers, range) else self._made(range(numbers, numbers + 1))[0]
+
+    def __iter__(self) -> Iterator[Move]:
+        return iter(self._made(range(len(self))))
+
+    def _made(self, numbers: range) -> List[Move]:
+        """The moves of these numbers, each by one call, whose arguments are made once."""
+        number, colour, vertex = ctypes.c_size_t(), ctypes.c_uint32(), ctypes.c_uint32()
+        arguments = self._game._held(), number, ctypes.byref(colour), ctypes.byref(vertex)
+        moves: List[Move] = []
+        for number.value in numbers:
+            cause = MADE(*arguments)
+            if cause:
+                raise Refused(Cause(cause), f"move {number.value}")
+            moves.append(MOVES[colour.value, vertex.value])
+        return moves
+
+    def __repr__(self) -> str:
+        return f"<vintsaky.Moves {' '.join(str(move.vertex) for move in self)}>"
