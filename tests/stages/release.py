@@ -6,7 +6,8 @@ the repository, whose folders, umask, time zone and language differ; one of them
 that has nothing else, where the programs have to write what the built ones write. The packages are unpacked, and their files looked at.
 The library is called by a program that is compiled with it, as it lies in the archive and in the packages, and by Python. The sources
 are built by cargo, in a folder where it has nothing from before and finds no kit.
-Each page of both is searched for links, commands and files that aren't there, and the examples of their README are run. At last
+Each page of both is searched for links, commands and files that aren't there, and the examples of their README are run. So is what the
+page of the library shows: an engine and a search in C, an engine in Python, a loop of self-play, and in the sources Rust too. At last
 ./release is run with a file changed, with a tool missing, on a full disk and so on, and has to leave nothing.
 
 What a check needs and the machine hasn't is a line 'skipped: ..'.
@@ -18,7 +19,7 @@ sys.dont_write_bytecode = True
 sys.path[0] = str(Path(__file__).resolve().parents[2])
 
 from tests.shared import checks  # noqa: E402
-from tests.stages.of_release import archive, library, making, manuals, package, source, stopped  # noqa: E402
+from tests.stages.of_release import archive, library, library_shown, making, manuals, package, source, stopped  # noqa: E402
 
 OPTIONS = checks.Parser(__doc__).options(__name__)
 # in this order: those of `stopped` leave nothing to look at
@@ -26,6 +27,7 @@ CASES = [
     manuals.Help, manuals.Manuals, manuals.Statuses,
     making.Making, archive.Provenance, archive.Archive, manuals.ArchiveManuals, archive.EmptyRoot,
     package.Package, package.Control, library.LibraryOfArchive, library.Packages,
+    library_shown.ShownInArchive, library_shown.ShownInPackages,
     source.Files, source.Notices, source.ProvenanceOfSources, source.PagesOfSources, source.BuiltSources, archive.Readme,
     stopped.OtherCommit, stopped.Changed, stopped.Missing, stopped.Full, stopped.Ended, stopped.Words, stopped.Pages,
 ]  # fmt: skip

@@ -106,7 +106,7 @@ class OfBoth(OfReleases):
         in PATH.
         """
         found = pages.pages_of(root)
-        self.check(f"{what}: it has pages", True, {"README.md", "CHANGELOG.md", "tournaments.md"} <= {it.name for it in found})
+        self.check(f"{what}: it has pages", True, {"README.md", "CHANGELOG.md", "library.md", "tournaments.md"} <= {it.name for it in found})
         lost = [it for page in found for it in pages.lost_links(page)]
         self.check(f"{what}: each link of its pages leads to a file and a heading in it", [], lost)
         self.check(f"{what}: no page names a file that it hasn't", [], [it for page in found for it in pages.lost_files(page, root)])

@@ -15,8 +15,8 @@ MANUALS = [f"usr/share/man/{it}.gz" for it in ("man1/twogtp.1", "man1/gtp_check.
 MODES = {**dict.fromkeys(PROGRAMS, 0o755), **dict.fromkeys([*MANUALS, f"{DOCS}/copyright"], 0o644)}
 FIELDS = {"Depends": "", "Homepage": "", "Recommends": "python3 (>= 3.9)", "Suggests": "gnugo, parallel", "Package": "vintsaky",
           "Architecture": "amd64"}  # fmt: skip
-# programs as they lie in a clone
-IN_A_CLONE = r"(?<![\w/])(?:\./)?(?:bin/twogtp|bin/gtp_check|bin/gtp_engine|interop/\w*|/home/me/vintsaky)"
+# programs and the library as they lie in a clone
+IN_A_CLONE = r"(?<![\w/])(?:\./)?(?:bin/twogtp|bin/gtp_check|bin/gtp_engine|bin/lib|-Ilib|library/|interop/\w*|/home/me/vintsaky)"
 
 
 class Package(OfBoth):
@@ -48,7 +48,7 @@ class Package(OfBoth):
         found = pages.pages_of(docs)
         named = [f"{page.name}: {it}" for page in found for it in re.findall(IN_A_CLONE, page.read_text())]
         self.check("the package: no page names programs as they lie in a clone", [], named)
-        named = [(page.name, it) for page in found for it in pages.installed_files(page)]
+        named = [(page.name, it) for page in found for it in pages.installed_files(page) if "vintsaky" in Path(it).parts]
         lost = [it for it in named if not (self.folder / it[1][1:]).exists()]
         self.check("the package: what its pages name below /usr/share is there", [], lost)
         are_named = {f"/{SCRIPTS['package']}", f"/{DOCS}/docs"} <= {it for _, it in named}

@@ -11,14 +11,20 @@ PEERS = "gnugo leelaz parallel sbatch squeue scancel ssh scp rsync pike /usr/gam
 COMMANDS = set(BASE.split() + PEERS.split())
 KEYWORDS = {"for", "do", "done", "if", "then", "else", "fi", "while", "until", "case", "esac", "{", "}", "!", "in"}
 # the folders of the repository, and the scripts at its top, that a release hasn't
-FOLDERS = "bench crates docs interop notices objects packaging share tests tournament bin dist".split()
+FOLDERS = "bench cargo crates docs include interop lib library notices objects packaging share tests tournament bin dist".split()
 SCRIPTS = ["./build", "./demo", "./release", "./test"]
+INSTALLED = r"/usr/(?:include|share/(?:doc/)?(?:vintsaky|libvintsaky|python3-vintsaky))[\w./-]*"  # files of the packages
 MISTYPED = {"bin/gtp_engin", "/usr/games/gtp_engin"}  # what a page names because it isn't there
 
 
 def blocks_of(text):
     """The blocks of a page between lines of ```."""
     return re.findall(r"^```\w*\n(.*?)^```$", text, re.MULTILINE | re.DOTALL)
+
+
+def blocks_in(text, language):
+    """The blocks of a page in this language, which commands have none of."""
+    return [block for of, block in re.findall(r"^```(\w*)\n(.*?)^```$", text, re.MULTILINE | re.DOTALL) if of == language]
 
 
 def code_of(text):
@@ -49,17 +55,17 @@ def lost_links(page):
 def lost_files(page, root):
     """The files of the repository that a page names in its code, and that aren't there below the folder that has the pages."""
     lost = []
-    names = rf"(?:{'|'.join(FOLDERS)})/[\w./-]*|\./(?:build|demo|release|test)\b(?!/)"
+    names = rf"(?:{'|'.join(FOLDERS)})/[\w./-]*|(?<=-I)\w+|\./(?:build|demo|release|test)\b(?!/)"
     for code in code_of(page.read_text()):
-        for name in re.findall(rf"(?<![\w./~$@%-])(?:/home/me/vintsaky/)?({names})", code):
+        for name in re.findall(rf"(?<![\w./~$@%-])(?:/home/me/vintsaky/|\$PWD/|-I)?({names})", code):
             if name in SCRIPTS or (name not in MISTYPED and not (root / name.rstrip(".")).exists()):
                 lost.append(f"{page.name}: {name}")
     return lost
 
 
 def installed_files(page):
-    """The files in the folders of the package that a page names in its code."""
-    return [it.rstrip("./") for code in code_of(page.read_text()) for it in re.findall(r"/usr/share/(?:doc/)?vintsaky[\w./-]*", code)]
+    """The files in the folders of the packages that a page names in its code."""
+    return [it.rstrip("./") for code in code_of(page.read_text()) for it in re.findall(INSTALLED, code)]
 
 
 def parts_of(line):

@@ -7,17 +7,18 @@ from . import pages
 from .archive import MOST_WORDS
 from .commands import PROGRAMS, TOP, run, sum_of
 from .library import InPython, sums_below
+from .library_shown import GAME, Shown
 from .making import GATE, OfReleases
 from .stopped import path_without
 
 OWN = ["CHANGELOG.md", "Cargo.lock", "Cargo.toml", "PROVENANCE", "README.md"]  # the files at its top
+PAGES = ["CHANGELOG.md", "README.md", "docs/library.md", "docs/rules.md"]
 LIBRARY = ["vintsaky.h", "examples", "python"]  # what it has of the repository's folder library
 WRITTEN = ["crates", "others", "shims", "vintsaky"]  # the folders that cargo/strip writes
 KINDS = {".rs", ".toml", ""}  # what our own crates have; the last is .gitignore
 # what the README says before its first heading, in this order
 SAID = ["sources of proved programs, with the contracts taken off", "documentation shows the contracts as text",
         "What cargo builds of it is tested, and not proved", "Not here are the proofs, the definitions"]  # fmt: skip
-GAME = r"game 1: \S+ moves \d+ restarts 0 0\n"
 # Cargo builds for a release without what takes long.
 QUICK = {"LTO": "false", "OPT_LEVEL": "0", "CODEGEN_UNITS": "16"}
 LIMIT = 600  # seconds that cargo may take
@@ -57,7 +58,9 @@ class Files(OfSources):
         found = [[at.name for at in tree.parent.iterdir()] for tree in self.trees]
         self.check("the sources lie in one folder", [[f"vintsaky-{name}-src"] for name in self.names], found)
         found = sorted(it.name for it in self.tree.iterdir())
-        self.check("the sources: what lies in their folder", sorted([*OWN, *WRITTEN, "library", "notices"]), found)
+        self.check("the sources: what lies in their folder", sorted([*OWN, *WRITTEN, "docs", "library", "notices"]), found)
+        found = [str(it) for it in self.files if it.suffix == ".md" and it.parts[0] not in ("others", "library")]
+        self.check("the sources: their pages", PAGES, sorted(found))
 
     def test_stripped(self):
         """They are what cargo/strip writes."""
@@ -149,7 +152,7 @@ class PagesOfSources(OfSources):
 
     def test_pages(self):
         """Their pages."""
-        found = [self.tree / it for it in ("README.md", "CHANGELOG.md")]
+        found = [self.tree / it for it in PAGES]
         lost = [it for page in found for it in [*pages.lost_links(page), *pages.lost_files(page, self.tree)]]
         self.check("the sources: no page has a link to what isn't there, or names such a file", [], lost)
         named = [it.name for it in found if "tournament/" in it.read_text()]
@@ -170,7 +173,7 @@ def surroundings(room):
 SHOWN = {"a build and a match": GAME, "the way to install": "", "an engine in C": GAME, "an engine in Python": GAME}
 
 
-class BuiltSources(OfSources, InPython):
+class BuiltSources(OfSources, InPython, Shown):
     """They are built by cargo, where it has nothing from before and no kit is found."""
 
     def test_built(self):
@@ -179,6 +182,7 @@ class BuiltSources(OfSources, InPython):
         environment = surroundings(room)
         self.check("the sources: no kit is found where they are built", None, shutil.which("rt", path=environment["PATH"]))
         self.check_shown(environment)
+        self.check_page("the sources", self.tree, self.tree, ["an engine in Rust"], environment)
         self.check_installed(room, environment)
         self.check_program(self.tree.parent / "mine", environment)
         after = sums_below(self.tree)

@@ -198,6 +198,18 @@ class Words(OfStops):
             self.check(f"a mistake: {words}", (2, "", output), release(self.folder, *words))
 
 
+# what a page may not have, and what is said of it
+MARKS = {
+    "<!-- in the shop -->place<!-- end -->": "<!-- in the shop --> names another place",
+    "<!-- in the archive and a shop: place -->": "<!-- in the archive and a shop: names another place",
+    "<!-- in the archive: place": "<!-- in the archive: has no end",
+    "[place](values.md)<!-- no link in the shop -->": "<!-- no link in the shop --> names another place",
+    "<!-- place -->": "<!-- place -->. is no mark",
+    "[place](../library/declare)": "a release has no library/declare",
+    "[place](../library/rust/README.md)": "a release has no library/rust/README.md",
+}  # fmt: skip
+
+
 class Pages(OfStops):
     """What pages have that a release may not."""
 
@@ -210,6 +222,13 @@ class Pages(OfStops):
         with committed(page, page.read_text() + "\n<!-- in a clone -->\n"):
             said = "packaging/page: docs/rules.md: <!-- in a clone --> has no end"
             self.check_stopped("a page with half a mark", release(self.folder), said)
+
+    def test_mark(self):
+        """Marks that don't name a place of a release, and a link to a file of the library that a form hasn't."""
+        page = self.folder / "docs/rules.md"
+        for mark, said in MARKS.items():
+            with committed(page, page.read_text() + f"\nA {mark}.\n"):
+                self.check_stopped(f"a page with {mark}", release(self.folder), f"packaging/page: docs/rules.md: {said}")
 
     def test_version(self):
         """A version of which the changelog has nothing."""
