@@ -2,9 +2,8 @@
 ghost use Rattle.std.specs.Prelude.{◌≡◌, ◌≢◌, ℕ, ◌+◌, ◌*◌, ◌↔◌, List, Option, Some, length, map, IsTrue, IfOk, IfErr};
 ghost use Rattle.std.specs.List.{replicate};
 ghost use Rattle.go_board.specs.Game.{GameRecord, first_moves};
-ghost use Rattle.vintsaky_calls.specs.Batches.{PlayNumberCall, IsMoveNumber, TellsOver, Restarts, IsShown, ScoresInTurn};
-ghost use Rattle.vintsaky_calls.specs.Batches.{shown_count, ArePlanes, ArePlanesOf, AreStonePlanes, IsMask};
-ghost use Rattle.vintsaky_calls.specs.Codes.{Returns};
+ghost use Rattle.vintsaky_calls.specs.Batches.{PlayNumberCall, PlaysNumber, IsMoveNumber, TellsOver, Restarts};
+ghost use Rattle.vintsaky_calls.specs.Batches.{IsShown, ScoresInTurn, shown_count, ArePlanes, ArePlanesOf, AreStonePlanes, IsMask};
 ghost use Rattle.vintsaky_calls.specs.private.Marks.{stone_mark, bool_mark};
 ghost use Rattle.vintsaky_calls.specs.declared.causes.Cause.TheVariants as cause;
 
@@ -36,7 +35,7 @@ pub struct Told {
 
 /// Makes the move of a number for the colour whose turn it is. The number of what it comes to.
 pub fn play(game: &mut Game, number: u32) -> u8
-    ensures { Returns result (PlayNumberCall game.old number game.new) }
+    ensures { PlaysNumber game.old number game.new result }
 {
     byte_of(play_number(game, number))
 }
