@@ -1,7 +1,7 @@
 -- The calls over many games: what each does to one game, and to all of them.
 use Rattle.std.specs.Prelude.{◌≡◌, ◌≢◌, ℕ, ℤ, pos, ◌+◌, ◌-◌, ◌*◌, ◌<◌, ◌≤◌, ◌⊎◌, List, [], ◌∷◌, ◌++◌, length, take, drop}
-use Rattle.std.specs.Prelude.{zero, suc, Option, Some, OnOk, OnErr, IfErr}
-use Rattle.std.specs.List.{replicate, sum_by}
+use Rattle.std.specs.Prelude.{replicate, Some, OnOk, OnErr, IfErr}
+use Rattle.std.specs.List.{sum_by}
 use Rattle.go_base.specs.Colour.{other}
 use Rattle.go_base.specs.declared.colours.Colour.{Colour}
 use Rattle.go_base.specs.declared.vertices.Vertex.{Vertex}
