@@ -98,10 +98,12 @@ fn over_of(game: &Game, limit: u32) -> u8
 fn begin_anew(game: &mut Game)
     ensures { game.new ≡ record game.old { moves = [] } }
 {
+    // A look: the size allows the handicap.
+    let _ = game.size();
     let handicap = game.handicap();
     game.clear();
     if handicap != 0 {
-        // The board is empty, and its size allows the handicap that was there.
+        // The board is empty.
         let _ = game.place_handicap(handicap);
     }
 }
