@@ -1,7 +1,9 @@
 -- Loops over many games: what holds of the lists after the first games.
-use Rattle.std.proofs.Common.{◌≡◌, ℕ, zero, suc, ◌+◌, ◌<◌, ◌≤◌, List, [], ◌∷◌, ◌++◌, length, get_or, take, drop, refl, sym, ap, ◌∙◌, subst, arith}
-use Rattle.std.proofs.lemmas.List.{take_more, take_more_set, take_all, take-append-drop, length-set, length-take-le, drop-set-lt, drop-drop, get_or-drop}
-use Rattle.std.proofs.lemmas.List.{append-nil, append_assoc, length-append, length-drop, get_or-map, map-set, set-get_or}
+use Rattle.std.proofs.Common.{◌≡◌, ℕ, ◌+◌, ◌<◌, ◌≤◌, List, [], ◌∷◌, ◌++◌, length, get_or, take, drop, refl, sym, ap}
+use Rattle.std.proofs.Common.{◌∙◌, subst, arith}
+use Rattle.std.proofs.lemmas.List.{take_more, take_more_set, take_all, take-append-drop, length-set, length-take-le}
+use Rattle.std.proofs.lemmas.List.{drop-set-lt, drop-drop, get_or-drop, append-nil, append_assoc, length-append}
+use Rattle.std.proofs.lemmas.List.{length-drop, length-map, get_or-map, map-set, set-get_or}
 use Rattle.std.proofs.lemmas.List.Sums.{sum_by_more, sum_by-take-le}
 use Rattle.std.proofs.lemmas.Slice.{take-put_mid, drop-put_mid}
 use Rattle.std.specs.List.{sum_by}
@@ -112,8 +114,8 @@ done_all {P = P} {place = place} {old = old} {new = new} {xs_old = xs_old} {xs_n
     let each : EachGame P (take n old) (take n xs_new) (take n new) (take n ys_new) =
         subst (λ (k : ℕ). EachGame P (take k old) (take k xs_new) (take k new) (take k ys_new)) all done.each in
     record {
-      each = subst (λ (l : List GameRecord). EachGame P l (take n xs_new) new (take n ys_new)) (take_all n old (omega arith))
-          (subst (λ (l : List GameRecord). EachGame P (take n old) (take n xs_new) l (take n ys_new))
+      each = subst (λ (l : List GameRecord). EachGame P l (take n xs_new) new (take n ys_new))
+          (take_all n old (omega arith)) (subst (λ (l : List GameRecord). EachGame P (take n old) (take n xs_new) l (take n ys_new))
           (take_all n new (omega (arith, done.games.long))) each);
       firsts = subst (λ (k : ℕ). Overwrites (take k xs_new) xs_old xs_new) all
           (overwritten place xs_old xs_new done.firsts (omega arith));
@@ -145,7 +147,8 @@ in_turn_push : {A : Type 0} {P : GameRecord → List A → Type 0} {games : List
     → InTurn P (games ++ game ∷ []) (values ++ part)
 in_turn_push {A = A} {P = P} no_game game part p =
     subst (λ (l : List A). InTurn P (game ∷ []) l) (append-nil part) (first p no_game)
-in_turn_push {A = A} {P = P} (first {game = g} {games = gs} {values = values} {rest = rest} q more) game part p =
+in_turn_push {A = A} {P = P} (first {game = g} {games = gs} {values = values} {rest = rest} q more) game part
+    p =
     subst (λ (l : List A). InTurn P (g ∷ (gs ++ game ∷ [])) l) (sym (append_assoc values rest part))
     (first q (in_turn_push more game part p))
 
