@@ -114,8 +114,10 @@ done_all {P = P} {place = place} {old = old} {new = new} {xs_old = xs_old} {xs_n
     let each : EachGame P (take n old) (take n xs_new) (take n new) (take n ys_new) =
         subst (λ (k : ℕ). EachGame P (take k old) (take k xs_new) (take k new) (take k ys_new)) all done.each in
     record {
-      each = subst (λ (l : List GameRecord). EachGame P l (take n xs_new) new (take n ys_new))
-          (take_all n old (omega arith)) (subst (λ (l : List GameRecord). EachGame P (take n old) (take n xs_new) l (take n ys_new))
+      each =
+          subst (λ (l : List GameRecord). EachGame P l (take n xs_new) new (take n ys_new))
+          (take_all n old (omega arith))
+          (subst (λ (l : List GameRecord). EachGame P (take n old) (take n xs_new) l (take n ys_new))
           (take_all n new (omega (arith, done.games.long))) each);
       firsts = subst (λ (k : ℕ). Overwrites (take k xs_new) xs_old xs_new) all
           (overwritten place xs_old xs_new done.firsts (omega arith));
@@ -125,6 +127,13 @@ done_all {P = P} {place = place} {old = old} {new = new} {xs_old = xs_old} {xs_n
 
 -- ---- games that stay
 
+-- there are as many games as handles
+pub in_games : (handles : List GameHandle) (games : List GameRecord) (place : ℕ) → place < length handles
+    → games_of handles ≡ games → place < length games
+in_games handles games place below are =
+    let many = sym (ap length are) ∙ length-map handles (λ h. h.value) in
+    omega (arith, many)
+
 -- the game that a handle lends is that of the list
 pub read_game : (handles : List GameHandle) (games : List GameRecord) (place : ℕ) (d : GameHandle) (game : GameRecord)
     → place < length handles → games_of handles ≡ games → game ≡ (get_or handles place d).value
@@ -133,8 +142,8 @@ read_game handles games place d game below are is =
     is ∙ sym (get_or-map (λ h. h.value) handles place d game below) ∙ ap (λ l. get_or l place game) are
 
 -- a handle whose game stays leaves all games as they were
-pub same_games : (handles : List GameHandle) (games : List GameRecord) (place : ℕ) (d h : GameHandle) → place < length handles
-    → games_of handles ≡ games → h.value ≡ (get_or handles place d).value → games_of (set handles place h) ≡ games
+pub same_games : (handles : List GameHandle) (games : List GameRecord) (place : ℕ) (d h : GameHandle)
+    → place < length handles → games_of handles ≡ games → h.value ≡ (get_or handles place d).value → games_of (set handles place h) ≡ games
 same_games handles games place d h below are is =
     map-set (λ h. h.value) handles place h
     ∙ ap (set (games_of handles) place) (is ∙ sym (get_or-map (λ h. h.value) handles place d d.value below))
@@ -210,6 +219,18 @@ shown_more {A = A} {P = P} {f = f} {place = place} {games = games} {at = at} {ol
       };
       at_is = next_is ∙ ap (λ n. n + f game) shown.at_is ∙ sym sum;
     }
+
+-- the values of one game more end within the list
+pub ends_within : {A : Type 0} {P : GameRecord → List A → Type 0} {f : GameRecord → ℕ} {place : ℕ}
+    {games : List GameRecord} {at : ℕ} {old new : List A} (handles : List GameHandle) (d : GameHandle)
+    (game : GameRecord) (count : ℕ) → AreShown P f place games at old new → place < length handles
+    → games_of handles ≡ games → game ≡ (get_or handles place d).value → count ≡ f game
+    → sum_by f games ≤ length old → at + count ≤ length new
+ends_within {f = f} {place = place} {games = games} handles d game count shown below are is counted fits =
+    let within =
+        sum_fits f games place game (in_games handles games place below are)
+        (read_game handles games place d game below are is) in
+    omega (arith, within, shown.at_is, shown.kept.long, counted)
 
 -- all games are shown
 pub record AreAllShown {A : Type 0} (P : GameRecord → List A → Type 0) (games : List GameRecord) (at : ℕ)

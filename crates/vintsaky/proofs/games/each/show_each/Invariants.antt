@@ -8,4 +8,5 @@ use Rattle.vintsaky.proofs.games.each.show_each.Given as goal
 abbrev pub invariant-loop-place : goal.invariant-loop-place
 invariant-loop-place g l =
     (games_of l.games ≡ games_of l.initial.games)
-    × AreShown (IsShown l.zero l.one l.shown) (shown_count l.shown) l.place (games_of l.initial.games) l.at l.initial.values l.values
+    × AreShown (IsShown l.zero l.one l.shown) (shown_count l.shown) l.place (games_of l.initial.games) l.at
+    l.initial.values l.values
