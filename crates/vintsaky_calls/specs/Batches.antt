@@ -1,7 +1,7 @@
 -- The calls over many games: what each does to one game, and to all of them.
-use Rattle.std.specs.Prelude.{◌≡◌, ◌≢◌, ℕ, ℤ, pos, ◌+◌, ◌-◌, ◌*◌, ◌<◌, ◌≤◌, ◌⊎◌, List, [], ◌∷◌, ◌++◌, length, take, drop}
-use Rattle.std.specs.Prelude.{zero, suc, Option, Some, OnOk, OnErr, IfErr}
-use Rattle.std.specs.List.{replicate, sum_by}
+use Rattle.std.specs.Prelude.{◌≡◌, ◌≢◌, ℕ, ℤ, pos, ◌+◌, ◌-◌, ◌*◌, ◌<◌, ◌≤◌, ◌⊎◌, List, [], ◌∷◌, ◌++◌, length}
+use Rattle.std.specs.Prelude.{take, drop, replicate, Some, OnOk, OnErr, IfErr}
+use Rattle.std.specs.List.{sum_by}
 use Rattle.go_base.specs.Colour.{other}
 use Rattle.go_base.specs.declared.colours.Colour.{Colour}
 use Rattle.go_base.specs.declared.vertices.Vertex.{Vertex}
@@ -59,6 +59,10 @@ pub record PlayNumberCall (old : GameRecord) (number : ℕ) (new : GameRecord) (
   pub kept : OnErr made (new ≡ old)
   pub why : IfErr made (RefusesNumber old number)
 
+-- and this is the number of what it comes to
+abbrev pub PlaysNumber : GameRecord → ℕ → GameRecord → ℕ → Type 0
+PlaysNumber old number new code = Returns code (PlayNumberCall old number new)
+
 -- ---- games that are over
 
 -- whether a game is over: 1 after two passes, else 2 where the record has `limit` moves or is full, and else 0
@@ -105,8 +109,8 @@ pub record AreEarlierPlanes {A : Type 0} (zero one : A) (game : GameRecord) (c :
 
 -- the planes of this many boards, one after the other: that of now, that of one move earlier, and so on
 pub data ArePlanesOf {A : Type 0} (zero one : A) (game : GameRecord) (c : Colour) : ℕ → List A → Type 0 where
-  none : ArePlanesOf zero one game c 0 []
-  more : {boards : ℕ} {values next : List A} → ArePlanesOf zero one game c boards values
+  no_board : ArePlanesOf zero one game c 0 []
+  older : {boards : ℕ} {values next : List A} → ArePlanesOf zero one game c boards values
       → AreEarlierPlanes zero one game c boards next → ArePlanesOf zero one game c (boards + 1) (values ++ next)
 
 -- the planes of the board and of earlier ones, for the colour whose turn it is
@@ -141,6 +145,10 @@ pub record ScoresInTurn (game : GameRecord) (seed limit : ℕ) (half_points : �
   pub turn : IsTurn game c
   pub rolled_out : IsSeededRollout game c seed limit half_points
 
+-- the game stays, and its rollout is scored so
+abbrev pub RollsOut : ℕ → GameRecord → ℕ → GameRecord → ℤ → Type 0
+RollsOut limit old seed new half_points = (new ≡ old) × ScoresInTurn old seed limit half_points
+
 -- ---- many games
 
 -- The lists have an item for each game. Of the game before the call, the first item, the game after the call and the
@@ -148,13 +156,13 @@ pub record ScoresInTurn (game : GameRecord) (seed limit : ℕ) (half_points : �
 pub data EachGame {A B : Type 0} (P : GameRecord → A → GameRecord → B → Type 0)
     : List GameRecord → List A → List GameRecord → List B → Type 0 where
   none : EachGame P [] [] [] []
-  next : {before after : GameRecord} {a : A} {b : B} {old new : List GameRecord} {as : List A} {bs : List B}
-      → P before a after b → EachGame P old as new bs → EachGame P (before ∷ old) (a ∷ as) (after ∷ new) (b ∷ bs)
+  next : {before after : GameRecord} {a : A} {b : B} {old new : List GameRecord} {xs : List A} {ys : List B}
+      → P before a after b → EachGame P old xs new ys → EachGame P (before ∷ old) (a ∷ xs) (after ∷ new) (b ∷ ys)
 
 -- The list has the values of each game, one game's after the other's. Those of a game are as P says.
 pub data InTurn {A : Type 0} (P : GameRecord → List A → Type 0) : List GameRecord → List A → Type 0 where
-  none : InTurn P [] []
-  next : {game : GameRecord} {games : List GameRecord} {values rest : List A} → P game values → InTurn P games rest
+  no_game : InTurn P [] []
+  first : {game : GameRecord} {games : List GameRecord} {values rest : List A} → P game values → InTurn P games rest
       → InTurn P (game ∷ games) (values ++ rest)
 
 -- the items are written over the first ones of a list, and its others stay
@@ -170,8 +178,7 @@ IsShort games items = length items < length games
 pub record PlaysEach (old new : List GameRecord) (moves causes_old causes_new : List ℕ) : Type 0 where
   pub causes : List ℕ
   pub enough : length old ≤ length moves
-  pub played : EachGame (λ before number after code. Returns code (PlayNumberCall before number after)) old
-      (take (length old) moves) new causes
+  pub played : EachGame PlaysNumber old (take (length old) moves) new causes
   pub written : Overwrites causes causes_old causes_new
 
 -- The games make moves; or a list is too short, and nothing is played or written.
@@ -218,8 +225,7 @@ pub record ShowGamesCall {A : Type 0} (zero one : A) (shown : Shown) (games : Li
 pub record RollsOutEach (limit : ℕ) (games : List GameRecord) (seeds : List ℕ) (old new : List ℤ) : Type 0 where
   pub half_points : List ℤ
   pub enough : length games ≤ length seeds
-  pub scored : EachGame (λ game seed after score. (after ≡ game) × ScoresInTurn game seed limit score) games
-      (take (length games) seeds) games half_points
+  pub scored : EachGame (RollsOut limit) games (take (length games) seeds) games half_points
   pub written : Overwrites half_points old new
 
 -- Rollouts of the games are scored; or a list is too short, and nothing is written.

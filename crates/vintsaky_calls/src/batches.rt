@@ -1,10 +1,8 @@
 //! What the calls over many games do to one game of them.
-ghost use Rattle.std.specs.Prelude.{◌≡◌, ◌≢◌, ℕ, ◌+◌, ◌*◌, ◌↔◌, List, Option, Some, length, map, IsTrue, IfOk, IfErr};
-ghost use Rattle.std.specs.List.{replicate};
-ghost use Rattle.go_board.specs.Game.{GameRecord, first_moves};
-ghost use Rattle.vintsaky_calls.specs.Batches.{PlayNumberCall, IsMoveNumber, TellsOver, Restarts, IsShown, ScoresInTurn};
-ghost use Rattle.vintsaky_calls.specs.Batches.{shown_count, ArePlanes, ArePlanesOf, AreStonePlanes, IsMask};
-ghost use Rattle.vintsaky_calls.specs.Codes.{Returns};
+ghost use Rattle.std.specs.Prelude.{◌≡◌, ℕ, ◌+◌, ◌*◌, ◌<◌, [], length, map, replicate, IsTrue, IfOk, IfErr};
+ghost use Rattle.go_board.specs.Game.{without_last};
+ghost use Rattle.vintsaky_calls.specs.Batches.{PlayNumberCall, PlaysNumber, IsMoveNumber, TellsOver, Restarts};
+ghost use Rattle.vintsaky_calls.specs.Batches.{IsShown, ScoresInTurn, shown_count, ArePlanes, ArePlanesOf, AreStonePlanes, IsMask};
 ghost use Rattle.vintsaky_calls.specs.private.Marks.{stone_mark, bool_mark};
 ghost use Rattle.vintsaky_calls.specs.declared.causes.Cause.TheVariants as cause;
 
@@ -36,7 +34,7 @@ pub struct Told {
 
 /// Makes the move of a number for the colour whose turn it is. The number of what it comes to.
 pub fn play(game: &mut Game, number: u32) -> u8
-    ensures { Returns result (PlayNumberCall game.old number game.new) }
+    ensures { PlaysNumber game.old number game.new result }
 {
     byte_of(play_number(game, number))
 }
@@ -100,10 +98,12 @@ fn over_of(game: &Game, limit: u32) -> u8
 fn begin_anew(game: &mut Game)
     ensures { game.new ≡ record game.old { moves = [] } }
 {
+    // A look: the size allows the handicap.
+    let _ = game.size();
     let handicap = game.handicap();
     game.clear();
     if handicap != 0 {
-        // The board is empty, and its size allows the handicap that was there.
+        // The board is empty.
         let _ = game.place_handicap(handicap);
     }
 }
@@ -163,12 +163,45 @@ fn put_earlier_planes<T: Copy>(
     let mut before = game.copied();
     for ago in 0..1 + earlier as usize {
         let planes = &mut values[ago * count..ago * count + count];
-        if ago <= moves {
-            put_stone_planes(&before, colour, zero, one, planes);
-        } else {
-            planes.fill(zero);
-        }
-        let _ = before.undo();
+        put_board(&before, ago <= moves, colour, zero, one, planes);
+        take_back(&mut before);
+    }
+}
+
+/// Takes back the last move, where there is one.
+fn take_back(game: &mut Game)
+    ensures { game.new ≡ without_last game.old }
+{
+    let _ = game.undo();
+}
+
+/// Writes the planes of a board, or empty ones where there is no such board.
+fn put_board<T: Copy>(
+    game: &Game,
+    is_there: bool,
+    colour: Colour,
+    zero: T,
+    one: T,
+    values: &mut [T],
+)
+    requires { length values.old ≡ 2 * (game.now.size * game.now.size) }
+    ensures there { IsTrue is_there → AreStonePlanes zero one game.now colour values.new }
+    ensures empty { ¬ IsTrue is_there
+        → values.new ≡ replicate (2 * (game.now.size * game.now.size)) zero }
+{
+    if is_there {
+        put_stone_planes(game, colour, zero, one, values);
+    } else {
+        put_zeros(zero, values);
+    }
+}
+
+/// Writes the same value everywhere.
+fn put_zeros<T: Copy>(zero: T, values: &mut [T])
+    ensures { values.new ≡ replicate (length values.old) zero }
+{
+    for value in values.iter_mut() {
+        *value = zero;
     }
 }
 

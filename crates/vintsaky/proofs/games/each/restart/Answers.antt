@@ -1,0 +1,40 @@
+use Rattle.std.proofs.Common.{◌≡◌, ◌+◌, ◌<◌, ◌≤◌, length, take, map, refl, sym, ◌∙◌, arith}
+use Rattle.std.proofs.lemmas.List.{map-set, length-map, get_or-map}
+use Rattle.vintsaky_calls.specs.Batches.{Restarts}
+use Rattle.vintsaky.specs.Games.{games_of}
+use Rattle.vintsaky.proofs.ManyGames.{done_none, done_more, done_all}
+use Rattle.vintsaky.proofs.games.each.restart.Goals as goal
+
+pub loop-place-init : goal.loop-place-init
+loop-place-init c =
+    done_none (Restarts c.args.limit) (games_of c.args.games.now) c.args.over.now c.args.half_points.now
+
+pub loop-place-preserved : goal.loop-place-preserved
+loop-place-preserved c =
+    let place = c.loop-place.place in
+    let games = c.loop-place.games in
+    let before = c.lend.result.now in
+    let told = c.restart-told.result in
+    let many = length-map c.args.games.now (λ h. h.value) in
+    let below : place < length games = omega (arith, c.loop-place.auto.games) in
+    done_more c.loop-place.invariant _ _ _ before told.over c.restart-told.new.game told.half_points
+    (map-set (λ h. h.value) games place _) refl refl (omega (arith, many)) (omega arith) (omega arith)
+    (c.lend.ensures.value ∙ sym (get_or-map (λ h. h.value) games place c.index-games-place.result before below))
+    c.restart-told.ensures
+
+pub returns : goal.returns
+returns c =
+    let count = length (games_of c.args.games.now) in
+    let many = length-map c.args.games.now (λ h. h.value) in
+    let done = done_all c.loop-place.invariant (omega (arith, many)) (omega (arith, many)) (omega (arith, many)) in
+    record {
+      restarted = record {
+        over = take count c.loop-place.over;
+        half_points = take count c.loop-place.half_points;
+        restarted = done.each;
+        over_written = done.firsts;
+        half_points_written = done.seconds;
+      };
+      kept = tt;
+      why = tt;
+    }
