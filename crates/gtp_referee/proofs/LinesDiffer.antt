@@ -69,7 +69,9 @@ decimal_all n = onto_all 64 n [] refl
 
 decimal_some : (n : ℕ) → 0 < length (decimal n)
 unfolding digits
-decimal_some n = longer (n / 10 == 0) _ _ (omega arith) (onto_some 63 (n / 10) (digit_glyph false (n % 10) ∷ []) (omega arith))
+decimal_some n =
+    longer (n / 10 == 0) _ _ (omega arith)
+    (onto_some 63 (n / 10) (digit_glyph false (n % 10) ∷ []) (omega arith))
 
 first_passes : (p : ℕ → Bool) (l rest : List ℕ) → 0 < length l → list_all p l ≡ true
     → p (get_or (l ++ rest) 0 0) ≡ true
@@ -78,7 +80,8 @@ first_passes p (x ∷ xs) rest some all = grind (arith, all)
 
 first_digit : (n : ℕ) (x rest : List ℕ) → is_ascii_digit (get_or ((decimal n ++ x) ++ rest) 0 0) ≡ true
 first_digit n x rest =
-    rw (append_assoc (decimal n) x rest) (first_passes is_ascii_digit (decimal n) (x ++ rest) (decimal_some n) (decimal_all n))
+    rw (append_assoc (decimal n) x rest)
+    (first_passes is_ascii_digit (decimal n) (x ++ rest) (decimal_some n) (decimal_all n))
 
 -- ---- verdicts
 
@@ -130,7 +133,7 @@ no_forfeit Time is cause s t e = absurd (omega (arith, first e))
 no_forfeit (Reason kept) is cause s t e =
     let inner : kept.items ++ 41 ∷ s ≡ cause_text cause ++ 41 ∷ t =
     sym (append_assoc kept.items (41 ∷ []) s) ∙ (ap (drop 2) e ∙ append_assoc (cause_text cause) (41 ∷ []) t) in
-    let same = same_before is_reason_byte 41 refl kept.items (cause_text cause) s t is.0.bytes (cause_bytes cause) inner in
+    let same = same_before is_reason_byte 41 refl kept.items _ s t is.0.bytes (cause_bytes cause) inner in
     let wrong : false ≡ true = sym is.0.no_forfeit ∙ (ap is_forfeit_text same.0 ∙ cause_forfeits cause) in cc
 
 differ : (loser : Colour) (r : Ruling) → IsRuling r → (v : Verdict) (s t : List ℕ)
@@ -168,7 +171,8 @@ ruling_lines_differ number other c ended given verdict is e =
     let after : decimal number ++ 58 ∷ 32 ∷ (ruled_text given ++ counts_text c)
     ≡ decimal other ++ 58 ∷ 32 ∷ (verdict_text verdict ++ counts_text ended) =
     ap (drop 5)
-    (sym (shape number (ruled_text given) (counts_text c)) ∙ (e ∙ shape other (verdict_text verdict) (counts_text ended))) in
-    let same = same_before is_ascii_digit 58 refl (decimal number) (decimal other) _ _ (decimal_all number) (decimal_all other)
-    after in
+    (sym (shape number (ruled_text given) (counts_text c))
+    ∙ (e ∙ shape other (verdict_text verdict) (counts_text ended))) in
+    let same = same_before is_ascii_digit 58 refl (decimal number) (decimal other) _ _
+    (decimal_all number) (decimal_all other) after in
     differ given.loser given.ruling is verdict (counts_text c) (counts_text ended) (ap (drop 1) same.1)

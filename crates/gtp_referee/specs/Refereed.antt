@@ -1,5 +1,6 @@
 -- A match with a referee: a match of `gtp_match`, and a ruling or none. Once there is a ruling, no call changes it.
-use Rattle.std.specs.Prelude.{◌≡◌, ◌≢◌, ◌⊎◌, ℕ, List, [], Option, Some, None, IfSome, IsSome, OnOk, OnErr, IfErr, Result}
+use Rattle.std.specs.Prelude.{◌≡◌, ◌≢◌, ◌⊎◌, ℕ, List, [], Option, Some, None, IfSome, IsSome, Result, OnOk, OnErr}
+use Rattle.std.specs.Prelude.{IfErr}
 use Rattle.std.specs.Option.{option_to_list}
 use Rattle.go_base.specs.declared.colours.Colour.{Colour}
 use Rattle.gtp_match.specs.Controller as controller

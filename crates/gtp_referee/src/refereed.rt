@@ -38,7 +38,8 @@ impl RefereedMatch {
     ghost use Rattle.gtp_match.specs.Sides.{side_of};
     ghost use Rattle.gtp_match.specs.Sound.{IsSound};
     ghost use Rattle.gtp_referee.specs.Ruling.{reason_of};
-    ghost use Rattle.gtp_referee.specs.Refereed.{new, next, owed, started, sent, lost, Hears, IsRefereed, AdjudicateCall};
+    ghost use Rattle.gtp_referee.specs.Refereed.{new, next, owed, started, sent, lost, Hears, IsRefereed};
+    ghost use Rattle.gtp_referee.specs.Refereed.{AdjudicateCall};
 
     /// A match of this setup that has not begun, without a ruling.
     pub fn new(setup: Setup) -> RefereedMatch

@@ -85,10 +85,12 @@ due_in_match c (Some given) due e = cc
 
 wrote_more : (old new : Refereed) (number : ℕ) (before after : List ℕ) (count : ℕ) → IsSound old.controller
     → (sends : Sends old number before after count new)
-    → WroteOneMore (unanswered_of old sends.side) (unanswered_in (sent old.controller sends.side) sends.side) after count
+    → WroteOneMore (unanswered_of old sends.side) (unanswered_in (sent old.controller sends.side) sends.side) after
+    count
 wrote_more old new number before after count sound sends =
     at_side old.controller sends.side _ sends.text before after count refl sound
-    (due_in_match old.controller old.ruled (action.Send sends.side) sends.due) sends.is sends.puts sends.room sends.count_is
+    (due_in_match old.controller old.ruled (action.Send sends.side) sends.due) sends.is sends.puts sends.room
+    sends.count_is
 
 where_sent : (old new : Refereed) (number : ℕ) (before after : List ℕ) (count : ℕ) (side : Colour)
     → IsSound old.controller → Sends old number before after count new

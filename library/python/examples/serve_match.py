@@ -2,7 +2,9 @@
 """A server of one match: two engines connect to it, and a side that is late for an answer loses by a ruling.
 
 It writes the number of its port on the loopback. The engine that connects first plays Black. Each side has SECONDS for
-each answer. At the end it sends both `quit`, and writes the line of the match. usage: serve_match.py SIZE HALF_KOMI SECONDS
+each answer. At the end both are sent `quit`, and the line of the match is written.
+
+usage: serve_match.py SIZE HALF_KOMI SECONDS
 """
 import socket
 import sys

@@ -166,7 +166,8 @@ class Rulings(Refusing):
 
     def test_reasons_that_may_not_be(self):
         match = begun()
-        for reason in ("x" * 21, "late!", "1", "a\nb", "a\0b", "[", "`", "@", "{", "no move", "no vertex", "illegal move", "refused play"):
+        forfeits = ("no move", "no vertex", "illegal move", "refused play")
+        for reason in ("x" * 21, "late!", "1", "a\nb", "a\0b", "[", "`", "@", "{", *forfeits):
             self.refused(Cause.BAD_REASON, match.adjudicate, BLACK, reason)
         self.assertIsNone(match.verdict)
         self.assertRaises(ValueError, match.adjudicate, BLACK, "sp\u00e4t")

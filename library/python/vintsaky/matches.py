@@ -68,8 +68,8 @@ class Status(metaclass=Brief):
 
 @dataclass(frozen=True)
 class Verdict(metaclass=Brief):
-    """How a match ended, the score in points where it ended by one, and the reason where a ruling has one. `side` is who
-    resigned, forfeited, is unfit, was abandoned or lost by a ruling: never who won."""
+    """How a match ended, the score in points where it ended by one, and the reason where a ruling has one. `side` is
+    who resigned, forfeited, is unfit, was abandoned or lost by a ruling: never who won."""
 
     ending: Ending
     side: Optional[Colour]
@@ -179,8 +179,8 @@ class Match(Held, metaclass=Brief):
         return text.raw[: count.value]
 
     def hear(self, side: AnyColour, data: Bytes) -> Optional[Loss]:
-        """Hears what the side wrote, in any pieces. Why the side fails by it, or None. After the end of the match, also by
-        a ruling, nothing is heard."""
+        """Hears what the side wrote, in any pieces. Why the side fails by it, or None. After the end of the match, also
+        by a ruling, nothing is heard."""
         data, number, loss = bytes_of(data), side_number(side), ctypes.c_uint32()
         done(library.vintsaky_match_hear(self._held(), number, data, len(data), ctypes.byref(loss)))
         return Loss(loss.value) if loss.value else None
@@ -230,9 +230,9 @@ class Match(Held, metaclass=Brief):
         return retakes
 
     def adjudicate(self, side: AnyColour, reason: str = "") -> None:
-        """Ends the match by a ruling: the side loses, for time where there is no reason. A reason has 1 to 20 letters and
-        spaces, and is none of "refused play", "no move", "no vertex" and "illegal move". After that nothing changes the
-        match but `begin`. Causes: IS_OVER where it is over, BAD_REASON.
+        """Ends the match by a ruling: the side loses, for time where there is no reason. A reason has 1 to 20 letters
+        and spaces, and is none of "refused play", "no move", "no vertex" and "illegal move". After that nothing changes
+        the match but `begin`. Causes: IS_OVER where it is over, BAD_REASON.
 
         >>> match = Match()
         >>> match.adjudicate("b")

@@ -339,9 +339,9 @@ pub extern "C" fn vintsaky_match_record(held: &mut MatchHandle, text: &mut [u8])
     matches::record(held.lend(), text)
 }
 
-/// Ends a match that isn't over: the side loses. Where the reason is empty, it loses for time. Else the reason is of 1 to
-/// 20 letters and spaces, and none of `refused play`, `no move`, `no vertex` and `illegal move`. After that
-/// nothing changes the match but [`vintsaky_match_begin`].
+/// Ends a match that isn't over: the side loses. Where the reason is empty, it loses for time. Else the reason is of 1
+/// to 20 letters and spaces, and none of `refused play`, `no move`, `no vertex` and `illegal move`. After that nothing
+/// changes the match but [`vintsaky_match_begin`].
 ///
 /// # Errors
 ///
