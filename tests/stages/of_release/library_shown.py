@@ -11,10 +11,12 @@ from .library import LIBRARIES, MODULES
 from .making import OfReleases
 
 GAME = r"game 1: \S+ moves \d+ restarts 0 0\n"
+SERVED = rf"\d+\n{GAME}"  # the number of a port comes first
 LEARNED = "True\n"  # what the loop prints where games have ended
 PACKAGES = ("programs", "shared", "header", "python")
-# what the page shows in each form, in this order; Rust comes after the second one
-SHOWN = ["an engine in C", "an engine in Python", "a search in C"]
+# what the page shows in each form, in this order, and what each prints; Rust's engine is in the sources alone
+SHOWN = {"an engine in C": GAME, "an engine in Python": GAME, "an engine in Rust": GAME, "a search in C": GAME, "a server": SERVED}
+RUST = ["an engine in Rust"]
 LONGEST = 5 * LIMIT  # seconds that commands may take that compile by cargo
 
 
@@ -27,20 +29,20 @@ def surroundings(**more):
 class Shown(checks.Case):
     """Checks of what the page of the library shows."""
 
-    def check_page(self, what, root, folder, rust, environment, as_here=str):
+    def check_page(self, what, root, folder, environment, left_out=(), as_here=str):
         """Each block of commands ends with the line of a game, and the loop learns from games that end.
 
-        `root` has the pages. The commands run in `folder`, after `as_here` has made a block one for this machine. `rust` has what the
-        page shows in Rust.
+        `root` has the pages. The commands run in `folder`, after `as_here` has made a block one for this machine. The page may leave out
+        some of what is shown.
         """
         page = root / "docs/library.md"
         text = page.read_text() if page.is_file() else ""
-        shown, blocks = SHOWN[:2] + rust + SHOWN[2:], pages.blocks_in(text, "")
+        shown, blocks = [it for it in SHOWN if it not in left_out], pages.blocks_in(text, "")
         self.check(f"{what}: the page of the library shows {', '.join(shown)}", len(shown), len(blocks))
         self.write_programs(what, text, folder)
         for name, block in zip(shown, map(as_here, blocks)):
-            self.check_block(f"{what}, as the page of the library shows: {name}", block, GAME, folder, environment)
-            if name == SHOWN[1]:
+            self.check_block(f"{what}, as the page of the library shows: {name}", block, SHOWN[name], folder, environment)
+            if "my_engine.py" in block:
                 before = "".join(it for it in block.splitlines(True) if "twogtp" not in it)
                 loop = f"{before}python3 self_play.py\n"
                 self.check_block(f"{what}, as the page of the library shows: a loop of self-play", loop, LEARNED, folder, environment)
@@ -57,7 +59,7 @@ class Shown(checks.Case):
     def check_block(self, what, block, wanted, folder, environment):
         """The block ends well, prints what is wanted, and nothing warns."""
         status, output, errors = run(["bash", "-ec", block], cwd=folder, env=environment, limit=LONGEST)
-        warnings = [it for it in errors.splitlines() if re.search("warning|error|Traceback", it)]
+        warnings = [it for it in errors.splitlines() if re.search(r"\b(?:warning|error):|Traceback", it)]
         came = (status, re.fullmatch(wanted, output) is not None, warnings)
         self.check(what, (0, True, []), came if came == (0, True, []) else (*came, block, output, errors))
 
@@ -69,7 +71,7 @@ class ShownInArchive(OfReleases, Shown):
         """Its commands, in a copy of the folder."""
         folder = self.room() / "archive"
         shutil.copytree(self.four.tree, folder, symlinks=True)
-        self.check_page("the archive", folder, folder, [], surroundings())
+        self.check_page("the archive", folder, folder, surroundings(), RUST)
 
 
 class ShownInPackages(OfReleases, Shown):
@@ -97,7 +99,7 @@ class ShownInPackages(OfReleases, Shown):
         usr, libraries = self.root / "usr", self.root / LIBRARIES
         paths = {"CPATH": usr / "include", "LIBRARY_PATH": libraries, "LD_LIBRARY_PATH": libraries, "PYTHONPATH": self.root / MODULES}
         found = {"PATH": f"{usr / 'bin'}:{os.environ['PATH']}", **{it: str(at) for it, at in paths.items()}}
-        self.check_page("the packages", self.pages, self.room(), [], surroundings(**found), self.as_here)
+        self.check_page("the packages", self.pages, self.room(), surroundings(**found), RUST, self.as_here)
 
     def as_here(self, block):
         """The block, with the files of the packages as they lie in the root folder."""

@@ -182,7 +182,7 @@ class BuiltSources(OfSources, InPython, Shown):
         environment = surroundings(room)
         self.check("the sources: no kit is found where they are built", None, shutil.which("rt", path=environment["PATH"]))
         self.check_shown(environment)
-        self.check_page("the sources", self.tree, self.tree, ["an engine in Rust"], environment)
+        self.check_page("the sources", self.tree, self.tree, environment)
         self.check_installed(room, environment)
         self.check_program(self.tree.parent / "mine", environment)
         after = sums_below(self.tree)
