@@ -13,12 +13,12 @@ from .texts import Mistake, snake
 PATH = "tests/stages/of_library_in_c/rows.h"
 WIDTH = 140
 HEAD = """\
-/* A row for each call of the library but those that say how many bytes an object takes, and at which addresses. library/declare writes
- * this file: what isn't said by the exports is told in library/declaring/rows.py.
+/* A row for each call of the library but those that say how many bytes an object takes, and at which addresses, and those over many
+ * games, which batches.c draws. library/declare writes this file: what isn't said by the exports is told in library/declaring/rows.py.
  *
  * ROW(name, how often it is drawn, objects, what it returns, the most of it, its causes, what it reads, what it writes to, the call) */
 """
-LEFT_OUT = re.compile(r"vintsaky_(?:interface_\d+|[a-z]+_(?:bytes|align))")
+LEFT_OUT = re.compile(r"vintsaky_(?:interface_\d+|[a-z]+_(?:bytes|align)|games_\w+)")
 # what is drawn for an argument of this name, most often within its limits
 DRAWN = {
     "colour": "colour(w)",
@@ -66,6 +66,7 @@ TUNED = {
     "game_size": Tuned(4, "25"),
     "game_komi": Tuned(4, "UINT32_MAX"),
     "game_handicap": Tuned(4, "25"),
+    "game_turn": Tuned(4, "2"),
     "game_length": Tuned(4, "2000"),
     "game_score": Tuned(4, "UINT32_MAX"),
     "game_finished": Tuned(4, "1"),
@@ -265,4 +266,4 @@ def table(files):
     for section in header.sections(files):
         shown = [it for it in exports.calls_of(section, files) if not LEFT_OUT.fullmatch(it.name)]
         sections.append("\n".join(row_of(it, calls) for it in shown))
-    return HEAD + "\n" + "\n\n".join(sections) + "\n"
+    return HEAD + "\n" + "\n\n".join(filter(None, sections)) + "\n"

@@ -2,7 +2,7 @@
 """Calls the library from C: drawn calls, threads, the two examples in whole games, and matches beside those of twogtp.
 
 The drawn calls have arguments inside and outside their limits, on objects and buffers between pages that can't be touched
-(of_library_in_c/ beside it). The same comes under valgrind and in eight threads. The engine of the examples plays whole games under
+(of_library_in_c/ beside it). The same comes under valgrind and in eight threads. Calls over many games do what single calls do. The engine of the examples plays whole games under
 twogtp in which it is killed, and stands beside the plain reference. The example of a match has twogtp's lines in drawn matches.
 
 It takes some seconds: 10^5 drawn calls a seed, 2 * 10^4 under valgrind; with --long some minutes: 10^7, and 10^5 under valgrind.
@@ -56,13 +56,13 @@ class Needing(library.Needing):
 
 @lru_cache(maxsize=None)
 def made(name, *flags):
-    """Compiles the programs of the drawn calls, `draw` and `stack`, in the folder of this name. What the compiler says."""
+    """Compiles the programs of the drawn calls in the folder of this name. What the compiler says."""
     folder = ROOM / name
     folder.mkdir()
     for file in SOURCES.glob("*.[ch]"):
         shutil.copy(file, folder)
     told = library.cc(["cc", *C99, *flags, "-c", *sorted(it.name for it in folder.glob("*.c"))], ROOM, cwd=folder, limit=LIMIT)
-    return told + "".join(linked(folder, program, "calls", program, ARCHIVE, *flags) for program in ("draw", "stack"))
+    return told + "".join(linked(folder, program, "calls", program, ARCHIVE, *flags) for program in ("draw", "stack", "batches"))
 
 
 def linked(folder, main, calls, program, archive, *flags):
@@ -124,10 +124,26 @@ class Causes(Calls):
         self.assertIn("20000 calls, digest ", archive)
 
 
-# ---- wrong copies of one call each, as the heads in wrong.h name them
+@checks.table((1, 2, 3), lambda seed: f"{CALLS // 10} drawn calls over many games with seed {seed} do what single calls do")
+class Batches(Calls):
+    """Drawn calls over many games."""
 
-WRONG_TEXT = (SOURCES / "wrong.h").read_text()
-WRONG = re.findall(r"^#.*WRONG == ([0-9]+) /\* (.*) \*/$", WRONG_TEXT, re.MULTILINE)
+    def row(self, seed):
+        self.same(f"{CALLS // 10} calls", said([ROOM / "right/batches", seed, CALLS // 10]))
+
+
+# ---- wrong copies of one call each, as the heads in wrong.h and in wrong_batches.h name them
+
+
+def copies(file):
+    """The wrong copies of a file: the number of each, and what it does. Each number has to be there."""
+    text = (SOURCES / file).read_text()
+    found = re.findall(r"^#.*WRONG == ([0-9]+) /\* (.*) \*/$", text, re.MULTILINE)
+    assert [number for number, _ in found] == [str(number + 1) for number in range(text.count("WRONG =="))], file
+    return found
+
+
+WRONG, WRONG_BATCHES = copies("wrong.h"), copies("wrong_batches.h")
 
 
 def noticed(row):
@@ -140,16 +156,29 @@ def noticed(row):
     return (told or said([folder / made_of, *words])).partition("\n")[0]
 
 
-@checks.table(WRONG, lambda row: f"noticed: {row[1]}", noticed, AT_ONCE)
-class Wrong(Calls):
+def noticed_batch(row):
+    """What is said first of the drawn calls of a wrong copy of a call over many games."""
+    folder, made_of = ROOM / "right", f"wrong_batches{row[0]}"
+    told = library.cc(["cc", *C99, f"-DWRONG={row[0]}", "-c", "-o", f"{made_of}.o", "batches.c"], ROOM, cwd=folder)
+    told += linked(folder, made_of, "calls", made_of, ARCHIVE)
+    return (told or said([folder / made_of, 1, 10_000])).partition("\n")[0]
+
+
+class OfCopies(Calls):
     """Wrong copies."""
 
     def row(self, row, came):
-        self.same(f"FAILED: {row[1].partition(':')[0]}", re.sub(r"^(FAILED: [a-z_]*):.*", r"\1", came))
+        self.same(f"FAILED: {row[1].partition(':')[0]}", re.sub(r"^(FAILED: [a-z_0-9]*):.*", r"\1", came))
 
-    def test_all(self):
-        """all wrong copies were tried."""
-        self.same([str(number + 1) for number in range(WRONG_TEXT.count("WRONG =="))], [number for number, _ in WRONG])
+
+@checks.table(WRONG, lambda row: f"noticed: {row[1]}", noticed, AT_ONCE)
+class Wrong(OfCopies):
+    """Wrong copies of calls."""
+
+
+@checks.table(WRONG_BATCHES, lambda row: f"noticed: {row[1]}", noticed_batch, AT_ONCE)
+class WrongBatches(OfCopies):
+    """Wrong copies of calls over many games."""
 
 
 # ---- under valgrind and sanitizers, in threads, and what they take of the stack
@@ -174,6 +203,14 @@ class Looked(Calls):
         made("plain", "-DPLAIN")
         self.check(f"{SLOW_CALLS} drawn calls under valgrind", f"{SLOW_CALLS} calls",
                    said(["valgrind", "-q", "--error-exitcode=9", ROOM / "plain/draw", 4, SLOW_CALLS]))  # fmt: skip
+
+    def test_batches(self):
+        """Drawn calls over many games where a sanitizer looks at the buffers."""
+        if not sanitizes("address,undefined"):
+            self.skipTest("it does not run here")
+        told = made("sane", "-DPLAIN", "-fsanitize=address,undefined")
+        env = {**os.environ, "ASAN_OPTIONS": "detect_leaks=0"}
+        self.same(f"{SLOW_CALLS} calls", told or said([ROOM / "sane/batches", 4, SLOW_CALLS], env=env))
 
     def test_sanitizer(self):
         """Drawn calls under a sanitizer."""

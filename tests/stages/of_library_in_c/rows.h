@@ -1,5 +1,5 @@
-/* A row for each call of the library but those that say how many bytes an object takes, and at which addresses. library/declare writes
- * this file: what isn't said by the exports is told in library/declaring/rows.py.
+/* A row for each call of the library but those that say how many bytes an object takes, and at which addresses, and those over many
+ * games, which batches.c draws. library/declare writes this file: what isn't said by the exports is told in library/declaring/rows.py.
  *
  * ROW(name, how often it is drawn, objects, what it returns, the most of it, its causes, what it reads, what it writes to, the call) */
 
@@ -25,7 +25,7 @@ ROW(game_place, 1, ON(GAME, CHANGES), NUMBER, 0, 0, NOTHING, 0, (vintsaky_game_p
 ROW(game_size, 4, ON(GAME, READS), NUMBER, 25, 0, NOTHING, 0, vintsaky_game_size(GAME0))
 ROW(game_komi, 4, ON(GAME, READS), NUMBER, UINT32_MAX, 0, NOTHING, 0, (uint32_t)vintsaky_game_komi(GAME0))
 ROW(game_handicap, 4, ON(GAME, READS), NUMBER, 25, 0, NOTHING, 0, vintsaky_game_handicap(GAME0))
-ROW(game_turn, 8, ON(GAME, READS), NUMBER, UINT64_MAX, 0, NOTHING, 0, vintsaky_game_turn(GAME0))
+ROW(game_turn, 4, ON(GAME, READS), NUMBER, 2, 0, NOTHING, 0, vintsaky_game_turn(GAME0))
 ROW(game_length, 4, ON(GAME, READS), NUMBER, 2000, 0, NOTHING, 0, vintsaky_game_length(GAME0))
 ROW(game_score, 4, ON(GAME, READS), NUMBER, UINT32_MAX, 0, NOTHING, 0, (uint32_t)vintsaky_game_score(GAME0))
 ROW(game_finished, 4, ON(GAME, READS), NUMBER, 1, 0, NOTHING, 0, vintsaky_game_finished(GAME0))
@@ -73,15 +73,6 @@ ROW(game_playout, 2, ON(GAME, REFUSES), CAUSE, 0, C(BAD_COLOUR), NOTHING, 0, (DR
     chance(w, 2) ? 4 : 40)), vintsaky_game_playout(GAME0, DRAWN(0), DRAWN_WORD(1), DRAWN(2))))
 ROW(game_rollout, 2, ON(GAME, READS), CAUSE, 0, C(BAD_COLOUR), NOTHING, 0, (DRAW(0, colour(w)), DRAW(1, draw(w)), DRAW(2, number(w, 0,
     chance(w, 2) ? 4 : 40)), vintsaky_game_rollout(GAME0, DRAWN(0), DRAWN_WORD(1), DRAWN(2), (int32_t *)VALUE(0))))
-
-ROW(games_play, 8, NONE, CAUSE, MOST_ROOM, C(NO_ROOM), NOTHING, 1, vintsaky_games_play(VALUE(0), number(w, 0, 20), TEXT(0)))
-ROW(games_restart, 8, NONE, CAUSE, MOST_ROOM, C(NO_ROOM), NOTHING, 1, vintsaky_games_restart(VALUE(0), number(w, 0, 20), TEXT(0), VALUE(1)))
-ROW(games_planes, 8, NONE, CAUSE, MOST_ROOM, C(NO_ROOM), NOTHING, BYTE_LIST, vintsaky_games_planes(VALUE(0), number(w, 0, 20), BYTE_ROOM))
-ROW(games_planes_f32, 8, NONE, CAUSE, 0, C(NO_ROOM), NOTHING, 0, vintsaky_games_planes_f32(VALUE(0), number(w, 0, 20), VALUE(1)))
-ROW(games_masks, 8, NONE, CAUSE, MOST_ROOM, C(NO_ROOM), NOTHING, BYTE_LIST, vintsaky_games_masks(VALUE(0), BYTE_ROOM))
-ROW(games_masks_f32, 8, NONE, CAUSE, 0, C(NO_ROOM), NOTHING, 0, vintsaky_games_masks_f32(VALUE(0), VALUE(1)))
-ROW(games_rollouts, 8, NONE, CAUSE, 0, C(NO_ROOM), NOTHING, 0, (DRAW(0, number(w, 0, 20)), DRAW(1, number(w, 0, 20)),
-    vintsaky_games_rollouts(VALUE(0), DRAWN(0), DRAWN(1), VALUE(1))))
 
 ROW(engine_place, 1, ON(ENGINE, CHANGES), NUMBER, 0, 0, NOTHING, 0, (vintsaky_engine_place(ENGINE0, w->held[0]->at), 0))
 ROW(engine_ended, 4, ON(ENGINE, READS), NUMBER, 1, 0, NOTHING, 0, vintsaky_engine_ended(ENGINE0))

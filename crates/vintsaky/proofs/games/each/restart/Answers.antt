@@ -1,4 +1,6 @@
-use Rattle.std.proofs.Common.{◌≡◌, ◌+◌, ◌<◌, ◌≤◌, length, take, map, refl, sym, ◌∙◌, arith}
+use Rattle.std.proofs.Common.{◌<◌, length, take, refl, sym, ap, ◌∙◌, arith, rules, w32, SFits}
+use Rattle.std.proofs.Math.ListN.{set}
+use Rattle.std.proofs.lemmas.Int.{to_z-of_z}
 use Rattle.std.proofs.lemmas.List.{map-set, length-map, get_or-map}
 use Rattle.vintsaky_calls.specs.Batches.{Restarts}
 use Rattle.vintsaky.specs.Games.{games_of}
@@ -17,8 +19,10 @@ loop-place-preserved c =
     let told = c.restart-told.result in
     let many = length-map c.args.games.now (λ h. h.value) in
     let below : place < length games = omega (arith, c.loop-place.auto.games) in
+    let fits : SFits w32 told.half_points = search rules in
+    let score = ap (set c.loop-place.half_points place) (to_z-of_z w32 told.half_points fits) in
     done_more c.loop-place.invariant _ _ _ before told.over c.restart-told.new.game told.half_points
-    (map-set (λ h. h.value) games place _) refl refl (omega (arith, many)) (omega arith) (omega arith)
+    (map-set (λ h. h.value) games place _) refl score (omega (arith, many)) (omega arith) (omega arith)
     (c.lend.ensures.value ∙ sym (get_or-map (λ h. h.value) games place c.index-games-place.result before below))
     c.restart-told.ensures
 

@@ -1,4 +1,5 @@
-use Rattle.std.proofs.Common.{◌≡◌, ◌+◌, ◌<◌, ◌≤◌, length, get_or, take, map, refl, sym, ap, ◌∙◌, arith}
+use Rattle.std.proofs.Common.{◌≡◌, ◌<◌, length, get_or, take, refl, sym, ap, ◌∙◌, arith, rules, w32, SFits}
+use Rattle.std.proofs.lemmas.Int.{to_z-of_z}
 use Rattle.std.proofs.lemmas.List.{length-map, set-get_or}
 use Rattle.std.proofs.Math.ListN.{set}
 use Rattle.vintsaky_calls.specs.Batches.{RollsOut}
@@ -22,11 +23,13 @@ loop-place-preserved c =
         read_game c.loop-place.games games place c.index-games-place.result game below c.loop-place.invariant.0
         c.lend.ensures.value in
     let stays : games ≡ set games place game = sym (ap (set games place) is ∙ set-get_or games place game) in
+    let fits : SFits w32 c.rollout.result = search rules in
+    let score = ap (set c.loop-place.half_points place) (to_z-of_z w32 c.rollout.result fits) in
     (
       same_games c.loop-place.games games place c.index-games-place.result _ below c.loop-place.invariant.0
       c.lend.ensures.value,
       done_more c.loop-place.invariant.1 games c.args.seeds.now _ game seed game c.rollout.result stays
-      (sym (set-get_or c.args.seeds.now place 0)) refl (omega (arith, many)) (omega arith) (omega arith) is
+      (sym (set-get_or c.args.seeds.now place 0)) score (omega (arith, many)) (omega arith) (omega arith) is
       (refl, c.rollout.ensures),
     )
 

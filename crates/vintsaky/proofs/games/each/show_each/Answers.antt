@@ -1,4 +1,4 @@
-use Rattle.std.proofs.Common.{◌≡◌, ◌+◌, ◌<◌, ◌≤◌, length, take, ap, refl, rules, arith}
+use Rattle.std.proofs.Common.{◌+◌, ◌<◌, ◌≤◌, length, take, ap, refl, rules, arith}
 use Rattle.std.proofs.lemmas.List.{length-map}
 use Rattle.vintsaky.specs.Games.{games_of}
 use Rattle.vintsaky.proofs.ManyGames.{in_games, read_game, same_games, shown_none, shown_more, ends_within, shown_all}
