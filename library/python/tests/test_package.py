@@ -23,8 +23,8 @@ from vintsaky import Action, Cause, Chain, Colour, CommandLines, Game, Match, Mo
 from vintsaky import _declared, _held, _library
 
 PACKAGE = Path(vintsaky.__file__).resolve().parent
-INNER = ["_declared", "_brief", "_library", "_numbers", "_refused", "_held", "_attributes"]
-MODULES = [*INNER, "values", "moves", "games", "lines", "engines", "matches"]
+INNER = ["_declared", "_brief", "_library", "_numbers", "_refused", "_held", "_attributes", "_buffers"]
+MODULES = [*INNER, "values", "moves", "games", "batches", "lines", "engines", "matches"]
 
 
 def modules():
@@ -62,7 +62,8 @@ class Documentation(unittest.TestCase):
 
     def test_help_is_short_and_whole(self):
         text = pydoc.render_doc(vintsaky, renderer=pydoc.plaintext)
-        self.assertLess(len(text.splitlines()), 1500)
+        most = 1500 if sys.version_info < (3, 13) else 1600  # from 3.13 on a long signature has a line for each argument
+        self.assertLess(len(text.splitlines()), most)
         words = " ".join(re.sub(r"^ *\|", "", text, flags=re.MULTILINE).split())
         for cause in Cause:
             self.assertIn(f"{cause.name}: {cause.text}", words)

@@ -7,6 +7,7 @@ import sys
 from threading import get_ident
 from typing import Any, NoReturn, Optional, Union
 
+from ._brief import BriefABC
 from ._library import library
 from ._numbers import Cause
 from ._refused import shown, wrong
@@ -14,7 +15,7 @@ from ._refused import shown, wrong
 Bytes = Union[bytes, bytearray, memoryview]
 
 
-class Held:
+class Held(metaclass=BriefABC):
     """An object of the library. It lives in memory that it keeps, and only the thread that made it may use it, or
     the one that adopted it last."""
 
@@ -48,8 +49,7 @@ class Held:
         return self._place if has_lock else self._held()
 
     def adopt(self) -> None:
-        """From now on this thread may use the object, and no other one. That which had it has to be done with it, and
-        something has to order the two, as a queue does."""
+        """From now on this thread may use it, and no other one. Something has to order the two, as a queue does."""
         self._thread = get_ident()
 
     def _release(self) -> None:

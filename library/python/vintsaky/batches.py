@@ -10,7 +10,7 @@ from threading import get_ident
 from typing import Any, Iterator, List, NoReturn, Optional, Sequence, Tuple
 
 from . import _declared
-from ._brief import Brief
+from ._brief import BriefABC
 from ._buffers import BYTES, FLOATS, Room, apart, room_of
 from ._held import whole
 from ._library import library, unlocked
@@ -22,7 +22,7 @@ MOST_MOVES = 2000  # of a record
 MOST_GAMES = 2**20
 
 
-class Games(metaclass=Brief):
+class Games(metaclass=BriefABC):
     """So many games of one size, komi, ko rule and handicap, which are played in one call.
 
     Each is played by turns: after a move it is the other colour's turn, and before the first it is Black's, or White's

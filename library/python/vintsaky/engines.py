@@ -10,7 +10,7 @@ from enum import IntEnum
 from typing import Any, Callable, Dict, Iterator, List, Optional, Tuple, TypeVar, Union
 
 from . import _declared
-from ._brief import Brief, BriefEnum
+from ._brief import Brief, BriefABC, BriefEnum
 from ._held import Bytes, Held, ascii_of, bytes_of
 from ._library import library, text_of
 from ._numbers import Cause
@@ -34,7 +34,7 @@ class Event(IntEnum, metaclass=BriefEnum):
     ENDED = _declared.ENDED  # The session has ended, by a quit.
 
 
-class Steps(Held, metaclass=Brief):
+class Steps(Held):
     """An engine in steps: bytes go in, and replies, or the colour for which a move is asked, come out.
 
     What is refused raises Refused, and the engine stays as it was. While it waits for a choice or an answer it uses no
@@ -167,7 +167,7 @@ def command(name: str) -> Callable[[Method], Method]:
     return marked
 
 
-class Engine:
+class Engine(metaclass=BriefABC):
     """An engine of one's own: a class that says what it chooses.
 
     `name` and `version` are its answers to these commands, at most 200 bytes each, and `rule` is its ko rule. A class

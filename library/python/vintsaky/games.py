@@ -180,11 +180,7 @@ class Game(Held):
     @property
     def turn(self) -> Colour:
         """The colour whose turn it is: the other one than that of the last move. Without a move it is Black, or White
-        where handicap stones were placed.
-
-        >>> Game().turn
-        <Colour.BLACK: 1>
-        """
+        where handicap stones were placed."""
         return Colour(library.vintsaky_game_turn(self._held()))
 
     def play(self, colour: AnyColour, vertex: AnyVertex) -> None:

@@ -6,7 +6,7 @@ from enum import IntEnum
 from typing import Any, Callable, Dict, List, NamedTuple, Optional, Tuple, Union
 
 from . import _declared
-from ._brief import Brief, BriefABC, BriefEnum
+from ._brief import BriefABC, BriefEnum
 from ._held import Bytes, Held, ascii_of, bytes_of, integer, whole
 from ._library import library, text_of
 from ._numbers import Cause
@@ -82,7 +82,7 @@ def words_of(call: Any, place: Any) -> Tuple[str, ...]:
         words.append(text.raw[: count.value].decode("utf-8", "surrogateescape"))
 
 
-class CommandLines(Held, metaclass=Brief):
+class CommandLines(Held):
     """A reader of command lines.
 
     >>> lines = CommandLines()
@@ -116,7 +116,7 @@ class CommandLines(Held, metaclass=Brief):
         return CommandLine(number_or_none, words_of(library.vintsaky_lines_word, place))
 
 
-class Replies(Held, metaclass=Brief):
+class Replies(Held):
     """A reader of replies.
 
     >>> replies = Replies()

@@ -114,7 +114,7 @@ class OwedRoom:
         return Owed(self.unanswered.value, command, self.wrote.raw[: self.wrote_count.value])
 
 
-class Match(Held, metaclass=Brief):
+class Match(Held):
     """A match between two engines that are not started yet. Sides may be given as the texts of their colours.
 
     What is refused raises Refused, and the match stays as it was: BAD_COLOUR of a side that is none, and what each
