@@ -7,8 +7,8 @@ that has nothing else, where the programs have to write what the built ones writ
 The library is called by a program that is compiled with it, as it lies in the archive and in the packages, and by Python. The sources
 are built by cargo, in a folder where it has nothing from before and finds no kit.
 Each page of both is searched for links, commands and files that aren't there, and the examples of their README are run. So is what the
-page of the library shows: an engine and a search in C, an engine in Python, a loop of self-play, and in the sources Rust too. At last
-./release is run with a file changed, with a tool missing, on a full disk and so on, and has to leave nothing.
+page of the library shows: an engine and a search in C, an engine, a loop of self-play and a server in Python, and in the sources an
+engine in Rust. At last ./release is run with a file changed, with a tool missing, on a full disk and so on, and has to leave nothing.
 
 What a check needs and the machine hasn't is a line 'skipped: ..'.
 """
