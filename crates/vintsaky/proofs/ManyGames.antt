@@ -43,7 +43,7 @@ kept_at : {A : Type 0} (place : ℕ) (old new : List A) (d : A) → IsKept place
     → get_or old place d ≡ get_or new place d
 kept_at place old new d kept =
     let same : get_or old (place + 0) d ≡ get_or new (place + 0) d =
-        sym (get_or-drop place old 0 d) ∙ ap (λ l. get_or l 0 d) (sym kept.rest) ∙ get_or-drop place new 0 d in
+    sym (get_or-drop place old 0 d) ∙ ap (λ l. get_or l 0 d) (sym kept.rest) ∙ get_or-drop place new 0 d in
     let none : place + 0 ≡ place = omega arith in
     subst (λ (k : ℕ). get_or old k d ≡ get_or new k d) none same
 
@@ -71,14 +71,14 @@ pub done_more : {A B : Type 0} {P : GameRecord → A → GameRecord → B → Ty
 done_more {P = P} {place = place} {old = old} {new = new} {xs_old = xs_old} {xs_new = xs_new} {ys_old = ys_old}
     {ys_new = ys_new} done changed xs ys before x after y changed_is xs_is ys_is in_games in_xs in_ys is p =
     let olds : take (place + 1) old ≡ take place old ++ before ∷ [] =
-        take_more old place before in_games
-        ∙ ap (λ g. take place old ++ g ∷ []) (kept_at place old new before done.games ∙ sym is) in
+    take_more old place before in_games
+    ∙ ap (λ g. take place old ++ g ∷ []) (kept_at place old new before done.games ∙ sym is) in
     let news : take (place + 1) changed ≡ take place new ++ after ∷ [] =
-        ap (take (place + 1)) changed_is ∙ take_more_set new place after (omega (arith, done.games.long)) in
+    ap (take (place + 1)) changed_is ∙ take_more_set new place after (omega (arith, done.games.long)) in
     let firsts : take (place + 1) xs ≡ take place xs_new ++ x ∷ [] =
-        ap (take (place + 1)) xs_is ∙ take_more_set xs_new place x (omega (arith, done.firsts.long)) in
+    ap (take (place + 1)) xs_is ∙ take_more_set xs_new place x (omega (arith, done.firsts.long)) in
     let seconds : take (place + 1) ys ≡ take place ys_new ++ y ∷ [] =
-        ap (take (place + 1)) ys_is ∙ take_more_set ys_new place y (omega (arith, done.seconds.long)) in
+    ap (take (place + 1)) ys_is ∙ take_more_set ys_new place y (omega (arith, done.seconds.long)) in
     record {
       each = rw (olds, news, firsts, seconds) (each_push done.each before x after y p);
       games = kept_more place old new changed after done.games changed_is;
@@ -112,7 +112,7 @@ done_all {P = P} {place = place} {old = old} {new = new} {xs_old = xs_old} {xs_n
     {ys_new = ys_new} done all in_xs in_ys =
     let n = length old in
     let each : EachGame P (take n old) (take n xs_new) (take n new) (take n ys_new) =
-        subst (λ (k : ℕ). EachGame P (take k old) (take k xs_new) (take k new) (take k ys_new)) all done.each in
+    subst (λ (k : ℕ). EachGame P (take k old) (take k xs_new) (take k new) (take k ys_new)) all done.each in
     record {
       each =
           subst (λ (l : List GameRecord). EachGame P l (take n xs_new) new (take n ys_new))
@@ -196,12 +196,12 @@ shown_more {A = A} {P = P} {f = f} {place = place} {games = games} {at = at} {ol
     let within = sum_fits f games place game below is in
     let there : at ≤ length new = omega (arith, shown.kept.long, shown.at_is) in
     let front : take end (put_mid at k new part) ≡ take at new ++ part =
-        take-put_mid at k new part end (omega arith) there in
+    take-put_mid at k new part end (omega arith) there in
     let back : drop end (put_mid at k new part) ≡ drop end new =
-        drop-put_mid at k new part end (omega arith) there part_is in
+    drop-put_mid at k new part end (omega arith) there part_is in
     let split : at + k ≡ end = omega arith in
     let games_more : take (place + 1) games ≡ take place games ++ game ∷ [] =
-        take_more games place game below ∙ ap (λ g. take place games ++ g ∷ []) (sym is) in
+    take_more games place game below ∙ ap (λ g. take place games ++ g ∷ []) (sym is) in
     record {
       shows = subst (λ (l : List A). InTurn P (take (place + 1) games) l) (sym front)
           (subst (λ (l : List GameRecord). InTurn P l (take at new ++ part)) (sym games_more)
@@ -228,8 +228,8 @@ pub ends_within : {A : Type 0} {P : GameRecord → List A → Type 0} {f : GameR
     → sum_by f games ≤ length old → at + count ≤ length new
 ends_within {f = f} {place = place} {games = games} handles d game count shown below are is counted fits =
     let within =
-        sum_fits f games place game (in_games handles games place below are)
-        (read_game handles games place d game below are is) in
+    sum_fits f games place game (in_games handles games place below are)
+    (read_game handles games place d game below are is) in
     omega (arith, within, shown.at_is, shown.kept.long, counted)
 
 -- all games are shown

@@ -62,8 +62,8 @@ pub plane_of : {A : Type 0} (zero one : A) (game : GameRecord) (c of : Colour) (
     → IsPlane zero one game c values
 plane_of zero one game c of stones shown values are same_colour same are_marks =
     let marks : values ≡ map (stone_mark zero one c) stones =
-        are_marks ∙ ap (λ l. map (stone_mark zero one of) l) same
-        ∙ ap (λ (d : Colour). map (stone_mark zero one d) stones) same_colour in
+    are_marks ∙ ap (λ l. map (stone_mark zero one of) l) same
+    ∙ ap (λ (d : Colour). map (stone_mark zero one d) stones) same_colour in
     subst (λ l. IsPlane zero one game c l) (sym marks)
     (table_map (stone_mark zero one c) are (λ p stone is. stone_is_mark zero one c stone _ is))
 

@@ -102,8 +102,8 @@ fn begin_anew(game: &mut Game)
     let _ = game.size();
     let handicap = game.handicap();
     game.clear();
+    // The board is empty, so that all stones are placed again.
     if handicap != 0 {
-        // The board is empty.
         let _ = game.place_handicap(handicap);
     }
 }
@@ -218,13 +218,7 @@ fn put_stone_planes<T: Copy>(game: &Game, colour: Colour, zero: T, one: T, value
 }
 
 /// Writes for each point whether a stone of the colour is there.
-fn put_plane<T: Copy>(
-    stones: &[Option<Colour>],
-    colour: Colour,
-    zero: T,
-    one: T,
-    values: &mut [T],
-)
+fn put_plane<T: Copy>(stones: &[Option<Colour>], colour: Colour, zero: T, one: T, values: &mut [T])
     requires { length values.old ≡ length stones.now }
     ensures { values.new ≡ map (stone_mark zero one colour) stones.now }
 {

@@ -2,6 +2,7 @@
  * is written and all games have to be alike. Handles and buffers lie right beside pages that can't be touched.
  *
  * usage: batches SEED COUNT    so many calls: prints how many, and a digest of all that they returned and wrote */
+#define _DEFAULT_SOURCE
 #include "draw.h"
 #include <signal.h>
 #include <stdio.h>

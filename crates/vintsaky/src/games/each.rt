@@ -10,11 +10,7 @@ use vintsaky_calls::Cause;
 use vintsaky_calls::batches::{self, Shown};
 
 /// What `vintsaky_games_play` does.
-pub(crate) fn play(
-    games: &mut [GameHandle],
-    moves: &[u32],
-    causes: &mut [u8],
-) -> Result<(), Cause>
+pub(crate) fn play(games: &mut [GameHandle], moves: &[u32], causes: &mut [u8]) -> Result<(), Cause>
     ensures { PlayGamesCall (games_of games.old) (games_of games.new) moves.now
         causes.old causes.new result }
 {

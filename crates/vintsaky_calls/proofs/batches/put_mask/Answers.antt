@@ -8,11 +8,17 @@ returns g c =
     let marks = c.legal_mask_into.new.mask.items in
     let values = c.put_marks.new.values in
     let legal = mask_of c.args.zero c.args.one c.args.game.now c.turn_of.result marks c.deref.result.now values
-        c.legal_mask_into.ensures c.deref.ensures.0 c.put_marks.ensures in
+    c.legal_mask_into.ensures c.deref.ensures.0 c.put_marks.ensures in
     let count = c.len-count.result in
     let one_left : length (drop count c.args.values.now) ≡ 1 =
-        omega (arith, length-drop count c.args.values.now, c.requires, legal.long, c.len-count.ensures.value,
-        c.legal_mask_into.ensures.long) in
+    omega (
+      arith,
+      length-drop count c.args.values.now,
+      c.requires,
+      legal.long,
+      c.len-count.ensures.value,
+      c.legal_mask_into.ensures.long,
+    ) in
     record {
       c = c.turn_of.result;
       points = values;

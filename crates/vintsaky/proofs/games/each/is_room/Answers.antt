@@ -13,12 +13,11 @@ loop-place-preserved c =
     let game = c.lend.result.now in
     let below : place < length handles = omega (arith, c.loop-place.auto.games) in
     let is =
-        read_game handles games place c.index-games-place.result game below c.loop-place.invariant.0
-        c.lend.ensures.value in
+    read_game handles games place c.index-games-place.result game below c.loop-place.invariant.0
+    c.lend.ensures.value in
     let sum =
-        sum_more (shown_count c.args.shown) games place game
-        (in_games handles games place below c.loop-place.invariant.0) is in
-    (
+    sum_more (shown_count c.args.shown) games place game
+    (in_games handles games place below c.loop-place.invariant.0) is in (
       same_games handles games place c.index-games-place.result _ below c.loop-place.invariant.0 c.lend.ensures.value,
       omega (arith, sum, c.count-count.ensures, c.loop-place.invariant.1),
     )
@@ -31,12 +30,11 @@ returns-then-left-count-clause-enough c =
     let game = c.lend.result.now in
     let below : place < length handles = omega (arith, c.loop-place.auto.games) in
     let is =
-        read_game handles games place c.index-games-place.result game below c.loop-place.invariant.0
-        c.lend.ensures.value in
+    read_game handles games place c.index-games-place.result game below c.loop-place.invariant.0
+    c.lend.ensures.value in
     let fits =
-        sum_fits (shown_count c.args.shown) games place game
-        (in_games handles games place below c.loop-place.invariant.0) is in
-    (
+    sum_fits (shown_count c.args.shown) games place game
+    (in_games handles games place below c.loop-place.invariant.0) is in (
       λ e. absurd (false≢true e),
       λ enough. absurd (omega (arith, fits, enough, c.count-count.ensures, c.loop-place.invariant.1)),
     )
