@@ -238,6 +238,11 @@ class Looked(Calls):
         self.same((0, []), (status, [line for line in lines if not re.fullmatch("[a-z]+ [0-9]+", line)]))
         self.assertTrue(lines, "it measured no family")
 
+    def test_stack_of_batches(self):
+        """no call over many games takes more than 160 kB of stack, with all else of its program."""
+        words = ["bash", "-c", 'ulimit -s 160 && exec env -i "$0" 1 5000', ROOM / "right/batches"]
+        self.same("5000 calls", said(words))
+
 
 # ---- the examples
 

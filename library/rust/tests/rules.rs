@@ -40,6 +40,19 @@ fn a_fresh_game() {
 }
 
 #[test]
+fn whose_turn_it_is() {
+    let mut game = game(KoRule::Simple, 9);
+    assert_eq!(game.turn(), Black);
+    game.play(White, Vertex::Pass).expect("a pass is legal");
+    assert_eq!(game.turn(), Black);
+    play_in_turn(&mut game, "A1");
+    assert_eq!(game.turn(), White);
+    let mut game = Game::new();
+    game.place_handicap(2).expect("two stones are allowed");
+    assert_eq!(game.turn(), White);
+}
+
+#[test]
 fn sizes() {
     for size in 1..=25 {
         assert_eq!(game(KoRule::Simple, size).size(), size);
