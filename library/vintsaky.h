@@ -396,7 +396,7 @@ uint32_t vintsaky_game_rollout(vintsaky_game *game, uint32_t colour, uint64_t se
 
 /* Each game makes the move of its number for the colour whose turn it is, which vintsaky_game_turn returns. The number of a move is the
  * index of its point, or how many points the board has for a pass. For each game a byte is written: 0, or the cause for which that game
- * alone refuses the move and stays as it was. That is VINTSAKY_BAD_VERTEX of a number that is higher, and else the one that
+ * alone refuses the move and stays as it was. That is VINTSAKY_OFF_BOARD of a number that is higher, and else the one that
  * vintsaky_game_play returns.
  * Causes: VINTSAKY_NO_ROOM where moves or causes has fewer items than there are games. No move is made. */
 uint32_t vintsaky_games_play(

@@ -241,7 +241,7 @@ static void of_moves_by_number(vintsaky_game *games) {
     IS(0, causes[0] | causes[1]);
     IS(VINTSAKY_DONE, vintsaky_games_play(games, 2, then, 2, causes, 3));
     IS(VINTSAKY_OCCUPIED, causes[0]);
-    IS(VINTSAKY_BAD_VERTEX, causes[1]);
+    IS(VINTSAKY_OFF_BOARD, causes[1]);
     IS(9, causes[2]);
 }
 

@@ -46,7 +46,7 @@ RefusesFor game number fault = IsMoveInTurn game number (λ c v. Refuses game c 
 
 -- why it isn't made: the number is that of no move, or the game refuses the move
 abbrev pub RefusesNumber : GameRecord → ℕ → Cause → Type 0
-RefusesNumber game number cause.BadVertex = game.size * game.size < number
+RefusesNumber game number cause.OffBoard = game.size * game.size < number
 RefusesNumber game number cause.Full = RefusesFor game number play_fault.Full
 RefusesNumber game number cause.Occupied = RefusesFor game number play_fault.Occupied
 RefusesNumber game number cause.Suicide = RefusesFor game number play_fault.Suicide

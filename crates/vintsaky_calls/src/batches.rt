@@ -52,13 +52,13 @@ fn play_number(game: &mut Game, number: u32) -> Result<(), Cause>
 fn vertex_of_move(game: &Game, number: u32) -> Result<Vertex, Cause>
     ensures some { IfOk result (IsMoveNumber game.now.size number) }
     ensures none { IfErr result
-        (λ why. (why ≡ cause.BadVertex) × (game.now.size * game.now.size < number)) }
+        (λ why. (why ≡ cause.OffBoard) × (game.now.size * game.now.size < number)) }
 {
     let size = game.size().get();
     if number == size * size {
         return Ok(Vertex::Pass);
     }
-    let point = game.point(number as usize).ok_or(Cause::BadVertex)?;
+    let point = game.point(number as usize).ok_or(Cause::OffBoard)?;
     Ok(Vertex::At(point))
 }
 

@@ -12,7 +12,7 @@ from vintsaky.values import half_points
 
 FILL = 77  # in each buffer before a call: what stays is seen
 SPARE = 3  # items that a buffer has too many
-CAUSES = {Cause.BAD_VERTEX, Cause.FULL, Cause.OCCUPIED, Cause.SUICIDE, Cause.KO}
+CAUSES = {Cause.OFF_BOARD, Cause.FULL, Cause.OCCUPIED, Cause.SUICIDE, Cause.KO}
 
 
 class Called:
@@ -96,7 +96,7 @@ def vertex_of(game, number):
 def played(game, number):
     """Makes the move of a number in a single game. The cause."""
     if number > game.size**2:
-        return Cause.BAD_VERTEX
+        return Cause.OFF_BOARD
     try:
         game.play(turn(game), vertex_of(game, number))
     except Refused as refused:
@@ -193,7 +193,7 @@ class Beside(unittest.TestCase):
         for size in (1, 2, 3, 4, 5):
             met |= self.compared(size, size, 7, 60, 30, komi=0.5)
         self.assertLessEqual(met, {Cause.DONE, *CAUSES})
-        self.assertGreaterEqual(met, {Cause.BAD_VERTEX, Cause.OCCUPIED, Cause.SUICIDE, Cause.KO})
+        self.assertGreaterEqual(met, {Cause.OFF_BOARD, Cause.OCCUPIED, Cause.SUICIDE, Cause.KO})
 
     def test_positional_ko(self):
         self.assertIn(Cause.KO, self.compared(6, 2, 9, 80, 2**32 - 1, rule=KoRule.POSITIONAL))

@@ -87,12 +87,12 @@ class Beside(unittest.TestCase):
         self.assertEqual([len(copied.moves), len(games.game(0).moves), games.turns], [1, 0, bytes([BLACK, WHITE])])
         copied.play("w", "A1")
         self.assertEqual(len(games.game(1).moves), 1)
-        with self.assertRaisesRegex(ValueError, "size 9, and not 5"):
+        with self.assertRaisesRegex(ValueError, "^game: its size is 9, and not 5"):
             games.put(0, Game(9))
         with self.assertRaises(TypeError):
             games.put(0, b"game")
         for number in (2, -3):
-            with self.assertRaisesRegex(IndexError, "not from 0 to 1"):
+            with self.assertRaisesRegex(IndexError, "not from -2 to 1"):
                 games.game(number)
 
 
@@ -115,8 +115,9 @@ class Made(unittest.TestCase):
     def test_they_are_no_pickles(self):
         import copy
 
-        with self.assertRaises(TypeError):
+        with self.assertRaisesRegex(TypeError, "`game` returns a copy"):
             copy.copy(Games(1, 3))
+        self.assertEqual(repr(Games(4, 9)), "<vintsaky.Games: 4 of size 9>")
 
 
 def uneven(count):
@@ -127,7 +128,7 @@ def uneven(count):
 class Wrong(unittest.TestCase):
     """Buffers of every wrong kind: nothing is done, and nothing written."""
 
-    NAMES = {"causes": (2, "B"), "over": (2, "B?"), "scores": (2, "f"), "planes": (36, "B?f"), "masks": (20, "B?f")}
+    NAMES = {"causes": (2, "B"), "over": (2, "B"), "scores": (2, "f"), "planes": (36, "B?f"), "masks": (20, "B?f")}
 
     def refused(self, kind, text, **given):
         games = Games(2, 3)
@@ -144,8 +145,8 @@ class Wrong(unittest.TestCase):
         for name, (count, forms) in self.NAMES.items():
             for form in "bBhHiIlLqQfd":
                 if form not in forms:
-                    self.refused(ValueError, f"^{name}: its items have the format '{form}'", **{name: array(form, [0] * count)})
-            self.refused(ValueError, f"^{name}: its items have the format 'c'", **{name: memoryview(bytearray(count)).cast("c")})
+                    self.refused(ValueError, f"^{name}: its items have the format '{form}'.*; use '", **{name: array(form, [0] * count)})
+            self.refused(ValueError, f"^{name}: its items have the format 'c'; use '", **{name: memoryview(bytearray(count)).cast("c")})
 
     def test_only_read(self):
         for name, (count, forms) in self.NAMES.items():
@@ -161,7 +162,21 @@ class Wrong(unittest.TestCase):
         for name, (count, forms) in self.NAMES.items():
             for wrong in (0, count - 1, count + 1, 2 * count):
                 given = array("f", [0] * wrong) if forms == "f" else bytearray(wrong)
-                self.refused(ValueError, f"^{name}: it has {wrong} items, and not {count}", **{name: given})
+                self.refused(ValueError, rf"^{name}: its shape is \({wrong},\), and not \(", **{name: given})
+
+    def test_shapes(self):
+        """A buffer is flat, or has the whole shape, or a row for each game."""
+        for name, count, shape in (("planes", 36, (2, 2, 3, 3)), ("masks", 20, (2, 10))):
+            for kind in "Bf":
+                flat = memoryview(array(kind, [7] * count))
+                for right in ((count,), shape, (2, count // 2)):
+                    Games(2, 3).step([4, 4], **{name: flat.cast("B").cast(kind, right)})
+                for wrong in ((2, 3, 3, 2), (1, 2, 2, 9), (18, 2), (4, 9)) if name == "planes" else ((10, 2), (1, 20), (4, 5)):
+                    text = rf"^{name}: its shape is {re.escape(str(wrong))}, and not {re.escape(str(shape))}, or flat with {count}"
+                    self.refused(ValueError, text, **{name: flat.cast("B").cast(kind, wrong)})
+
+    def test_earlier_boards_without_planes(self):
+        self.refused(ValueError, "^earlier: 3 boards", earlier=3)
 
     def test_overlaps(self):
         room = memoryview(bytearray(64))
@@ -187,12 +202,16 @@ class Wrong(unittest.TestCase):
 
     def test_moves(self):
         games = Games(2, 3)
-        for wrong in ([4], [4, 4, 4], [], [-1, 0], [2**32, 0]):
+        for wrong in ([4], [4, 4, 4], []):
             with self.assertRaisesRegex(ValueError, "^moves: "):
                 games.step(wrong)
         for wrong in ([1.0, 2.0], ["4", "4"], None, 4, [None, 0], "44", array("f", [0, 1])):
             with self.assertRaisesRegex(TypeError, "^moves: "):
                 games.step(wrong)
+        self.assertEqual(len(games.game(0).moves), 0)
+        causes = bytearray(2)
+        for wrong in (10, 2**32 - 1, 2**32, 2**80, -1, -(2**80)):
+            self.assertEqual((games.step([wrong, wrong], causes=causes), list(causes)), (2, [Cause.OFF_BOARD] * 2))
         self.assertEqual(len(games.game(0).moves), 0)
         for number, moves in enumerate(([0, 0], (1, 1), array("q", [2, 2]), bytearray([3, 3]), memoryview(b"\4\4"), range(5, 7))):
             self.assertEqual(games.step(moves), 0, str(moves))
@@ -203,6 +222,8 @@ class Wrong(unittest.TestCase):
         for wrong in ([1], [1, 2, 3], [-1, 0], [2**64, 0]):
             with self.assertRaises(ValueError):
                 games.rollouts(wrong)
+        with self.assertRaisesRegex(TypeError, "^seeds: 1 is no list"):
+            games.rollouts(1)
 
     def test_buffers_are_held_for_the_call_alone(self):
         games, room = Games(2, 3), bytearray(36)

@@ -2,10 +2,12 @@
 from __future__ import annotations
 
 import ctypes
+import math
 from typing import Any, Dict, NamedTuple, Optional, Tuple
 
-BYTES = ("B", "?")  # formats of items of a byte
-FLOATS = ("f",)  # and of floats of 32 bits
+BYTE, FLAG, FLOAT = "B", "?", "f"  # formats of items: a byte, a byte that is 0 or 1, and a float of 32 bits
+ANY = (FLOAT, BYTE, FLAG)
+NAMES = {"B": "uint8", "?": "bool", "f": "float32", "d": "float64", "e": "float16", "b": "int8", "i": "int32", "l": "int64"}  # numpy's
 
 
 class Room(NamedTuple):
@@ -17,23 +19,30 @@ class Room(NamedTuple):
     is_float: bool
 
 
-def room_of(given: Any, what: str, count: int, formats: Tuple[str, ...] = BYTES + FLOATS) -> Room:
-    """A buffer that a call writes into. Errors: TypeError where it is none, and ValueError where it can't be written,
-    isn't in C order, or has another format or another number of items."""
+def named(form: str) -> str:
+    """A format as an error names it, with numpy's name where that is known."""
+    return f"{form!r} ({NAMES[form]})" if form in NAMES else repr(form)
+
+
+def room_of(given: Any, what: str, shape: Tuple[int, ...], formats: Tuple[str, ...] = ANY) -> Room:
+    """A buffer that a call writes into. It is flat, has this shape, or has a row for each item of the first axis. Errors:
+    TypeError where it is none, and ValueError where it can't be written, isn't in C order, or has another format, another
+    shape or another number of items."""
     try:
         view = memoryview(given)
     except TypeError:
         raise TypeError(f"{what}: {type(given).__name__} has no buffer; use a bytearray, an array or numpy's") from None
     form = view.format.lstrip("@=<") if view.itemsize in (1, 4) else view.format
     if form not in formats:
-        wanted = " or ".join(repr(each) for each in formats)
-        raise ValueError(f"{what}: its items have the format {view.format!r}, and not {wanted}")
+        wanted = " or ".join(map(named, formats))
+        raise ValueError(f"{what}: its items have the format {named(view.format)}; use {wanted}")
     if view.readonly:
         raise ValueError(f"{what}: it can only be read; a buffer is wanted that can be written")
     if not view.c_contiguous:
-        raise ValueError(f"{what}: its items aren't in C order, one after the other")
-    if view.nbytes != count * view.itemsize:
-        raise ValueError(f"{what}: it has {view.nbytes // view.itemsize} items, and not {count}")
+        raise ValueError(f"{what}: its items aren't in C order, one after the other; use a copy that is")
+    count = math.prod(shape)
+    if view.shape not in ((count,), shape, (shape[0], count // shape[0])):
+        raise ValueError(f"{what}: its shape is {view.shape}, and not {shape}, or flat with {count} items")
     kind: Any = ctypes.c_float if form == "f" else ctypes.c_uint8
     items = (kind * count).from_buffer(view)
     start = ctypes.addressof(items)

@@ -11,15 +11,17 @@ from typing import Any, Iterator, List, NoReturn, Optional, Sequence, Tuple
 
 from . import _declared
 from ._brief import BriefABC
-from ._buffers import BYTES, FLOATS, Room, apart, room_of
-from ._held import whole
+from ._buffers import BYTE, FLOAT, Room, apart, room_of
+from ._held import clamped, whole
 from ._library import library, unlocked
-from ._refused import done
+from ._refused import done, shown
 from .games import Game
 from .values import Komi, KoRule
 
 MOST_MOVES = 2000  # of a record
+BUSY = "these Games are in a call of another thread: once that has returned, adopt() takes them over"
 MOST_GAMES = 2**20
+MOST_NUMBER = 2**32 - 1
 
 
 class Games(metaclass=BriefABC):
@@ -28,8 +30,8 @@ class Games(metaclass=BriefABC):
     Each is played by turns: after a move it is the other colour's turn, and before the first it is Black's, or White's
     where handicap stones were placed. A move is a number: the `Game.index` of a point, and size * size for a pass.
 
-    Buffers are written by the buffer protocol: a bytearray, an `array`, or an array of numpy, in C order. Their items
-    are bytes (`B`, or `?`) or floats of 32 bits (`f`).
+    Buffers are written by the buffer protocol: a bytearray, an `array`, or an array of numpy, in C order. The items of
+    planes and masks are bytes (`B`, or `?`, numpy's bool) or floats of 32 bits (`f`).
 
     Its calls let other threads run. As long as one runs, each other call of the object is a RuntimeError, and `adopt`
     is.
@@ -53,11 +55,11 @@ class Games(metaclass=BriefABC):
         handicap: int = 0,
         limit: int = MOST_MOVES,
     ) -> None:
-        number = whole(count, "the number of games", 1, MOST_GAMES)
+        number = whole(count, "count", 1, MOST_GAMES)
         first = Game(size, komi, rule)
         if handicap:
             first.place_handicap(handicap)
-        self._size, self._limit = first.size, whole(limit, "the limit of moves", 1, MOST_MOVES)
+        self._size, self._limit = first.size, whole(limit, "limit", 1, MOST_MOVES)
         self._points = self._size * self._size
         self._thread, self._lock = get_ident(), threading.Lock()
         self._handles = (_declared.GameHandle * number)()
@@ -82,7 +84,7 @@ class Games(metaclass=BriefABC):
         """The handles and their number, for a call. Errors: RuntimeError in another thread than its own, and as long as
         a call runs."""
         if not self._lock.acquire(blocking=False):
-            raise RuntimeError("these Games are in a call of another thread: wait until it has returned")
+            raise RuntimeError(BUSY)
         try:
             if get_ident() != self._thread:
                 raise RuntimeError("these Games are used by another thread than their own: adopt() takes them over")
@@ -93,7 +95,7 @@ class Games(metaclass=BriefABC):
     def adopt(self) -> None:
         """From now on this thread may use the games, and no other one. Errors: RuntimeError as long as a call runs."""
         if not self._lock.acquire(blocking=False):
-            raise RuntimeError("these Games are in a call of another thread: wait until it has returned")
+            raise RuntimeError(BUSY)
         self._thread = get_ident()
         self._lock.release()
 
@@ -112,7 +114,7 @@ class Games(metaclass=BriefABC):
 
     def planes(self, earlier: int = 0) -> int:
         """How many planes a game has, with so many earlier boards: two for each board."""
-        return 2 * (1 + whole(earlier, "the number of earlier boards", 0, MOST_MOVES))
+        return 2 * (1 + whole(earlier, "earlier", 0, MOST_MOVES))
 
     def step(
         self,
@@ -125,23 +127,27 @@ class Games(metaclass=BriefABC):
         earlier: int = 0,
         masks: Any = None,
     ) -> int:
-        """Makes a move in each game, and begins those anew that are over. How many games refused their move. It writes
-        into the buffers that are given, in this order:
+        """Makes a move in each game, and begins those anew that are over. How many games refused their move. The moves
+        are a list of whole numbers, or an array with one dimension. It writes into the buffers that are given, in this
+        order:
 
-        - `causes`, a byte a game: 0, or the number of the `Cause` for which the game alone refused its move, and stays.
+        - `causes`, a byte a game: 0, or the number of the `Cause` for which the game alone refused its move, and stays:
+          OFF_BOARD of a number that is no move's, FULL, OCCUPIED, SUICIDE or KO.
         - `over`, a byte a game: 1 where it ended by two passes, 2 where it has as many moves as the limit, else 0.
         - `scores`, a float a game: the score in points where it is over, positive where Black leads, else 0.
         - `planes` and `masks`, of the games that are now there, as `planes_into` and `masks_into` write them.
         """
-        count = len(self._handles)
+        each = (len(self._handles),)
         rooms = {
-            "causes": None if causes is None else room_of(causes, "causes", count, BYTES[:1]),
-            "over": None if over is None else room_of(over, "over", count, BYTES),
-            "scores": None if scores is None else room_of(scores, "scores", count, FLOATS),
-            "planes": None if planes is None else room_of(planes, "planes", self._plane_items(earlier)),
-            "masks": None if masks is None else room_of(masks, "masks", self._mask_items()),
+            "causes": None if causes is None else room_of(causes, "causes", each, (BYTE,)),
+            "over": None if over is None else room_of(over, "over", each, (BYTE,)),
+            "scores": None if scores is None else room_of(scores, "scores", each, (FLOAT,)),
+            "planes": None if planes is None else room_of(planes, "planes", self._plane_shape(earlier)),
+            "masks": None if masks is None else room_of(masks, "masks", self._mask_shape()),
         }
         apart(rooms)
+        if planes is None and earlier:
+            raise ValueError(f"earlier: {earlier} boards are asked for, and no planes to write them into")
         with self._held() as (handles, _):
             numbers = self._numbers(moves)
             refused = self._play(handles, numbers, rooms["causes"])
@@ -155,23 +161,28 @@ class Games(metaclass=BriefABC):
     def planes_into(self, planes: Any, earlier: int = 0) -> None:
         """Writes the planes of all games: in C order games, planes, rows from row 1, and columns from A. The first two
         planes have 1 where the colour whose turn it is has a stone, and where the other one has, else 0. Then come the
-        same two of the board a move earlier, and so on. Those of boards before the first one are empty."""
-        room = room_of(planes, "planes", self._plane_items(earlier))
+        same two of the board a move earlier, for the same colours, and so on. Those of boards before the first one,
+        which has the handicap stones, are empty."""
+        room = room_of(planes, "planes", self._plane_shape(earlier))
         with self._held() as (handles, _):
             self._write_planes(handles, room, earlier)
 
     def masks_into(self, masks: Any) -> None:
         """Writes the masks of all games: size * size + 1 items a game, 1 where the colour whose turn it is may make the
         move of that number, else 0. The last one is for a pass, and 1."""
-        room = room_of(masks, "masks", self._mask_items())
+        room = room_of(masks, "masks", self._mask_shape())
         with self._held() as (handles, _):
             self._write_masks(handles, room)
 
     def rollouts(self, seeds: Sequence[int], limit: int = MOST_MOVES) -> List[float]:
         """The score of a playout of each game by its seed, in points, as `Game.rollout` returns it for the colour whose
         turn it is. The games stay as they were."""
-        most = whole(limit, "the limit")
-        numbers = [whole(seed, "a seed", 0, 2**64 - 1) for seed in seeds]
+        most = whole(limit, "limit")
+        try:
+            given = list(seeds)
+        except TypeError:
+            raise TypeError(f"seeds: {shown(seeds)} is no list; use one with a number for each game") from None
+        numbers = [whole(seed, "a seed", 0, 2**64 - 1) for seed in given]
         if len(numbers) != len(self._handles):
             raise ValueError(f"seeds: there are {len(numbers)}, and not {len(self._handles)}, one a game")
         halves = (ctypes.c_int32 * len(numbers))()
@@ -181,18 +192,19 @@ class Games(metaclass=BriefABC):
         return [half / 2 for half in halves]
 
     def game(self, number: int) -> Game:
-        """A copy of the game of this number, counted from 0."""
+        """A copy of the game of this number, counted from 0, or from the end, as -1."""
         copied = Game()
         with self._held() as (handles, _):
             library.vintsaky_game_copy(copied._held(), ctypes.byref(handles[self._place_of(number)]))
         return copied
 
     def put(self, number: int, game: Game) -> None:
-        """Makes the game of this number a copy of another one. Errors: ValueError where that has another size."""
+        """Makes the game of this number a copy of another one: a new one, say, where a side resigned. Its komi, ko rule
+        and handicap stay where it begins anew. Errors: ValueError where it has another size."""
         if not isinstance(game, Game):
-            raise TypeError(f"a Game is wanted, and not a {type(game).__name__}")
+            raise TypeError(f"game: {shown(game)} is no Game")
         if game.size != self._size:
-            raise ValueError(f"the game has size {game.size}, and not {self._size}")
+            raise ValueError(f"game: its size is {game.size}, and not {self._size}")
         with self._held() as (handles, _):
             library.vintsaky_game_copy(ctypes.byref(handles[self._place_of(number)]), game._held())
 
@@ -206,25 +218,25 @@ class Games(metaclass=BriefABC):
         """The place of a game's number, which may count from the end, as that of any sequence."""
         count, place = len(self._handles), operator.index(number)
         if not -count <= place < count:
-            raise IndexError(f"the number of the game is {place}, and not from 0 to {count - 1}")
+            raise IndexError(f"number: {place} is not from {-count} to {count - 1}")
         return place % count
 
-    def _plane_items(self, earlier: int) -> int:
-        """How many items the planes of all games have."""
-        return len(self._handles) * self.planes(earlier) * self._points
+    def _plane_shape(self, earlier: int) -> Tuple[int, int, int, int]:
+        """The shape of the planes of all games."""
+        return len(self._handles), self.planes(earlier), self._size, self._size
 
-    def _mask_items(self) -> int:
-        """How many items the masks of all games have."""
-        return len(self._handles) * (self._points + 1)
+    def _mask_shape(self) -> Tuple[int, int]:
+        """The shape of the masks of all games."""
+        return len(self._handles), self._points + 1
 
     def _numbers(self, moves: Any) -> Any:
-        """The numbers of the moves, as the call takes them. Errors: TypeError where they are no whole numbers."""
+        """The numbers of the moves, as the call takes them: one that is too small or too great for it is its greatest,
+        which is no move either. Errors: TypeError where they are no whole numbers."""
         try:
-            numbers = array("I", moves.tolist() if hasattr(moves, "tolist") else list(moves))
-        except OverflowError:
-            raise ValueError(f"moves: a number is not from 0 to {self._points}") from None
-        except TypeError as problem:
-            raise TypeError(f"moves: a list or an array of whole numbers is wanted ({problem})") from None
+            given = list(map(operator.index, moves.tolist() if hasattr(moves, "tolist") else moves))
+        except TypeError:
+            raise TypeError(f"moves: {shown(moves)} is no list of whole numbers, or array of them with one dimension") from None
+        numbers = array("I", map(clamped, given) if min(given, default=0) < 0 or max(given, default=0) > MOST_NUMBER else given)
         if len(numbers) != len(self._handles):
             raise ValueError(f"moves: there are {len(numbers)}, and not {len(self._handles)}, one a game")
         return (ctypes.c_uint32 * len(numbers)).from_buffer(numbers)
@@ -252,5 +264,8 @@ class Games(metaclass=BriefABC):
         call = unlocked.vintsaky_games_masks_f32 if room.is_float else unlocked.vintsaky_games_masks
         done(call(handles, len(handles), room.items, len(room.items)))
 
+    def __repr__(self) -> str:
+        return f"<vintsaky.Games: {len(self)} of size {self._size}>"
+
     def __reduce_ex__(self, protocol: Any) -> NoReturn:
-        raise TypeError("Games can't be copied or pickled so")
+        raise TypeError("Games can't be copied or pickled: `game` returns a copy of one of them, which can")

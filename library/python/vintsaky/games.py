@@ -10,7 +10,7 @@ from typing import Any, Callable, Dict, Iterable, List, NamedTuple, Optional, Tu
 from . import _declared
 from ._attributes import attributes_of, give_attributes
 from ._brief import BriefABC
-from ._buffers import BYTES, room_of
+from ._buffers import BYTE, FLAG, room_of
 from ._held import Held, clamped, integer, whole
 from ._library import library, text_of
 from ._numbers import Cause
@@ -304,13 +304,13 @@ class Game(Held):
 
     def board_into(self, board: Any) -> None:
         """Writes the same bytes as `board` into a buffer of size * size bytes (format `B`)."""
-        room = room_of(board, "board", self.size**2, BYTES[:1])
+        room = room_of(board, "board", (self.size, self.size), (BYTE,))
         library.vintsaky_game_board(self._held(), room.items, len(room.items))
 
     def legal_into(self, colour: AnyColour, mask: Any) -> None:
         """Writes the same bytes as `legal_mask` into a buffer of size * size bytes (format `B` or `?`). Causes:
         BAD_COLOUR."""
-        room, number, count = room_of(mask, "mask", self.size**2, BYTES), colour_number(colour), ctypes.c_size_t()
+        room, number, count = room_of(mask, "mask", (self.size, self.size), (BYTE, FLAG)), colour_number(colour), ctypes.c_size_t()
         size = len(room.items)
         done(library.vintsaky_game_legal_mask(self._held(), number, room.items, size, ctypes.byref(count)))
 

@@ -294,7 +294,7 @@ def half_points(komi: Komi, what: str = "komi") -> int:
     """A komi in points as half points. Errors: TypeError where it is no number, ValueError where it is no multiple of
     0.5, and Refused, with BAD_KOMI, where it is more or less than a komi may be."""
     if not isinstance(komi, (int, float, Fraction)):
-        raise TypeError(f"{what}: {shown(komi)} is no int, float or Fraction")
+        raise TypeError(f"{what}: {shown(komi)} is a {type(komi).__name__}, and no int, float or Fraction")
     endless = isinstance(komi, float) and math.isinf(komi)
     if komi != komi or not endless and Fraction(komi).denominator > 2:
         raise ValueError(f"{what}: {shown(komi)} is no multiple of 0.5")

@@ -173,7 +173,7 @@ static void play(batch *b) {
     give(b, 0, moves * sizeof(uint32_t));
     give(b, 1, causes);
     for (size_t i = 0; i < b->count && i < moves; i++) {
-        uint32_t number = move_number(b, &b->alone[i]), cause = VINTSAKY_BAD_VERTEX;
+        uint32_t number = move_number(b, &b->alone[i]), cause = VINTSAKY_OFF_BOARD;
         memcpy(b->lists[0].at + i * sizeof number, &number, sizeof number);
         memcpy(b->wanted[0] + i * sizeof number, &number, sizeof number);
         if (is_short) continue;

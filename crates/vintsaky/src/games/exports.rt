@@ -16,7 +16,7 @@ use vintsaky_calls::code_of;
 
 /// Each game makes the move of its number for the colour whose turn it is, which `vintsaky_game_turn` returns. The number
 /// of a move is the index of its point, or how many points the board has for a pass. For each game a byte is written: 0,
-/// or the cause for which that game alone refuses the move and stays as it was. That is `BadVertex` of a number that is
+/// or the cause for which that game alone refuses the move and stays as it was. That is `OffBoard` of a number that is
 /// higher, and else the one that `vintsaky_game_play` returns.
 ///
 /// # Errors
