@@ -1,37 +1,43 @@
 #!/usr/bin/env python3
-"""A loop of self-play: many games at once, and of each move what a network learns from."""
-import random
-from array import array
+"""A loop of self-play: many games at once, and of each move what a network learns from. It needs numpy."""
+import numpy as np
 import vintsaky
 
-COUNT, SIZE = 64, 9
+COUNT, SIZE, EARLIER = 64, 9, 3
+rng = np.random.default_rng()
 games = vintsaky.Games(COUNT, SIZE, komi=7, limit=300)
-PLANES = games.planes() * SIZE * SIZE        # values of a game
-ACTIONS = SIZE * SIZE + 1                    # the points, and a pass
-planes, masks = bytearray(COUNT * PLANES), bytearray(COUNT * ACTIONS)
-causes, over, scores = bytearray(COUNT), bytearray(COUNT), array("f", [0] * COUNT)
+planes = np.zeros((COUNT, games.planes(EARLIER), SIZE, SIZE), np.float32)
+masks = np.zeros((COUNT, SIZE * SIZE + 1), np.float32)  # of each point, and of a pass
+over, scores = np.zeros(COUNT, np.uint8), np.zeros(COUNT, np.float32)
+MAPS = [np.array(vintsaky.symmetry_map(SIZE, symmetry)) for symmetry in range(8)]
 
 
-def choose(planes, mask):
-    """Your network: the number of a move whose mask is 1. Here it is a random one."""
-    return random.choice([action for action, may in enumerate(mask) if may])
+def policies_of(planes, masks):
+    """Your network: of each game how likely each move is, 0 where its mask is 0. Here all are alike."""
+    return masks / masks.sum(axis=1, keepdims=True)
 
 
-games.planes_into(planes)
+def turned(planes, policy, symmetry):
+    """A position and its policy, turned alike. The pass stays the last."""
+    places = MAPS[symmetry]
+    return planes.reshape(-1, SIZE * SIZE)[:, places].reshape(planes.shape), np.append(policy[places], policy[-1])
+
+
+games.planes_into(planes, EARLIER)
 games.masks_into(masks)
-played = [[] for _ in range(COUNT)]          # of each game: whose turn, planes and move
-learned = []                                 # planes, move, and 1 where who moved won, -1 where he lost
-for _ in range(500):
-    turns, moves = games.turns, []
+played = [[] for _ in range(COUNT)]  # of each game: whose turn, planes and policy of each move
+learned = []  # planes, policy, and 1 where the side that moved won, -1 where it lost, 0 where nobody won
+for _ in range(400):
+    turns, policies = games.turns, policies_of(planes, masks)
+    moves = [rng.choice(len(policy), p=policy / policy.sum(dtype=float)) for policy in policies]
     for number in range(COUNT):
-        seen = bytes(planes[number * PLANES:][:PLANES])
-        moves.append(choose(seen, masks[number * ACTIONS:][:ACTIONS]))
-        played[number].append((turns[number], seen, moves[number]))
-    games.step(moves, causes=causes, over=over, scores=scores, planes=planes, masks=masks)
-    assert not any(causes)                   # each move was one whose mask was 1
-    for number in range(COUNT):
-        if over[number]:
-            lead = (scores[number] > 0) - (scores[number] < 0)
-            learned += [(seen, move, lead if turn == vintsaky.BLACK else -lead) for turn, seen, move in played[number]]
-            played[number] = []
+        played[number].append((turns[number], planes[number].copy(), policies[number]))
+    if games.step(moves, over=over, scores=scores, planes=planes, earlier=EARLIER, masks=masks):
+        raise ValueError("a move was refused")
+    for number in np.flatnonzero(over):
+        lead = np.sign(scores[number])
+        for turn, seen, policy in played[number]:
+            outcome = lead if turn == vintsaky.BLACK else -lead
+            learned.append((*turned(seen, policy, rng.integers(8)), outcome))
+        played[number] = []
 print(len(learned) > 0)
