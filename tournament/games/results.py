@@ -1,7 +1,8 @@
 """The results: what is one, and which games have one. All commands go by this.
 
-A result is a file of twogtp, or of a server over the library: the line of game 1, a line with as many moves as the line says, and under `--show` the last board. Each move is
-`pass` or a point of the plan's board, and a score is one that this board and komi can have. A file that has less, more or something else is
+A result is a file of twogtp, or of a server over the library: the line of game 1, a line with as many moves as the line says, and under
+`--show` the last board. Each move is `pass` or a point of the plan's board, and a score is one that this board and komi can have. A file that
+has less, more or something else is
 damaged, or of another plan, and its game is to be played.
 """
 import os

@@ -90,7 +90,8 @@ def turn(game):
 
 def vertex_of(game, number):
     """The vertex of a move's number: no number is higher than that of a pass."""
-    return PASS if number == game.size**2 else f"{'ABCDEFGHJKLMNOPQRSTUVWXYZ'[number % game.size]}{number // game.size + 1}"
+    column, row = "ABCDEFGHJKLMNOPQRSTUVWXYZ"[number % game.size], number // game.size + 1
+    return PASS if number == game.size**2 else f"{column}{row}"
 
 
 def played(game, number):

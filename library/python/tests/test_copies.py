@@ -55,6 +55,19 @@ class Stated(Game):
         self.kept = state["kept"] * 10
 
 
+class Less(Game):
+    """A subclass that leaves out one of its attributes, as it is usually written."""
+
+    def __init__(self):
+        super().__init__(5)
+        self.kept, self.left = "kept", "left"
+
+    def __getstate__(self):
+        state = dict(super().__getstate__())
+        del state["left"]
+        return state
+
+
 class Mirrored(Game):
     """A subclass whose `play` counts, by an attribute that `__init__` sets."""
 
@@ -162,6 +175,14 @@ class Subclasses(unittest.TestCase):
         game = Both([1])
         game.more = 2
         self.assertEqual([(other.more, other.place) for other in again(game)], [(2, [1])] * len(again(game)))
+
+    def test_a_state_that_leaves_something_out(self):
+        game = Less()
+        game.play("b", "C3")
+        for other in again(game):
+            self.assertEqual((other == game, other.kept, hasattr(other, "left")), (True, "kept", False))
+            other.play("w", "C4")
+            self.assertEqual(len(game.moves), 1)
 
     def test_a_state_of_its_own(self):
         game = Stated(5)

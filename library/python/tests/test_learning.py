@@ -29,7 +29,8 @@ class Beside(unittest.TestCase):
         masks = array(kind, [7] * (count * (points + 1)))
         for _ in range(60):
             numbers = [draw.randrange(points + 2) for _ in single]
-            came = games.step(numbers, causes=causes, over=ways, scores=scores, planes=boards, earlier=earlier, masks=masks)
+            rooms = dict(causes=causes, over=ways, scores=scores, planes=boards, masks=masks)
+            came = games.step(numbers, earlier=earlier, **rooms)
             wanted = [played(*it) for it in zip(single, numbers)]
             ended = [over(it, limit) for it in single]
             self.assertEqual(list(causes), wanted)
@@ -91,6 +92,22 @@ class Beside(unittest.TestCase):
             games.put(0, Game(9))
         with self.assertRaises(TypeError):
             games.put(0, b"game")
+        for wrong in ("0", None, 0.0):
+            with self.assertRaisesRegex(TypeError, "^number: .* is no int"):
+                games.game(wrong)
+        passed, long = Game(5), Game(5)
+        for colour in "bw":
+            passed.play(colour, "pass")
+        for point in "A1 B1 C1 D1".split():
+            long.play("b", point)
+        games = Games(1, 5, limit=4)
+        for game in (passed, long):
+            with self.assertRaisesRegex(ValueError, "^game: it is over"):
+                games.put(0, game)
+        long.undo()
+        games.put(0, long)
+        self.assertEqual(len(games.game(0).moves), 3)
+        games = Games(2, 5)
         for number in (2, -3):
             with self.assertRaisesRegex(IndexError, "not from -2 to 1"):
                 games.game(number)
@@ -105,10 +122,11 @@ class Made(unittest.TestCase):
         self.assertEqual(games.turns, bytes([WHITE] * 4))
 
     def test_limits(self):
-        for wrong in ((0,), (-1,), (2**40,), (1, 0), (1, 26), (1, 9, 0.25), (1, 9, 0, 3), (1, 9, 0, 1, 10), (1, 9, 0, 1, 0, 0)):
+        boards = ((1, 0), (1, 26), (1, 9, 0.25), (1, 9, 0, 3), (1, 9, 0, 1, 10), (1, 9, 0, 1, 0, 0))
+        for wrong in ((0,), (-1,), (2**40,), *boards):
             with self.assertRaises(ValueError, msg=str(wrong)):
                 Games(*wrong)
-        for wrong in (("3",), (1, 9.0), (None,), (1, 9, "7")):
+        for wrong in (("3",), (1, 9.0), (None,), (1, 9, "7"), (1, 9, 0, 1, None), (1, 9, 0, 1, 0.0)):
             with self.assertRaises(TypeError, msg=str(wrong)):
                 Games(*wrong)
 
@@ -145,8 +163,9 @@ class Wrong(unittest.TestCase):
         for name, (count, forms) in self.NAMES.items():
             for form in "bBhHiIlLqQfd":
                 if form not in forms:
-                    self.refused(ValueError, f"^{name}: its items have the format '{form}'.*; use '", **{name: array(form, [0] * count)})
-            self.refused(ValueError, f"^{name}: its items have the format 'c'; use '", **{name: memoryview(bytearray(count)).cast("c")})
+                    self.refused(ValueError, f"^{name}: .* format '{form}'.*; use '", **{name: array(form, [0] * count)})
+            letters = memoryview(bytearray(count)).cast("c")
+            self.refused(ValueError, f"^{name}: its items have the format 'c'; use '", **{name: letters})
 
     def test_only_read(self):
         for name, (count, forms) in self.NAMES.items():
@@ -171,12 +190,22 @@ class Wrong(unittest.TestCase):
                 flat = memoryview(array(kind, [7] * count))
                 for right in ((count,), shape, (2, count // 2)):
                     Games(2, 3).step([4, 4], **{name: flat.cast("B").cast(kind, right)})
-                for wrong in ((2, 3, 3, 2), (1, 2, 2, 9), (18, 2), (4, 9)) if name == "planes" else ((10, 2), (1, 20), (4, 5)):
-                    text = rf"^{name}: its shape is {re.escape(str(wrong))}, and not {re.escape(str(shape))}, or flat with {count}"
+                others = {"planes": ((2, 3, 3, 2), (1, 2, 2, 9), (18, 2), (4, 9)), "masks": ((10, 2), (1, 20), (4, 5))}
+                for wrong in others[name]:
+                    text = re.escape(f"{name}: its shape is {wrong}, and not {shape}, or flat with {count} items")
                     self.refused(ValueError, text, **{name: flat.cast("B").cast(kind, wrong)})
 
-    def test_earlier_boards_without_planes(self):
+    def test_earlier_boards(self):
         self.refused(ValueError, "^earlier: 3 boards", earlier=3)
+        for wrong in ("3", None, 1.0):
+            self.refused(TypeError, "^earlier: .* is no int", earlier=wrong, planes=bytearray(36))
+        for wrong in (-1, 2001):
+            self.refused(ValueError, "^earlier: .* is not from 0 to 2000", earlier=wrong, planes=bytearray(36))
+
+    def test_buffers_that_are_gone(self):
+        gone = memoryview(bytearray(36))
+        gone.release()
+        self.refused(ValueError, "^planes: its buffer can't be had", planes=gone)
 
     def test_overlaps(self):
         room = memoryview(bytearray(64))
@@ -213,7 +242,8 @@ class Wrong(unittest.TestCase):
         for wrong in (10, 2**32 - 1, 2**32, 2**80, -1, -(2**80)):
             self.assertEqual((games.step([wrong, wrong], causes=causes), list(causes)), (2, [Cause.OFF_BOARD] * 2))
         self.assertEqual(len(games.game(0).moves), 0)
-        for number, moves in enumerate(([0, 0], (1, 1), array("q", [2, 2]), bytearray([3, 3]), memoryview(b"\4\4"), range(5, 7))):
+        right = ([0, 0], (1, 1), array("q", [2, 2]), bytearray([3, 3]), memoryview(b"\4\4"), range(5, 7))
+        for number, moves in enumerate(right):
             self.assertEqual(games.step(moves), 0, str(moves))
             self.assertEqual(games.game(0).index(games.game(0).moves[-1].vertex), number)
 
@@ -224,6 +254,8 @@ class Wrong(unittest.TestCase):
                 games.rollouts(wrong)
         with self.assertRaisesRegex(TypeError, "^seeds: 1 is no list"):
             games.rollouts(1)
+        with self.assertRaisesRegex(TypeError, "^seeds: 'x' is no int"):
+            games.rollouts(["x", 1])
 
     def test_buffers_are_held_for_the_call_alone(self):
         games, room = Games(2, 3), bytearray(36)
@@ -244,7 +276,8 @@ class Threads(unittest.TestCase):
         games, caught = Games(2, 3), []
 
         def step():
-            for call in (lambda: games.step([0, 0]), lambda: games.planes_into(bytearray(36)), lambda: games.turns, lambda: games.game(0)):
+            writes = (lambda: games.step([0, 0]), lambda: games.planes_into(bytearray(36)))
+            for call in (*writes, lambda: games.turns, lambda: games.game(0)):
                 try:
                     call()
                 except RuntimeError as problem:
@@ -261,12 +294,18 @@ class Threads(unittest.TestCase):
         games, room, refused = Games(1000, 25), bytearray(1000 * 626), set()
         came = []
         owner = threading.Thread(target=lambda: (games.adopt(), came.extend(games.rollouts(range(1000)))))
-        calls = {"adopt": games.adopt, "step": lambda: games.step([0] * 1000), "masks": lambda: games.masks_into(room),
-                 "rollouts": lambda: games.rollouts(range(1000), 1), "game": lambda: games.game(0), "put": lambda: games.put(0, Game(25)),
-                 "turns": lambda: games.turns}  # fmt: skip
+        calls = {
+            "adopt": games.adopt,
+            "step": lambda: games.step([0] * 1000),
+            "masks": lambda: games.masks_into(room),
+            "rollouts": lambda: games.rollouts(range(1000), 1),
+            "game": lambda: games.game(0),
+            "put": lambda: games.put(0, Game(25)),
+            "turns": lambda: games.turns,
+        }
         owner.start()
         while owner.is_alive() and len(refused) < len(calls):
-            for name, call in list(calls.items())[1:] + [("adopt", games.adopt)] if refused else list(calls.items())[1:]:
+            for name, call in list(calls.items())[not refused :]:
                 try:
                     call()
                 except RuntimeError as problem:
@@ -277,6 +316,19 @@ class Threads(unittest.TestCase):
         self.assertEqual(len(came), 1000)
         games.adopt()
         self.assertEqual((games.step([0] * 1000), set(room)), (0, {0}))
+
+    def test_moves_that_look_at_the_games(self):
+        """They are made into numbers before the games are in a call."""
+        games = Games(2, 3)
+        self.assertEqual(games.step(len(games.game(number).moves) for number in range(2)), 0)
+        self.assertEqual(games.rollouts(len(games.game(number).moves) for number in range(2)), games.rollouts([1, 1]))
+
+    def test_they_are_made_once(self):
+        games = Games(2, 3)
+        games.step([4, 4])
+        with self.assertRaisesRegex(RuntimeError, "made before"):
+            games.__init__(5, 9)
+        self.assertEqual((len(games), len(games.game(0).moves)), (2, 1))
 
     def test_a_failed_call_leaves_the_games_free(self):
         games = Games(1, 3)
@@ -305,7 +357,8 @@ class Numpy(unittest.TestCase):
 
     def test_wrong_ones(self):
         games, boards = Games(2, 3), numpy.zeros((2, 2, 3, 3), numpy.uint8)
-        for wrong in (boards.transpose(), numpy.asfortranarray(boards), boards[:1], boards.astype(numpy.int64), boards.astype(">f4")):
+        of_types = (boards.astype(numpy.int64), boards.astype(">f4"), boards.astype(float))
+        for wrong in (boards.transpose(), numpy.asfortranarray(boards), boards[:1], *of_types):
             with self.assertRaises(ValueError):
                 games.planes_into(wrong)
         boards.flags.writeable = False

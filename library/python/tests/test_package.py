@@ -62,7 +62,7 @@ class Documentation(unittest.TestCase):
 
     def test_help_is_short_and_whole(self):
         text = pydoc.render_doc(vintsaky, renderer=pydoc.plaintext)
-        most = 1500 if sys.version_info < (3, 13) else 1600  # from 3.13 on a long signature has a line for each argument
+        most = 1500 if sys.version_info < (3, 13) else 1600  # from then on each argument of a long signature has a line
         self.assertLess(len(text.splitlines()), most)
         words = " ".join(re.sub(r"^ *\|", "", text, flags=re.MULTILINE).split())
         for cause in Cause:

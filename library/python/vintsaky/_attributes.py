@@ -8,11 +8,8 @@ from ._held import Held
 
 
 def attributes_of(held: Held) -> Any:
-    """The attributes of an object: what its own `__getstate__` says, or else its `__dict__`, and with it what its
-    `__slots__` have, if anything. None where there are none."""
-    own, inherited = getattr(type(held), "__getstate__", None), getattr(object, "__getstate__", None)
-    if own is not inherited and own is not None:
-        return own(held)
+    """The attributes of an object: its `__dict__`, and with it what its `__slots__` have, if anything. None where there
+    are none. What the library's own objects have isn't among them."""
     names = set(getattr(copyreg, "_slotnames")(type(held))) - set(Held.__slots__)
     slots = {name: getattr(held, name) for name in sorted(names) if hasattr(held, name)}
     attributes = getattr(held, "__dict__", None) or None

@@ -13,7 +13,8 @@ def listed(kind: type) -> List[str]:
     """The public names that a class has of its own, or of a class before it that isn't Python's. Of the methods that
     Python calls by itself they are those that say what they do."""
     own = [base for base in kind.__mro__ if base.__module__ not in STANDARD]
-    names = {name for base in own for name, value in vars(base).items() if not name.startswith("_") or is_told(name, value)}
+    attributes = [item for base in own for item in vars(base).items()]
+    names = {name for name, value in attributes if not name.startswith("_") or is_told(name, value)}
     return sorted({"__doc__", "__module__", *names})
 
 
@@ -37,8 +38,8 @@ class BriefEnum(EnumMeta):
 
 
 class BriefABC(ABCMeta):
-    """The type of a class that lists its own names alone, and may have an abstract class beside it. All that it inherits
-    is there. The head of a NamedTuple can't name it, so a class has it that has a NamedTuple before it."""
+    """The type of a class that lists its own names alone, and may have an abstract class beside it. All that it
+    inherits is there. The head of a NamedTuple can't name it, so a class has it that has a NamedTuple before it."""
 
     def __dir__(cls) -> List[str]:
         return listed(cls)

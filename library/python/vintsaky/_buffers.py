@@ -7,7 +7,8 @@ from typing import Any, Dict, NamedTuple, Optional, Tuple
 
 BYTE, FLAG, FLOAT = "B", "?", "f"  # formats of items: a byte, a byte that is 0 or 1, and a float of 32 bits
 ANY = (FLOAT, BYTE, FLAG)
-NAMES = {"B": "uint8", "?": "bool", "f": "float32", "d": "float64", "e": "float16", "b": "int8", "i": "int32", "l": "int64"}  # numpy's
+# numpy's names for formats
+NAMES = {"B": "uint8", "?": "bool", "f": "float32", "d": "float64", "e": "float16", "b": "int8", "i": "int32", "l": "int64"}
 
 
 class Room(NamedTuple):
@@ -25,13 +26,15 @@ def named(form: str) -> str:
 
 
 def room_of(given: Any, what: str, shape: Tuple[int, ...], formats: Tuple[str, ...] = ANY) -> Room:
-    """A buffer that a call writes into. It is flat, has this shape, or has a row for each item of the first axis. Errors:
-    TypeError where it is none, and ValueError where it can't be written, isn't in C order, or has another format, another
-    shape or another number of items."""
+    """A buffer that a call writes into. It is flat, has this shape, or has a row for each item of the first axis.
+    Errors: TypeError where it is none, and ValueError where it can't be written, isn't in C order, or has another
+    format, another shape or another number of items."""
     try:
         view = memoryview(given)
     except TypeError:
         raise TypeError(f"{what}: {type(given).__name__} has no buffer; use a bytearray, an array or numpy's") from None
+    except (ValueError, BufferError) as problem:
+        raise ValueError(f"{what}: its buffer can't be had: {problem}") from None
     form = view.format.lstrip("@=<") if view.itemsize in (1, 4) else view.format
     if form not in formats:
         wanted = " or ".join(map(named, formats))

@@ -49,7 +49,8 @@ class Held(metaclass=BriefABC):
         return self._place if has_lock else self._held()
 
     def adopt(self) -> None:
-        """From now on this thread may use it, and no other one. Something has to order the two, as a queue does."""
+        """From now on this thread may use it, and no other one. That which had it is done with it, and something
+        orders the two, as a queue does."""
         self._thread = get_ident()
 
     def _release(self) -> None:

@@ -12,20 +12,21 @@ from typing import Any, Iterator, List, NoReturn, Optional, Sequence, Tuple
 from . import _declared
 from ._brief import BriefABC
 from ._buffers import BYTE, FLOAT, Room, apart, room_of
-from ._held import clamped, whole
+from ._held import clamped, integer, whole
 from ._library import library, unlocked
 from ._refused import done, shown
 from .games import Game
 from .values import Komi, KoRule
 
 MOST_MOVES = 2000  # of a record
-BUSY = "these Games are in a call of another thread: once that has returned, adopt() takes them over"
+BUSY = "these Games are in a call: once it has returned, its thread may use them, or another one that calls adopt()"
 MOST_GAMES = 2**20
 MOST_NUMBER = 2**32 - 1
 
 
 class Games(metaclass=BriefABC):
-    """So many games of one size, komi, ko rule and handicap, which are played in one call.
+    """So many games of one size, up to 2^20, which are played in one call. Those that begin anew have the komi, the ko
+    rule and the handicap that they had. A game with `limit` moves, 1 to 2,000, is over.
 
     Each is played by turns: after a move it is the other colour's turn, and before the first it is Black's, or White's
     where handicap stones were placed. A move is a number: the `Game.index` of a point, and size * size for a pass.
@@ -33,8 +34,7 @@ class Games(metaclass=BriefABC):
     Buffers are written by the buffer protocol: a bytearray, an `array`, or an array of numpy, in C order. The items of
     planes and masks are bytes (`B`, or `?`, numpy's bool) or floats of 32 bits (`f`).
 
-    Its calls let other threads run. As long as one runs, each other call of the object is a RuntimeError, and `adopt`
-    is.
+    Its calls let other threads run. As long as one runs, each other call on the games is a RuntimeError.
 
     >>> games = Games(2, size=3)
     >>> planes = bytearray(2 * 2 * 9)
@@ -55,9 +55,11 @@ class Games(metaclass=BriefABC):
         handicap: int = 0,
         limit: int = MOST_MOVES,
     ) -> None:
+        if hasattr(self, "_lock"):
+            raise RuntimeError("these Games were made before: make new ones")
         number = whole(count, "count", 1, MOST_GAMES)
         first = Game(size, komi, rule)
-        if handicap:
+        if integer(handicap, "handicap", "no int; use 0, or one from 2 to 9"):
             first.place_handicap(handicap)
         self._size, self._limit = first.size, whole(limit, "limit", 1, MOST_MOVES)
         self._points = self._size * self._size
@@ -128,16 +130,17 @@ class Games(metaclass=BriefABC):
         masks: Any = None,
     ) -> int:
         """Makes a move in each game, and begins those anew that are over. How many games refused their move. The moves
-        are a list of whole numbers, or an array with one dimension. It writes into the buffers that are given, in this
-        order:
+        are a list of whole numbers, or an array of one dimension. In this order it writes into the buffers that it has:
 
         - `causes`, a byte a game: 0, or the number of the `Cause` for which the game alone refused its move, and stays:
           OFF_BOARD of a number that is no move's, FULL, OCCUPIED, SUICIDE or KO.
-        - `over`, a byte a game: 1 where it ended by two passes, 2 where it has as many moves as the limit, else 0.
-        - `scores`, a float a game: the score in points where it is over, positive where Black leads, else 0.
+        - `over`, a byte a game: 1 where it ended by two passes, 2 where it has `limit` moves or more, else 0.
+        - `scores`, a float a game: the score in points where it is over, positive where Black leads, else 0. Above 2^23
+          it is rounded to 32 bits.
         - `planes` and `masks`, of the games that are now there, as `planes_into` and `masks_into` write them.
-        """
-        each = (len(self._handles),)
+
+        Errors: TypeError and ValueError of wrong moves and buffers. Then no move is made."""
+        each, earlier, numbers = (len(self._handles),), whole(earlier, "earlier", 0, MOST_MOVES), self._numbers(moves)
         rooms = {
             "causes": None if causes is None else room_of(causes, "causes", each, (BYTE,)),
             "over": None if over is None else room_of(over, "over", each, (BYTE,)),
@@ -149,7 +152,6 @@ class Games(metaclass=BriefABC):
         if planes is None and earlier:
             raise ValueError(f"earlier: {earlier} boards are asked for, and no planes to write them into")
         with self._held() as (handles, _):
-            numbers = self._numbers(moves)
             refused = self._play(handles, numbers, rooms["causes"])
             self._restart(handles, rooms["over"], rooms["scores"])
             if room := rooms["planes"]:
@@ -182,7 +184,7 @@ class Games(metaclass=BriefABC):
             given = list(seeds)
         except TypeError:
             raise TypeError(f"seeds: {shown(seeds)} is no list; use one with a number for each game") from None
-        numbers = [whole(seed, "a seed", 0, 2**64 - 1) for seed in given]
+        numbers = [whole(seed, "seeds", 0, 2**64 - 1) for seed in given]
         if len(numbers) != len(self._handles):
             raise ValueError(f"seeds: there are {len(numbers)}, and not {len(self._handles)}, one a game")
         halves = (ctypes.c_int32 * len(numbers))()
@@ -200,11 +202,13 @@ class Games(metaclass=BriefABC):
 
     def put(self, number: int, game: Game) -> None:
         """Makes the game of this number a copy of another one: a new one, say, where a side resigned. Its komi, ko rule
-        and handicap stay where it begins anew. Errors: ValueError where it has another size."""
+        and handicap stay where it begins anew. Errors: ValueError where it has another size, or is over."""
         if not isinstance(game, Game):
             raise TypeError(f"game: {shown(game)} is no Game")
         if game.size != self._size:
             raise ValueError(f"game: its size is {game.size}, and not {self._size}")
+        if game.finished or len(game.moves) >= self._limit:
+            raise ValueError(f"game: it is over, by two passes or with {self._limit} moves")
         with self._held() as (handles, _):
             library.vintsaky_game_copy(ctypes.byref(handles[self._place_of(number)]), game._held())
 
@@ -216,7 +220,8 @@ class Games(metaclass=BriefABC):
 
     def _place_of(self, number: int) -> int:
         """The place of a game's number, which may count from the end, as that of any sequence."""
-        count, place = len(self._handles), operator.index(number)
+        count = len(self._handles)
+        place = integer(number, "number", f"no int; use one from 0 to {count - 1}")
         if not -count <= place < count:
             raise IndexError(f"number: {place} is not from {-count} to {count - 1}")
         return place % count
@@ -235,8 +240,9 @@ class Games(metaclass=BriefABC):
         try:
             given = list(map(operator.index, moves.tolist() if hasattr(moves, "tolist") else moves))
         except TypeError:
-            raise TypeError(f"moves: {shown(moves)} is no list of whole numbers, or array of them with one dimension") from None
-        numbers = array("I", map(clamped, given) if min(given, default=0) < 0 or max(given, default=0) > MOST_NUMBER else given)
+            raise TypeError(f"moves: {shown(moves)} is no list of whole numbers, or array of one dimension") from None
+        is_inside = not given or 0 <= min(given) and max(given) <= MOST_NUMBER
+        numbers = array("I", given if is_inside else map(clamped, given))
         if len(numbers) != len(self._handles):
             raise ValueError(f"moves: there are {len(numbers)}, and not {len(self._handles)}, one a game")
         return (ctypes.c_uint32 * len(numbers)).from_buffer(numbers)

@@ -108,7 +108,7 @@ class Game(Held):
         copied = placed(type(self))
         library.vintsaky_game_copy(copied._held(), self._held())
         if type(self) is not Game:
-            give_attributes(copied, attributes_of(self))
+            give_attributes(copied, self.__getstate__())
         return copied
 
     def __deepcopy__(self: Kind, memory: Dict[int, Any]) -> Kind:
@@ -116,7 +116,7 @@ class Game(Held):
         library.vintsaky_game_copy(copied._held(), self._held())
         memory[id(self)] = copied  # before its attributes, since they may lead back to it
         if type(self) is not Game:
-            give_attributes(copied, deepcopy(attributes_of(self), memory))
+            give_attributes(copied, deepcopy(self.__getstate__(), memory))
         return copied
 
     def __reduce_ex__(self, protocol: Any) -> Any:
@@ -124,7 +124,11 @@ class Game(Held):
         library.vintsaky_game_copy(game._held(), self._held_to_copy())
         moves = ", ".join(map(text_of_move, game.moves))
         setup = type(self), game.size, game.komi, int(game.rule), game.handicap, moves
-        return unpickled, setup, attributes_of(self)
+        return unpickled, setup, self.__getstate__()
+
+    def __getstate__(self) -> Any:
+        # what a copy and a pickle have of a subclass, which may have its own
+        return attributes_of(self)
 
     def __eq__(self, other: object) -> bool:
         """Whether the other is a game with the same size, komi, rule, handicap and moves."""
@@ -310,7 +314,8 @@ class Game(Held):
     def legal_into(self, colour: AnyColour, mask: Any) -> None:
         """Writes the same bytes as `legal_mask` into a buffer of size * size bytes (format `B` or `?`). Causes:
         BAD_COLOUR."""
-        room, number, count = room_of(mask, "mask", (self.size, self.size), (BYTE, FLAG)), colour_number(colour), ctypes.c_size_t()
+        room = room_of(mask, "mask", (self.size, self.size), (BYTE, FLAG))
+        number, count = colour_number(colour), ctypes.c_size_t()
         size = len(room.items)
         done(library.vintsaky_game_legal_mask(self._held(), number, room.items, size, ctypes.byref(count)))
 

@@ -1,4 +1,4 @@
-"""The controller of a match between two engines. It starts no process: it is told what happened, and says what is next."""
+"""The controller of a match between two engines. It starts no process: it is told what happened, and says what's next."""
 from __future__ import annotations
 
 import ctypes

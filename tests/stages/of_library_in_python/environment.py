@@ -23,7 +23,8 @@ class Environment(unittest.TestCase):
 
     def test_rewards(self):
         """Black has B2 and so all nine points, or none. Who passes last wins by 8.5, loses by 11, loses by 0.5 or wins by it."""
-        for moves, komi, reward in (([4, 9, 9], 0.5, 1), ([4, 9, 9], 20, -1), ([9, 4, 9, 9], 0.5, 1), ([9, 9], 0.5, 1), ([9, 9], -0.5, -1), ([9, 9], 0, 0)):
+        by_passes = (([9, 9], 0.5, 1), ([9, 9], -0.5, -1), ([9, 9], 0, 0))
+        for moves, komi, reward in (([4, 9, 9], 0.5, 1), ([4, 9, 9], 20, -1), ([9, 4, 9, 9], 0.5, 1), *by_passes):
             env = GoEnv(1, 3, komi)
             for move in moves[:-1]:
                 _, rewards, ended, _, _ = env.step([move])

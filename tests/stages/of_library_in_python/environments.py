@@ -34,4 +34,5 @@ class Environments(checks.Case):
         for version, python in self.PYTHONS().items():
             for name, folders in (("a stand-in for gymnasium", [HERE / "stand_in"]), ("no gymnasium", [])):
                 status, count, said = tried(python, folders)
-                self.check(f"an environment by Python {version} {with_numpy(python)} numpy, and {name}", (0, True, ""), (status, count >= LEAST, said))
+                what = f"an environment by Python {version} {with_numpy(python)} numpy, and {name}"
+                self.check(what, (0, True, ""), (status, count >= LEAST, said))
