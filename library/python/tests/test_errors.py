@@ -36,7 +36,7 @@ def handicapped():
 TYPES = [
     (lambda: Game("9"), "size: '9' is no int; use one from 1 to 25"),
     (lambda: Game(9.0), "size: 9.0 is no int; use one from 1 to 25"),
-    (lambda: Game(9, "6.5"), "komi: '6.5' is no int, float or Fraction"),
+    (lambda: Game(9, "6.5"), "komi: '6.5' is a str, and no int, float or Fraction"),
     (lambda: Game(9, 0, "simple"), f"rule: 'simple' is no ko rule; {RULES}"),
     (lambda: Steps(None), f"rule: None is no ko rule; {RULES}"),
     (lambda: GAME.play(None, "A1"), f"colour: None is no colour; {COLOURS}"),
@@ -63,7 +63,7 @@ TYPES = [
     (lambda: Match(handicap=None), "handicap: None is no int; use 0, or one from 2 to 9"),
     (lambda: MATCH.retakes("1"), "number: '1' is no int; use one from 0 to 4294967295"),
     (lambda: vintsaky.read_colour(1), "text: 1 is neither str nor bytes"),
-    (lambda: vintsaky.komi_text(None), "komi: None is no int, float or Fraction"),
+    (lambda: vintsaky.komi_text(None), "komi: None is a NoneType, and no int, float or Fraction"),
     (lambda: Game.from_moves(None), "moves: None is no list of moves"),
     (lambda: GAME.moves["0"], "number: '0' is neither an int nor a slice of them"),
     (lambda: GAME.moves["a":], "number: slice('a', None, None) is neither an int nor a slice of them"),

@@ -230,15 +230,9 @@ class Match(Held):
         return retakes
 
     def adjudicate(self, side: AnyColour, reason: str = "") -> None:
-        """Ends the match by a ruling: the side loses, for time where there is no reason. A reason has 1 to 20 letters
-        and spaces, and is none of "refused play", "no move", "no vertex" and "illegal move". After that nothing changes
-        the match but `begin`. Causes: IS_OVER where it is over, BAD_REASON.
-
-        >>> match = Match()
-        >>> match.adjudicate("b")
-        >>> match.result()
-        'game 1: W+T moves 0 restarts 0 0'
-        """
+        """Ends the match by a ruling: the side loses, for time where there is no reason. A reason has 1 to 20 letters, a
+        to z or A to Z, and spaces, and is none of "refused play", "no move", "no vertex" and "illegal move". After that
+        nothing changes the match but `begin`. Causes: IS_OVER where it is over, BAD_REASON."""
         text, number = ascii_of(reason, "reason"), side_number(side)
         cause = library.vintsaky_match_adjudicate(self._held(), number, text, len(text))
         done(cause, f"reason {shown(reason)}" if cause == Cause.BAD_REASON else f"adjudicate {Colour(number)}")
