@@ -7,6 +7,7 @@ import os
 import random
 import re
 import shutil
+import sys
 from typing import NamedTuple
 from unittest import SkipTest
 
@@ -41,6 +42,12 @@ class Needing(checks.Case):
         why = lacks(cls.FILES, cls.TOOLS)
         if why:
             raise SkipTest(why)
+
+
+def python_with_numpy():
+    """A Python that has numpy: this one, or Debian's. None where neither has it."""
+    pythons = (sys.executable, "/usr/bin/python3")
+    return next((it for it in pythons if os.path.exists(it) and running.run([it, "-c", "import numpy"]).status == 0), None)
 
 
 def said(words, **how):

@@ -17,7 +17,7 @@ sys.dont_write_bytecode = True
 sys.path[0] = str(Path(__file__).resolve().parents[2])
 
 from tests.shared import checks, running  # noqa: E402
-from tests.shared.library import ARCHIVE, SHARED, TOP, Needing  # noqa: E402
+from tests.shared.library import ARCHIVE, SHARED, TOP, Needing, python_with_numpy  # noqa: E402
 
 TOOLS = ["cc", "python3", "cargo"]  # a block is skipped where it names one that isn't there
 LIMIT = 600  # seconds that a block may take
@@ -60,11 +60,6 @@ class Shown(checks.Case):
         self.same([re.sub(r"    name = .*\n\n", "", engine) for engine in ENGINES], blocks_of("README.md", "python"))
 
 
-def has_numpy(python):
-    """Is there such a Python, with numpy?"""
-    return running.run(["bash", "-c", f"{python} -c 'import numpy'"], limit=LIMIT).status == 0
-
-
 class Loop(Needing):
     """The loop of self-play."""
 
@@ -77,7 +72,7 @@ class Loop(Needing):
 
     def test_run(self):
         """it learns from games that end."""
-        python = next((it for it in (sys.executable, "/usr/bin/python3") if has_numpy(it)), None)
+        python = python_with_numpy()
         if not python:
             self.skipTest("there is no numpy (apt-get install python3-numpy)")
         paths = {"PYTHONPATH": str(TOP / "library/python"), "VINTSAKY_LIBRARY": str(SHARED), "PYTHONDONTWRITEBYTECODE": "1"}

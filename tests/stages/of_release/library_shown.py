@@ -4,6 +4,7 @@ import re
 import shutil
 
 from tests.shared import checks
+from tests.shared.library import python_with_numpy
 
 from . import pages
 from .commands import LIMIT, run
@@ -43,9 +44,15 @@ class Shown(checks.Case):
         for name, block in zip(shown, map(as_here, blocks)):
             self.check_block(f"{what}, as the page of the library shows: {name}", block, SHOWN[name], folder, environment)
             if "my_engine.py" in block:
-                before = "".join(it for it in block.splitlines(True) if "twogtp" not in it)
-                loop = f"{before}python3 self_play.py\n"
-                self.check_block(f"{what}, as the page of the library shows: a loop of self-play", loop, LEARNED, folder, environment)
+                self.check_loop(f"{what}, as the page of the library shows: a loop of self-play", block, folder, environment)
+
+    def check_loop(self, what, block, folder, environment):
+        """The loop learns, by the Python that has numpy, where the package is found as for the engine of this block."""
+        before, python = "".join(it for it in block.splitlines(True) if "twogtp" not in it), python_with_numpy()
+        if python:
+            self.check_block(what, f"{before}{python} self_play.py\n", LEARNED, folder, environment)
+        else:
+            self.skip(what, "there is no numpy (apt-get install python3-numpy)")
 
     def write_programs(self, what, text, folder):
         """Writes the two programs in Python that the page shows: the engine by the name that it has there, and the loop."""
