@@ -101,7 +101,7 @@ enum {
     VINTSAKY_BAD_ID = 33, /* The id is negative, and not -1, which is none. */
     VINTSAKY_DOWN = 34, /* The side was not started or went down, or the match is over. */
     VINTSAKY_IS_OVER = 35, /* The match is over. */
-    VINTSAKY_BAD_REASON = 36, /* The reason isn't 1 to 20 letters and spaces, or it is that of a forfeit. */
+    VINTSAKY_BAD_REASON = 36, /* The reason isn't 1 to 20 letters (a-z, A-Z) and spaces, or it is that of a forfeit. */
 };
 
 /* colours of stones, and the sides that play them */

@@ -50,7 +50,7 @@ pub enum RulingFault {
     #[error("the match is over")]
     Over,
     /// The reason isn't 1 to 20 letters and spaces, or it is the cause of a forfeit.
-    #[error("the reason is not 1 to 20 letters and spaces, or a match itself gives it for a forfeit")]
+    #[error("the reason is not 1 to 20 letters (a-z, A-Z) and spaces, or a match itself gives it for a forfeit")]
     BadReason,
 }
 

@@ -65,7 +65,7 @@ PlaysNumber old number new code = Returns code (PlayNumberCall old number new)
 
 -- ---- games that are over
 
--- whether a game is over: 1 after two passes, else 2 where the record has `limit` moves or is full, and else 0
+-- whether a game is over: 1 after two passes, else 2 where the record has `limit` moves or more, or is full, and else 0
 pub record TellsOver (game : GameRecord) (limit over : ℕ) : Type 0 where
   pub passed : IsFinished game → over ≡ 1
   pub limited : ¬ IsFinished game → (limit ≤ length game.moves) ⊎ ¬ HasRoom game → over ≡ 2

@@ -47,7 +47,7 @@ sentence cause.BadCommand = codes "The number is no command: it isn't from 1 to 
 sentence cause.BadId = codes "The id is negative, and not -1, which is none."
 sentence cause.Down = codes "The side was not started or went down, or the match is over."
 sentence cause.IsOver = codes "The match is over."
-sentence cause.BadReason = codes "The reason isn't 1 to 20 letters and spaces, or it is that of a forfeit."
+sentence cause.BadReason = codes "The reason isn't 1 to 20 letters (a-z, A-Z) and spaces, or it is that of a forfeit."
 
 -- what is said of a number: that it was done, what a cause means, or that the number is none
 abbrev pub SaysDone : ℕ → List ℕ → Type 0

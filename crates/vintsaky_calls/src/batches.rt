@@ -80,7 +80,7 @@ pub fn restart(game: &mut Game, limit: u32) -> Told
     Told { over, half_points }
 }
 
-/// Whether a game is over: 1 after two passes, 2 where it has so many moves or is full, and else 0.
+/// Whether a game is over: 1 after two passes, 2 where it has so many moves or more, or is full, and else 0.
 fn over_of(game: &Game, limit: u32) -> u8
     ensures { TellsOver game.now limit result }
 {

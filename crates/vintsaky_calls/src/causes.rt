@@ -79,7 +79,7 @@ pub enum Cause {
     Down,
     /// The match is over.
     IsOver,
-    /// The reason isn't 1 to 20 letters and spaces, or it is that of a forfeit.
+    /// The reason isn't 1 to 20 letters (a-z, A-Z) and spaces, or it is that of a forfeit.
     BadReason,
 }
 

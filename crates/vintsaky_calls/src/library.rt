@@ -77,6 +77,6 @@ fn sentence(cause: Cause) -> &'static [u8]
         Cause::Down => b"The side was not started or went down, or the match is over.",
         Cause::IsOver => b"The match is over.",
         Cause::BadReason =>
-            b"The reason isn't 1 to 20 letters and spaces, or it is that of a forfeit.",
+            b"The reason isn't 1 to 20 letters (a-z, A-Z) and spaces, or it is that of a forfeit.",
     }
 }

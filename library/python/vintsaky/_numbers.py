@@ -43,7 +43,7 @@ class Cause(Told):
     BAD_ID: The id is negative, and not -1, which is none.
     DOWN: The side was not started or went down, or the match is over.
     IS_OVER: The match is over.
-    BAD_REASON: The reason isn't 1 to 20 letters and spaces, or it is that of a forfeit.
+    BAD_REASON: The reason isn't 1 to 20 letters (a-z, A-Z) and spaces, or it is that of a forfeit.
     """
 
     DONE = 0

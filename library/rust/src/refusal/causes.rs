@@ -36,5 +36,5 @@ causes! {
     BadId = 33 "The id is more than 2,147,483,647.",
     Down = 34 "The side was not started or went down, or the match is over.",
     IsOver = 35 "The match is over.",
-    BadReason = 36 "The reason isn't 1 to 20 letters and spaces, or it is that of a forfeit.",
+    BadReason = 36 "The reason isn't 1 to 20 letters (a-z, A-Z) and spaces, or it is that of a forfeit.",
 }
