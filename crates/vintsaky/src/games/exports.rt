@@ -4,7 +4,7 @@
 //! is the index of its point, as `vintsaky_game_index` finds it, or the number of points of the board for a pass.
 ghost use Rattle.std.specs.Prelude.{◌≡◌, ℕ};
 ghost use Rattle.std.specs.Float.{Float, float_zero, float_one};
-ghost use Rattle.vintsaky.specs.Games.{games_of};
+ghost use Rattle.vintsaky.specs.Games.{games_of, places_of};
 ghost use Rattle.vintsaky_calls.specs.Batches.{PlayGamesCall, RestartGamesCall, ShowGamesCall, RolloutGamesCall};
 ghost use Rattle.vintsaky_calls.specs.Codes.{Returns};
 ghost use Rattle.vintsaky_calls.specs.declared.batches.Shown.TheVariants.{Planes, Mask};
@@ -30,6 +30,7 @@ pub extern "C" fn vintsaky_games_play(
 ) -> u32
     ensures call { Returns result (PlayGamesCall (games_of games.old) (games_of games.new) moves.now
         causes.old causes.new) }
+    ensures handles { places_of games.new ≡ places_of games.old }
 {
     code_of(each::play(games, moves, causes))
 }
@@ -50,6 +51,7 @@ pub extern "C" fn vintsaky_games_restart(
 ) -> u32
     ensures call { Returns result (RestartGamesCall limit (games_of games.old) (games_of games.new)
         over.old over.new half_points.old half_points.new) }
+    ensures handles { places_of games.new ≡ places_of games.old }
 {
     code_of(each::restart(games, limit, over, half_points))
 }
@@ -71,6 +73,7 @@ pub extern "C" fn vintsaky_games_planes(
     ensures call { Returns result (ShowGamesCall {A = ℕ} 0 1 (Planes earlier) (games_of games.old)
         bytes.old bytes.new) }
     ensures objects { games_of games.new ≡ games_of games.old }
+    ensures handles { places_of games.new ≡ places_of games.old }
 {
     code_of(each::show(Shown::Planes(earlier), games, 0, 1, bytes))
 }
@@ -89,6 +92,7 @@ pub extern "C" fn vintsaky_games_planes_f32(
     ensures call { Returns result (ShowGamesCall {A = Float} float_zero float_one (Planes earlier)
         (games_of games.old) floats.old floats.new) }
     ensures objects { games_of games.new ≡ games_of games.old }
+    ensures handles { places_of games.new ≡ places_of games.old }
 {
     code_of(each::show(Shown::Planes(earlier), games, 0.0, 1.0, floats))
 }
@@ -105,6 +109,7 @@ pub extern "C" fn vintsaky_games_masks(games: &mut [GameHandle], bytes: &mut [u8
     ensures call { Returns result (ShowGamesCall {A = ℕ} 0 1 Mask (games_of games.old)
         bytes.old bytes.new) }
     ensures objects { games_of games.new ≡ games_of games.old }
+    ensures handles { places_of games.new ≡ places_of games.old }
 {
     code_of(each::show(Shown::Mask, games, 0, 1, bytes))
 }
@@ -119,6 +124,7 @@ pub extern "C" fn vintsaky_games_masks_f32(games: &mut [GameHandle], floats: &mu
     ensures call { Returns result (ShowGamesCall {A = Float} float_zero float_one Mask
         (games_of games.old) floats.old floats.new) }
     ensures objects { games_of games.new ≡ games_of games.old }
+    ensures handles { places_of games.new ≡ places_of games.old }
 {
     code_of(each::show(Shown::Mask, games, 0.0, 1.0, floats))
 }
@@ -139,6 +145,7 @@ pub extern "C" fn vintsaky_games_rollouts(
     ensures call { Returns result (RolloutGamesCall limit (games_of games.old) seeds.now
         half_points.old half_points.new) }
     ensures objects { games_of games.new ≡ games_of games.old }
+    ensures handles { places_of games.new ≡ places_of games.old }
 {
     code_of(each::rollouts(games, seeds, limit, half_points))
 }
