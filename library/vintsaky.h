@@ -416,7 +416,7 @@ uint32_t vintsaky_games_restart(vintsaky_game *games, size_t games_length, uint3
  * Causes: VINTSAKY_NO_ROOM where the planes of all games have more bytes. A game of size n has 2 * n * n for each board. */
 uint32_t vintsaky_games_planes(vintsaky_game *games, size_t games_length, uint32_t earlier, uint8_t *bytes, size_t bytes_room);
 
-/* Writes the same planes as numbers of 32 bits with a point: 1.0 and 0.0.
+/* Writes the same planes as floating-point numbers of 32 bits: 1.0 and 0.0.
  * Causes: As those of vintsaky_games_planes. */
 uint32_t vintsaky_games_planes_f32(vintsaky_game *games, size_t games_length, uint32_t earlier, float *floats, size_t floats_room);
 
@@ -426,7 +426,7 @@ uint32_t vintsaky_games_planes_f32(vintsaky_game *games, size_t games_length, ui
  * Causes: VINTSAKY_NO_ROOM where the masks of all games have more bytes. A game of size n has n * n + 1. */
 uint32_t vintsaky_games_masks(vintsaky_game *games, size_t games_length, uint8_t *bytes, size_t bytes_room);
 
-/* Writes the same masks as numbers of 32 bits with a point: 1.0 and 0.0.
+/* Writes the same masks as floating-point numbers of 32 bits: 1.0 and 0.0.
  * Causes: As those of vintsaky_games_masks. */
 uint32_t vintsaky_games_masks_f32(vintsaky_game *games, size_t games_length, float *floats, size_t floats_room);
 

@@ -28,6 +28,7 @@ TOP = running.TOP
 HEADER = (TOP / "library/vintsaky.h").read_text()
 LIBRARIES = (ARCHIVE, SHARED)
 EACH_CALL = "tests/shared/each_call.c"
+OF_EACH_CALL = (EACH_CALL, "tests/shared/each_call_games.h")  # what is compiled of it
 COMPILERS = ("gcc -std=c99", "clang -std=c99", "g++ -x c++", "clang++ -x c++")
 ASKED = ["memcpy", "memmove", "memset"]  # what a proved library asks for
 OF_C = r"(libc|libgcc_s|libm|ld-linux[a-z0-9_-]*)\.so\.[0-9]+"  # the libraries of C and of the compiler
@@ -65,7 +66,7 @@ class Compilers(checks.Case):
 
     def test_calls(self):
         """tests/shared/each_call.c makes each call."""
-        made = calls_in((TOP / EACH_CALL).read_text().replace("_new(", "_place("))
+        made = calls_in("".join((TOP / file).read_text() for file in OF_EACH_CALL).replace("_new(", "_place("))
         self.same([], sorted(declared() - made))
 
     def row(self, compiler):

@@ -2,8 +2,9 @@
 """Calls the library from C: drawn calls, threads, the two examples in whole games, and matches beside those of twogtp.
 
 The drawn calls have arguments inside and outside their limits, on objects and buffers between pages that can't be touched
-(of_library_in_c/ beside it). The same comes under valgrind and in eight threads. Calls over many games do what single calls do. The engine of the examples plays whole games under
-twogtp in which it is killed, and stands beside the plain reference. The example of a match has twogtp's lines in drawn matches.
+(of_library_in_c/ beside it). The same comes under valgrind and in eight threads. Calls over many games do what single calls do. Wrong
+copies of calls are noticed. The engine of the examples plays whole games under twogtp in which it is killed, and stands beside the plain
+reference. The example of a match has twogtp's lines in drawn matches.
 
 It takes some seconds: 10^5 drawn calls a seed, 2 * 10^4 under valgrind; with --long some minutes: 10^7, and 10^5 under valgrind.
 It needs cc, the programs and libvintsaky.a in bin/; what isn't there is skipped.
@@ -12,7 +13,6 @@ import os
 import re
 import shutil
 import sys
-import tempfile
 from functools import lru_cache
 from pathlib import Path
 from typing import NamedTuple
@@ -22,53 +22,19 @@ sys.dont_write_bytecode = True
 sys.path[0] = str(Path(__file__).resolve().parents[2])
 
 from tests.shared import checks, library, running  # noqa: E402
-from tests.shared.library import ARCHIVE, SHARED, TOP, most_lines, twogtp  # noqa: E402
+from tests.shared.library import SHARED, TOP, most_lines, twogtp  # noqa: E402
+from tests.stages.of_library_in_c.copies import Wrong, WrongBatches  # noqa: E402, F401
+from tests.stages.of_library_in_c.making import AT_ONCE, LIMIT, ROOM, Calls, Needing, linked, made, said  # noqa: E402
 
 PARSER = checks.Parser(__doc__)
 PARSER.add_argument("--long", action="store_true", help="some minutes, with many more calls")
 OPTIONS = PARSER.options(__name__)
 CALLS, SLOW_CALLS, THREADED, CONVERSATIONS = (10**7, 10**5, 200_000, 20) if OPTIONS.long else (10**5, 20_000, 20_000, 2)
-AT_ONCE = 2  # programs and matches that run at a time
-LIMIT = 3600  # seconds that drawn calls may take
-
-SOURCES = TOP / "tests/stages/of_library_in_c"
-FOLDER = tempfile.TemporaryDirectory()  # in which all is compiled
-ROOM = Path(FOLDER.name).resolve()
-C99 = ("-std=c99", "-O1", "-g", *library.WARN, f"-I{TOP}/library")
-OBJECTS = ("causes", "drive", "guard", "inputs", "numbers", "world")
 EXAMPLES = (*library.EXAMPLES, "uct_engine")
 ENGINE, MATCH, UCT = (ROOM / name for name in EXAMPLES)
 
 
-def said(words, **how):
-    """What a command writes, and its status where that isn't 0, without the digest of drawn calls."""
-    return re.sub(", digest .*", "", library.said(words, limit=LIMIT, **how)).rstrip("\n")
-
-
-class Needing(library.Needing):
-    """Checks that are skipped where a program, the archive or the compiler isn't there."""
-
-    FILES, TOOLS = (ARCHIVE, TOP / "bin/twogtp", TOP / "bin/gtp_engine"), ("cc",)
-
-
 # ---- drawn calls
-
-
-@lru_cache(maxsize=None)
-def made(name, *flags):
-    """Compiles the programs of the drawn calls in the folder of this name. What the compiler says."""
-    folder = ROOM / name
-    folder.mkdir()
-    for file in SOURCES.glob("*.[ch]"):
-        shutil.copy(file, folder)
-    told = library.cc(["cc", *C99, *flags, "-c", *sorted(it.name for it in folder.glob("*.c"))], ROOM, cwd=folder, limit=LIMIT)
-    return told + "".join(linked(folder, program, "calls", program, ARCHIVE, *flags) for program in ("draw", "stack", "batches"))
-
-
-def linked(folder, main, calls, program, archive, *flags):
-    """Links a program of what was compiled there. What the linker says."""
-    objects = [folder / f"{name}.o" for name in (main, calls, *OBJECTS)]
-    return library.cc(["cc", *flags, "-o", folder / program, *objects, archive, "-lpthread"], ROOM)
 
 
 @lru_cache(maxsize=None)
@@ -85,15 +51,6 @@ class Compiled(Needing):
     def test_compiled(self):
         """the drawn calls are C99."""
         self.same("", made("right") + made("plain", "-DPLAIN"))
-
-
-class Calls(Needing):
-    """Checks that make drawn calls."""
-
-    @classmethod
-    def setUpClass(cls):
-        super().setUpClass()
-        made("right")
 
 
 @checks.table((1, 2, 3), lambda seed: f"{CALLS} drawn calls with seed {seed} touch nothing but what is theirs", drawn, AT_ONCE)
@@ -130,55 +87,6 @@ class Batches(Calls):
 
     def row(self, seed):
         self.same(f"{CALLS // 10} calls", said([ROOM / "right/batches", seed, CALLS // 10]))
-
-
-# ---- wrong copies of one call each, as the heads in wrong.h and in wrong_batches.h name them
-
-
-def copies(file):
-    """The wrong copies of a file: the number of each, and what it does. Each number has to be there."""
-    text = (SOURCES / file).read_text()
-    found = re.findall(r"^#.*WRONG == ([0-9]+) /\* (.*) \*/$", text, re.MULTILINE)
-    assert [number for number, _ in found] == [str(number + 1) for number in range(text.count("WRONG =="))], file
-    return found
-
-
-WRONG, WRONG_BATCHES = copies("wrong.h"), copies("wrong_batches.h")
-
-
-def noticed(row):
-    """What is said first of the drawn calls of a wrong copy."""
-    number, what = row
-    folder, made_of = ROOM / "right", f"wrong{number}"
-    told = library.cc(["cc", *C99, f"-DWRONG={number}", "-c", "-o", f"{made_of}.o", "calls.c"], ROOM, cwd=folder)
-    told += linked(folder, "draw", made_of, made_of, ARCHIVE)
-    words = ("--threads", 1, 20_000) if what.startswith("threads:") else (1, 100_000)
-    return (told or said([folder / made_of, *words])).partition("\n")[0]
-
-
-def noticed_batch(row):
-    """What is said first of the drawn calls of a wrong copy of a call over many games."""
-    folder, made_of = ROOM / "right", f"wrong_batches{row[0]}"
-    told = library.cc(["cc", *C99, f"-DWRONG={row[0]}", "-c", "-o", f"{made_of}.o", "batches.c"], ROOM, cwd=folder)
-    told += linked(folder, made_of, "calls", made_of, ARCHIVE)
-    return (told or said([folder / made_of, 1, 10_000])).partition("\n")[0]
-
-
-class OfCopies(Calls):
-    """Wrong copies."""
-
-    def row(self, row, came):
-        self.same(f"FAILED: {row[1].partition(':')[0]}", re.sub(r"^(FAILED: [a-z_0-9]*):.*", r"\1", came))
-
-
-@checks.table(WRONG, lambda row: f"noticed: {row[1]}", noticed, AT_ONCE)
-class Wrong(OfCopies):
-    """Wrong copies of calls."""
-
-
-@checks.table(WRONG_BATCHES, lambda row: f"noticed: {row[1]}", noticed_batch, AT_ONCE)
-class WrongBatches(OfCopies):
-    """Wrong copies of calls over many games."""
 
 
 # ---- under valgrind and sanitizers, in threads, and what they take of the stack

@@ -8,11 +8,12 @@ use Rattle.std.proofs.lemmas.List.Sums.{sum_by_more, sum_by-take-le}
 use Rattle.std.proofs.lemmas.Slice.{take-put_mid, drop-put_mid}
 use Rattle.std.specs.List.{sum_by}
 use borrow.Rule.Slice.PartMut.{put_mid}
+use denote.RawPtr.{Ptr}
 use Rattle.vintsaky.specs.declared.game.handle.GameHandle.{GameHandle}
 use Rattle.std.proofs.Math.ListN.{set}
 use Rattle.go_board.specs.Game.{GameRecord}
 use Rattle.vintsaky_calls.specs.Batches.{EachGame, none, next, InTurn, no_game, first, Overwrites}
-use Rattle.vintsaky.specs.Games.{games_of}
+use Rattle.vintsaky.specs.Games.{games_of, places_of}
 
 -- one game more
 each_push : {A B : Type 0} {P : GameRecord → A → GameRecord → B → Type 0} {old new : List GameRecord} {xs : List A}
@@ -148,6 +149,15 @@ same_games handles games place d h below are is =
     map-set (λ h. h.value) handles place h
     ∙ ap (set (games_of handles) place) (is ∙ sym (get_or-map (λ h. h.value) handles place d d.value below))
     ∙ set-get_or (games_of handles) place d.value ∙ are
+
+-- a handle of the same memory leaves the memory of all handles as it was
+pub same_places : (handles : List GameHandle) (places : List Ptr) (place : ℕ) (d h : GameHandle)
+    → place < length handles → places_of handles ≡ places → h.at ≡ (get_or handles place d).at
+    → places_of (set handles place h) ≡ places
+same_places handles places place d h below are is =
+    map-set (λ h. h.at) handles place h
+    ∙ ap (set (places_of handles) place) (is ∙ sym (get_or-map (λ h. h.at) handles place d d.at below))
+    ∙ set-get_or (places_of handles) place d.at ∙ are
 
 -- ---- values of each game, one after the other
 

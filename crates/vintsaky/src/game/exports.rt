@@ -62,8 +62,8 @@ pub extern "C" fn vintsaky_game_handicap(game: &mut GameHandle) -> u32
     game.lend().handicap()
 }
 
-/// The number of the colour whose turn it is: the other one than that of the last move. Without a move that is Black, or
-/// White where handicap stones were placed.
+/// The number of the colour whose turn it is: the other one than that of the last move. Without a move that is Black,
+/// or White where handicap stones were placed.
 #[unsafe(no_mangle)]
 pub extern "C" fn vintsaky_game_turn(game: &mut GameHandle) -> u32
     ensures call { HasTurn game.old.value result }

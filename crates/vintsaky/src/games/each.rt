@@ -1,9 +1,9 @@
 //! The calls over many games, game by game.
 ghost use Rattle.std.specs.Prelude.{◌≡◌, ◌≤◌, ◌↔◌, IsTrue, length};
 ghost use Rattle.std.specs.List.{sum_by};
-ghost use Rattle.vintsaky.specs.Games.{games_of};
-ghost use Rattle.vintsaky_calls.specs.Batches.{PlayGamesCall, RestartGamesCall, ShowGamesCall, ShowsEach, RolloutGamesCall};
-ghost use Rattle.vintsaky_calls.specs.Batches.{shown_count};
+ghost use Rattle.vintsaky.specs.Games.{games_of, places_of};
+ghost use Rattle.vintsaky_calls.specs.Batches.{PlayGamesCall, RestartGamesCall, ShowGamesCall};
+ghost use Rattle.vintsaky_calls.specs.Batches.{RolloutGamesCall, ShowsEach, shown_count};
 
 use crate::game::handle::GameHandle;
 use vintsaky_calls::Cause;
@@ -11,8 +11,9 @@ use vintsaky_calls::batches::{self, Shown};
 
 /// What `vintsaky_games_play` does.
 pub(crate) fn play(games: &mut [GameHandle], moves: &[u32], causes: &mut [u8]) -> Result<(), Cause>
-    ensures { PlayGamesCall (games_of games.old) (games_of games.new) moves.now
+    ensures call { PlayGamesCall (games_of games.old) (games_of games.new) moves.now
         causes.old causes.new result }
+    ensures handles { places_of games.new ≡ places_of games.old }
 {
     let count = games.len();
     if moves.len() < count || causes.len() < count {
@@ -31,8 +32,9 @@ pub(crate) fn restart(
     over: &mut [u8],
     half_points: &mut [i32],
 ) -> Result<(), Cause>
-    ensures { RestartGamesCall limit (games_of games.old) (games_of games.new) over.old over.new
-        half_points.old half_points.new result }
+    ensures call { RestartGamesCall limit (games_of games.old) (games_of games.new) over.old
+        over.new half_points.old half_points.new result }
+    ensures handles { places_of games.new ≡ places_of games.old }
 {
     let count = games.len();
     if over.len() < count || half_points.len() < count {
@@ -56,6 +58,7 @@ pub(crate) fn show<T: Copy>(
 ) -> Result<(), Cause>
     ensures call { ShowGamesCall zero one shown (games_of games.old) values.old values.new result }
     ensures objects { games_of games.new ≡ games_of games.old }
+    ensures handles { places_of games.new ≡ places_of games.old }
 {
     if !is_room(shown, games, values.len()) {
         return Err(Cause::NoRoom);
@@ -68,6 +71,7 @@ pub(crate) fn show<T: Copy>(
 fn is_room(shown: Shown, games: &mut [GameHandle], room: usize) -> bool
     ensures enough { IsTrue result ↔ (sum_by (shown_count shown) (games_of games.old) ≤ room) }
     ensures objects { games_of games.new ≡ games_of games.old }
+    ensures handles { places_of games.new ≡ places_of games.old }
 {
     let mut left = room;
     for place in 0..games.len() {
@@ -85,6 +89,7 @@ fn show_each<T: Copy>(shown: Shown, games: &mut [GameHandle], zero: T, one: T, v
     requires { sum_by (shown_count shown) (games_of games.old) ≤ length values.old }
     ensures shows { ShowsEach zero one shown (games_of games.old) values.old values.new }
     ensures objects { games_of games.new ≡ games_of games.old }
+    ensures handles { places_of games.new ≡ places_of games.old }
 {
     let mut at = 0;
     for place in 0..games.len() {
@@ -105,6 +110,7 @@ pub(crate) fn rollouts(
     ensures call { RolloutGamesCall limit (games_of games.old) seeds.now
         half_points.old half_points.new result }
     ensures objects { games_of games.new ≡ games_of games.old }
+    ensures handles { places_of games.new ≡ places_of games.old }
 {
     let count = games.len();
     if seeds.len() < count || half_points.len() < count {

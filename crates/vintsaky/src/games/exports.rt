@@ -4,7 +4,7 @@
 //! is the index of its point, as `vintsaky_game_index` finds it, or the number of points of the board for a pass.
 ghost use Rattle.std.specs.Prelude.{◌≡◌, ℕ};
 ghost use Rattle.std.specs.Float.{Float, float_zero, float_one};
-ghost use Rattle.vintsaky.specs.Games.{games_of};
+ghost use Rattle.vintsaky.specs.Games.{games_of, places_of};
 ghost use Rattle.vintsaky_calls.specs.Batches.{PlayGamesCall, RestartGamesCall, ShowGamesCall, RolloutGamesCall};
 ghost use Rattle.vintsaky_calls.specs.Codes.{Returns};
 ghost use Rattle.vintsaky_calls.specs.declared.batches.Shown.TheVariants.{Planes, Mask};
@@ -14,10 +14,10 @@ use crate::games::each;
 use vintsaky_calls::batches::Shown;
 use vintsaky_calls::code_of;
 
-/// Each game makes the move of its number for the colour whose turn it is, which `vintsaky_game_turn` returns. The number
-/// of a move is the index of its point, or how many points the board has for a pass. For each game a byte is written: 0,
-/// or the cause for which that game alone refuses the move and stays as it was. That is `OffBoard` of a number that is
-/// higher, and else the one that `vintsaky_game_play` returns.
+/// Each game makes the move of its number for the colour whose turn it is, which `vintsaky_game_turn` returns. The
+/// number of a move is the index of its point, or how many points the board has for a pass. For each game a byte is
+/// written: 0, or the cause for which that game alone refuses the move and stays as it was. That is `OffBoard` of a
+/// number that is higher, and else the one that `vintsaky_game_play` returns.
 ///
 /// # Errors
 ///
@@ -30,6 +30,7 @@ pub extern "C" fn vintsaky_games_play(
 ) -> u32
     ensures call { Returns result (PlayGamesCall (games_of games.old) (games_of games.new) moves.now
         causes.old causes.new) }
+    ensures handles { places_of games.new ≡ places_of games.old }
 {
     code_of(each::play(games, moves, causes))
 }
@@ -50,14 +51,15 @@ pub extern "C" fn vintsaky_games_restart(
 ) -> u32
     ensures call { Returns result (RestartGamesCall limit (games_of games.old) (games_of games.new)
         over.old over.new half_points.old half_points.new) }
+    ensures handles { places_of games.new ≡ places_of games.old }
 {
     code_of(each::restart(games, limit, over, half_points))
 }
 
 /// Writes the planes of each game, one game's after the other's. A plane is a byte for each point of the board, in its
-/// order: 1 where a stone of one colour is, and else 0. First come the stones of the colour whose turn it is, then those
-/// of the other one; then both again of the board one move earlier, and so on, as many moves as `earlier` says. Where a
-/// game has fewer moves, these planes have 0 alone.
+/// order: 1 where a stone of one colour is, and else 0. First come the stones of the colour whose turn it is, then
+/// those of the other one; then both again of the board one move earlier, and so on, as many moves as `earlier` says.
+/// Where a game has fewer moves, these planes have 0 alone.
 ///
 /// # Errors
 ///
@@ -71,11 +73,12 @@ pub extern "C" fn vintsaky_games_planes(
     ensures call { Returns result (ShowGamesCall {A = ℕ} 0 1 (Planes earlier) (games_of games.old)
         bytes.old bytes.new) }
     ensures objects { games_of games.new ≡ games_of games.old }
+    ensures handles { places_of games.new ≡ places_of games.old }
 {
     code_of(each::show(Shown::Planes(earlier), games, 0, 1, bytes))
 }
 
-/// Writes the same planes as numbers of 32 bits with a point: 1.0 and 0.0.
+/// Writes the same planes as floating-point numbers of 32 bits: 1.0 and 0.0.
 ///
 /// # Errors
 ///
@@ -89,13 +92,14 @@ pub extern "C" fn vintsaky_games_planes_f32(
     ensures call { Returns result (ShowGamesCall {A = Float} float_zero float_one (Planes earlier)
         (games_of games.old) floats.old floats.new) }
     ensures objects { games_of games.new ≡ games_of games.old }
+    ensures handles { places_of games.new ≡ places_of games.old }
 {
     code_of(each::show(Shown::Planes(earlier), games, 0.0, 1.0, floats))
 }
 
-/// Writes a mask of each game, one game's after the other's. It has a byte for the move of each number: 1 where the colour
-/// whose turn it is may make it, and else 0. The last one is a pass, which is always 1. The number of moves doesn't count,
-/// though a full record takes no more.
+/// Writes a mask of each game, one game's after the other's. It has a byte for the move of each number: 1 where the
+/// colour whose turn it is may make it, and else 0. The last one is a pass, which is always 1. The number of moves
+/// doesn't count, though a full record takes no more.
 ///
 /// # Errors
 ///
@@ -105,11 +109,12 @@ pub extern "C" fn vintsaky_games_masks(games: &mut [GameHandle], bytes: &mut [u8
     ensures call { Returns result (ShowGamesCall {A = ℕ} 0 1 Mask (games_of games.old)
         bytes.old bytes.new) }
     ensures objects { games_of games.new ≡ games_of games.old }
+    ensures handles { places_of games.new ≡ places_of games.old }
 {
     code_of(each::show(Shown::Mask, games, 0, 1, bytes))
 }
 
-/// Writes the same masks as numbers of 32 bits with a point: 1.0 and 0.0.
+/// Writes the same masks as floating-point numbers of 32 bits: 1.0 and 0.0.
 ///
 /// # Errors
 ///
@@ -119,12 +124,13 @@ pub extern "C" fn vintsaky_games_masks_f32(games: &mut [GameHandle], floats: &mu
     ensures call { Returns result (ShowGamesCall {A = Float} float_zero float_one Mask
         (games_of games.old) floats.old floats.new) }
     ensures objects { games_of games.new ≡ games_of games.old }
+    ensures handles { places_of games.new ≡ places_of games.old }
 {
     code_of(each::show(Shown::Mask, games, 0.0, 1.0, floats))
 }
 
-/// Writes the score of a rollout of each game, in half points, as `vintsaky_game_rollout` writes it. Each game has its own
-/// seed, and the colour whose turn it is begins.
+/// Writes the score of a rollout of each game, in half points, as `vintsaky_game_rollout` writes it. Each game has its
+/// own seed, and the colour whose turn it is begins.
 ///
 /// # Errors
 ///
@@ -139,6 +145,7 @@ pub extern "C" fn vintsaky_games_rollouts(
     ensures call { Returns result (RolloutGamesCall limit (games_of games.old) seeds.now
         half_points.old half_points.new) }
     ensures objects { games_of games.new ≡ games_of games.old }
+    ensures handles { places_of games.new ≡ places_of games.old }
 {
     code_of(each::rollouts(games, seeds, limit, half_points))
 }

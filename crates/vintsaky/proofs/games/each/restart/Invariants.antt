@@ -1,10 +1,12 @@
+use Rattle.std.proofs.Common.{◌≡◌}
 use Rattle.vintsaky_calls.specs.Batches.{Restarts}
-use Rattle.vintsaky.specs.Games.{games_of}
+use Rattle.vintsaky.specs.Games.{games_of, places_of}
 use Rattle.vintsaky.proofs.ManyGames.{AreDone}
 use Rattle.vintsaky.proofs.games.each.restart.Given as goal
 
--- the games before this place were looked at, and what is told of them is written
+-- the handles keep their memory; the games before this place were looked at, and what is told of them is written
 abbrev pub invariant-loop-place : goal.invariant-loop-place
 invariant-loop-place l =
-    AreDone (Restarts l.limit) l.place (games_of l.initial.games) (games_of l.games) l.initial.over l.over
+    (places_of l.games ≡ places_of l.initial.games)
+    × AreDone (Restarts l.limit) l.place (games_of l.initial.games) (games_of l.games) l.initial.over l.over
     l.initial.half_points l.half_points
