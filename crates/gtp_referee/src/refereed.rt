@@ -91,7 +91,7 @@ impl RefereedMatch {
         }
     }
 
-    /// What is to be done next. None after a ruling: nothing then.
+    /// What is to be done next. After a ruling there is nothing to do, and none is returned.
     pub fn next(&self) -> Option<Action>
         ensures { result ≡ next self.now }
     {
