@@ -63,7 +63,7 @@ def handle_of(kind):
 def slice_of(name, kind, is_written):
     """The two arguments of a slice."""
     length = Argument(f"{name}_length", *NUMBERS["usize"])
-    if handle_of(kind):
+    if handle_of(kind) and is_written:  # each handle is lent, so it may change
         return [Argument(name, f"vintsaky_{handle_of(kind)} *", f"POINTER({kind})"), length]
     if is_written:
         byte = ("uint8_t", "c_uint8") if name in OF_BYTES else ("char", "c_char")
