@@ -3,7 +3,8 @@
 
 Observations are planes, as `Games.planes_into` writes them, and actions are numbers of moves. `infos["action_mask"]`
 says which may be made, and `infos["refused"]` why one was not: that game stays. A game that is over begins anew in the
-same step. The reward is that of the side that has just moved: 1 where it won, -1 where it lost, else 0.
+same step, and how it looked at its end isn't shown. The reward is that of the side that has just moved: 1 where it won,
+-1 where it lost, else 0.
 
 Arrays are numpy's where it is there, and else memoryviews. Each step writes them anew: copy what is to be kept.
 
@@ -31,6 +32,7 @@ def found(name: str) -> Any:
 numpy, spaces, vector = found("numpy"), found("gymnasium.spaces"), found("gymnasium.vector")
 VectorEnv: Any = vector.VectorEnv if vector else object
 batch_space: Any = found("gymnasium.vector.utils").batch_space if vector else None
+same_step: Any = vector.AutoresetMode.SAME_STEP if hasattr(vector, "AutoresetMode") else "SameStep"
 
 
 def shaped(room: Any, *shape: int) -> Any:
@@ -43,7 +45,7 @@ def shaped(room: Any, *shape: int) -> Any:
 class GoEnv(VectorEnv):  # type: ignore[misc]
     """So many games of Go, which both sides play by turns. A game with as many moves as the limit is truncated."""
 
-    metadata: Dict[str, Any] = {"render_modes": [], "autoreset_mode": "SameStep"}
+    metadata: Dict[str, Any] = {"render_modes": [], "autoreset_mode": same_step}
 
     def __init__(self, num_envs: int = 1, size: int = 9, komi: float = 7, earlier: int = 0, limit: int = 500) -> None:
         self.num_envs, self.earlier = num_envs, earlier

@@ -63,7 +63,6 @@ class Environment(unittest.TestCase):
     @unittest.skipUnless(HAS_SPACES, "there are no spaces")
     def test_the_stand_in_notices(self):
         class Wrong(GoEnv):
-            metadata = {"render_modes": [], "autoreset_mode": "SameStep"}
             turned = None
 
             def step(self, actions):
@@ -86,6 +85,8 @@ class Environment(unittest.TestCase):
             GoEnv(2, 3).step([4, 10])
         with self.assertRaises(AssertionError):
             type("NoSeed", (GoEnv,), {"reset": lambda self: None})
+        with self.assertRaises(AssertionError):
+            type("NoMode", (GoEnv,), {"metadata": {"render_modes": [], "autoreset_mode": "SameStep"}})
 
 
 if __name__ == "__main__":

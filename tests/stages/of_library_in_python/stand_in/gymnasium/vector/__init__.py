@@ -1,10 +1,19 @@
 """Environments of many games: each call of one is looked at, and an AssertionError says what is wrong with it."""
 import functools
 import inspect
+from enum import Enum
 
 from ..spaces import shape_of
 
 KEYWORD = inspect.Parameter.KEYWORD_ONLY
+
+
+class AutoresetMode(Enum):
+    """When a game that is over begins anew."""
+
+    NEXT_STEP = "NextStep"
+    SAME_STEP = "SameStep"
+    DISABLED = "Disabled"
 
 
 class VectorEnv:
@@ -17,7 +26,8 @@ class VectorEnv:
         for name in ("seed", "options"):
             assert name in named and named[name].kind is KEYWORD and named[name].default is None, f"reset has a keyword {name}, None if left out"
         assert list(inspect.signature(cls.step).parameters) == ["self", "actions"], "step has one argument, actions"
-        assert {"render_modes", "autoreset_mode"} <= set(cls.metadata), "metadata has render_modes and autoreset_mode"
+        assert "render_modes" in cls.metadata, "metadata has render_modes"
+        assert isinstance(cls.metadata.get("autoreset_mode"), AutoresetMode), "metadata has an autoreset_mode"
         cls.reset, cls.step = looked_at_reset(cls.reset), looked_at_step(cls.step)
 
 
