@@ -144,7 +144,8 @@ read_game handles games place d game below are is =
 
 -- a handle whose game stays leaves all games as they were
 pub same_games : (handles : List GameHandle) (games : List GameRecord) (place : ℕ) (d h : GameHandle)
-    → place < length handles → games_of handles ≡ games → h.value ≡ (get_or handles place d).value → games_of (set handles place h) ≡ games
+    → place < length handles → games_of handles ≡ games → h.value ≡ (get_or handles place d).value
+    → games_of (set handles place h) ≡ games
 same_games handles games place d h below are is =
     map-set (λ h. h.value) handles place h
     ∙ ap (set (games_of handles) place) (is ∙ sym (get_or-map (λ h. h.value) handles place d d.value below))

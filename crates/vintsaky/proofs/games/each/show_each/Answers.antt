@@ -1,7 +1,8 @@
 use Rattle.std.proofs.Common.{◌+◌, ◌<◌, ◌≤◌, length, take, ap, refl, rules, arith}
 use Rattle.std.proofs.lemmas.List.{length-map}
 use Rattle.vintsaky.specs.Games.{games_of}
-use Rattle.vintsaky.proofs.ManyGames.{in_games, read_game, same_games, same_places, shown_none, shown_more, ends_within, shown_all}
+use Rattle.vintsaky.proofs.ManyGames.{in_games, read_game, same_games, same_places}
+use Rattle.vintsaky.proofs.ManyGames.{shown_none, shown_more, shown_all, ends_within}
 use Rattle.vintsaky.proofs.games.each.show_each.Goals as goal
 
 pub loop-place-init : goal.loop-place-init
