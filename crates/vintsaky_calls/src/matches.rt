@@ -75,7 +75,12 @@ pub fn started(held: &mut RefereedMatch, side: u32) -> Result<(), Cause>
 }
 
 /// What `vintsaky_match_send` does.
-pub fn send(held: &mut RefereedMatch, side: u32, text: &mut [u8], count: &mut usize) -> Result<(), Cause>
+pub fn send(
+    held: &mut RefereedMatch,
+    side: u32,
+    text: &mut [u8],
+    count: &mut usize,
+) -> Result<(), Cause>
     ensures { SendCall side held.old held.new text.old text.new count.old count.new result }
 {
     let side = colour_of(side)?;
@@ -257,7 +262,12 @@ pub fn copy_game(held: &RefereedMatch, game: &mut Game)
 }
 
 /// What `vintsaky_match_result` does.
-pub fn result(held: &RefereedMatch, number: u32, text: &mut [u8], count: &mut usize) -> Result<(), Cause>
+pub fn result(
+    held: &RefereedMatch,
+    number: u32,
+    text: &mut [u8],
+    count: &mut usize,
+) -> Result<(), Cause>
     ensures { ResultCall held.now number text.old text.new count.old count.new result }
 {
     let line = result_line(number, held).ok_or(Cause::NotOver)?;

@@ -347,11 +347,7 @@ pub extern "C" fn vintsaky_match_record(held: &mut MatchHandle, text: &mut [u8])
 ///
 /// `BadColour`, or else `IsOver`, or else `BadReason`. The match stays as it was.
 #[unsafe(no_mangle)]
-pub extern "C" fn vintsaky_match_adjudicate(
-    held: &mut MatchHandle,
-    side: u32,
-    reason: &[u8],
-) -> u32
+pub extern "C" fn vintsaky_match_adjudicate(held: &mut MatchHandle, side: u32, reason: &[u8]) -> u32
     ensures call { Returns result (AdjudicateCall side reason.now held.old.value held.new.value) }
 {
     code_of(matches::adjudicate(held.lend(), side, reason))
