@@ -1,4 +1,4 @@
-"""The rows, most in the order of docs/losses.md. Beside each group it is said why it comes out so."""
+"""The rows, most in the order of docs/troubleshooting.md. Beside each group it is said why it comes out so."""
 import sys
 
 from .cases import (

@@ -197,10 +197,10 @@ class Limits(Case):
             self.check("late: the notes", wanted, notes[-2:])
             notes = [without_seconds(it) for it in notes_of(here, "1_one_two")[-5:-2]]
             self.check("late: the notes of its restarts", ["5 black late S: 8 genmove b", *["0 black stays ended"] * 2], notes)
-            page = (SCRIPTS.parent / "docs/losses.md").read_text().replace("4 genmove b", "8 genmove b")
+            page = (SCRIPTS.parent / "docs/troubleshooting.md").read_text().replace("4 genmove b", "8 genmove b")
             shown = [line for line in said.splitlines() if "8 genmove b" in line]
             shown[1] = shown[1].partition("twogtp: game 1: black: ")[2]
-            self.check("late: docs/losses.md has both lines", [True, True], [f"`{line}`" in page for line in shown])
+            self.check("late: docs/troubleshooting.md has both lines", [True, True], [f"`{line}`" in page for line in shown])
             self.check("late: so does the log", 2, said.count("between: black: it was late, and isn't started again\n"))
             self.check("late: the tally counts no restarts that started nothing", False, "restart" in here.run("tally", "all").output)
             self.check("late: the tally", ("", "0 abandoned, 2 late", "  one: late: 2"), self.tally(here))
