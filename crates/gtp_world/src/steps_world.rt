@@ -116,7 +116,7 @@ impl StepsWorld {
     pub fn running(&self, side: Side) -> Option<&Steps>
         ensures running { MatchOption result (engine_at self.now.world side ≡ None) (λ engine.
             engine_at self.now.world side ≡ Some engine.now) }
-        // If its side is in step, it is at the controller's game, under its own side's ko rule, and waits for nothing.
+        // If its side is in step, its game is the controller's, under its own side's ko rule, and it waits for nothing.
         ensures there { IfSome result (λ engine. IsThereAtOnce self.now side engine.now) }
         // So it holds the controller's size, komi, handicap, moves and board.
         ensures holds { IfSome result (λ engine.
