@@ -15,7 +15,7 @@ pub fn push<const ROOM: usize>(text: &mut ArrayVec<u8, ROOM>, bytes: &[u8])
     ensures bytes { text.new.items ≡ text.old.items ++ bytes.now }
     ensures len { array_vec_len text.new ≡ array_vec_len text.old + length bytes.now }
 {
-    // The capacity suffices, so all bytes are appended.
+    // There is room, so all is taken.
     let _ = text.try_extend_from_slice(bytes);
 }
 

@@ -102,8 +102,8 @@ pub fn equal_hashes()
     ensures sizes { EmptyBoardsHaveTheirOwnHash }
 {}
 
-/// Of as many consecutive words as a colour has candidates, exactly one chooses each candidate. So among all words of
-/// 64 bits, the numbers of those with which `Game::random_move` chooses two candidates differ by at most one.
+/// Of as many consecutive words as a colour has candidates, exactly one chooses each candidate. So over all words of 64
+/// bits, `Game::random_move` chooses any two candidates equally often, or one of them once more than the other.
 pub fn random_moves()
     ensures { CandidatesAreChosenEvenly }
 {}
