@@ -14,7 +14,7 @@ impl Choice {
     ghost use Rattle.std.specs.Prelude.{◌≡◌, IfSome, IfNone};
     ghost use Rattle.go_base.specs.Choice.{SpellsChoice, choice_of};
 
-    /// Reads a choice: `resign` in upper or lower case, or a vertex. Returns `None` for every other text.
+    /// Reads a choice: `resign` in any case, or a vertex. Returns `None` for every other text.
     pub fn read(text: &[u8]) -> Option<Choice>
         ensures read { IfSome result (λ choice. SpellsChoice choice text.now) }
         ensures unread { IfNone result ((choice : Choice) → SpellsChoice choice text.now → ⊥) }

@@ -18,7 +18,7 @@ pub type Side = Colour;
 impl Colour {
     ghost use Rattle.go_base.specs.Colour.{other, SpellsColour, colour_of, written_colour};
 
-    /// Reads a colour: `b` or `black`, `w` or `white`, in upper or lower case. Returns `None` for every other text.
+    /// Reads a colour: `b` or `black`, `w` or `white`, in any case. Returns `None` for every other text.
     pub fn read(text: &[u8]) -> Option<Colour>
         ensures read { IfSome result (λ colour. SpellsColour colour text.now) }
         ensures unread { IfNone result ((colour : Colour) → SpellsColour colour text.now → ⊥) }
@@ -54,7 +54,7 @@ impl Colour {
     }
 }
 
-/// Whether the text is one of two words, in upper or lower case.
+/// Whether the text is one of two words, in any case.
 fn is_either(text: &[u8], letter: &[u8], name: &[u8]) -> bool
     ensures { IsTrue result
         ↔ (IsWord (str_to_ascii_lowercase letter.now) text.now

@@ -22,8 +22,8 @@ impl Vertex {
     ghost use Rattle.go_base.specs.Vertex.{SpellsVertex, vertex_of};
 
     /// Reads a vertex: the letter of a column, `A` to `H` or `J` to `Z`, and a row, 1 to 25 without leading zeros; or
-    /// `pass`. The letters may be in upper or lower case. Returns `None` for every other text. The point may be off a
-    /// board that is smaller than the largest.
+    /// `pass`. Letters may be in any case. Returns `None` for every other text. The point may be off a board that is
+    /// smaller than the largest.
     pub fn read(text: &[u8]) -> Option<Vertex>
         ensures read { IfSome result (λ vertex. SpellsVertex vertex text.now) }
         ensures unread { IfNone result ((vertex : Vertex) → SpellsVertex vertex text.now → ⊥) }

@@ -35,8 +35,8 @@ pub fn texts_are_read()
     ensures { TextsAreRead }
 {}
 
-/// What the reader finds in a text are the lines of that text. All states in which it may be afterwards read any
-/// further text alike.
+/// What the reader finds in a text is the lines of that text. All states in which it may be afterwards read any further
+/// text alike.
 pub fn finds_agree()
     ensures { FindsAgree }
 {}
@@ -158,8 +158,8 @@ pub fn answers_have_shapes()
     ensures { AnswersHaveShapes }
 {}
 
-/// What a reply says: after `=` or `?`, digits that spell an integer are its id, and digits that don't belong to its
-/// text. The text is the rest without the spaces around it, up to the first two newlines in a row.
+/// What a reply says: after `=` or `?`, digits that spell an integer are its id, and digits that spell none are part of
+/// its text. The text is the rest without the spaces around it, up to the first two newlines in a row.
 pub fn replies_say()
     ensures { RepliesSay }
 {}

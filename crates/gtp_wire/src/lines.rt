@@ -88,8 +88,8 @@ fn kind_of(byte: u8) -> Kind
 
 /// Reads command lines from bytes in any chunks.
 ///
-/// Contracts see a reader as a text without a complete line. Followed by any further text, it reads as what the reader
-/// was fed since the last line does.
+/// Contracts see a reader as a text without a complete line. With any further text after it, it gives the same lines as
+/// what the reader was fed since the last line.
 #[derive(Debug, Drop)]
 pub struct LineReader {
     held: ArrayVec<u8, LINE_ROOM>,
@@ -128,9 +128,9 @@ impl LineReader {
         }
     }
 
-    /// Reads the next chunk up to the newline that ends the first line with a word, or all of it if there is none.
-    /// Returns how many bytes it used, and the line. It holds back no complete line, and uses no byte after that
-    /// newline.
+    /// Reads the next chunk up to and including the newline that ends the first line with a word, or all of it if there
+    /// is none. Returns how many bytes it used, and the line. It holds back no complete line, and uses no byte after
+    /// that newline.
     ///
     /// Lines without a word (blank lines and comments) are skipped. A line that is too long is reported at its newline.
     /// A line takes about 1 kB: `feed_into` writes it in place.

@@ -7,7 +7,7 @@ ghost use Rattle.std.specs.List.{list_all, list_any};
 use crate::words::first_word;
 use go_base::{Choice, Point, Vertex};
 
-/// Reads the choice in a reply's text, which must be one word: a vertex or `resign`, in upper or lower case.
+/// Reads the choice in a reply's text, which must be one word: a vertex or `resign`, in any case.
 ///
 /// Returns `None` if the text has no word or several, or if its word is neither.
 pub fn read_choice(text: &[u8]) -> Option<Choice>
