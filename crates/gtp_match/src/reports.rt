@@ -83,7 +83,7 @@ impl Report {
     }
 }
 
-/// What the bytes of a side show when they are processed once.
+/// What bytes of a side show, when they are processed up to one reply or fault.
 #[derive(Clone, Copy, Debug)]
 pub enum Finding {
     /// They complete the refusal of a `play` that is retaken. The move of its number was retaken this often, this time
@@ -93,7 +93,8 @@ pub enum Finding {
     Fails(LossCause),
 }
 
-/// What is reported of the bytes of a side when they are processed once, and what it hadn't answered then.
+/// What to report of bytes of a side that were processed up to one reply or fault, and what the side hadn't answered
+/// then.
 #[derive(Clone, Copy, Debug)]
 pub struct Notice {
     /// What they show.
