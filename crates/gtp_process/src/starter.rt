@@ -62,6 +62,10 @@ pub trait Starter {
     ghost asked: { Self → Attempts Self.Process };
 
     /// Starts the program that the first word names, with the other words as its arguments.
+    ///
+    /// # Errors
+    ///
+    /// `OutOfMemory` if there isn't enough memory, otherwise `NotStarted` with the reason.
     fn start(&mut self, words: &[&str]) -> Result<Self::Process, StartFault>
         ensures asked { Tries (asked self.old) (asked self.new) (program_line words.now) result };
 }

@@ -8,7 +8,7 @@ pub use go_base::Choice;
 use go_base::Colour;
 use go_board::Game;
 
-/// What chooses the moves of an engine.
+/// Chooses the moves of an engine.
 pub trait Policy: Drop {
     // When asked for a colour in a game, the first state may make this choice and leave the second state.
     ghost may: { Self → GameRecord → Colour → Choice → Self → Type 0 };

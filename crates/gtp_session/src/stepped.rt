@@ -74,7 +74,7 @@ impl<P: Policy> SteppedSession<P> {
     }
 }
 
-/// Does this with the sans-IO engine and the policy.
+/// Feeds the sans-IO engine, and lets the policy make the choice that it waits for, if any.
 fn feed_unset<P: Policy>(
     steps: &mut Steps,
     policy: &mut P,
