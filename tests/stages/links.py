@@ -125,10 +125,11 @@ class Wrong(checks.Case):
 
     def test_files(self):
         """a file or a directory that isn't there."""
-        right = "`docs/map.md` `./docs/` `crates/NAME/src/lib.rt` `src/lib.rt` `lib.rt` `crates/*/out` `rt/none` `3.5` `a.md b` docs/none.md\n"
-        self.check("files that are there", ["p: a.md"], names.lost_files("p", right))
-        for name in ("docs/none.md", "crates/none/", "crates/NAME/none.rt", "none.rt", "src/none.rt", "./tests/none"):
+        right = "`docs/map.md` `./docs/` `crates/NAME/src/lib.rt` `src/lib.rt` `lib.rt` `crates/*/out` `rt/none` `3.5` `./test` docs/none.md\n"
+        self.check("files that are there", [], names.lost_files("p", right))
+        for name in ("docs/none.md", "crates/none", "crates/NAME/none.rt", "none.rt", "src/none.rt", "tests/none"):
             self.check(f"the file {name}", [f"p: {name}"], names.lost_files("p", f"see `{name}`"))
+        self.check("a directory from here", ["p: tests/none"], names.lost_files("p", "see `./tests/none/`"))
 
     def test_pages(self):
         """a page or an anchor that another file names, and that isn't there."""
@@ -143,9 +144,9 @@ class Wrong(checks.Case):
 
     def test_names(self):
         """a name that no source has."""
-        right = "`Session::feed_into` `final_score` `vintsaky_game_new()` `_undo` `tests_NAME` `x()`\n\n```\nno_such_name\n```\n"
-        self.check("names that there are", ["p: x()"], names.lost_names("p", right.replace("x()", "x()")))
-        for name in ("no_such_name", "Session::no_such", "_no_such_end", "NoSuchType", "nosuch()"):
+        right = "`Session::feed_into` `final_score` `vintsaky_game_new()` `_undo` `tests_NAME` `word`\n\n```\nno_such_name\n```\n"
+        self.check("names that there are", [], names.lost_names("p", right))
+        for name in ("no_such_name", "Session::no_such_verb", "_no_such_end", "NoSuchType", "unheard_of()", "unheardof()"):
             self.check(f"the name {name}", [f"p: {name}"], names.lost_names("p", f"calls `{name}` of"))
 
     def test_spelling(self):
@@ -193,7 +194,7 @@ class Prose(checks.Case):
         self.said([(1, "one"), (3, "two")], texts.of_header, "/* one */ int no;\nno /*\n * two */ no\n")
         self.said([(1, "one"), (4, "two")], texts.of_docstrings,
                   '"""one."""\nno = "no"\ndef no():\n    """two\n\n    >>> no(no)\n    """\n')  # fmt: skip
-        self.said([(1, "one"), (2, "two")], texts.of_strings, 'A = "one"\nB = ["two"]  # no\n'.replace("A = ", "").replace("B = ", ""))
+        self.said([(1, "one"), (3, "two")], texts.of_strings, '"""one."""\nNO = """\\\n  two\n"""\n')
         self.said([(2, "one"), (3, "two")], texts.of_head, "#!/bin/bash\n# one\n# two\nno # no\n# no\n")
         self.said([(2, "one"), (4, "two")], texts.of_manual, ".Sh NO\n.Nd one\n.It no\ntwo\n")
 

@@ -74,6 +74,12 @@ def of_header(text: str) -> str:
     return pages.prose_of(inside)
 
 
+@lru_cache(maxsize=None)
+def parsed(text: str) -> ast.Module:
+    """A module in Python."""
+    return ast.parse(text)
+
+
 def documented(module: ast.Module | ast.ClassDef | ast.FunctionDef) -> list[ast.stmt]:
     """The docstrings of a module, a class or a function, and of the classes and functions in it."""
     own = module.body[:1] if ast.get_docstring(module) is not None else []
@@ -82,20 +88,19 @@ def documented(module: ast.Module | ast.ClassDef | ast.FunctionDef) -> list[ast.
 
 def of_docstrings(text: str) -> str:
     """What the docstrings of a module in Python say, but their examples."""
-    kept = [number for node in documented(ast.parse(text)) for number in range(node.lineno, (node.end_lineno or 0) + 1)]
+    kept = [number for node in documented(parsed(text)) for number in range(node.lineno, (node.end_lineno or 0) + 1)]
     return pages.prose_of(re.sub(r"^ *(?:>>>|\.\.\.) .*$", "", lines_kept(text, kept).replace('"""', "   "), flags=re.MULTILINE))
 
 
 def docstring_of(text: str) -> str:
     """The docstring of a module in Python."""
-    return ast.get_docstring(ast.parse(text)) or ""
+    return ast.get_docstring(parsed(text)) or ""
 
 
 def of_strings(text: str) -> str:
-    """What the strings of a module in Python say."""
-    strings = [node for node in ast.walk(ast.parse(text)) if isinstance(node, ast.Constant) and isinstance(node.value, str)]
-    kept = [number for node in strings for number in range(node.lineno, (node.end_lineno or 0) + 1)]
-    return pages.prose_of(lines_kept(text, kept))
+    """What the strings of several lines say of a module in Python."""
+    outside = r'(?:\A|""").*?(?:"""|\Z)'
+    return pages.prose_of(re.sub(outside, pages.blank, text, flags=re.DOTALL))
 
 
 def of_head(text: str) -> str:
