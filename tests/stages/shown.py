@@ -21,7 +21,9 @@ from tests.shared.running import TOP  # noqa: E402
 
 PROGRAMS = ["gtp_engine", "twogtp", "gtp_check"]
 # the pages whose examples need nothing but the programs, or name the full path of what else they need
-PAGES = ["README.md", "docs/check.md", "docs/protocol.md", "docs/controller.md", "docs/troubleshooting.md", "docs/tournaments.md"]
+PAGES = [
+    "README.md", "docs/check.md", "docs/protocol.md", "docs/matches.md", "docs/controller.md", "docs/troubleshooting.md", "docs/tournaments.md",
+]  # fmt: skip
 OTHERS = r"/usr/games/\w+"  # somebody else's programs
 # the pages that quote code, and the folders of which a source has it
 QUOTES = {
