@@ -10,7 +10,7 @@ use gtp_check_judge::CheckCommand;
 use std::alloc::{AllocError, Global};
 use std::marker::Model;
 
-/// A conversation that is made shorter: which commands are tried next, and the shortest conversation so far.
+/// Makes a conversation shorter: it says which commands to try next, and keeps the shortest conversation so far.
 ///
 /// ```text
 /// let mut reduction = Reduction::new(alloc, commands, limits)?;

@@ -141,8 +141,8 @@ impl<P: Process> Engine<P> {
         Ok(())
     }
 
-    /// Takes one reply of the engine at most. If it wrote something earlier, that is taken. Else the waiting lines are
-    /// sent, and the engine is read once. Returns what is wrong with it, if anything.
+    /// Takes at most one reply of the engine: from what it wrote earlier, if any of that is left. Otherwise it sends
+    /// the waiting lines, and reads the engine once. Returns what is wrong with the engine, if anything.
     ///
     /// So the engine is asked the next commands after each reply, however many replies come at once. What it was asked
     /// when something is found doesn't depend on timing; how much of that was sent may.
@@ -374,8 +374,8 @@ fn ends_in_pieces(talk: &[Said]) -> bool
     }
 }
 
-/// Sends lines, if there are any: at once, or the last bytes a moment later than the others. If a process is cut off
-/// then, what it wrote before is still taken, up to the end of its output.
+/// Sends lines, if there are any: all at once, or in two chunks, with the last bytes a moment later. If a process is
+/// cut off then, what it wrote before is still taken, up to the end of its output.
 fn send<P: Process>(process: &mut P, lines: &[u8], in_pieces: bool)
     ensures { IsSent P.Process in_pieces lines.now process.old process.new }
 {
