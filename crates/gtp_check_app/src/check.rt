@@ -50,7 +50,7 @@ const MOST_FRUITLESS: u32 = 3;
 pub struct Check<S: Starter> {
     /// The allocator.
     pub alloc: Global,
-    /// The examiner, which knows what each command has to be answered, and counts the starts.
+    /// The examiner, which knows the correct replies and counts the starts.
     pub examiner: Examiner,
     /// The course, which knows what comes next.
     pub course: Course,

@@ -68,7 +68,7 @@ pub struct Caption {
 
 impl<S: Starter> Check<S> {
     /// Ends the engine, with which something is wrong, and leaves the part of the lesson. Writes the complaint, unless
-    /// as many of its kind were shown as a lesson shows.
+    /// the lesson has shown three of its kind.
     #[inline(never)]
     pub fn complain<O: WriteOnce, E: WriteOnce>(
         &mut self,

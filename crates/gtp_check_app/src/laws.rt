@@ -46,8 +46,8 @@ pub fn a_pass_is_earned<P: Process>()
     moves_are_noted_once_answered::<P>();
 }
 
-/// As long as nothing is found, nothing that is judged was wrong in any turn. At each point of a check, each reply that
-/// its engine gave is a correct one.
+/// As long as nothing is found, nothing that is judged was wrong in any turn. At each point of a check, each reply of
+/// its engine that was heard is a correct one.
 pub fn silent_checks_are_right<P: Process, O: WriteOnce, E: WriteOnce>()
     ensures { SilentChecksAreRight (known_of P.Process O.WriteOnce E.WriteOnce) }
 {
