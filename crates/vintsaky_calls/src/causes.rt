@@ -1,12 +1,12 @@
-//! Why a call is refused.
+//! The errors of the calls.
 ghost use Rattle.std.specs.Prelude.{◌≡◌, IfSome, IfNone};
 ghost use Rattle.vintsaky_calls.specs.Codes.{cause_code, play_cause, result_code, NoCause};
 
 use go_board::PlayFault;
 
-/// Why a call is refused. Its number is the same in all later releases, and 0 is what a call returns that was done.
+/// Why a call is rejected: its error. Its number is the same in all later releases, and 0 means that the call was done.
 ///
-/// The comment of a cause is its sentence, which `library/declare` writes wherever else it stands.
+/// The comment of a variant is its sentence, which `library/declare` copies to all other places that have it.
 #[derive(Clone, Copy, PartialEq, Eq, Debug, Drop)]
 pub enum Cause {
     /// Not a colour or side: use 1 (Black) or 2 (White).
@@ -83,7 +83,7 @@ pub enum Cause {
     BadReason,
 }
 
-/// The number of what a call came to: 0 where it was done, and else that of the cause.
+/// The number of a call's result: 0 if it was done, else that of its error.
 pub fn code_of(made: Result<(), Cause>) -> u32
     ensures { result ≡ result_code made }
 {
@@ -93,7 +93,7 @@ pub fn code_of(made: Result<(), Cause>) -> u32
     }
 }
 
-/// The same number in a byte.
+/// The same number as a byte.
 pub(crate) fn byte_of(made: Result<(), Cause>) -> u8
     ensures { result ≡ result_code made }
 {
@@ -103,7 +103,7 @@ pub(crate) fn byte_of(made: Result<(), Cause>) -> u8
     }
 }
 
-/// The number of a cause.
+/// The number of an error.
 fn number_of(cause: Cause) -> u8
     ensures { result ≡ cause_code cause }
 {
@@ -147,7 +147,7 @@ fn number_of(cause: Cause) -> u8
     }
 }
 
-/// The cause of a number.
+/// The error of a number.
 pub(crate) fn cause_of(number: u32) -> Option<Cause>
     ensures some { IfSome result (λ why. number ≡ cause_code why) }
     ensures none { IfNone result (NoCause number) }
@@ -193,7 +193,7 @@ pub(crate) fn cause_of(number: u32) -> Option<Cause>
     }
 }
 
-/// The cause of a play that is refused.
+/// The error of an illegal play.
 pub(crate) fn cause_of_play(fault: PlayFault) -> Cause
     ensures { result ≡ play_cause fault }
 {

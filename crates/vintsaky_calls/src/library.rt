@@ -1,25 +1,25 @@
-//! Calls of the library itself: its version, and what a cause means.
+//! Calls of the library itself: its version, and the texts of its errors.
 ghost use Rattle.std.specs.Prelude.{◌≡◌};
 ghost use Rattle.vintsaky_calls.specs.Library.{library_version, sentence, Says, CauseTextCall};
 
 use crate::causes::{Cause, cause_of};
 use crate::texts::put;
 
-/// What `vintsaky_interface_1` does.
+/// Implements `vintsaky_interface_1`.
 pub fn version() -> u32
     ensures { result ≡ library_version }
 {
     0x010000
 }
 
-/// What `vintsaky_cause_text` does.
+/// Implements `vintsaky_cause_text`.
 pub fn cause_text(cause: u32, text: &mut [u8]) -> usize
     ensures { CauseTextCall cause text.old text.new result }
 {
     put(said_of(cause), text)
 }
 
-/// What is said of a number.
+/// The text of a number.
 fn said_of(number: u32) -> &'static [u8]
     ensures { Says number result.now }
 {
@@ -32,7 +32,7 @@ fn said_of(number: u32) -> &'static [u8]
     }
 }
 
-/// The sentence of a cause. `library/declare` writes the rows, from the comments in `causes.rt`.
+/// The sentence of an error. `library/declare` writes the rows, from the comments in `causes.rt`.
 fn sentence(cause: Cause) -> &'static [u8]
     ensures { result.now ≡ sentence cause }
 {

@@ -88,20 +88,20 @@ class Cause(Told):
 class Loss(Numbered):
     """Why a side fails by what it writes.
 
-    NO_STATUS: What it wrote is no reply: it begins with neither = nor ?. It goes down.
+    NO_STATUS: What it wrote isn't a reply: it begins with neither = nor ?. It goes down.
     OVERLONG: More than 8,192 bytes came since its last reply. It goes down.
-    WRONG_ID: The reply hasn't the id of the oldest unanswered command. It goes down.
-    UNASKED: A reply came where no command is unanswered. It goes down.
-    UNFIT: It failed at a command of its script but a play, or placed another handicap. It is unfit.
+    WRONG_ID: The reply doesn't have the id of the oldest unanswered command. It goes down.
+    UNASKED: A reply came when no command was unanswered. It goes down.
+    UNFIT: It failed at a command of its script other than a play, or placed another handicap. It is unfit.
     REFUSES_PLAY: It refused a play that isn't retaken. It forfeits.
-    KEEPS_MOVE: It didn't take back its move, which the other side refused. The other side forfeits.
+    KEEPS_MOVE: It didn't undo its move, which the other side refused. The other side forfeits.
     NO_MOVE: It failed at a genmove. It forfeits.
     NO_VERTEX: Its answer to a genmove is neither a vertex nor a resignation. It forfeits.
-    FULL: Its move is refused, for the causes of the same names. It forfeits.
-    OFF_BOARD: Its move is refused, for the causes of the same names. It forfeits.
-    OCCUPIED: Its move is refused, for the causes of the same names. It forfeits.
-    SUICIDE: Its move is refused, for the causes of the same names. It forfeits.
-    KO: Its move is refused, for the causes of the same names. It forfeits.
+    FULL: Its move is illegal, by the error of the same name. It forfeits.
+    OFF_BOARD: Its move is illegal, by the error of the same name. It forfeits.
+    OCCUPIED: Its move is illegal, by the error of the same name. It forfeits.
+    SUICIDE: Its move is illegal, by the error of the same name. It forfeits.
+    KO: Its move is illegal, by the error of the same name. It forfeits.
     """
 
     NO_STATUS = 1
@@ -123,17 +123,17 @@ class Loss(Numbered):
 class Ending(Numbered):
     """How a match ended.
 
-    BY_SCORE: by two passes
+    BY_SCORE: two passes ended the game
     BY_RESIGNATION: the side resigned
     BY_LIMIT: the record has as many moves as the match allows
-    BY_REFUSED_PLAY: the side refused a play that isn't retaken, or that the other side didn't take back: it forfeits
-    BY_NO_MOVE: the side failed to answer with a move: it forfeits
-    BY_NO_VERTEX: the side answered with what is no move: it forfeits
-    BY_ILLEGAL_MOVE: the side answered with a move that isn't legal: it forfeits
+    BY_REFUSED_PLAY: the side refused a play that isn't retaken, or that the other side didn't undo: it forfeits
+    BY_NO_MOVE: the side failed at a genmove: it forfeits
+    BY_NO_VERTEX: the side answered a genmove by what is neither a vertex nor a resignation: it forfeits
+    BY_ILLEGAL_MOVE: the side answered a genmove by an illegal move: it forfeits
     BY_UNFIT: the side can't be brought to the record
     BY_ABANDONED: the side went down too often
-    BY_TIME: the side ran out of time: a ruling ended the match
-    BY_RULING: the side lost by a ruling that has a reason
+    BY_TIME: the side lost on time, by a ruling
+    BY_RULING: the side lost by a ruling with a reason
     """
 
     BY_SCORE = 1
