@@ -181,7 +181,7 @@ typedef struct { void *at; } vintsaky_replies;
 /* Returns the version of the library: see VINTSAKY_VERSION. */
 uint32_t vintsaky_version(void);
 
-/* Writes the sentence that explains an error, and returns its length. Every number has one, also 0 and a number that is no error. */
+/* Writes the sentence that explains an error, and returns its length. Every number has one, even 0 and unknown ones. */
 size_t vintsaky_cause_text(uint32_t cause, char *text, size_t text_room);
 
 /* ---- values ---- */
@@ -296,8 +296,8 @@ uint32_t vintsaky_game_set_komi(vintsaky_game *game, int32_t half_komi);
  * Errors: VINTSAKY_NOT_EMPTY, or else VINTSAKY_BAD_HANDICAP. The game is unchanged. */
 uint32_t vintsaky_game_place_handicap(vintsaky_game *game, uint32_t stones);
 
-/* Writes the points where a colour may play next, row by row from A1, if the buffer holds all of them, and how many there are. It
- * doesn't matter whether the record is full, though a full record takes no move.
+/* Writes the points where a colour may play next, row by row from A1, if the buffer holds all of them, and how many there are. The call
+ * ignores that a full record takes no more moves.
  * Errors: VINTSAKY_BAD_COLOUR. Nothing is written. */
 uint32_t vintsaky_game_legal_points(vintsaky_game *game, uint32_t colour, uint32_t *points, size_t points_room, size_t *count);
 
@@ -341,7 +341,7 @@ uint32_t vintsaky_game_point_at(vintsaky_game *game, size_t index, uint32_t *ver
 size_t vintsaky_game_board(vintsaky_game *game, uint8_t *bytes, size_t bytes_room);
 
 /* Writes one byte for each point in board order, if the buffer holds all of them, and how many there are: 1 where a colour may play
- * next, else 0. It doesn't matter whether the record is full, though a full record takes no move.
+ * next, else 0. The call ignores that a full record takes no more moves.
  * Errors: VINTSAKY_BAD_COLOUR. Nothing is written. */
 uint32_t vintsaky_game_legal_mask(vintsaky_game *game, uint32_t colour, uint8_t *bytes, size_t bytes_room, size_t *count);
 
@@ -363,10 +363,10 @@ uint32_t vintsaky_game_chain_liberties(vintsaky_game *game, uint32_t vertex, uin
  * Errors: VINTSAKY_BAD_COLOUR. Nothing is written. */
 uint32_t vintsaky_game_ko_point(vintsaky_game *game, uint32_t colour, uint32_t *vertex);
 
-/* Writes the move that a random word chooses for a colour. Of the n points where the colour may play next and that are no own eyes of
+/* Writes the move that a random word chooses for a colour. Of the n points where the colour may play next and that aren't own eyes of
  * it, this is number word mod n, counted from 0 in board order, or a pass if there are none. The choice is even except for one word in
- * 2^64 / n: each of the first 2^64 mod n points is chosen by one word more than the others. It doesn't matter whether the record is
- * full, though a full record takes no move.
+ * 2^64 / n: each of the first 2^64 mod n points is chosen by one word more than the others. The call ignores that a full record takes
+ * no more moves.
  * Errors: VINTSAKY_BAD_COLOUR. Nothing is written. */
 uint32_t vintsaky_game_random_move(vintsaky_game *game, uint32_t colour, uint64_t word, uint32_t *vertex);
 
@@ -376,7 +376,7 @@ uint32_t vintsaky_game_random_move(vintsaky_game *game, uint32_t colour, uint64_
  * Errors: VINTSAKY_BAD_COLOUR. Nothing is written. */
 uint32_t vintsaky_game_position_hash(vintsaky_game *game, uint32_t colour, uint64_t *hash);
 
-/* Plays on at random, a colour first and then both in turn. Each plays a random point of those where it may play and that are no own
+/* Plays on at random, a colour first and then both in turn. Each plays a random point of those where it may play and that aren't own
  * eyes of it, and passes if there is none. The playout ends after two passes in a row, also with one from before it, after limit moves,
  * or when the record has 2,000. The same game, colour, seed and limit always make the same moves. docs/library.md says how they are
  * chosen.
@@ -417,8 +417,7 @@ uint32_t vintsaky_games_planes(vintsaky_game *games, size_t games_length, uint32
 uint32_t vintsaky_games_planes_f32(vintsaky_game *games, size_t games_length, uint32_t earlier, float *floats, size_t floats_room);
 
 /* Writes a mask for each game, one game after the other. It has one byte for the move of each number: 1 if the colour whose turn it is
- * may make it, else 0. The last one is for a pass, and always 1. It doesn't matter whether the record is full, though a full record
- * takes no move.
+ * may make it, else 0. The last one is for a pass, and always 1. The call ignores that a full record takes no more moves.
  * Errors: VINTSAKY_NO_ROOM if the buffer doesn't hold the masks of all games. A game of size n has n * n + 1 bytes. Nothing is
  * written. */
 uint32_t vintsaky_games_masks(vintsaky_game *games, size_t games_length, uint8_t *bytes, size_t bytes_room);

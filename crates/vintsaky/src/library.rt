@@ -16,8 +16,7 @@ pub extern "C" fn vintsaky_version() -> u32
     library::version()
 }
 
-/// Writes the sentence that explains an error, and returns its length. Every number has one, also 0 and a number that
-/// is no error.
+/// Writes the sentence that explains an error, and returns its length. Every number has one, even 0 and unknown ones.
 #[unsafe(no_mangle)]
 pub extern "C" fn vintsaky_cause_text(cause: u32, text: &mut [u8]) -> usize
     ensures call { CauseTextCall cause text.old text.new result }

@@ -199,7 +199,7 @@ pub extern "C" fn vintsaky_game_place_handicap(game: &mut GameHandle, stones: u3
 }
 
 /// Writes the points where a colour may play next, row by row from A1, if the buffer holds all of them, and how many
-/// there are. It doesn't matter whether the record is full, though a full record takes no move.
+/// there are. The call ignores that a full record takes no more moves.
 ///
 /// # Errors
 ///

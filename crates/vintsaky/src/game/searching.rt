@@ -50,7 +50,7 @@ pub extern "C" fn vintsaky_game_board(game: &mut GameHandle, bytes: &mut [u8]) -
 }
 
 /// Writes one byte for each point in board order, if the buffer holds all of them, and how many there are: 1 where a
-/// colour may play next, else 0. It doesn't matter whether the record is full, though a full record takes no move.
+/// colour may play next, else 0. The call ignores that a full record takes no more moves.
 ///
 /// # Errors
 ///
@@ -146,10 +146,10 @@ pub extern "C" fn vintsaky_game_ko_point(
     code_of(searching::ko_point(game.lend(), colour, vertex))
 }
 
-/// Writes the move that a random word chooses for a colour. Of the n points where the colour may play next and that are
-/// no own eyes of it, this is number `word` mod n, counted from 0 in board order, or a pass if there are none. The
+/// Writes the move that a random word chooses for a colour. Of the n points where the colour may play next and that
+/// aren't own eyes of it, this is number `word` mod n, counted from 0 in board order, or a pass if there are none. The
 /// choice is even except for one word in 2^64 / n: each of the first 2^64 mod n points is chosen by one word more than
-/// the others. It doesn't matter whether the record is full, though a full record takes no move.
+/// the others. The call ignores that a full record takes no more moves.
 ///
 /// # Errors
 ///
@@ -189,7 +189,7 @@ pub extern "C" fn vintsaky_game_position_hash(
 }
 
 /// Plays on at random, a colour first and then both in turn. Each plays a random point of those where it may play and
-/// that are no own eyes of it, and passes if there is none. The playout ends after two passes in a row, also with one
+/// that aren't own eyes of it, and passes if there is none. The playout ends after two passes in a row, also with one
 /// from before it, after `limit` moves, or when the record has 2,000. The same game, colour, seed and limit always make
 /// the same moves. docs/library.md says how they are chosen.
 ///

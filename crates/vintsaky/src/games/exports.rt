@@ -99,8 +99,8 @@ pub extern "C" fn vintsaky_games_planes_f32(
 }
 
 /// Writes a mask for each game, one game after the other. It has one byte for the move of each number: 1 if the colour
-/// whose turn it is may make it, else 0. The last one is for a pass, and always 1. It doesn't matter whether the record
-/// is full, though a full record takes no move.
+/// whose turn it is may make it, else 0. The last one is for a pass, and always 1. The call ignores that a full record
+/// takes no more moves.
 ///
 /// # Errors
 ///
