@@ -306,7 +306,7 @@ CHECKER = [
     checked("an option of the match program", ("error: ", "--black", "--help"), "--black", "touch started"),
     checked("an engine that is not there", 'gtp_check: not started: no such file: "./engin"\n', "./engin"),
     printed("the list of lessons has each once", "start ", " restarts ", run=("gtp_check", "--list")),
-    printed("the help has statuses", "0 nothing was found, and in each lesson a move was answered rightly 1 something was found", "patience before its command", run=("gtp_check", "--help")),
+    printed("the help has statuses", "0 no complaint: each lesson was completed, with a move answered correctly 1 at least one complaint", "patience before its command", run=("gtp_check", "--help")),
     Case("nobody reads the list", "", 3, run=("gtp_check", "--list"), is_read=False, errors="gtp_check: write fault\n", why=None),
 ]
 
