@@ -49,7 +49,7 @@ class {}({}):
     """
 
 {}'''
-DONE = "It was done."  # what the library says of the number of no cause
+DONE = "No error."  # what the library says of the number of no cause
 
 
 def constants_of(files):

@@ -21,10 +21,9 @@ causes! {
 # what the Rust crate says otherwise: for these causes no call of it is refused, since its types leave them out
 NEVER = ("BadColour", "BadVertex", "BadRule", "NoRoom", "BadCommand")
 OTHERWISE = {
-    "BadHandicap": "The size doesn't allow this number of handicap stones.",
     "NoId": "The line has no id.",
-    "NoLine": "No line of a command was read.",
-    "BadId": "The id is more than 2,147,483,647.",
+    "NoLine": "No command line was read.",
+    "BadId": "The id must be at most 2,147,483,647.",
 }
 
 
@@ -56,7 +55,7 @@ def definition(files):
 def meaning(cause):
     """What a cause means in Rust."""
     if cause.name in NEVER:
-        return f"{cause.comment.partition(':')[0].rstrip('.')}. No call of this crate is refused for it."
+        return f"{cause.comment.partition(':')[0].rstrip('.')}. No call of this crate returns it."
     return OTHERWISE.get(cause.name, cause.comment)
 
 

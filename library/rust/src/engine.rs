@@ -157,7 +157,7 @@ impl Engine {
     ///
     /// # Errors
     ///
-    /// As those of [`set_name`](Self::set_name).
+    /// Those of [`set_name`](Self::set_name).
     pub fn set_version(&mut self, text: &str) -> Result<(), Refusal> {
         self.inner.set_version(text.as_bytes()).map_err(|_no_title| Refusal::BadText)
     }

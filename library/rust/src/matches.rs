@@ -85,7 +85,7 @@ impl Match {
     ///
     /// # Errors
     ///
-    /// As those of [`begin`](Self::begin).
+    /// Those of [`begin`](Self::begin).
     pub fn with(setup: Setup) -> Result<Self, Refusal> {
         let inner = Box::new(RefereedMatch::new(setup.inner()?));
         Ok(Self { inner, _not_sync: PhantomData })

@@ -61,7 +61,7 @@ impl Game {
     ///
     /// # Errors
     ///
-    /// As those of [`chain`](Self::chain).
+    /// Those of [`chain`](Self::chain).
     pub fn chain_points(&self, point: Point) -> Result<impl ExactSizeIterator<Item = Point> + use<>, Refusal> {
         let stone = self.stone_on(point)?;
         Ok(listed(Point::of, |points| self.inner.chain_points_into(stone, points)))
@@ -72,7 +72,7 @@ impl Game {
     ///
     /// # Errors
     ///
-    /// As those of [`chain`](Self::chain).
+    /// Those of [`chain`](Self::chain).
     pub fn chain_liberties(&self, point: Point) -> Result<impl ExactSizeIterator<Item = Point> + use<>, Refusal> {
         let stone = self.stone_on(point)?;
         Ok(listed(Point::of, |points| self.inner.chain_liberties_into(stone, points)))
