@@ -51,6 +51,7 @@ OPTIONS_OF_OTHERS = {
     "cargo": "--example --lib --manifest-path --offline --open --path --release",
     "pkg-config": "--cflags --libs",
     "mypy": "--strict",
+    "Slurm": "--exclude",
     "the kit": "--allow-holes --statements --test",
     "an engine of the reader": "--its-options",
 }
@@ -62,13 +63,13 @@ OPTIONS_OF_OTHERS = {
 @lru_cache(maxsize=None)
 def tops() -> frozenset[str]:
     """The directories at the top of the repository."""
-    return frozenset(path.split("/")[0] for path in texts.files() if "/" in path)
+    return frozenset(path.split("/")[0] for path in pages.files() if "/" in path)
 
 
 @lru_cache(maxsize=None)
 def places() -> frozenset[str]:
     """Each file and directory of the repository, by its path from the top."""
-    return frozenset("/".join(parts[:end]) for parts in (path.split("/") for path in texts.files()) for end in range(1, len(parts) + 1))
+    return frozenset("/".join(parts[:end]) for parts in (path.split("/") for path in pages.files()) for end in range(1, len(parts) + 1))
 
 
 @lru_cache(maxsize=None)
@@ -116,7 +117,7 @@ def options_in(path: str) -> set[str]:
     if re.fullmatch(r"packaging/\w+\.\d", path):
         return {f"--{name}" for name in re.findall(r"\bFl -([\w-]+)", text)}
     if texts.is_for(path, "(?:ba)?sh"):
-        return set(OPTION.findall(re.match(r"(?:#.*\n)*", text)[0]))
+        return set(OPTION.findall(texts.head_of(text)))
     if texts.is_python(path):
         rows = re.findall(r"add_argument\((?:\"-\w\", )?\"(--[\w-]+)\"", text)
         head = text if path == texts.HELP_OF_TOURNAMENT else texts.docstring_of(text)
@@ -127,7 +128,7 @@ def options_in(path: str) -> set[str]:
 @lru_cache(maxsize=None)
 def our_options() -> frozenset[str]:
     """The options of our programs and scripts."""
-    return frozenset(option for path in texts.files() if not path.startswith(OWN_PARTS) for option in options_in(path))
+    return frozenset(option for path in pages.files() if not path.startswith(OWN_PARTS) for option in options_in(path))
 
 
 def options_of_others() -> set[str]:
@@ -151,8 +152,8 @@ def lost_options(path: str, text: str) -> list[str]:
 @lru_cache(maxsize=None)
 def known() -> frozenset[str]:
     """Each word of the code of the crates, and of every other source, and the names of files and directories."""
-    words = set(code_of_sources()) | {part for path in texts.files() for part in re.findall(r"\w+", path)}
-    for path in texts.files():
+    words = set(code_of_sources()) | {part for path in pages.files() for part in re.findall(r"\w+", path)}
+    for path in pages.files():
         if not path.endswith((".md", ".rt")) and not path.startswith(OWN_PARTS):
             lines = texts.text_of(path).split("\n")
             words.update(re.findall(r"\w+", "\n".join(line for line in lines if not re.match(r"\s*(?://|--|# |\* |/\*)", line))))

@@ -8,13 +8,12 @@ import ast
 import os
 import re
 from functools import lru_cache
-from pathlib import Path
+from itertools import takewhile
 from typing import Callable, Iterable
 
 from tests.shared import pages, running
 
 TOP = running.TOP
-LEFT_OUT = {".git", "__pycache__", "bin", "dist", "out", "target", "workspace"}  # what checks and builds leave
 PROGRAMS = ("twogtp", "gtp_engine", "gtp_check")
 HELP_OF_TOURNAMENT = "tournament/games/help.py"
 # the kinds of texts beside the pages
@@ -22,25 +21,9 @@ KINDS = ("manual pages", "help", "the header", "comments in Rattle", "comments i
 
 
 @lru_cache(maxsize=None)
-def files() -> tuple[str, ...]:
-    """The files of the repository, by their paths from its top."""
-    found = []
-    for directory, inner, names in os.walk(TOP):
-        inner[:] = [name for name in inner if name not in LEFT_OUT]
-        found += [str((Path(directory) / name).relative_to(TOP)) for name in names]
-    return tuple(sorted(found))
-
-
-@lru_cache(maxsize=None)
 def text_of(path: str) -> str:
     """The text of a file; none where its bytes are no text."""
     return (TOP / path).read_text(errors="replace")
-
-
-@lru_cache(maxsize=None)
-def page_paths() -> tuple[str, ...]:
-    """The pages."""
-    return tuple(path for path in files() if path.endswith(".md"))
 
 
 def is_for(path: str, shell: str) -> bool:
@@ -103,10 +86,14 @@ def of_strings(text: str) -> str:
     return pages.prose_of(re.sub(outside, pages.blank, text, flags=re.DOTALL))
 
 
+def head_of(text: str) -> str:
+    """The head of a shell script: the comment at its beginning."""
+    return "\n".join(takewhile(lambda line: line.startswith("#"), text.split("\n")))
+
+
 def of_head(text: str) -> str:
-    """What the head of a shell script says: the comment at its beginning."""
-    head = re.match(r"(?:#.*\n)*", text)[0]
-    return pages.prose_of(re.sub(r"^#!.*|^# ?", pages.blank, head, flags=re.MULTILINE))
+    """What the head of a shell script says."""
+    return pages.prose_of(re.sub(r"^#!.*|^# ?", pages.blank, head_of(text), flags=re.MULTILINE))
 
 
 def of_manual(text: str) -> str:
@@ -150,7 +137,7 @@ def of_kind(kind: str) -> tuple[tuple[str, str], ...]:
         "docstrings": lambda path: is_python(path) and path != HELP_OF_TOURNAMENT,
         "heads of shell scripts": lambda path: is_for(path, "(?:ba)?sh"),
     }.get(kind, lambda path: path == kind)
-    return tuple((path, prose_of(path)) for path in files() if found(path))
+    return tuple((path, prose_of(path)) for path in pages.files() if found(path))
 
 
 def is_built(program: str) -> bool:
