@@ -151,8 +151,10 @@ class Wrong(checks.Case):
 
     def test_pages(self):
         """a page or an anchor that another file names, and that isn't there."""
-        self.same(["f: docs/map.md#none", "f: docs/none.md"],
-                  names.lost_pages("f", "# docs/map.md, docs/map.md#none, and x/docs/none.md docs/none.md"))  # fmt: skip
+        right = "# docs/map.md and x/docs/none.md\n.Pa map.md .\n.It Pa map.md\n"
+        self.check("pages that are there", [], names.lost_pages("f", right))
+        for text, lost in (("docs/none.md,", "docs/none.md"), ("docs/map.md#none", "docs/map.md#none"), (".Pa none.md .", "docs/none.md")):
+            self.check(f"the page {text}", [f"f: {lost}"], names.lost_pages("f", f"{right}{text}\n"))
 
     def test_options(self):
         """an option that no program has."""

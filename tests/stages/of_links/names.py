@@ -103,8 +103,10 @@ def lost_files(path: str, text: str) -> list[str]:
 
 
 def lost_pages(path: str, text: str) -> list[str]:
-    """The pages, with their anchors, that a file which is none names by their path, and that aren't there."""
+    """The pages that a file which is none names, by their path with an anchor or without, or in a manual page by their name, and that
+    aren't there."""
     named = set(re.findall(rf"(?<![\w./-])((?:{'|'.join(map(re.escape, sorted(tops())))})/[\w./-]*\.md(?:#[\w-]+)?)", text))
+    named.update(f"docs/{name}" for name in re.findall(r"^\.(?:It )?Pa ([\w-]+\.md)\b", text, re.MULTILINE))
     return [f"{path}: {name}" for name in sorted(named) if not pages.leads(texts.TOP / "README.md", name)]
 
 
