@@ -11,9 +11,9 @@ from tests.shared import pages
 from . import texts
 
 OPTION = re.compile(r"(?<![\w-])--[a-z][\w-]*")
-ENDS = "antt|bash|c|edit|edits|h|in|md|pc|py|rs|rt|sbatch|sgf|sh|slip|toml|txt"
+ENDS = "antt|bash|c|deb|edit|edits|h|html|in|md|pc|py|rs|rt|sbatch|sgf|sh|slip|toml|txt"
 PLACE = re.compile(r"[\w.*-]+(?:/[\w.*-]+)*/?")
-NAME = re.compile(r"(?<![\w/.$-])[A-Za-z_]\w*(?:::\w+)*(?:\(\))?(?![\w.])")
+NAME = re.compile(r"(?<![\w/.$-])[A-Za-z_]\w*(?:(?:::|\.)[A-Za-z_]\w*)*(?:\(\))?(?!\w|\.\d|\.\.)")
 CAPITALS = re.compile(r"(?<![a-z])[A-Z]{2,}(?![a-z])|\b[A-Z]\b")  # what stands for any name: NAME, CRATE
 # files that name what isn't there, so that nothing is known by them
 OWN_PARTS = ("tests/stages/links.py", "tests/stages/of_links/", "tests/stages/of_release/stopped.py", "tests/shared/words.txt")
@@ -29,11 +29,24 @@ FILES_OF_OTHERS = {
     "docs/ANSWERS.md": "the kit's page",
     "F001.sgf": "written by GNU Go's scripts",
     "F_001.sgf": "written by GNU Go's scripts",
+    "F_index.html": "written by GNU Go's scripts",
     "twogtp001.sgf": "written by GNU Go's scripts",
+    "scripts/twogtp.pike": "one of GNU Go's scripts",
     "my_engine.py": "the reader's engine",
+    "new/games": "the reader's tournament",
+    "gtp_wire/id_zero_lost": "an edit of tests/proofs/edits/gtp_wire.edits",
+    "vintsaky_NAME_amd64.deb": "made by ./release",
+    "vintsaky_*_amd64.deb": "made by ./release",
     "name.rt": "any file of a source",
     "cargo/workspace": "made by cargo/strip",
+    "bin": "made by ./build",
+    "dist": "made by ./release",
+    "include": "a directory of a release",
+    "lib": "a directory of a release",
+    "objects": "a directory of a release",
+    "out": "made by rt check",
     "crates/*/out": "made by rt check",
+    "gtp_session/streams": "a module of one line, which names another crate's",
 }
 NAMES_OF_OTHERS = {
     "MovesOfCall": "an example of a definition that isn't there yet",
@@ -78,28 +91,45 @@ def ends() -> frozenset[str]:
     return frozenset("/".join(parts[begin:]) for parts in (path.split("/") for path in places()) for begin in range(len(parts)))
 
 
+@lru_cache(maxsize=None)
+def directories() -> frozenset[str]:
+    """The name of each directory of the repository."""
+    return frozenset(part for path in pages.files() for part in path.split("/")[:-1])
+
+
 def is_whole(name: str) -> bool:
     """Does a name begin as a path from the top of the repository?"""
     return "/" in name and name.split("/")[0] in tops()
 
 
+def is_part(name: str) -> bool:
+    """Does a name begin with a directory of the repository, from wherever that lies? One that is a directory alone ends with `/`."""
+    return name.rstrip("/").split("/")[0] in directories() if "/" in name.rstrip("/") else name.endswith("/")
+
+
+def is_file(name: str) -> bool:
+    """Does a name end as a file of a source does?"""
+    return re.search(rf"\w\.(?:{ENDS})$", name) is not None
+
+
 def is_place(name: str) -> bool:
-    """Has a word in code the form of such a path, or of a file of a source?"""
-    return PLACE.fullmatch(name) is not None and (is_whole(name) or re.search(rf"\w\.(?:{ENDS})$", name) is not None)
+    """Has a word in code the form of a path, or of a file of a source?"""
+    return PLACE.fullmatch(name) is not None and (is_part(name) or is_file(name))
 
 
 def is_there(name: str) -> bool:
-    """Is there a file or a directory of this name, whole or as the end of its path? `*` and NAME stand for any."""
-    known_here, pattern = places() if is_whole(name) else ends(), CAPITALS.sub("*", name)
-    return name in known_here or ("*" in pattern and bool(fnmatch.filter(known_here, pattern)))
+    """Is there a file or a directory of this name, whole or as the end of its path? `*` and NAME stand for any, and CRATE/NAME for a file
+    of a crate's sources."""
+    among, pattern = places() if is_whole(name) else ends(), CAPITALS.sub("*", name)
+    of_crate = re.sub(r"^(\w+)/(\w+)$", r"crates/\1/src/\2.rt", name)
+    return name in among or of_crate in places() or ("*" in pattern and bool(fnmatch.filter(among, pattern)))
 
 
 def lost_files(path: str, text: str) -> list[str]:
     """The files and directories that a page names in its code, and that aren't there."""
     words = {word.rstrip(".,;:") for code in pages.spans_of(text) for word in code.split()}
-    named = {re.sub(r"^(?:\.\.?/)+", "", word).rstrip("/") for word in words if "/" in word.rstrip("/") or "." in word}
-    lost = [name for name in sorted(named) if is_place(name) and name not in FILES_OF_OTHERS and not is_there(name)]
-    return [f"{path}: {name}" for name in lost]
+    named = {name.rstrip("/") for name in (re.sub(r"^(?:\.\.?/)+", "", word) for word in words) if is_place(name)}
+    return [f"{path}: {name}" for name in sorted(named) if name not in FILES_OF_OTHERS and not is_there(name)]
 
 
 def lost_pages(path: str, text: str) -> list[str]:
@@ -169,7 +199,7 @@ def is_of_source(name: str) -> bool:
 
 def is_known(name: str) -> bool:
     """Does a source have each part of a name? One that begins with `_` is the end of another, and NAME in one stands for any."""
-    parts = name.removesuffix("()").split("::")
+    parts = re.split(r"::|\.", name.removesuffix("()"))
     return all(part in known() or (part[0] == "_" or "NAME" in part) and is_end(part) for part in parts)
 
 
@@ -181,5 +211,5 @@ def is_end(part: str) -> bool:
 
 def lost_names(path: str, text: str) -> list[str]:
     """The names of sources that a page has in its code, and that no source has."""
-    named = {name for code in pages.spans_of(text) for name in NAME.findall(code) if is_of_source(name)}
+    named = {name for code in pages.spans_of(text) for name in NAME.findall(code) if is_of_source(name) and not is_file(name)}
     return [f"{path}: {name}" for name in sorted(named) if name not in NAMES_OF_OTHERS and not is_known(name)]
