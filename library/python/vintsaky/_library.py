@@ -39,7 +39,7 @@ def _load(place: str, kind: Any) -> Any:
 
 
 library: Any = _load(_place(), ctypes.PyDLL)
-unlocked: Any = _load(_place(), ctypes.CDLL)  # its calls let other threads run: only those over many games are made this way
+unlocked: Any = _load(_place(), ctypes.CDLL)  # lets other threads run: only calls over many games are made so
 
 
 def untyped(call: Any) -> Any:

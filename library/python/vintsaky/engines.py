@@ -29,7 +29,7 @@ class Event(IntEnum, metaclass=BriefEnum):
     MORE = _declared.MORE  # All bytes were used: read more.
     BLACK = _declared.BLACK  # Black's move is waited for: call `choose`.
     WHITE = _declared.WHITE  # White's move is waited for: call `choose`.
-    OTHER = _declared.OTHER  # A command that isn't in the protocol's table: look at `line`, and call `answer` or `decline`.
+    OTHER = _declared.OTHER  # A command that isn't in the protocol's table: see `line`; call `answer` or `decline`.
     REPLY = _declared.REPLY  # A line was answered, also a quit: write `reply`.
     ENDED = _declared.ENDED  # A quit was answered before: stop.
 

@@ -153,7 +153,7 @@ class Game(Held):
 
     @property
     def komi(self) -> float:
-        """The komi in points, a multiple of 0.5, which a float represents exactly. It can be set to an int, a float or a
+        """The komi in points, a multiple of 0.5, which a float has exactly. It can be set to an int, a float or a
         Fraction; board and record are unchanged. Errors: BAD_KOMI."""
         halves: int = library.vintsaky_game_komi(self._held())
         return halves / 2
