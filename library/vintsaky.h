@@ -379,9 +379,9 @@ uint32_t vintsaky_game_random_move(vintsaky_game *game, uint32_t colour, uint64_
 uint32_t vintsaky_game_position_hash(vintsaky_game *game, uint32_t colour, uint64_t *hash);
 
 /* Plays on at random, a colour first and then both in turn. Each plays a random point of those where it may play and that aren't own
- * eyes of it, and passes if there is none. The playout ends after two passes in a row, also with one from before it, after limit moves,
- * or when the record has 2,000. The same game, colour, seed and limit always make the same moves. docs/library.md says how they are
- * chosen.
+ * eyes of it, and passes if there is none. The playout ends after two passes in a row, counting those made before it, after limit
+ * moves, or when the record has 2,000. The same game, colour, seed and limit always make the same moves. docs/library.md says how they
+ * are chosen.
  * Errors: VINTSAKY_BAD_COLOUR. The game is unchanged. */
 uint32_t vintsaky_game_playout(vintsaky_game *game, uint32_t colour, uint64_t seed, uint32_t limit);
 

@@ -347,8 +347,8 @@ class Game(Held):
     def playout(self, colour: AnyColour, seed: int, limit: int = 2000) -> None:
         """Plays on at random, a colour first and then both in turn. Each plays a random point of those where it may
         play and that aren't own eyes of it, and passes if there is none. The playout ends after two passes in a row,
-        also with one from before it, after `limit` moves, or when the record has 2,000. The same game, colour, seed (of
-        64 bits) and limit always make the same moves. Errors: BAD_COLOUR."""
+        counting those made before it, after `limit` moves, or when the record has 2,000. The same game, colour, seed
+        (of 64 bits) and limit always make the same moves. Errors: BAD_COLOUR."""
         number, seed, limit = colour_number(colour), whole(seed, "seed", 0, MOST_WORD), whole(limit, "limit")
         done(library.vintsaky_game_playout(self._held(), number, seed, limit))
 

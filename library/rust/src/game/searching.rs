@@ -108,8 +108,8 @@ impl Game {
     }
 
     /// Plays on at random, a colour first and then both in turn. Each plays a random point of those where it may play
-    /// and that aren't own eyes of it, and passes if there is none. The playout ends after two passes in a row, also
-    /// with one from before it, after `limit` moves, or when the record has 2,000. The same game, colour, seed and
+    /// and that aren't own eyes of it, and passes if there is none. The playout ends after two passes in a row, counting
+    /// those made before it, after `limit` moves, or when the record has 2,000. The same game, colour, seed and
     /// limit always make the same moves.
     ///
     /// ```
