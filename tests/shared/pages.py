@@ -1,13 +1,36 @@
-"""What a page in Markdown has: its blocks of code, its code in a line, its links, and the anchors of its headings."""
+"""The pages of the repository, in Markdown, and what one has: its blocks of code, its code in a line, its links, and the anchors of its
+headings."""
 from __future__ import annotations
 
+import os
 import re
+from functools import lru_cache
 from pathlib import Path
+
+from .running import TOP
+
+LEFT_OUT = {".git", ".mypy_cache", "__pycache__", "bin", "dist", "out", "target", "workspace"}  # directories of what checks and builds leave
 
 BLOCK = re.compile(r"^```(\w*)\n(.*?)^```$", re.MULTILINE | re.DOTALL)
 SPAN = re.compile(r"(`+)(?!`)(.+?)(?<!`)\1(?!`)")
 TARGET = re.compile(r"(?<=\]\()([^()\s]+)(?=\))")
 COMMENT = re.compile(r"<!--.*?-->", re.DOTALL)
+
+
+@lru_cache(maxsize=None)
+def files() -> tuple[str, ...]:
+    """The files of the repository, by their paths from its top."""
+    found = []
+    for directory, inner, names in os.walk(TOP):
+        inner[:] = [name for name in inner if name not in LEFT_OUT]
+        found += [str((Path(directory) / name).relative_to(TOP)) for name in names]
+    return tuple(sorted(found))
+
+
+@lru_cache(maxsize=None)
+def page_paths() -> tuple[str, ...]:
+    """The pages among them."""
+    return tuple(path for path in files() if path.endswith(".md"))
 
 
 def blocks_of(text: str) -> list[str]:

@@ -10,7 +10,9 @@ Other stages look at the rest: `shown` and `library_page` run the examples, `map
 pages as a release has them, and tests/proofs/promises at the names in comments of contracts and in docs/promises.md.
 """
 import sys
+from functools import lru_cache
 from pathlib import Path
+from unittest import SkipTest
 
 sys.dont_write_bytecode = True
 sys.path[0] = str(Path(__file__).resolve().parents[2])
@@ -20,7 +22,7 @@ from tests.stages.of_links import names, texts, words  # noqa: E402
 
 OPTIONS = checks.Parser(__doc__).options(__name__)
 FEWEST = 20  # pages that the repository has at least
-PAGES = texts.page_paths()
+PAGES = pages.page_paths()
 # what the users of programs and library read beside the pages; the rest is for those who change them
 FOR_USERS = ("manual pages", "help", "the header", "comments in Rust")
 
@@ -48,7 +50,7 @@ class Pages(Faultless):
 
 
 class Others(checks.Case):
-    """Files that are no pages, and the lists of what is other people's."""
+    """Files that are no pages."""
 
     def test_pages(self):
         """there are pages."""
@@ -56,45 +58,61 @@ class Others(checks.Case):
 
     def test_named(self):
         """each page that another file names by its path is there."""
-        others = [path for path in texts.files() if path not in PAGES and not path.startswith(names.OWN_PARTS)]
+        others = [path for path in pages.files() if path not in PAGES and not path.startswith(names.OWN_PARTS)]
         self.same("", "\n".join(fault for path in others for fault in names.lost_pages(path, texts.text_of(path))))
 
-    def test_lists(self):
+
+@lru_cache(maxsize=None)
+def words_found():
+    """Each word of all texts."""
+    return {word for kind in (*PAGES, *texts.KINDS) for _, prose in texts.of_kind(kind) for _, word in words.words_of(prose)}
+
+
+@checks.table((*PAGES, *texts.KINDS), str)
+class Spelling(Faultless):
+    """The spelling of the pages and of all other texts."""
+
+    @classmethod
+    def setUpClass(cls):
+        """The words that hunspell doesn't know."""
+        if why := words.lacking():
+            raise SkipTest(why)
+        cls.own, cls.unknown = set(words.own_words()), words.unknown_to_hunspell(words_found())
+
+    def row(self, kind):
+        found = texts.of_kind(kind)
+        count = sum(len(words.words_of(prose)) for _, prose in found)
+        faults = [it for path, prose in found for it in words.misspelt(path, prose, self.unknown, self.own)]
+        self.none(f"{kind}: {count} words are spelt right", faults)
+        if kind == "help" and (unbuilt := [it for it in texts.PROGRAMS if not texts.is_built(it)]):
+            self.skip(f"the help of {', '.join(unbuilt)}", "it is not in bin/")
+
+
+@checks.table((*PAGES, *FOR_USERS), lambda kind: f"{kind}: no word that the glossary replaces")
+class Replaced(checks.Case):
+    """What users read has the words of the glossary."""
+
+    def row(self, kind):
+        self.same("", "\n".join(it for path, prose in texts.of_kind(kind) for it in words.replaced(path, prose, words.REPLACED)))
+
+
+class Listed(checks.Case):
+    """The lists of what is other people's, and of our own words."""
+
+    def test_others(self):
         """some page names each file, name and option that is other people's."""
         code = [span for page in PAGES for span in pages.code_of(texts.text_of(page))]
         listed = [*names.FILES_OF_OTHERS, *names.NAMES_OF_OTHERS, *sorted(names.options_of_others())]
         self.same([], [it for it in listed if not any(it in span for span in code)])
 
-
-@checks.table((*PAGES, *texts.KINDS), str)
-class Words(Faultless):
-    """The words of pages and of other texts."""
-
-    @classmethod
-    def setUpClass(cls):
-        """The words that hunspell doesn't know."""
-        cls.lacking = words.lacking()
-        cls.own = words.own_words()
-        found = {word for kind in (*PAGES, *texts.KINDS) for _, prose in texts.of_kind(kind) for _, word in words.words_of(prose)}
-        cls.unknown = set() if cls.lacking else words.unknown_to_hunspell(found)
-        cls.found = found
-
-    def row(self, kind):
-        found = texts.of_kind(kind)
-        what = f"{kind}: {sum(len(words.words_of(prose)) for _, prose in found)} words are spelt right"
-        if self.lacking:
-            self.skip(what, self.lacking)
-        else:
-            self.none(what, [it for path, prose in found for it in words.misspelt(path, prose, self.unknown, set(self.own))])
-        if kind in PAGES or kind in FOR_USERS:
-            odd = [it for path, prose in found for it in words.replaced(path, prose, words.REPLACED)]
-            self.none(f"{kind}: no word that the glossary replaces", odd)
-        if kind == "help" and (unbuilt := [it for it in texts.PROGRAMS if not texts.is_built(it)]):
-            self.skip(f"help: {' '.join(unbuilt)}", "it is not in bin/")
-
     def test_own(self):
-        """tests/shared/words.txt is sorted, and each word in it is used."""
-        self.same([], words.faults_of_own(self.own, self.found))
+        """tests/shared/words.txt is sorted, and some text has each word of it."""
+        self.same([], words.faults_of_own(words.own_words(), words_found()))
+
+    def test_standard(self):
+        """each word of the standard is where it is let stand."""
+        named = [(word, path) for word, paths in words.OF_STANDARD.items() for path in paths]
+        self.same([], [(word, path) for word, path in named if word not in texts.prose_of(path)])
 
 
 # ---- faults that have to be seen
@@ -125,15 +143,18 @@ class Wrong(checks.Case):
 
     def test_files(self):
         """a file or a directory that isn't there."""
-        right = "`docs/map.md` `./docs/` `crates/NAME/src/lib.rt` `src/lib.rt` `lib.rt` `crates/*/out` `rt/none` `3.5` `a.md b` docs/none.md\n"
-        self.check("files that are there", ["p: a.md"], names.lost_files("p", right))
-        for name in ("docs/none.md", "crates/none/", "crates/NAME/none.rt", "none.rt", "src/none.rt", "./tests/none"):
+        right = "`docs/map.md` `./docs/` `crates/NAME/src/lib.rt` `src/lib.rt` `lib.rt` `crates/*/out` `rt/none` `3.5` docs/none.md\n"
+        self.check("files that are there", [], names.lost_files("p", right))
+        for name in ("docs/none.md", "crates/none", "crates/NAME/none.rt", "none.rt", "src/none.rt", "tests/none"):
             self.check(f"the file {name}", [f"p: {name}"], names.lost_files("p", f"see `{name}`"))
+        self.check("a directory from here", ["p: tests/none"], names.lost_files("p", "see `./tests/none/`"))
 
     def test_pages(self):
         """a page or an anchor that another file names, and that isn't there."""
-        self.same(["f: docs/map.md#none", "f: docs/none.md"],
-                  names.lost_pages("f", "# docs/map.md, docs/map.md#none, and x/docs/none.md docs/none.md"))  # fmt: skip
+        right = "# docs/map.md and x/docs/none.md\n.Pa map.md .\n.It Pa map.md\n"
+        self.check("pages that are there", [], names.lost_pages("f", right))
+        for text, lost in (("docs/none.md,", "docs/none.md"), ("docs/map.md#none", "docs/map.md#none"), (".Pa none.md .", "docs/none.md")):
+            self.check(f"the page {text}", [f"f: {lost}"], names.lost_pages("f", f"{right}{text}\n"))
 
     def test_options(self):
         """an option that no program has."""
@@ -143,16 +164,17 @@ class Wrong(checks.Case):
 
     def test_names(self):
         """a name that no source has."""
-        right = "`Session::feed_into` `final_score` `vintsaky_game_new()` `_undo` `tests_NAME` `x()`\n\n```\nno_such_name\n```\n"
-        self.check("names that there are", ["p: x()"], names.lost_names("p", right.replace("x()", "x()")))
-        for name in ("no_such_name", "Session::no_such", "_no_such_end", "NoSuchType", "nosuch()"):
+        right = "`Session::feed_into` `final_score` `vintsaky_game_new()` `_undo` `tests_NAME` `word`\n\n```\nno_such_name\n```\n"
+        self.check("names that there are", [], names.lost_names("p", right))
+        for name in ("no_such_name", "Session::no_such_verb", "_no_such_end", "NoSuchType", "unheard_of()", "unheardof()"):
             self.check(f"the name {name}", [f"p: {name}"], names.lost_names("p", f"calls `{name}` of"))
 
     def test_spelling(self):
         """a word that no dictionary has."""
         if why := words.lacking():
             self.skipTest(why)
-        right = "The komi's colour, `wrng` [a](wrng.md) https://wrng <!-- wrng --> KoRule's x_wrng wrng/x N-th GTPs --wrng\n\n```\nwrng\n```\n"
+        right = "The komi's colour, `wrng` [a](wrng.md) https://wrng <!-- wrng --> KoRule's x_wrng wrng/x N-th GTPs --wrng\n\n" \
+            "```\nwrng\n```\n"
         wrong = "\nIts color, a wrng one's\n"
         found = {path: words.words_of(pages.prose_of(text)) for path, text in {"right": right, "wrong": right + wrong}.items()}
         unknown = words.unknown_to_hunspell({word for rows in found.values() for _, word in rows})
@@ -193,7 +215,7 @@ class Prose(checks.Case):
         self.said([(1, "one"), (3, "two")], texts.of_header, "/* one */ int no;\nno /*\n * two */ no\n")
         self.said([(1, "one"), (4, "two")], texts.of_docstrings,
                   '"""one."""\nno = "no"\ndef no():\n    """two\n\n    >>> no(no)\n    """\n')  # fmt: skip
-        self.said([(1, "one"), (2, "two")], texts.of_strings, 'A = "one"\nB = ["two"]  # no\n'.replace("A = ", "").replace("B = ", ""))
+        self.said([(1, "one"), (3, "two")], texts.of_strings, '"""one."""\nNO = """\\\n  two\n"""\n')
         self.said([(2, "one"), (3, "two")], texts.of_head, "#!/bin/bash\n# one\n# two\nno # no\n# no\n")
         self.said([(2, "one"), (4, "two")], texts.of_manual, ".Sh NO\n.Nd one\n.It no\ntwo\n")
 

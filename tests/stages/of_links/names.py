@@ -12,7 +12,7 @@ from . import texts
 
 OPTION = re.compile(r"(?<![\w-])--[a-z][\w-]*")
 ENDS = "antt|bash|c|edit|edits|h|in|md|pc|py|rs|rt|sbatch|sgf|sh|slip|toml|txt"
-PLACE = re.compile(rf"(?:\.\.?/)*([\w.*-]+(?:/[\w.*-]*)*/?|[\w*-]+\.(?:{ENDS}))")
+PLACE = re.compile(r"[\w.*-]+(?:/[\w.*-]+)*/?")
 NAME = re.compile(r"(?<![\w/.$-])[A-Za-z_]\w*(?:::\w+)*(?:\(\))?(?![\w.])")
 CAPITALS = re.compile(r"(?<![a-z])[A-Z]{2,}(?![a-z])|\b[A-Z]\b")  # what stands for any name: NAME, CRATE
 # files that name what isn't there, so that nothing is known by them
@@ -51,6 +51,7 @@ OPTIONS_OF_OTHERS = {
     "cargo": "--example --lib --manifest-path --offline --open --path --release",
     "pkg-config": "--cflags --libs",
     "mypy": "--strict",
+    "Slurm": "--exclude",
     "the kit": "--allow-holes --statements --test",
     "an engine of the reader": "--its-options",
 }
@@ -59,50 +60,53 @@ OPTIONS_OF_OTHERS = {
 # ---- files
 
 
-def wanting(name: str) -> str:
-    """The pattern of the files that a page may mean by this name."""
-    return CAPITALS.sub("*", name.rstrip("/"))
-
-
 @lru_cache(maxsize=None)
 def tops() -> frozenset[str]:
     """The directories at the top of the repository."""
-    return frozenset(path.split("/")[0] for path in texts.files() if "/" in path)
+    return frozenset(path.split("/")[0] for path in pages.files() if "/" in path)
 
 
 @lru_cache(maxsize=None)
 def places() -> frozenset[str]:
-    """Each file and directory of the repository, with each end of its path that begins after a `/`."""
-    ends = set()
-    for path in texts.files():
-        parts = path.split("/")
-        ends.update("/".join(parts[begin:end]) for end in range(1, len(parts) + 1) for begin in range(end))
-    return frozenset(ends)
+    """Each file and directory of the repository, by its path from the top."""
+    return frozenset("/".join(parts[:end]) for parts in (path.split("/") for path in pages.files()) for end in range(1, len(parts) + 1))
+
+
+@lru_cache(maxsize=None)
+def ends() -> frozenset[str]:
+    """Each end of such a path that begins after a `/`."""
+    return frozenset("/".join(parts[begin:]) for parts in (path.split("/") for path in places()) for begin in range(len(parts)))
+
+
+def is_whole(name: str) -> bool:
+    """Does a name begin as a path from the top of the repository?"""
+    return "/" in name and name.split("/")[0] in tops()
 
 
 def is_place(name: str) -> bool:
-    """Has a word in code the form of a path of the repository, or of a file of a source?"""
-    return PLACE.fullmatch(name) is not None and (name.split("/")[0] in tops() and "/" in name or re.search(rf"\w\.(?:{ENDS})$", name))
+    """Has a word in code the form of such a path, or of a file of a source?"""
+    return PLACE.fullmatch(name) is not None and (is_whole(name) or re.search(rf"\w\.(?:{ENDS})$", name) is not None)
 
 
 def is_there(name: str) -> bool:
     """Is there a file or a directory of this name, whole or as the end of its path? `*` and NAME stand for any."""
-    pattern = wanting(re.sub(r"^(?:\.\.?/)+", "", name))
-    if name.split("/")[0] in tops() and "/" in name:
-        return any(texts.TOP.glob(pattern))
-    return pattern in places() or ("*" in pattern and bool(fnmatch.filter(places(), pattern)))
+    known_here, pattern = places() if is_whole(name) else ends(), CAPITALS.sub("*", name)
+    return name in known_here or ("*" in pattern and bool(fnmatch.filter(known_here, pattern)))
 
 
 def lost_files(path: str, text: str) -> list[str]:
     """The files and directories that a page names in its code, and that aren't there."""
-    named = {word.rstrip(".,;:") for code in pages.spans_of(text) for word in code.split()}
-    lost = {name for name in named if is_place(name) and name.rstrip("/") not in FILES_OF_OTHERS and not is_there(name)}
-    return [f"{path}: {name}" for name in sorted(lost)]
+    words = {word.rstrip(".,;:") for code in pages.spans_of(text) for word in code.split()}
+    named = {re.sub(r"^(?:\.\.?/)+", "", word).rstrip("/") for word in words if "/" in word.rstrip("/") or "." in word}
+    lost = [name for name in sorted(named) if is_place(name) and name not in FILES_OF_OTHERS and not is_there(name)]
+    return [f"{path}: {name}" for name in lost]
 
 
 def lost_pages(path: str, text: str) -> list[str]:
-    """The pages, with their anchors, that a file which is none names by their path, and that aren't there."""
+    """The pages that a file which is none names, by their path with an anchor or without, or in a manual page by their name, and that
+    aren't there."""
     named = set(re.findall(rf"(?<![\w./-])((?:{'|'.join(map(re.escape, sorted(tops())))})/[\w./-]*\.md(?:#[\w-]+)?)", text))
+    named.update(f"docs/{name}" for name in re.findall(r"^\.(?:It )?Pa ([\w-]+\.md)\b", text, re.MULTILINE))
     return [f"{path}: {name}" for name in sorted(named) if not pages.leads(texts.TOP / "README.md", name)]
 
 
@@ -115,7 +119,7 @@ def options_in(path: str) -> set[str]:
     if re.fullmatch(r"packaging/\w+\.\d", path):
         return {f"--{name}" for name in re.findall(r"\bFl -([\w-]+)", text)}
     if texts.is_for(path, "(?:ba)?sh"):
-        return set(OPTION.findall(re.match(r"(?:#.*\n)*", text)[0]))
+        return set(OPTION.findall(texts.head_of(text)))
     if texts.is_python(path):
         rows = re.findall(r"add_argument\((?:\"-\w\", )?\"(--[\w-]+)\"", text)
         head = text if path == texts.HELP_OF_TOURNAMENT else texts.docstring_of(text)
@@ -126,7 +130,7 @@ def options_in(path: str) -> set[str]:
 @lru_cache(maxsize=None)
 def our_options() -> frozenset[str]:
     """The options of our programs and scripts."""
-    return frozenset(option for path in texts.files() if not path.startswith(OWN_PARTS) for option in options_in(path))
+    return frozenset(option for path in pages.files() if not path.startswith(OWN_PARTS) for option in options_in(path))
 
 
 def options_of_others() -> set[str]:
@@ -150,8 +154,8 @@ def lost_options(path: str, text: str) -> list[str]:
 @lru_cache(maxsize=None)
 def known() -> frozenset[str]:
     """Each word of the code of the crates, and of every other source, and the names of files and directories."""
-    words = set(code_of_sources()) | {part for path in texts.files() for part in re.findall(r"\w+", path)}
-    for path in texts.files():
+    words = set(code_of_sources()) | {part for path in pages.files() for part in re.findall(r"\w+", path)}
+    for path in pages.files():
         if not path.endswith((".md", ".rt")) and not path.startswith(OWN_PARTS):
             lines = texts.text_of(path).split("\n")
             words.update(re.findall(r"\w+", "\n".join(line for line in lines if not re.match(r"\s*(?://|--|# |\* |/\*)", line))))

@@ -8,13 +8,12 @@ import ast
 import os
 import re
 from functools import lru_cache
-from pathlib import Path
+from itertools import takewhile
 from typing import Callable, Iterable
 
 from tests.shared import pages, running
 
 TOP = running.TOP
-LEFT_OUT = {".git", "__pycache__", "bin", "dist", "out", "target", "workspace"}  # what checks and builds leave
 PROGRAMS = ("twogtp", "gtp_engine", "gtp_check")
 HELP_OF_TOURNAMENT = "tournament/games/help.py"
 # the kinds of texts beside the pages
@@ -22,25 +21,9 @@ KINDS = ("manual pages", "help", "the header", "comments in Rattle", "comments i
 
 
 @lru_cache(maxsize=None)
-def files() -> tuple[str, ...]:
-    """The files of the repository, by their paths from its top."""
-    found = []
-    for directory, inner, names in os.walk(TOP):
-        inner[:] = [name for name in inner if name not in LEFT_OUT]
-        found += [str((Path(directory) / name).relative_to(TOP)) for name in names]
-    return tuple(sorted(found))
-
-
-@lru_cache(maxsize=None)
 def text_of(path: str) -> str:
     """The text of a file; none where its bytes are no text."""
     return (TOP / path).read_text(errors="replace")
-
-
-@lru_cache(maxsize=None)
-def page_paths() -> tuple[str, ...]:
-    """The pages."""
-    return tuple(path for path in files() if path.endswith(".md"))
 
 
 def is_for(path: str, shell: str) -> bool:
@@ -74,6 +57,12 @@ def of_header(text: str) -> str:
     return pages.prose_of(inside)
 
 
+@lru_cache(maxsize=None)
+def parsed(text: str) -> ast.Module:
+    """A module in Python."""
+    return ast.parse(text)
+
+
 def documented(module: ast.Module | ast.ClassDef | ast.FunctionDef) -> list[ast.stmt]:
     """The docstrings of a module, a class or a function, and of the classes and functions in it."""
     own = module.body[:1] if ast.get_docstring(module) is not None else []
@@ -82,26 +71,29 @@ def documented(module: ast.Module | ast.ClassDef | ast.FunctionDef) -> list[ast.
 
 def of_docstrings(text: str) -> str:
     """What the docstrings of a module in Python say, but their examples."""
-    kept = [number for node in documented(ast.parse(text)) for number in range(node.lineno, (node.end_lineno or 0) + 1)]
+    kept = [number for node in documented(parsed(text)) for number in range(node.lineno, (node.end_lineno or 0) + 1)]
     return pages.prose_of(re.sub(r"^ *(?:>>>|\.\.\.) .*$", "", lines_kept(text, kept).replace('"""', "   "), flags=re.MULTILINE))
 
 
 def docstring_of(text: str) -> str:
     """The docstring of a module in Python."""
-    return ast.get_docstring(ast.parse(text)) or ""
+    return ast.get_docstring(parsed(text)) or ""
 
 
 def of_strings(text: str) -> str:
-    """What the strings of a module in Python say."""
-    strings = [node for node in ast.walk(ast.parse(text)) if isinstance(node, ast.Constant) and isinstance(node.value, str)]
-    kept = [number for node in strings for number in range(node.lineno, (node.end_lineno or 0) + 1)]
-    return pages.prose_of(lines_kept(text, kept))
+    """What the strings of several lines say of a module in Python."""
+    outside = r'(?:\A|""").*?(?:"""|\Z)'
+    return pages.prose_of(re.sub(outside, pages.blank, text, flags=re.DOTALL))
+
+
+def head_of(text: str) -> str:
+    """The head of a shell script: the comment at its beginning."""
+    return "\n".join(takewhile(lambda line: line.startswith("#"), text.split("\n")))
 
 
 def of_head(text: str) -> str:
-    """What the head of a shell script says: the comment at its beginning."""
-    head = re.match(r"(?:#.*\n)*", text)[0]
-    return pages.prose_of(re.sub(r"^#!.*|^# ?", pages.blank, head, flags=re.MULTILINE))
+    """What the head of a shell script says."""
+    return pages.prose_of(re.sub(r"^#!.*|^# ?", pages.blank, head_of(text), flags=re.MULTILINE))
 
 
 def of_manual(text: str) -> str:
@@ -145,7 +137,7 @@ def of_kind(kind: str) -> tuple[tuple[str, str], ...]:
         "docstrings": lambda path: is_python(path) and path != HELP_OF_TOURNAMENT,
         "heads of shell scripts": lambda path: is_for(path, "(?:ba)?sh"),
     }.get(kind, lambda path: path == kind)
-    return tuple((path, prose_of(path)) for path in files() if found(path))
+    return tuple((path, prose_of(path)) for path in pages.files() if found(path))
 
 
 def is_built(program: str) -> bool:
