@@ -1,21 +1,22 @@
 /* vintsaky.h: the rules of Go, the controller of a match and the engine of the Go Text Protocol, as a library.
  *
- * Each object lies in memory that the caller gives: as many bytes and the alignment that its _bytes and _align return. The memory is
- * the object's alone and stays where it is, and so does the handle, as long as it is used. A handle isn't copied. An object is placed
- * before it is used, and may be placed anew; it needs no end. One thread at a time uses an object; it may be another one each time,
- * where something orders the uses, as a lock does.
+ * Each object lies in memory that the caller gives, with at least the size and the alignment that its _bytes and _align return. The
+ * memory must be the object's alone, and neither it nor the handle may move while the object is used; don't copy a handle. Place an
+ * object before you use it. You may place it again, and needn't destroy it. Only one thread at a time may use an object. It may be
+ * another one each time, if something orders the uses, as a lock does.
  *
- * No pointer is NULL, also where its length or room is 0, and it has as many bytes or numbers as that says. What the pointers of one
- * call lead to doesn't overlap: objects, handles, buffers, numbers. Only vintsaky_game_copy may be given one game twice. All other
- * arguments may be anything. No call takes memory, blocks, or reads or writes anything but its object and the caller's buffers. A call
- * of a match takes at most 320 kB of stack, and any other at most 160 kB.
+ * No pointer may be NULL, even if its length or its _room is 0, and it must have as many bytes or items as that says. What the pointers
+ * of one call lead to (objects, handles, buffers, numbers) must not overlap; only vintsaky_game_copy may be given one game twice. All
+ * other arguments may have any value. No call allocates memory, blocks, or reads or writes anything except its object and the caller's
+ * buffers. A call of a match needs at most 320 kB of stack, any other at most 160 kB.
  *
- * A call that may be refused returns 0 where it was done, and else a cause, the first that holds in the order that it names: then its
- * object is as it was, and it has written nothing. A text is written with a NUL after it, where the buffer has room for both, else not
- * at all; its length is without the NUL, and a greater room may be given then. So a short buffer is no cause, but of vintsaky_match_send,
- * whose command would be lost. What an engine wrote may have a NUL in it. */
+ * A call that can be rejected returns 0 if it was done, or else an error: the first that applies, in the order in which its comment
+ * lists them. Then its object is unchanged, and nothing is written. A text is written with a NUL after it if the buffer has space for
+ * both, else not at all. Its length, without the NUL, is returned or written either way; a call that only reads can then be repeated
+ * with a larger buffer. So a short buffer is no error, except in vintsaky_match_send, whose command would be lost, and in the calls over
+ * many games. What an engine wrote may contain a NUL. */
 
-/* Written by library/declare: what a call does is said at its export in crates/vintsaky/src, all else in vintsaky.h.in. */
+/* Written by library/declare from the comments of the exports in crates/vintsaky/src and from vintsaky.h.in: edit those. */
 #ifndef VINTSAKY_H
 #define VINTSAKY_H
 
@@ -28,8 +29,8 @@
 extern "C" {
 #endif
 
-/* The number of the interface. A program is linked with a library of the same number alone: each file that has this header asks for
- * vintsaky_interface_1, which no other has. */
+/* The number of the interface. A program can be linked only with a library of the same number: each file that includes this header
+ * refers to vintsaky_interface_1, which no other library has. */
 #define VINTSAKY_INTERFACE 1
 void vintsaky_interface_1(void);
 #ifdef __GNUC__
@@ -37,13 +38,13 @@ __attribute__((used))
 #endif
 static void (*const vintsaky_interface)(void) = vintsaky_interface_1;
 
-/* The version of this header, as vintsaky_version returns that of the library: 65536 times the first number, 256 times the second,
- * and the third. */
+/* The version of this header, in the form in which vintsaky_version returns that of the library: 65536 times the first number, plus
+ * 256 times the second, plus the third. */
 #define VINTSAKY_VERSION 0x010000
 
 /* ---- numbers ---- */
 
-/* The memory of an object as constants: what its _bytes and _align return, or more where cargo built the library. */
+/* Object sizes and the alignment as compile-time constants: what _bytes and _align return, or more if cargo built the library. */
 #define VINTSAKY_GAME_BYTES ((size_t)35640)
 #define VINTSAKY_ENGINE_BYTES ((size_t)41472)
 #define VINTSAKY_MATCH_BYTES ((size_t)62648)
@@ -51,8 +52,9 @@ static void (*const vintsaky_interface)(void) = vintsaky_interface_1;
 #define VINTSAKY_REPLIES_BYTES ((size_t)16432)
 #define VINTSAKY_ALIGN ((size_t)8)
 
-/* Room for each text of its kind, with its NUL: the line of a command, a reply, what a side wrote since its last whole reply, a board,
- * the result line of a match, its moves, the reason of a ruling. And the most points of a board, and the most moves of a record. */
+/* Buffer sizes that hold any text of a kind, with its NUL: the line of a command, a reply, what a side wrote since its last whole
+ * reply, a board, the result line of a match, its moves, the reason of a ruling. Then the most points of a board, and the most moves of
+ * a record. */
 #define VINTSAKY_COMMAND_ROOM ((size_t)65)
 #define VINTSAKY_REPLY_ROOM ((size_t)2049)
 #define VINTSAKY_WROTE_ROOM ((size_t)81)
@@ -63,7 +65,7 @@ static void (*const vintsaky_interface)(void) = vintsaky_interface_1;
 #define VINTSAKY_MOST_POINTS ((size_t)625)
 #define VINTSAKY_MOST_MOVES ((size_t)2000)
 
-/* why a call is refused */
+/* errors: why a call is rejected */
 enum {
     VINTSAKY_DONE = 0,
     VINTSAKY_BAD_COLOUR = 1, /* Not a colour or side: use 1 (Black) or 2 (White). */
@@ -110,12 +112,12 @@ enum { VINTSAKY_BLACK = 1, VINTSAKY_WHITE = 2 };
 /* ko rules: simple ko, and positional superko */
 enum { VINTSAKY_SIMPLE = 1, VINTSAKY_POSITIONAL = 2 };
 
-/* A vertex is a pass, or a point: its row times 256 and its column, both from 1 to 25, counted from the lower left corner. Only
- * vintsaky_engine_choose takes a resignation. */
+/* A vertex is a pass, or a point: 256 times its row plus its column, both from 1 to 25, counted from the lower left corner. Only
+ * vintsaky_engine_choose accepts a resignation. */
 #define VINTSAKY_PASS ((uint32_t)0)
 #define VINTSAKY_RESIGN ((uint32_t)65535)
 
-/* what vintsaky_engine_feed returns: VINTSAKY_BLACK or VINTSAKY_WHITE, whose choice is asked for, or one of these */
+/* what vintsaky_engine_feed returns: VINTSAKY_BLACK or VINTSAKY_WHITE if that colour's choice is waited for, or one of these */
 enum {
     VINTSAKY_MORE = 0,  /* all bytes were used: read more, which no other result asks for */
     VINTSAKY_OTHER = 3, /* a command that isn't in the protocol's table: answer or decline it, then write the reply */
@@ -123,10 +125,10 @@ enum {
     VINTSAKY_ENDED = 5  /* a quit was answered before: stop */
 };
 
-/* what vintsaky_match_next returns: start this side's engine, send it a command, wait for what it writes; or the match is over */
+/* what vintsaky_match_next returns: start this side's engine, send it a command, wait for its output; or the match is over */
 enum { VINTSAKY_START = 1, VINTSAKY_SEND = 2, VINTSAKY_WAIT = 3, VINTSAKY_OVER = 4 };
 
-/* why a side fails by what it writes, where it isn't 0. A match ends before a record is full, so VINTSAKY_LOSS_FULL doesn't come. */
+/* why a side fails by its output, if it isn't 0. A match ends before its record is full, so VINTSAKY_LOSS_FULL never occurs. */
 enum {
     VINTSAKY_LOSS_NO_STATUS = 1,    /* What it wrote isn't a reply: it begins with neither = nor ?. It goes down. */
     VINTSAKY_LOSS_OVERLONG = 2,     /* More than 8,192 bytes came since its last reply. It goes down. */
@@ -163,13 +165,13 @@ enum {
 enum { VINTSAKY_BOARDSIZE = 1, VINTSAKY_KOMI = 2, VINTSAKY_CLEAR_BOARD = 3, VINTSAKY_FIXED_HANDICAP = 4 };
 enum { VINTSAKY_PLAY = 5, VINTSAKY_GENMOVE = 6, VINTSAKY_UNDO = 7, VINTSAKY_QUIT = 8 };
 
-/* what vintsaky_lines_feed returns, where it is not 0: a command line, or one that is too long */
+/* what vintsaky_lines_feed returns, if it isn't 0: a command line, or one that is too long */
 enum { VINTSAKY_LINE = 1, VINTSAKY_TOO_LONG = 2 };
 
-/* what vintsaky_replies_feed returns, where it is not 0: a reply, bytes that are none, or one that is too long */
+/* what vintsaky_replies_feed returns, if it isn't 0: a reply, bytes that aren't one, or one that is too long */
 enum { VINTSAKY_READ = 1, VINTSAKY_NO_REPLY = 2, VINTSAKY_LONG_REPLY = 3 };
 
-/* handles, which nobody but the library reads */
+/* opaque handles */
 typedef struct { void *at; } vintsaky_game;
 typedef struct { void *at; } vintsaky_engine;
 typedef struct { void *at; } vintsaky_match;
@@ -214,7 +216,7 @@ uint32_t vintsaky_read_komi(const char *text, size_t text_length, int32_t *half_
  * Errors: VINTSAKY_BAD_KOMI. Nothing is written. */
 uint32_t vintsaky_komi_text(int32_t half_points, char *text, size_t text_room, size_t *count);
 
-/* ---- lines that are written ---- */
+/* ---- writing lines ---- */
 
 /* Writes the line of a command with its newline, at most 64 bytes, and its length. The id is -1 for none. value is the size of
  * boardsize, the half points of komi, the number of stones of fixed_handicap, or the colour of play and genmove; vertex is that of
@@ -377,9 +379,9 @@ uint32_t vintsaky_game_random_move(vintsaky_game *game, uint32_t colour, uint64_
 uint32_t vintsaky_game_position_hash(vintsaky_game *game, uint32_t colour, uint64_t *hash);
 
 /* Plays on at random, a colour first and then both in turn. Each plays a random point of those where it may play and that aren't own
- * eyes of it, and passes if there is none. The playout ends after two passes in a row, also with one from before it, after limit moves,
- * or when the record has 2,000. The same game, colour, seed and limit always make the same moves. docs/library.md says how they are
- * chosen.
+ * eyes of it, and passes if there is none. The playout ends after two passes in a row, counting those made before it, after limit
+ * moves, or when the record has 2,000. The same game, colour, seed and limit always make the same moves. docs/library.md says how they
+ * are chosen.
  * Errors: VINTSAKY_BAD_COLOUR. The game is unchanged. */
 uint32_t vintsaky_game_playout(vintsaky_game *game, uint32_t colour, uint64_t seed, uint32_t limit);
 
@@ -389,7 +391,7 @@ uint32_t vintsaky_game_rollout(vintsaky_game *game, uint32_t colour, uint64_t se
 
 /* ---- many games ---- */
 
-/* An array of handles is given with its length: games of any sizes, each placed before. No game is in it twice. */
+/* An array of handles comes with its length. The games may have any sizes. Each must have been placed, and none may be there twice. */
 
 /* Plays one move in each game, for the colour whose turn it is, as vintsaky_game_turn returns it. The number of a move is the index of
  * its point, or the number of points of the board for a pass. Writes one byte for each game: 0, or the error for which this game alone
@@ -652,11 +654,11 @@ uint32_t vintsaky_replies_id(vintsaky_replies *replies, uint32_t *id);
 /* Writes the text of the reply that was read last, and returns its length: 0 before the first, and at most 8,192. */
 size_t vintsaky_replies_text(vintsaky_replies *replies, char *text, size_t text_room);
 
-/* ---- in memory of malloc ---- */
+/* ---- memory from malloc ---- */
 
-/* For each kind of object, as vintsaky_game_new and vintsaky_game_free:
- * - _new puts one into memory of malloc, as its _place does. It returns false where there is no memory.
- * - _free gives back the memory of one that _new put there, which can't be used then. */
+/* For each kind of object, such as vintsaky_game_new and vintsaky_game_free:
+ * - _new initialises one as its _place does, in memory that it allocates with malloc. It returns false if there is no memory.
+ * - _free frees the memory of an object that _new made. The object can't be used afterwards. */
 #define VINTSAKY_IN_MALLOC(kind)                                         \
     static inline bool vintsaky_##kind##_new(vintsaky_##kind *out) {     \
         void *at = malloc(vintsaky_##kind##_bytes());                    \

@@ -14,7 +14,7 @@ DEFINITION_WIDTH = 120
 CODE_ROWS = re.compile(r'(?<=^    match cause \{\n)(?:        Cause::\w+ =>\s+b"[^"\n]*",\n)+', re.MULTILINE)
 DEFINITION_ROWS = re.compile(r'(?<=^abbrev pub sentence : Cause → List ℕ\n)(?:sentence cause\.\w+ =\s+codes "[^"\n]*"\n)+', re.MULTILINE)
 HEAD_OF_RUST = """\
-//! The causes: of each its name, its number, and what it means to users of this crate. `library/declare` writes this file.
+//! The errors: the name and the number of each, and its meaning to users of this crate. `library/declare` writes this file.
 
 causes! {
 """

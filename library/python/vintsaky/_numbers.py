@@ -1,11 +1,11 @@
-"""Numbers of the library with what is said of each: why a call is refused, why a side fails, and how a match ends.
+"""Numbers of the library, each with its explanation: why a call is rejected, why a side fails, and how a match ends.
 
-library/declare writes this module. All names are those of vintsaky.h without the prefix."""
+library/declare writes this module. Names are those of vintsaky.h without the prefix."""
 from ._library import Numbered, Told
 
 
 class Cause(Told):
-    """Why a call is refused.
+    """Why a call is rejected: its error.
 
     DONE: No error.
     BAD_COLOUR: Not a colour or side: use 1 (Black) or 2 (White).
@@ -86,7 +86,7 @@ class Cause(Told):
 
 
 class Loss(Numbered):
-    """Why a side fails by what it writes.
+    """Why a side fails by its output.
 
     NO_STATUS: What it wrote isn't a reply: it begins with neither = nor ?. It goes down.
     OVERLONG: More than 8,192 bytes came since its last reply. It goes down.

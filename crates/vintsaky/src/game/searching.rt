@@ -189,8 +189,8 @@ pub extern "C" fn vintsaky_game_position_hash(
 }
 
 /// Plays on at random, a colour first and then both in turn. Each plays a random point of those where it may play and
-/// that aren't own eyes of it, and passes if there is none. The playout ends after two passes in a row, also with one
-/// from before it, after `limit` moves, or when the record has 2,000. The same game, colour, seed and limit always make
+/// that aren't own eyes of it, and passes if there is none. The playout ends after two passes in a row, counting those
+/// made before it, after `limit` moves, or when the record has 2,000. The same game, colour, seed and limit always make
 /// the same moves. docs/library.md says how they are chosen.
 ///
 /// # Errors

@@ -1,4 +1,4 @@
-//! The causes: of each its name, its number, and what it means to users of this crate. `library/declare` writes this file.
+//! The errors: the name and the number of each, and its meaning to users of this crate. `library/declare` writes this file.
 
 causes! {
     BadColour = 1 "Not a colour or side. No call of this crate returns it.",
