@@ -148,7 +148,7 @@ class Wrong(checks.Case):
         for name in ("docs/none.md", "crates/none", "crates/NAME/none.rt", "none.rt", "src/none.rt", "tests/none", "twogtp/none"):
             self.check(f"the file {name}", [f"p: {name}"], names.lost_files("p", f"see `{name}`"))
         self.check("a directory from here", ["p: tests/none"], names.lost_files("p", "see `./tests/none/`"))
-        self.check("a directory alone", ["p: none"], names.lost_files("p", "see `none/` and `none`"))
+        self.check("a directory alone", ["p: nowhere"], names.lost_files("p", "see `nowhere/` and `nowhere`"))
 
     def test_pages(self):
         """a page or an anchor that another file names, and that isn't there."""
@@ -196,11 +196,11 @@ class Wrong(checks.Case):
         """a word that the glossary replaces."""
         right = 'never "folder" or `folder`; FOLDER, not "anew"; a gateway; [x](anew.md); an engine, in steps of two; hand it in\n'
         self.check("words that stay", [], words.replaced("p", pages.prose_of(right), words.REPLACED))
-        samples = ("folder", "Folders", "anew", "but for", "handed in", "lends", "an own command", "engines in steps", "the gate",
-                   "word of the command line")  # fmt: skip
-        for pattern, word in zip(words.REPLACED, sorted(samples, key=samples.index)):
-            self.assertTrue(pattern)
-            self.check(f"'{word}'", 1, len(words.replaced("p", pages.prose_of(f"So {word} ends."), words.REPLACED)))
+        samples = ("Folders", "anew", "but for", "handed in", "lends", "an own command", "Engines in steps", "the gate")
+        for pattern, sample in zip(words.REPLACED, samples):
+            faults = words.replaced("p", pages.prose_of(f"One.\nSo {sample} ends."), words.REPLACED)
+            self.check(f"'{sample}'", [f"p:2: '{sample.removeprefix('the ')}' for '{words.REPLACED[pattern]}'"], faults)
+        self.check("each row has a sample", len(samples), len(words.REPLACED))
 
 
 class Prose(checks.Case):

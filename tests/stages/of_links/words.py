@@ -27,7 +27,6 @@ REPLACED = {
     "an own command": "a custom command",
     "engines? in steps": "sans-IO engine",
     "gates?": "CI",
-    "words? of (?:a|the|its) command line": "arguments",
 }
 
 
