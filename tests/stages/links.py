@@ -23,8 +23,6 @@ from tests.stages.of_links import names, texts, words  # noqa: E402
 OPTIONS = checks.Parser(__doc__).options(__name__)
 FEWEST = 20  # pages that the repository has at least
 PAGES = pages.page_paths()
-# what the users of programs and library read beside the pages; the rest is for those who change them
-FOR_USERS = ("manual pages", "help", "the header", "comments in Rust")
 
 
 class Faultless(checks.Case):
@@ -88,7 +86,7 @@ class Spelling(Faultless):
             self.skip(f"the help of {', '.join(unbuilt)}", "it is not in bin/")
 
 
-@checks.table((*PAGES, *FOR_USERS), lambda kind: f"{kind}: no word that the glossary replaces")
+@checks.table((*PAGES, *texts.FOR_USERS), lambda kind: f"{kind}: no word that the glossary replaces")
 class Replaced(checks.Case):
     """What users read has the words of the glossary."""
 

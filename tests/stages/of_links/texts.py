@@ -16,8 +16,10 @@ from tests.shared import pages, running
 TOP = running.TOP
 PROGRAMS = ("twogtp", "gtp_engine", "gtp_check")
 HELP_OF_TOURNAMENT = "tournament/games/help.py"
-# the kinds of texts beside the pages
-KINDS = ("manual pages", "help", "the header", "comments in Rattle", "comments in Rust", "docstrings", "heads of shell scripts")
+# the kinds of texts beside the pages: first those that the users of programs and library read
+FOR_USERS = ("manual pages", "help", "the header", "comments of the Rust crate", "docstrings of the Python package", "comments of crates")
+KINDS = (*FOR_USERS, "comments of crates of tests", "other docstrings", "heads of shell scripts")
+PACKAGE = ("library/python/vintsaky/", "library/python/examples/")
 
 
 @lru_cache(maxsize=None)
@@ -132,9 +134,11 @@ def of_kind(kind: str) -> tuple[tuple[str, str], ...]:
     found = {
         "manual pages": lambda path: re.fullmatch(r"packaging/\w+\.\d", path),
         "the header": lambda path: path == "library/vintsaky.h",
-        "comments in Rattle": lambda path: path.endswith(".rt"),
-        "comments in Rust": lambda path: path.startswith("library/rust/") and path.endswith(".rs"),
-        "docstrings": lambda path: is_python(path) and path != HELP_OF_TOURNAMENT,
+        "comments of the Rust crate": lambda path: path.startswith("library/rust/") and path.endswith(".rs"),
+        "docstrings of the Python package": lambda path: path.startswith(PACKAGE) and is_python(path),
+        "comments of crates": lambda path: path.endswith(".rt") and not path.startswith("crates/tests_"),
+        "comments of crates of tests": lambda path: path.endswith(".rt") and path.startswith("crates/tests_"),
+        "other docstrings": lambda path: is_python(path) and not path.startswith(PACKAGE) and path != HELP_OF_TOURNAMENT,
         "heads of shell scripts": lambda path: is_for(path, "(?:ba)?sh"),
     }.get(kind, lambda path: path == kind)
     return tuple((path, prose_of(path)) for path in pages.files() if found(path))

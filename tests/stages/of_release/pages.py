@@ -3,7 +3,7 @@ import os
 import re
 from pathlib import Path
 
-from tests.shared.pages import blocks_in, blocks_of, code_of, lost_links  # noqa: F401, of which the other parts use some
+from tests.shared.pages import blocks_in, blocks_of, code_of, lost_links  # noqa: F401
 
 # the commands that a page may show beside our own: those of Debian's base and of the packages that the pages name, and parts of bash
 BASE = """awk cat cd chmod command cp cut df du echo env exec exit export file find grep head install kill ldd ln ls man mkdir mktemp mv
