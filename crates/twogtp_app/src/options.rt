@@ -33,7 +33,7 @@ Status:
   0  each game ended by a score, a resignation, the limit or a forfeit
   1  in some game a side was unfit or abandoned; all others were still played
   2  usage error; nothing was started
-  3  twogtp could not go on: write fault, out of memory, too many turns
+  3  the program could not go on: write fault, out of memory, too many turns
 
 Example:
   twogtp --size 9 --black gtp_engine --white 'gtp_engine --policy random'

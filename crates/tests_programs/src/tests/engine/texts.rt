@@ -34,7 +34,7 @@ Ko rules, by the boards that no play may recreate:
 Status:
   0  quit, the end of the input, or help or the version was printed
   2  usage error
-  3  the engine could not go on: read fault, write fault, out of memory,
+  3  the program could not go on: read fault, write fault, out of memory,
      too many reads
   4  the engine stopped at the fault that --fault asks for
 
