@@ -31,7 +31,7 @@ most_stones size = if nat_lt size 7 then 0 else (if size % 2 == 1 && nat_lt 8 si
 abbrev pub handicaps_up_to : ℕ → List ℕ
 handicaps_up_to most =
     if most == 0 then codes " the handicap may only be 0"
-    else codes " the handicap may be 0, or 2 to " ++ decimal most
+    else (if most == 4 then codes " the handicap may be 0, or 2 to 4" else codes " the handicap may be 0, or 2 to 9")
 
 -- which handicaps the size allows
 abbrev pub handicap_limits : ℕ → List ℕ

@@ -1,6 +1,5 @@
 //! The lines of a usage error that the program finds itself: what is wrong, and with `--why` what is allowed.
-ghost use Rattle.std.specs.Prelude.{◌≡◌, ◌+◌, ◌≤◌, ◌↔◌, ◌++◌, ℕ};
-ghost use Rattle.arrayvec.specs.ArrayVec.{array_vec_len};
+ghost use Rattle.std.specs.Prelude.{◌≡◌, ◌≤◌, ◌↔◌, ℕ, length};
 ghost use Rattle.cli.specs.Failures.{plan_error_status};
 ghost use Rattle.go_base.specs.Handicap.{AllowsHandicap};
 ghost use Rattle.twogtp_app.specs.Mistakes.{ReportsNoPlan, handicap_limits, handicaps_up_to, komi_limits};
@@ -32,11 +31,12 @@ pub fn report_no_plan<E: WriteOnce>(
     ensures written { ReportsNoPlan E.WriteOnce options.now error.now errors.old errors.new }
 {
     match error {
-        PlanError::BadArgument | PlanError::OutOfMemory => error.report(NAME, errors),
+        PlanError::BadArgument => error.report(NAME, errors),
         PlanError::BadWords(mistake) => {
             write_or_break(errors, mistake_lines(*mistake, options).as_slice());
             2
         }
+        PlanError::OutOfMemory => error.report(NAME, errors),
     }
 }
 
@@ -87,23 +87,21 @@ fn handicap_limits(size: u32) -> LimitsLine
     let mut line = LimitsLine::new();
     push(&mut line, b"twogtp: on size ");
     push(&mut line, &write_int(size));
-    push_handicaps(&mut line, most_stones(size));
+    push(&mut line, handicaps_up_to(most_stones(size)));
     push(&mut line, b"\n");
     line
 }
 
-/// Appends which handicaps are allowed, by the most stones.
-fn push_handicaps(line: &mut LimitsLine, most: u32)
-    requires room { array_vec_len line.old ≤ 100 }
-    ensures bytes { line.new.items ≡ line.old.items ++ handicaps_up_to most }
-    ensures len { array_vec_len line.new ≤ array_vec_len line.old + 50 }
+/// Which handicaps are allowed, by the most stones.
+fn handicaps_up_to(most: u32) -> &'static [u8]
+    ensures text { result.now ≡ handicaps_up_to most }
+    ensures few { length result.now ≤ 40 }
 {
-    if most == 0 {
-        push(line, b" the handicap may only be 0");
-        return;
+    match most {
+        0 => b" the handicap may only be 0",
+        4 => b" the handicap may be 0, or 2 to 4",
+        _ => b" the handicap may be 0, or 2 to 9",
     }
-    push(line, b" the handicap may be 0, or 2 to ");
-    push(line, &write_int(most));
 }
 
 /// The most stones that a size allows, or 0.
