@@ -1,4 +1,4 @@
-//! Mistakes in the words, and the lines of failures.
+//! Usage errors, and the lines of failures.
 use super::runs::{FREE, run_with};
 use crate::asserts::{assert_equal_for, assert_true_for};
 use crate::tests::streams::{narrow_stream, new_log};
@@ -7,8 +7,8 @@ use std::io::ErrorKind;
 use std::process::Abort;
 use twogtp_app::failure::{Mistake, NAME};
 
-/// A run with these arguments writes nothing to the output and starts nothing, and its status is 2. What it reports
-/// begins with this text, is no more where that ends with a newline, and has these parts.
+/// Asserts that a run with these arguments writes nothing to the output, starts nothing and returns status 2. What it
+/// reports has to begin with this text, or to be this text if that ends with a newline, and to contain these parts.
 fn assert_refused<R: Abort + AllocGlobal>(rt: &R, arguments: &[&str], text: &str, parts: &[&str]) {
     let ran = run_with(rt, arguments, &[], FREE);
     let reported = ran.reported(rt);
@@ -26,8 +26,12 @@ fn assert_refused<R: Abort + AllocGlobal>(rt: &R, arguments: &[&str], text: &str
     assert_equal_for(rt, arguments, ran.log.started.get(), 0);
 }
 
-/// Arguments with a mistake, and how it is reported.
-static WORDS: [(&[&str], &str); 6] = [
+/// Usage errors that the program finds itself: arguments, and the line that reports the first one.
+static WORDS: [(&[&str], &str); 7] = [
+    (
+        &["--black", "", "--white", "gtp_engine", "--why"],
+        "twogtp: no command for black\n",
+    ),
     (
         &["--black", "", "--white", "gtp_engine"],
         "twogtp: no command for black\n",
@@ -79,7 +83,7 @@ fn mistakes_in_the_words_are_reported_in_their_order(rt: HostRuntime) {
     }
 }
 
-/// Arguments that `clap` refuses, and how it reports that.
+/// Arguments that `clap` rejects, and the beginning of what reports that.
 static REFUSED: [(&[&str], &str); 3] = [
     (
         &["--black", "x"],
@@ -95,7 +99,7 @@ static REFUSED: [(&[&str], &str); 3] = [
     ),
 ];
 
-/// Options, a number out of the limits of each, and the limits.
+/// Options, a number out of the range of each, and the range.
 static NUMBERS: [(&str, &str, &str); 8] = [
     ("--size", "0", "1..=25"),
     ("--size", "26", "1..=25"),
@@ -134,7 +138,7 @@ static FAILURES: [(Failure, &str); 4] = [
     ),
 ];
 
-/// Why arguments are not collected, with the line and the status of each.
+/// Why the arguments can't be collected, with the line and the status of each.
 static NOT_COLLECTED: [(ErrorKind, &str, u8); 2] = [
     (ErrorKind::InvalidData, "twogtp: bad argument\n", 2),
     (ErrorKind::OutOfMemory, "twogtp: out of memory\n", 3),
