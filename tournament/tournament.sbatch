@@ -4,27 +4,31 @@
 #SBATCH --time=04:00:00
 #SBATCH --output=tournament.%A.log
 #SBATCH --open-mode=append
-# A tournament as a Slurm array: each of TASKS tasks plays its share of the games of FOLDER. FOLDER and the programs
-# lie where all nodes see them.
+# Plays a tournament as a Slurm array: each of TASKS tasks plays its share of the games of FOLDER. All nodes have to see FOLDER and the
+# programs.
 #
 #   tournament plan FOLDER --engine .. --engine .. --limit 600
 #   sbatch --array=1-100 tournament.sbatch FOLDER 100
 #
-# Task 3 of 100 plays the games 3, 103, 203 and so on, as many at once as --cpus-per-task says. Submit the array again to go on, with the
-# same number of tasks, or some of it: --array=3,7. A task begins no game that the time left to it doesn't hold, so --time has to be more
-# than the limit of a game. Where `tournament` isn't in PATH, TOURNAMENT names it, and TWOGTP the program.
+# Task 3 of 100 plays the games 3, 103, 203 and so on, as many at once as --cpus-per-task says. To go on, submit the array again with the
+# same number of tasks, or a part of it: --array=3,7. A task begins no game that doesn't fit into its time left, so --time has to be more
+# than the limit of a game. If `tournament` isn't in PATH, set TOURNAMENT to its path, and TWOGTP to that of the program.
 #
 # The last task has to be below MaxArraySize, by default 1001. When a node dies, Slurm gives its tasks to others after some nine minutes;
 # some clusters want --requeue for it.
 if [ $# -ne 2 ] || [ -z "${SLURM_ARRAY_TASK_ID:-}" ]; then
-    echo 'usage: sbatch --array=1-TASKS tournament.sbatch FOLDER TASKS' >&2
+    {
+        [ $# -eq 2 ] && echo 'tournament.sbatch: SLURM_ARRAY_TASK_ID is not set: submit it by sbatch, as an array' \
+            || echo 'tournament.sbatch: give FOLDER and the number of TASKS'
+        echo 'usage: sbatch --array=1-TASKS tournament.sbatch FOLDER TASKS'
+    } >&2
     exit 2
 fi
 words=(--task "$SLURM_ARRAY_TASK_ID/$2" --jobs "${SLURM_CPUS_PER_TASK:-1}")
-# The number of the array's last task is the array's own, of which squeue lists all tasks. So the task is asked for by its name.
+# The id of the array's last task is that of the array, for which squeue lists all tasks. So ask for the task by its name.
 if read -r left < <(squeue --noheader --jobs "${SLURM_ARRAY_JOB_ID:-}_$SLURM_ARRAY_TASK_ID" --Format TimeLeft) && [ -n "$left" ]; then
     words+=(--time-left "$left")
 else
-    echo "tournament.sbatch: squeue doesn't say how much time is left" >&2
+    echo "tournament.sbatch: squeue doesn't say how much time is left, so games are begun to the end" >&2
 fi
 exec "${TOURNAMENT:-tournament}" play "$1" "${words[@]}"

@@ -277,7 +277,7 @@ def plain():
 
 @checks.table(("build", "demo", "test", "release", "packaging/cache"), lambda it: f"{it} and its words")
 class Words(checks.Case):
-    """Each script has a usage text, and touches nothing where its words are wrong."""
+    """Each script has a usage text, and touches nothing after a usage error, which it reports in a line before that text."""
 
     def row(self, script):
         mark = plain().at / "crates/small/out/mark"
@@ -286,7 +286,8 @@ class Words(checks.Case):
         status, output, _ = plain().run(f"./{script}", "--help", limit=20)
         self.check(f"{script} --help has a usage text and status 0", (0, True), (status, output.startswith("usage: ")))
         status, output, errors = plain().run(f"./{script}", "--nothing", limit=20)
-        self.check(f"{script} takes no other word", (2, "", True), (status, output, errors.startswith("usage: ")))
+        lines = [line.partition(": ")[0] for line in errors.splitlines()[:2]]
+        self.check(f"{script} takes no other word, and says so", (2, "", [script, "usage"]), (status, output, lines))
         self.check(f"{script}: nothing is touched by that", True, mark.exists())
 
 

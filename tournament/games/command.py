@@ -25,7 +25,7 @@ def asked_plan(words):
     plan.is_direct = words.has("--direct")
     for option in ("--move-limit", "--start-limit", "--openings"):
         if plan.is_direct and words.has(option):
-            raise Mistake(f"{option} wants what --direct leaves out: write one of the two")
+            raise Mistake(f"{option} needs what --direct leaves out: give only one of the two")
     return plan, bool(plan.engines) or words.after is not None
 
 

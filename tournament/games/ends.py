@@ -68,5 +68,5 @@ def losing_ways(words, plan):
 def loses(name, value):
     """The only word that such an option has."""
     if value != "loses":
-        raise Mistake(f"{name} wants the word loses after it, and not '{value}'")
+        raise Mistake(f"{name} needs the word loses after it, and not '{value}'")
     return value

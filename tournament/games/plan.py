@@ -21,14 +21,14 @@ MOST_GAMES = 10**9
 def number(option, text):
     """The number from 1 up that an option has."""
     if not re.fullmatch("[1-9][0-9]{0,6}", text):
-        raise Mistake(f"{option} wants a number from 1 to 9999999, and not '{text}'")
+        raise Mistake(f"{option} needs a number from 1 to 9999999, and not '{text}'")
     return int(text)
 
 
 def seconds(option, text):
     """The seconds above 0 that an option has, as they are written."""
     if not re.fullmatch(r"[0-9]{1,7}(\.[0-9]{1,6})?", text) or not float(text):
-        raise Mistake(f"{option} wants seconds above 0, such as 60 or 0.5, and not '{text}'")
+        raise Mistake(f"{option} needs seconds above 0, such as 60 or 0.5, and not '{text}'")
     return text
 
 
@@ -50,7 +50,7 @@ def share(option, text):
     """The share that an option has."""
     found = re.fullmatch("([1-9][0-9]{0,8})/([1-9][0-9]{0,8})", text)
     if not found or int(found[1]) > int(found[2]):
-        raise Mistake(f"{option} wants K/T, the K-th of T tasks, such as 3/100, and not '{text}'")
+        raise Mistake(f"{option} needs K/T, the K-th of T tasks, such as 3/100, and not '{text}'")
     return Share(int(found[1]), int(found[2]))
 
 
@@ -60,7 +60,7 @@ def time_left(option, text):
         return None
     found = re.fullmatch(r"(?:([0-9]{1,5})-)?(?:(?:([0-9]{1,5}):)?([0-9]{1,5}):)?([0-9]{1,9})", text.strip())
     if not found:
-        raise Mistake(f"{option} wants a time such as 1-00:30:00, 30:00 or 90, and not '{text}'")
+        raise Mistake(f"{option} needs a time such as 1-00:30:00, 30:00 or 90, and not '{text}'")
     days, hours, minutes, rest = (int(it or 0) for it in found.groups())
     return ((days * 24 + hours) * 60 + minutes) * 60 + rest
 
@@ -86,20 +86,20 @@ class Plan:
     def add_engine(self, name, command):
         """Adds an engine."""
         if not NAME.fullmatch(name):
-            raise Mistake(f"an engine's name has letters, digits and . + -, 40 at most: '{name}'")
+            raise Mistake(f"an engine's name may have letters, digits, . + and -, at most 40 of them, unlike '{name}'")
         if not command.strip(" "):
             raise Mistake(f"{name} has no command")
         if "\n" in command:
             raise Mistake(f"the command of {name} has more than one line")
         if name in self.engines:
-            raise Mistake(f"two engines are named {name}")
+            raise Mistake(f"two engines are named {name}: give each its own name")
         self.engines[name] = command
 
     def name_engine(self, text):
         """Adds an engine by NAME=CMD."""
         name, is_named, command = text.partition("=")
         if not is_named:
-            raise Mistake(f"--engine wants NAME=CMD, and not '{text}'")
+            raise Mistake(f"--engine needs NAME=CMD, and not '{text}'")
         self.add_engine(name, command)
 
     def add_line(self, line, place):
@@ -188,7 +188,7 @@ class Plan:
         try:
             words = shlex.split(self.engines[name])
         except ValueError as problem:
-            raise Mistake(f"the command of {name} can't be cut into words: {problem}") from None
+            raise Mistake(f"the command of {name} can't be split into words: {problem}") from None
         if not words or not words[0]:
             raise Mistake(f"{name} has no command")
         return words
@@ -223,7 +223,7 @@ class Plan:
     def games(self):
         """The games of the plan."""
         if self.gauntlet is not None and self.gauntlet not in self.engines:
-            raise Mistake(f"--gauntlet wants the name of an engine, such as {next(iter(self.engines))}, and not '{self.gauntlet}'")
+            raise Mistake(f"--gauntlet needs the name of an engine, such as {next(iter(self.engines))}, and not '{self.gauntlet}'")
         if self.made is None:
             self.made = Games(list(self.engines), self.seeds, self.gauntlet)
         return self.made

@@ -29,7 +29,7 @@ def find_twogtp():
     named = os.environ.get("TWOGTP") or next(filter(is_program, beside), "twogtp")
     place = found(named)
     if not place:
-        raise Mistake(f"there is no {named}: name it by TWOGTP")
+        raise Mistake(f"there is no {named}: set TWOGTP to its path")
     return os.path.abspath(place)
 
 
@@ -65,7 +65,7 @@ def printed_by(words):
 def try_options(twogtp, options):
     """Does twogtp take these options? It plays a game of two programs that end at once."""
     if any(it == "--games" or it.startswith("--games=") for it in options):
-        raise Mistake("not --games: each game is a run of its own, with its seed")
+        raise Mistake("leave out --games: each game is a run of its own, with its seed; --seeds says how many")
     printed, status = printed_by([twogtp, "--why", "--record", "--black", "true", "--white", "true", *options])
     if status != 1 or "game 1: abandoned black" not in printed:
         raise Mistake(f"{twogtp} doesn't play with the options '{' '.join(options)}': status {status}", printed)

@@ -80,7 +80,7 @@ def others(counts):
 
 
 def decision(counts, elo0, elo1):
-    """Which of two differences a sequential test accepts, 0 or 1; None where it wants more pairs. Both ratios have to say so: the first one
+    """Which of two differences a sequential test accepts, 0 or 1; None where it needs more pairs. Both ratios have to say so: the first one
     takes the mean of pairs for normal and the variance for known, and errs where outcomes are rare or differences great."""
     if sum(counts) < FEWEST or others(counts) < FEWEST_OTHERS:
         return None

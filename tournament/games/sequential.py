@@ -48,19 +48,19 @@ def asked_of(words, plan):
     if tested and not engines and len(playing) > 1:
         raise Mistake(f"--sprt is of two engines, and the plan has {len(plan.engines)}: name two that play each other, such as {example}")
     if engines and sorted(engines) not in map(sorted, playing):
-        raise Mistake(f"--between wants two engines that play each other, such as {example}, and not '{' '.join(engines)}'")
+        raise Mistake(f"--between needs two engines that play each other, such as {example}, and not '{' '.join(engines)}'")
     return (tested, engines or playing[0]) if tested else None
 
 
 def differences(name, values):
     """The two differences in Elo that an option has, the lower one first."""
     if not all(re.fullmatch(r"[+-]?[0-9]{1,4}(\.[0-9]{1,3})?", it) for it in values):
-        raise Mistake(f"{name} wants two differences in Elo, such as {name} 0 10, and not '{' '.join(values)}'")
+        raise Mistake(f"{name} needs two differences in Elo, such as {name} 0 10, and not '{' '.join(values)}'")
     low, high = map(float, values)
     if max(abs(low), abs(high)) > MOST:
-        raise Mistake(f"{name} wants differences from {-MOST} to {MOST} Elo, such as {name} 0 10: beyond, it wasn't tried")
+        raise Mistake(f"{name} needs differences from {-MOST} to {MOST} Elo, such as {name} 0 10: beyond that it wasn't tested")
     if low == high:
-        raise Mistake(f"{name} wants two different differences, such as {name} 0 10")
+        raise Mistake(f"{name} needs two different differences, such as {name} 0 10")
     if low > high:
-        raise Mistake(f"{name} wants the lower difference first: write {name} {high:g} {low:g}")
+        raise Mistake(f"{name} needs the lower difference first: write {name} {high:g} {low:g}")
     return low, high

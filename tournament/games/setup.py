@@ -39,5 +39,5 @@ class Setup:
         """The komi in half points, in the same way."""
         found = KOMI.fullmatch(self.komi)
         if not found or not any(it.isdigit() for it in self.komi):
-            raise Mistake(f"the plan has --komi '{self.komi}': it is such as 6.5")
+            raise Mistake(f"the plan has --komi '{self.komi}': it is a multiple of 0.5, such as 6.5")
         return (-1 if found[1] == "-" else 1) * (2 * int(found[2] or 0) + (found[3] == "5"))

@@ -258,7 +258,7 @@ def without_result(counts):
 def half_or_out(name, value):
     """Are games that nobody won to be left out?"""
     if value not in ("half", "out"):
-        raise Mistake(f"{name} wants half or out after it, and not '{value}'")
+        raise Mistake(f"{name} needs half or out after it, and not '{value}'")
     return value == "out"
 
 

@@ -56,16 +56,16 @@ class Words:
             values = [value] if has_value else []
             values += islice(words, count - len(values))
             if len(values) < count or any(it.startswith("--") for it in values[bool(has_value):]):
-                raise Mistake(f"{name} wants {wanted} after it, such as {example}")
+                raise Mistake(f"{name} needs {wanted} after it, such as {example}")
             value = values if count > 1 else values[0]
         self.options.append((name, value))
 
     def look_at_after(self):
-        """Has each option of twogtp its value that wants one?"""
+        """Has each option of twogtp its value that needs one?"""
         for name, value in zip(self.after, [*self.after[1:], "--"]):
             if name in VALUES and value.startswith("-"):
                 is_negative = value[1:2].isdigit()
-                raise Mistake(f"{name} wants a value after it, such as {name}{'=' + value if is_negative else ' ' + VALUES[name]}")
+                raise Mistake(f"{name} needs a value after it, such as {name}{'=' + value if is_negative else ' ' + VALUES[name]}")
 
     def why_unknown(self, name):
         """What to write in place of an option that a command hasn't."""
@@ -89,8 +89,8 @@ class Words:
         if "" in self.places[: len(wanted)]:
             raise Mistake(f"{wanted[self.places.index('')]} is empty, perhaps by a variable that isn't set: write {line}")
         if len(self.places) > len(wanted):
-            more = f"; a command with spaces wants quotes: {QUOTED}" if OPTIONS[self.command] is OF_PLAN else ""
-            raise Mistake(f"'{self.places[len(wanted)]}' is a word too many: write {line}{more}")
+            more = f"; a command with spaces needs quotes: {QUOTED}" if OPTIONS[self.command] is OF_PLAN else ""
+            raise Mistake(f"'{self.places[len(wanted)]}' is one argument too many: write {line}{more}")
 
     def last(self, name, read):
         """What this reads of the last value of an option; None where it isn't given. All are looked at."""

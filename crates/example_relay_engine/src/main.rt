@@ -1,4 +1,4 @@
-//! An example: an engine in steps that plays what `sh` writes, which runs the command of its argument.
+//! An example of a sans-IO engine. It runs the command of its argument by `sh`, and plays the moves that this writes.
 #![tactic(auto)]
 
 use go_base::{Choice, Vertex};
@@ -21,7 +21,7 @@ fn main(rt: HostRuntime) -> std::io::Result<()> {
     Ok(())
 }
 
-/// Answers the controller up to `quit`, or the end of the input. A piece of it may have many lines, or a part of one.
+/// Answers the controller until `quit` or the end of the input. A chunk of input may have many lines, or a part of one.
 fn play<P: Process>(rt: &HostRuntime, mover: &mut P) -> Option<()> {
     let (mut input, mut output) = (Counted::new(rt.stdin()), Counted::new(rt.stdout()));
     let (mut engine, mut buffer) = (Steps::new(go_board::KoRule::Simple), [0; 4096]);
@@ -44,7 +44,7 @@ fn play<P: Process>(rt: &HostRuntime, mover: &mut P) -> Option<()> {
     Some(())
 }
 
-/// Hands in the mover's next line that is a lawful choice, a vertex or `resign`; after its last newline, a pass.
+/// Supplies the mover's next line that is a legal choice, a vertex or `resign`; after its last newline, a pass.
 fn choose<P: Process>(engine: &mut Steps, mover: &mut P) -> Option<()> {
     let (mut line, mut byte) = (arrayvec::ArrayVec::<u8, 80>::new(), [0]);
     for _byte in 0..u64::MAX {

@@ -8,17 +8,17 @@ use gtp_engine_app::run::run;
 use gtp_session::streams::Counted;
 use std::process::ExitCode;
 
-/// Holds the standard streams that are closed, runs the engine, and ends with its status.
+/// Replaces each closed standard stream by the null device, runs the engine, and exits with its status.
 fn main(rt: HostRuntime) -> ExitCode {
     let status = match hold_closed(&rt, rt.stdin(), rt.stdout(), rt.stderr()) {
-        // They are held until the engine has ended.
+        // The streams stay replaced until the engine has ended.
         Ok(_held) => answer(&rt),
         Err(_) => report(Failure::NoNullDevice, &mut rt.stderr()),
     };
     ExitCode::from(status)
 }
 
-/// Runs the engine on the arguments and the standard streams, and returns its status.
+/// Runs the engine on the arguments and the standard streams, and returns the exit status.
 fn answer(rt: &HostRuntime) -> u8 {
     let errors = &mut rt.stderr();
     match arguments(rt) {

@@ -1,4 +1,4 @@
-//! The failures that the program reports in a line of its own.
+//! The usage errors and failures that the program reports itself, each in one line.
 ghost use Rattle.std.specs.Prelude.{◌≡◌, ◌≢◌, ◌≤◌, length};
 ghost use Rattle.gtp_engine_app.specs.Status.{ReportsFailure, failure_text, status_for};
 
@@ -7,28 +7,29 @@ use cli::line::error_line;
 use gtp_session::serve::ServeFault;
 use std::io::ErrorKind;
 
-/// The program's name in the lines of failures.
+/// The program's name in error lines.
 pub const NAME: &[u8] = b"gtp_engine";
 
-/// Why the program ends before its conversation does, where `clap` has no text for it.
+/// Why the program ends before its conversation does, unless `clap` reports it.
 #[derive(Clone, Copy, Debug, PartialEq, Eq, Drop)]
 pub enum Failure {
-    /// An argument is no text.
+    /// An argument isn't UTF-8.
     BadArgument,
-    /// The text of `--book` is no book.
+    /// The value of `--book` is no book.
     BadBook,
-    /// The text of `--fault` is no fault.
+    /// The value of `--fault` is no fault.
     BadFault,
-    /// Memory was refused while the arguments were collected or the options read, or for the text that answers them.
+    /// Memory ran out while the arguments were collected, the options read, or the help or another answer to them
+    /// built.
     OutOfMemory,
-    /// The conversation stopped before its end, or the help or the version could not be written.
+    /// The conversation stopped before its end, or the help or the version couldn't be written.
     Serve(ServeFault),
-    /// A standard stream is closed, and the null device that would hold its number can't be opened.
+    /// A standard stream is closed, and the null device that would take its place can't be opened.
     NoNullDevice,
 }
 
 impl Failure {
-    /// Why arguments could not be collected, by the kind of the error.
+    /// Why the arguments couldn't be collected, by the kind of the I/O error.
     pub fn of_arguments(kind: ErrorKind) -> Self
         ensures memory { kind ≡ ErrorKind.OutOfMemory → result ≡ Failure.OutOfMemory }
         ensures other { kind ≢ ErrorKind.OutOfMemory → result ≡ Failure.BadArgument }
@@ -39,7 +40,7 @@ impl Failure {
         }
     }
 
-    /// The status that the program ends with: 2 for a mistake in the arguments, 3 for a failure of its own.
+    /// The exit status: 2 for a usage error, 3 for any other failure.
     pub fn status(self) -> u8
         ensures { result ≡ status_for self }
     {
@@ -49,7 +50,7 @@ impl Failure {
         }
     }
 
-    /// What it is called.
+    /// The text of its line, without the program's name.
     fn text(self) -> &'static [u8]
         ensures text { result.now ≡ failure_text self }
         ensures short { length result.now ≤ 100 }
@@ -67,7 +68,7 @@ impl Failure {
     }
 }
 
-/// Reports the failure in one line, and returns the status. A writer that fails doesn't change the status.
+/// Reports the failure in one line, and returns the exit status, which is the same if the line can't be written.
 pub fn report<E: WriteOnce>(failure: Failure, errors: &mut E) -> u8
     ensures status { result ≡ status_for failure }
     ensures reported { ReportsFailure E.WriteOnce failure errors.old errors.new }

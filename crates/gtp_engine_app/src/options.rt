@@ -1,4 +1,4 @@
-//! The options of the command line.
+//! The command-line options.
 ghost use Rattle.std.specs.Prelude.{◌≡◌, ◌≢◌, map, codes, IfOk, IfErr};
 ghost use Rattle.clap.specs.Words.{app_of, found_of, kind_of, rows_of};
 ghost use Rattle.clap.specs.declared.error.kind.ErrorKind.TheVariants.{OutOfMemory};
@@ -13,23 +13,23 @@ use go_board::KoRule;
 use std::alloc::{AllocError, Global};
 use std::convert::AsStr;
 
-/// What the help says below the options: the policies, the rules of ko, the statuses, and an example.
+/// The help below the options: the policies, the ko rules, the statuses and an example.
 const AFTER_OPTIONS: &str = "\
-Policies, by which genmove chooses:
+Policies, by which genmove chooses a move:
   first   the first candidate
-  random  a candidate drawn at random, from --seed
+  random  a random candidate, by --seed
   book    the entry of --book for this move
 A candidate is a legal point with a neighbour that is empty or has a stone of
-the other colour. --seed is used by random alone, and --book by book alone;
-both are checked under each policy.
+the other colour. Only random uses --seed, and only book uses --book, but both
+are checked under each policy.
 
-Rules of ko, by the boards that no play may bring back:
+Ko rules, by the boards that no play may recreate:
   simple      the board before the previous move
-  positional  each board that the game had
+  positional  each earlier board of the game
 
 Status:
-  0  after quit, at the end of the input, after the help and the version
-  2  the arguments have a mistake
+  0  quit, the end of the input, or help or the version was printed
+  2  usage error
   3  the program could not go on: read fault, write fault, out of memory,
      too many reads
   4  the engine stopped at the fault that --fault asks for
@@ -39,7 +39,7 @@ Example:
 
 More: man gtp_engine";
 
-/// A policy, by its name.
+/// The name of a policy.
 #[derive(Clone, Copy)]
 pub enum PolicyName {
     /// `first`
@@ -50,18 +50,18 @@ pub enum PolicyName {
     Book,
 }
 
-/// What the command line asks for.
+/// The values of the options.
 #[derive(Clone, Copy)]
 pub struct Options<'a> {
-    /// The policy that chooses the moves; `first` where the words don't say.
+    /// The policy that chooses the moves; `first` by default.
     pub policy: PolicyName,
-    /// The seed of the random policy; 1 where the words don't say.
+    /// The seed of the random policy; 1 by default.
     pub seed: u32,
-    /// The ko rule; `simple` where the words don't say.
+    /// The ko rule; `simple` by default.
     pub rule: KoRule,
-    /// The text of the book, which is not read yet; empty where the words don't say.
+    /// The text of the book, not parsed yet; empty by default.
     pub book: &'a str,
-    /// The text of the fault, which is not read yet; `none` where the words don't say.
+    /// The text of the fault, not parsed yet; `none` by default.
     pub fault: &'a str,
 }
 
@@ -75,18 +75,18 @@ static OPTIONS: [OptionRow<'static>; 5] = [
     OptionRow {
         name: "seed",
         takes: Takes::Number("N", 0, 4294967295, "1"),
-        help: "Seed of --policy random, 0 to 4294967295",
+        help: "Random seed, 0 to 4294967295",
     },
     OptionRow {
         name: "ko",
         takes: Takes::Name("RULE", &["simple", "positional"], "simple"),
-        help: "Rule of ko: simple or positional",
+        help: "Ko rule: simple or positional",
     },
     OptionRow {
         name: "book",
         takes: Takes::HiddenText("TEXT", ""),
-        help: "Entries of --policy book, at most 2000, with commas\n\
-            between: each a vertex, resign, or nothing for a pass\n\
+        help: "Moves of --policy book, at most 2000, separated by\n\
+            commas: each a vertex, resign, or nothing for a pass\n\
             [default: empty]",
     },
     OptionRow {
@@ -97,8 +97,11 @@ static OPTIONS: [OptionRow<'static>; 5] = [
     },
 ];
 
-/// Reads the words of a command line, of which the first is the program's name. The error is a mistake in the words, a
-/// request for help or the version, or want of memory; its `Display` is the text for the user.
+/// Reads a command line, whose first word is the program's name, and returns the values of its options.
+///
+/// # Errors
+///
+/// A usage error, a request for help or the version, or out of memory. The error's `Display` is the text for the user.
 pub fn read_options<'a, S: AsStr>(alloc: Global, words: &'a [S]) -> Result<Options<'a>, Error>
     ensures asked { IfOk result (AsksFor (map S.text words.entry.now)) }
     ensures fault { IfErr result (λ error. kind_of error ≢ OutOfMemory →
@@ -108,7 +111,7 @@ pub fn read_options<'a, S: AsStr>(alloc: Global, words: &'a [S]) -> Result<Optio
     Ok(options_of(&matches))
 }
 
-/// The options of a command line, which has a default for each.
+/// The values of the options. Each has a default.
 fn options_of<'a>(matches: &ArgMatches<'a>) -> Options<'a>
     ensures { Ask (rows_of (found_of matches.now)) result }
 {
@@ -149,7 +152,7 @@ fn command<'a>(alloc: Global) -> Result<Command<'a>, AllocError>
     with_options(alloc, program(alloc)?, OPTIONS.as_slice())
 }
 
-/// The command line with no option yet.
+/// The command line without options.
 fn program<'a>(alloc: Global) -> Result<Command<'a>, AllocError>
     ensures { IfOk result (λ command. app_of command ≡ program (codes "gtp_engine")) }
 {

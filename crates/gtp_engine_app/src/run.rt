@@ -1,4 +1,4 @@
-//! The program, over any counted reader and writers.
+//! The program, for any counted reader and writers.
 ghost use Rattle.std.specs.Prelude.{◌≡◌, ◌≢◌, ◌⊎◌, map, string_bytes, IfOk, IfErr, IsOkAnd};
 ghost use Rattle.cli.specs.Requests.{IsRefused};
 ghost use Rattle.gtp_engine_app.specs.Options.{HasNoBook, HasNoFault, IsMistake, Spells};
@@ -25,18 +25,17 @@ use gtp_session::streams::{Incoming, Outgoing, send};
 use std::alloc::{AllocError, Global};
 use std::convert::AsStr;
 
-/// Runs the engine as the words of its command line say, the first of which is the program's name, and returns the
-/// status that the program ends with:
+/// Runs the engine with the options of the command line, and returns the program's exit status. The first of `words` is
+/// the program's name, the others are its arguments.
 ///
-/// - 0 after `quit`, at the end of the input, and where the words ask for help or the version, which goes to `output`;
-/// - 2 where the words have a mistake, the text of `--book` is no book, whatever the policy is, or that of `--fault` no
-///   fault;
-/// - 3 where a read or a write failed, the reads were too many, or memory was refused;
-/// - 4 where the engine stopped at the fault that `--fault` asks for.
+/// - 0: after `quit` or at the end of the input; or help or the version was asked for and written to `output`;
+/// - 2: usage error: also if the value of `--book` is no book, whatever the policy is, or that of `--fault` no fault;
+/// - 3: a read or a write failed, there were too many reads, or memory ran out;
+/// - 4: the engine stopped at the fault that `--fault` asks for.
 ///
-/// What a status of 2 or 3 means is written to `errors`, and whether that can be written changes nothing; after 0 and 4
-/// nothing is written there. `alloc` gives the memory for reading the words and for what is written of them. The
-/// conversation takes none.
+/// With status 2 or 3 it also writes to `errors` what is wrong, and the status is the same if that fails; with 0 or 4
+/// it writes nothing there. `alloc` gives the memory for parsing the arguments and answering them. The conversation
+/// allocates nothing.
 pub fn run<S: AsStr, R: Incoming, W: Outgoing, E: WriteOnce>(
     alloc: Global,
     words: &[S],
@@ -45,14 +44,14 @@ pub fn run<S: AsStr, R: Incoming, W: Outgoing, E: WriteOnce>(
     errors: &mut E,
 ) -> u8
     ensures status { IsStatus result }
-    // After a mistake in the words nothing was read, and nothing went to the output. Of the texts
-    // of the options the first mistake is reported.
+    // After a usage error nothing was read, and nothing went to the output. The first usage error
+    // is reported.
     ensures usage { result ≡ usage_failure →
         HasMistake E.WriteOnce (map S.text words.now) errors.old errors.new
         × (input.new ≡ input.old) × (output.new ≡ output.old) }
-    // Any other status is that of the conversation that the words ask for; or they ask for help,
-    // and nothing was read; or nothing was read, nothing went to the output, and it is
-    // reported that memory was refused. With status 3 the failure is reported, and nothing else.
+    // Any other status is that of the conversation that the arguments ask for; or help was asked
+    // for, and nothing was read; or nothing was read, nothing went to the output, and it is
+    // reported that memory ran out. With status 3 the failure is reported, and nothing else.
     ensures served { let before = streams (ends (R.shown input.old) (W.shown output.old)) errors.old in
         let after = streams (ends (R.shown input.new) (W.shown output.new)) errors.new in
         result ≢ usage_failure → HasServed E.WriteOnce (map S.text words.now) result before after
@@ -68,8 +67,8 @@ pub fn run<S: AsStr, R: Incoming, W: Outgoing, E: WriteOnce>(
     }
 }
 
-/// Holds the conversation that the options ask for, and returns the status. Where a text in them is wrong it reports
-/// that and holds none.
+/// Holds the conversation that the options ask for, and returns the status. If the text of the book or of the fault is
+/// wrong, it reports that and holds none.
 fn serve_options<R: Incoming, W: Outgoing, E: WriteOnce>(
     options: Options<'_>,
     input: &mut R,
@@ -93,11 +92,11 @@ fn serve_options<R: Incoming, W: Outgoing, E: WriteOnce>(
     end(served, errors)
 }
 
-/// The book and the fault that the options spell.
+/// The book and the fault of the options.
 ///
 /// # Errors
 ///
-/// `BadBook` where the text of the book is none; else `BadFault`, where that of the fault is none.
+/// `BadBook` if the text of the book is no book; otherwise `BadFault` if that of the fault is no fault.
 fn read_texts(options: Options<'_>) -> Result<(Book, Fault), Failure>
     ensures texts { IfOk result (λ texts. Spells options.entry texts.0 texts.1) }
     ensures mistake { IfErr result (IsMistake options.entry) }
@@ -124,8 +123,8 @@ fn end<E: WriteOnce>(served: Result<Served, ServeFault>, errors: &mut E) -> u8
     }
 }
 
-/// Writes what `clap` returns in place of options, an error of this kind with this text, and returns the status. The
-/// output counts its calls, so a text that was asked for is sent.
+/// Writes the text of a `clap` error of this kind, and returns the status: help or the version goes to the output,
+/// whose calls are counted, and a usage error to `errors`.
 fn answer_error<W: Outgoing, E: WriteOnce>(
     kind: ErrorKind,
     text: Result<String, AllocError>,
@@ -143,7 +142,7 @@ fn answer_error<W: Outgoing, E: WriteOnce>(
     }
 }
 
-/// Writes a text that was asked for, and returns the status.
+/// Writes the help or the version, and returns the status.
 fn show<W: Outgoing, E: WriteOnce>(text: &[u8], output: &mut W, errors: &mut E) -> u8
     ensures { IsShown E.WriteOnce text.now (W.shown output.old) errors.old
         result (W.shown output.new) errors.new }
@@ -154,7 +153,7 @@ fn show<W: Outgoing, E: WriteOnce>(text: &[u8], output: &mut W, errors: &mut E) 
     }
 }
 
-/// Serves a new session with the policy and the ko rule that the options ask for, under the fault that was asked for.
+/// Serves a new session with the policy and the ko rule of the options and this fault.
 fn converse_by<R: Incoming, W: Outgoing>(
     options: Options<'_>,
     book: Book,
@@ -179,7 +178,7 @@ fn converse_by<R: Incoming, W: Outgoing>(
     }
 }
 
-/// Serves a new session with this policy and this ko rule, under the fault that was asked for.
+/// Serves a new session with this policy, ko rule and fault.
 fn converse<P: Policy, R: Incoming, W: Outgoing>(
     policy: P,
     rule: KoRule,
@@ -193,7 +192,7 @@ fn converse<P: Policy, R: Incoming, W: Outgoing>(
 {
     let mut session = Session::with_rule(policy, rule);
     match fault {
-        // Both would give the same: without a fault one read after the other is served.
+        // `serve_with` would do the same here; without a fault, `serve` serves one read after another.
         Fault::Off => serve(reader, writer, &mut session),
         _ => serve_with(reader, writer, &mut session, MOST_READS, fault),
     }

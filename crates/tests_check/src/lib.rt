@@ -1,5 +1,5 @@
-//! The tests of the judge, the questions, the texts, the options and the counts of `gtp_check`. A crate with tests is
-//! proved twice, so they have a crate of their own.
+//! Tests of the judge, the questions, the texts, the options and the counts of `gtp_check`. A crate with tests is
+//! proved twice, so the tests have a crate of their own.
 #![tactic(auto)]
 
 #[cfg(test)]

@@ -1,4 +1,4 @@
-//! Tests of values, of lines and replies, of the game, of sessions and of engines in steps.
+//! Tests of values, lines and replies, the game, sessions and sans-IO engines.
 
 mod base;
 mod board;

@@ -1,17 +1,17 @@
-//! What tests assert. What an assertion of std writes is proved anew at each place, and a call isn't: so tests call
-//! these. Each crate of tests has its own, since the check allows no library to end the process.
+//! Assertions for tests. The message of a std assertion is proved again at each use, but a call of these isn't. Each
+//! crate of tests has its own copy, since the check lets no library end the process.
 ghost use Rattle.std.specs.Prelude.{◌≡◌, true};
 
 use std::fmt::Debug;
 use std::process::Abort;
 use std::str;
 
-/// Both are equal.
+/// Asserts that both are equal.
 pub fn assert_equal<T: PartialEq + Debug + Drop>(rt: &impl Abort, left: T, right: T) {
     assert_eq!(rt; left, right);
 }
 
-/// Both are equal. The case is printed beside each of the two.
+/// Asserts that both are equal. A failure prints the case beside each of them.
 pub fn assert_equal_for<C: PartialEq + Debug + Drop, T: PartialEq + Debug + Drop>(
     rt: &impl Abort,
     case: C,
@@ -21,24 +21,24 @@ pub fn assert_equal_for<C: PartialEq + Debug + Drop, T: PartialEq + Debug + Drop
     assert_equal(rt, (&case, left), (&case, right));
 }
 
-/// It holds.
+/// Asserts that it holds.
 pub fn assert_true(rt: &impl Abort, holds: bool)
     ensures { holds ≡ true }
 {
     assert!(rt; holds);
 }
 
-/// What is there.
+/// The value, which has to be there.
 pub fn some<T>(rt: &impl Abort, found: Option<T>) -> T {
     found.expect(rt, "nothing is there")
 }
 
-/// It holds in this case.
+/// Asserts that it holds in this case.
 pub fn assert_true_for<C: PartialEq + Debug + Drop>(rt: &impl Abort, case: C, holds: bool) {
     assert_equal_for(rt, case, holds, true);
 }
 
-/// The text of the bytes.
+/// The bytes as text.
 pub fn text_of<'a>(rt: &impl Abort, bytes: &'a [u8]) -> &'a str {
     some(rt, str::from_utf8(bytes).ok())
 }

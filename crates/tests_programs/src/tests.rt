@@ -1,4 +1,4 @@
-//! Tests of the engine's and of the match's program.
+//! Tests of the engine program and of the match program.
 
 mod engine;
 mod streams;

@@ -1,14 +1,14 @@
-//! One call, and what it returns, as texts.
+//! One call and its result, as text.
 use arrayvec::ArrayVec;
 use go_base::{Choice, Colour, write_int};
 use go_board::PlayFault;
 use gtp_session::steps::{AnswerFault, ChoiceFault, CommandFault, Event, Steps};
 use std::alloc::Global;
 
-/// A line of the input or of the output.
+/// A line of input or output.
 pub type Text = ArrayVec<u8, 16384>;
 
-/// Makes the call of this line. The text of what it returned.
+/// Makes the call of this line, and returns its result as text.
 pub fn make_call(alloc: Global, engine: &mut Steps, line: &[u8]) -> Text {
     let mut words = line.split(|byte| *byte == b' ');
     let call = words.next().unwrap_or(b"");
@@ -28,7 +28,7 @@ pub fn make_call(alloc: Global, engine: &mut Steps, line: &[u8]) -> Text {
     }
 }
 
-/// `done`, or why it wasn't.
+/// `done`, or why it failed.
 fn plain(done: bool, why: &[u8]) -> Text {
     let mut text = Text::new();
     let _ = text.try_extend_from_slice(if done { b"done" } else { why });
@@ -62,7 +62,7 @@ fn feed(alloc: Global, engine: &mut Steps, bytes: &[u8]) -> Text {
     text
 }
 
-/// Appends the pairs of digits of these bytes, after a space.
+/// Appends a space and these bytes as pairs of hexadecimal digits.
 fn push_hex(alloc: Global, text: &mut Text, bytes: &[u8]) {
     if let Ok(digits) = hex::encode(alloc, bytes) {
         let _ = text.try_push(b' ');
@@ -70,7 +70,7 @@ fn push_hex(alloc: Global, text: &mut Text, bytes: &[u8]) {
     }
 }
 
-/// Appends the words of the line that is waited for, if one is.
+/// Appends the words of the custom command that waits for its answer, if one does.
 fn push_words(alloc: Global, text: &mut Text, engine: &Steps) {
     let Some(line) = engine.line() else {
         return;

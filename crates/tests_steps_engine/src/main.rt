@@ -1,7 +1,7 @@
-//! A helper of tests: makes the calls of an engine in steps that its input names, and prints what each returns.
-//! `tests/stages/stepped.py` compares that with a plain reference. With an argument the engine is under positional ko.
+//! A helper for tests: makes the calls of a sans-IO engine that its input names, and prints the result of each.
+//! `tests/stages/stepped.py` compares them with a simple reference. With any argument the ko rule is positional.
 //!
-//! Each line of the input is one call, with its bytes as pairs of hexadecimal digits: `feed BYTES`, `choose BYTES`,
+//! Each line of input is one call, with its bytes as pairs of hexadecimal digits: `feed BYTES`, `choose BYTES`,
 //! `answer BYTES`, `fail BYTES`, `decline`, `name BYTES`, `version BYTES`, `add BYTES`.
 #![tactic(auto)]
 
@@ -37,7 +37,7 @@ fn main(rt: HostRuntime) -> io::Result<()> {
     Ok(())
 }
 
-/// Makes the calls whose lines end in the piece. Whether what they returned could be printed.
+/// Makes the calls whose lines end in this chunk, and returns whether the results could be printed.
 fn make_calls<W: Outgoing>(
     alloc: Global,
     engine: &mut Steps,

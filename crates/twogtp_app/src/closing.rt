@@ -1,4 +1,4 @@
-//! How the text of a match that is over is written, and how its processes are closed after that.
+//! Writes the text of a game that is over, and then ends its processes.
 ghost use Rattle.std.specs.Prelude.{◌≡◌, IfOk, OnOk, OnErr};
 ghost use Rattle.gtp_match.specs.Sides.{side_of, status_of};
 ghost use Rattle.twogtp_app.specs.Closing.{AreClosed, has_answered_all};
@@ -16,16 +16,19 @@ use go_base::Side;
 use gtp_match::{Match, Status, Verdict};
 use gtp_process::{Process, Starter, end, quit_and_end};
 
-/// A game that is over, and its verdict. Only `write` makes one, once the game's text is written and flushed. Only
-/// `close` sends `quit`, and it takes one. So no process is sent `quit` before that.
+/// A game that is over, and its verdict. Only `write` makes one, after it has written and flushed the game's text; only
+/// `close` sends `quit`, and it needs one. So no process is sent `quit` before the text is written.
 pub struct WrittenGame<S: Starter> {
     played: GameInPlay<S>,
     verdict: Verdict,
 }
 
 impl<S: Starter> GameInPlay<S> {
-    /// Writes the text of a match that is over and has this verdict. To its processes nothing is sent. Where the text
-    /// can't be written, they are ended at once.
+    /// Writes the text of a game that ended with this verdict, and sends its processes nothing.
+    ///
+    /// # Errors
+    ///
+    /// `Broken` if the text can't be written. The processes are ended at once then.
     pub fn write<O: WriteOnce>(
         self,
         task: &Task,
@@ -56,8 +59,8 @@ impl<S: Starter> GameInPlay<S> {
 }
 
 impl<S: Starter> WrittenGame<S> {
-    /// Ends all processes, and returns the verdict: at once those of the sides that are down or still owe an answer;
-    /// then the others, each after it was sent `quit` and has answered.
+    /// Ends all processes, and returns the verdict. A side that is down or still owes an answer is ended at once, then
+    /// each other side is sent `quit` and ended once it has answered.
     pub fn close(self) -> Verdict
         ensures verdict { result ≡ self.verdict }
         ensures closed { AreClosed S.Process.Process self.played.game self.played.processes }
@@ -77,7 +80,7 @@ impl<S: Starter> WrittenGame<S> {
     }
 }
 
-/// Ends the process of a side that is down or still owes an answer, and hands back any other.
+/// Ends the process of a side that is down or still owes an answer, and returns any other.
 fn end_unless_answered<P: Process>(game: &Match, side: Side, process: Option<P>) -> Option<P>
     ensures { IsLeft P.Process
         (has_answered_all (status_of (side_of game.now.sides side).up)) process result }

@@ -1,4 +1,4 @@
-//! The mistakes in the words that the program reports itself, and its name in the lines of mistakes and failures.
+//! The usage errors that the program finds itself, and its name in error lines.
 ghost use Rattle.std.specs.Prelude.{◌≡◌};
 ghost use Rattle.cli.specs.declared.failure.PlanError.TheVariants as plan_error;
 ghost use Rattle.twogtp_app.specs.Status.{mistake_text};
@@ -8,12 +8,12 @@ use cli::failure::{MistakeText, PlanError};
 /// The program's name.
 pub const NAME: &[u8] = b"twogtp";
 
-/// A mistake in the words of the command line, where `clap` has no text for it.
+/// A usage error that `clap` doesn't find.
 #[derive(Clone, Copy, Debug, PartialEq, Eq, Drop)]
 pub enum Mistake {
-    /// `--black` has no word.
+    /// `--black` is empty, or only spaces.
     NoBlackCommand,
-    /// `--white` has no word.
+    /// `--white` is empty, or only spaces.
     NoWhiteCommand,
     /// The text of `--komi` is no komi.
     BadKomi,

@@ -22,21 +22,21 @@ use gtp_match::{Action, Match, Setup, Verdict};
 use gtp_process::{READ_ROOM, StartFault, Starter, Unstarted, end};
 use std::alloc::AllocError;
 
-/// How many turns a game has at most. A turn is one start, one send or one read, and no move. No match within the
-/// limits has this number.
+/// The turn limit of a game. A turn is one start, one send or one read, not a move. No match within the limits of the
+/// options reaches it.
 const MOST_TURNS: u64 = 1_000_000_000_000;
 
-/// A game that is played. It is not `Drop`: its processes have to be ended.
+/// A game in play. It is not `Drop`, so its processes have to be ended.
 pub struct GameInPlay<S: Starter> {
     /// The match.
     pub game: Match,
     /// The processes of its sides.
     pub processes: Processes<S::Process>,
-    /// The room for what is read of a process at once.
+    /// The buffer for one read from a process.
     pub buffer: [u8; READ_ROOM],
 }
 
-/// What one round of a game's loop does.
+/// What one round of a game's loop did.
 #[derive(Drop)]
 enum Step {
     /// A turn was taken.
@@ -45,12 +45,13 @@ enum Step {
     Over(Verdict),
 }
 
-/// Plays a game of a plan, writes its text, and returns how it ended. The processes are closed once the text is written
-/// and flushed: only then is one sent `quit`. Each process that is started is ended, also after a failure.
+/// Plays one game of a plan, writes its text, and returns its verdict. It sends `quit` only after the text is written
+/// and flushed. Each process that it started is ended, also after a failure.
 ///
 /// # Errors
 ///
-/// `OutOfMemory` where the start of a process was refused memory, `TooManyTurns`, `Write`.
+/// `OutOfMemory` if memory ran out at the start of a process, `TooManyTurns`, or `Write` if the text or a line of
+/// `--why` couldn't be written.
 pub fn play_game<O: WriteOnce, E: WriteOnce, S: Starter>(
     plan: &Plan<'_>,
     number: u32,
@@ -88,8 +89,8 @@ impl<S: Starter> GameInPlay<S> {
         }
     }
 
-    /// Takes turns until the match is over. What is reported of a turn is written after it, under the game's number,
-    /// where the task asks for it.
+    /// Takes turns until the match is over, and returns its verdict. With `--why` the lines about a turn are written
+    /// right after it, under the game's number.
     fn take_turns<E: WriteOnce>(
         &mut self,
         plan: &Plan<'_>,
@@ -112,7 +113,7 @@ impl<S: Starter> GameInPlay<S> {
         Err(Failure::TooManyTurns)
     }
 
-    /// Does what comes next, and ends the process of the side whose turn it was, if the side is down then.
+    /// Takes the next turn, and ends the process of the side whose turn it was if that side is down then.
     fn take_turn(&mut self, commands: &Commands<'_>, starter: &mut S) -> Result<Step, AllocError>
         ensures step { let before = state self.old.game self.old.processes (S.asked starter.old) in
             let after = state self.new.game self.new.processes (S.asked starter.new) in
@@ -141,7 +142,7 @@ impl<S: Starter> GameInPlay<S> {
         }))
     }
 
-    /// Starts a side's process. One that can't be started counts as started and lost.
+    /// Starts a side's process. One that can't be started counts as a start that failed.
     fn start(
         &mut self,
         side: Side,

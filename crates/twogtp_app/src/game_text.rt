@@ -8,14 +8,14 @@ use arrayvec::ArrayVec;
 use go_base::push;
 use gtp_match::{Match, record_line, result_line};
 
-/// The room for the text of a game: 97 bytes of the result, 10,001 of the record, 2,002 of the board.
+/// The buffer size for the text of a game: 97 bytes of the result, 10,001 of the record, 2,002 of the board.
 const GAME_ROOM: usize = 12100;
 
 /// The text of a game.
 pub type GameText = ArrayVec<u8, GAME_ROOM>;
 
-/// The text of a match that is over: its result line, and where they are asked for its record, and its board with an
-/// empty line.
+/// The text of a game that is over: its result line, then its record under `--record`, then under `--show` its board
+/// with an empty line after it.
 pub fn game_text(task: &Task, number: u32, played: &Match) -> GameText
     ensures { result.items ≡ game_lines task.now number played.now }
 {

@@ -1,7 +1,7 @@
-//! What the program `twogtp` does: matches between two engines that speak the Go Text Protocol, version 2. Here are
-//! their options, their turns and their lines; `gtp_match` is the controller.
+//! The program `twogtp`, which plays matches between two engines that speak the Go Text Protocol, version 2. This crate
+//! reads its options, starts and talks to the engines, and writes its lines; `gtp_match` is the controller.
 //!
-//! [`run::run`] plays them all. The program calls it with the arguments, the standard streams and the system's
+//! [`run::run`] plays all games. The program calls it with its arguments, the standard streams and the system's
 //! processes.
 #![tactic(auto)]
 
@@ -10,6 +10,7 @@ pub mod failure;
 mod game;
 mod game_text;
 pub mod laws;
+mod mistakes;
 mod next_commands;
 mod options;
 mod plan;

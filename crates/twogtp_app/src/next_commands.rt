@@ -1,4 +1,4 @@
-//! What a side is sent at once.
+//! The commands that a side is sent in one write.
 ghost use Rattle.std.specs.Prelude.{◌≡◌, ◌≢◌, ◌+◌, ◌≤◌, ◌++◌, true, false};
 ghost use Rattle.arrayvec.specs.ArrayVec.{array_vec_len};
 ghost use Rattle.gtp_match.specs.declared.verdicts.Action.TheVariants as action;
@@ -12,13 +12,14 @@ use go_base::{Side, push};
 use gtp_match::{Action, MOST_UNANSWERED, Match};
 use gtp_wire::MOST_COMMAND_BYTES;
 
-/// The room for the bytes of all commands that a side may have unanswered.
+/// The buffer size for all commands that a side may have unanswered.
 const TEXT_ROOM: usize = MOST_UNANSWERED * MOST_COMMAND_BYTES;
 
-/// The bytes of commands, joined.
+/// The bytes of several commands in a row.
 pub type CommandsText = ArrayVec<u8, TEXT_ROOM>;
 
-/// Counts as sent each command that comes next for a side, until something else comes next, and returns their bytes.
+/// Takes the commands that come next for a side, up to the first other action, marks them as sent, and returns their
+/// bytes.
 pub fn take_commands(game: &mut Match, side: Side) -> CommandsText
     ensures { TakesAllCommands game.old side result.items game.new }
 {
@@ -32,7 +33,7 @@ pub fn take_commands(game: &mut Match, side: Side) -> CommandsText
     text
 }
 
-/// Whether a command for this side comes next.
+/// Whether the next action is a command to this side.
 fn is_to_send(game: &Match, side: Side) -> bool
     ensures yes { result ≡ true → next game.now ≡ action.Send side }
     ensures no { result ≡ false → next game.now ≢ action.Send side }
@@ -44,7 +45,7 @@ fn is_to_send(game: &Match, side: Side) -> bool
     }
 }
 
-/// Counts the side's next command as sent, and appends its bytes.
+/// Marks the side's next command as sent, and appends its bytes.
 fn push_command(text: &mut CommandsText, game: &mut Match, side: Side)
     requires next { next game.old ≡ action.Send side }
     requires room { array_vec_len text.old + MOST_COMMAND_BYTES ≤ TEXT_ROOM }

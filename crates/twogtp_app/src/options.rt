@@ -1,4 +1,4 @@
-//! The options of the command line.
+//! The command-line options.
 ghost use Rattle.std.specs.Prelude.{◌≡◌, ◌⊎◌, codes, map, IfOk, IfErr};
 ghost use Rattle.clap.specs.Walk.{rows_of};
 ghost use Rattle.clap.specs.Words.{app_of, found_of, kind_of};
@@ -13,26 +13,26 @@ use cli::options::{OptionRow, Takes, flag_at, number_at, text_at, with_options};
 use std::alloc::{AllocError, Global};
 use std::convert::AsStr;
 
-/// What the help says below the options: a game's line, the verdicts, the statuses, and an example.
+/// The help below the options: a game's line, the verdicts, the statuses and an example.
 const AFTER_OPTIONS: &str = "\
-A game writes one line: game N: VERDICT moves M restarts RB RW
-M counts its moves, RB and RW the restarts of Black and of White.
+Each game prints one line: game N: VERDICT moves M restarts RB RW
+M is its number of moves, RB and RW are the restarts of Black and of White.
 
 Verdicts:
-  B+4.5, W+0.5, 0       two passes; the score by area, every stone alive
+  B+4.5, W+0.5, 0       two passes: the score by area, every stone alive
   B+R, W+R              the other side resigned
-  limit                 the game had as many moves as are allowed
+  limit                 the game reached the move limit
   B+F(CAUSE), W+F(..)   the other side forfeited; CAUSE is illegal move,
                         no vertex, no move or refused play
-  unfit black, ..       this side refused the size, komi, the empty board or
-                        the handicap, or named other points
-  abandoned black, ..   this side could not be started, ended, broke, or
-                        wrote what is no reply, more often than allowed
+  unfit black, ..       this side refused the board size, komi, clear_board or
+                        the handicap, or placed the handicap elsewhere
+  abandoned black, ..   this side failed to start, exited, closed a stream or
+                        broke the protocol more often than --restarts allows
 
 Status:
   0  each game ended by a score, a resignation, the limit or a forfeit
-  1  some game was unfit or abandoned; the others were played all the same
-  2  the arguments have a mistake; nothing was started
+  1  in some game a side was unfit or abandoned; all others were still played
+  2  usage error; nothing was started
   3  the program could not go on: write fault, out of memory, too many turns
 
 Example:
@@ -40,26 +40,26 @@ Example:
 
 More: man twogtp";
 
-/// What the command line asks for.
+/// The values of the options.
 #[derive(Clone, Copy)]
 pub struct Options<'a> {
-    /// The command of Black's engine, which is not split yet.
+    /// The command that starts Black's engine, not split yet.
     pub black: &'a str,
-    /// The command of White's engine.
+    /// The command that starts White's engine, not split yet.
     pub white: &'a str,
-    /// The size of the board, 1 to 25.
+    /// The board size, 1 to 25.
     pub size: u32,
-    /// The text of komi, which is not read yet.
+    /// The text of the komi, not parsed yet.
     pub komi: &'a str,
     /// The number of handicap stones, 0 to 9.
     pub handicap: u32,
-    /// How many games are played, 1 to 1,000.
+    /// The number of games, 1 to 1,000.
     pub games: u32,
-    /// The most moves of a game, 1 to 2,000.
+    /// The move limit per game, 1 to 2,000.
     pub max_moves: u32,
-    /// How often a side is started again at most, 0 to 1,000.
+    /// The restart limit per side and game, 0 to 1,000.
     pub restarts: u32,
-    /// What is written beside the games' lines.
+    /// What to write besides the games' lines.
     pub details: Details,
 }
 
@@ -68,28 +68,28 @@ static OPTIONS: [OptionRow<'static>; 11] = [
     OptionRow {
         name: "black",
         takes: Takes::Required("CMD"),
-        help: "Command of Black's engine, split at spaces",
+        help: "Command that starts Black's engine, split at spaces",
     },
     OptionRow {
         name: "white",
         takes: Takes::Required("CMD"),
-        help: "Command of White's engine, split at spaces",
+        help: "Command that starts White's engine, split at spaces",
     },
     OptionRow {
         name: "size",
         takes: Takes::Number("N", 1, 25, "19"),
-        help: "Size of the board, 1 to 25",
+        help: "Board size, 1 to 25",
     },
     OptionRow {
         name: "komi",
         takes: Takes::Text("K", "6.5"),
-        help: "Komi, such as 6.5 or 7; a negative one is\nwritten --komi=-3.5",
+        help: "Komi, a multiple of 0.5; write a negative one as\n--komi=-3.5",
     },
     OptionRow {
         name: "handicap",
         takes: Takes::Number("N", 0, 9, "0"),
-        help: "Handicap stones: 0, or 2 to 9; on size 7 and even\n\
-            sizes 2 to 4; below size 7 none",
+        help: "Handicap stones: 0, or 2 to 9 (on size 7 and on even\n\
+            sizes 2 to 4, below size 7 only 0)",
     },
     OptionRow {
         name: "games",
@@ -99,33 +99,36 @@ static OPTIONS: [OptionRow<'static>; 11] = [
     OptionRow {
         name: "max-moves",
         takes: Takes::Number("N", 1, 2000, "1000"),
-        help: "Most moves of a game, 1 to 2000",
+        help: "Move limit per game, 1 to 2000",
     },
     OptionRow {
         name: "restarts",
         takes: Takes::Number("N", 0, 1000, "2"),
-        help: "Restarts of a side in a game, 0 to 1000",
+        help: "Restart limit per side and game, 0 to 1000",
     },
     OptionRow {
         name: "record",
         takes: Takes::Nothing,
-        help: "Write the moves of each game",
+        help: "Print the moves of each game",
     },
     OptionRow {
         name: "show",
         takes: Takes::Nothing,
-        help: "Write the last board of each game",
+        help: "Print the final board of each game",
     },
     OptionRow {
         name: "why",
         takes: Takes::Nothing,
-        help: "Report on standard error why an engine is lost, and each\n\
-            refused move",
+        help: "Report on standard error why a side fails, each refused\n\
+            play, and which komi and handicap are allowed",
     },
 ];
 
-/// Reads the words of a command line, of which the first is the program's name. The error is a mistake in the words, a
-/// request for help or the version, or want of memory; its `Display` is the text for the user.
+/// Reads a command line, whose first word is the program's name, and returns the values of its options.
+///
+/// # Errors
+///
+/// A usage error, a request for help or the version, or out of memory. The error's `Display` is the text for the user.
 pub fn read_options<'a, S: AsStr>(alloc: Global, words: &'a [S]) -> Result<Options<'a>, Error>
     ensures asked { IfOk result (AsksFor (map S.text words.entry.now)) }
     ensures fault { IfErr result (λ error. (kind_of error ≡ OutOfMemory)
@@ -135,7 +138,7 @@ pub fn read_options<'a, S: AsStr>(alloc: Global, words: &'a [S]) -> Result<Optio
     Ok(options_of(&matches))
 }
 
-/// The options of a command line, which has a default for each but the commands, which have to be there.
+/// The values of the options. Each has a default except the commands, which are required.
 fn options_of<'a>(matches: &ArgMatches<'a>) -> Options<'a>
     ensures { Ask (rows_of (found_of matches.now)) result }
 {
@@ -163,7 +166,7 @@ fn command<'a>(alloc: Global) -> Result<Command<'a>, AllocError>
     with_options(alloc, program(alloc)?, OPTIONS.as_slice())
 }
 
-/// The command line with no option yet.
+/// The command line without options.
 fn program<'a>(alloc: Global) -> Result<Command<'a>, AllocError>
     ensures { IfOk result (λ command. app_of command ≡ program (codes "twogtp")) }
 {

@@ -1,4 +1,4 @@
-//! From the options of a run to the engines' commands and the task.
+//! The engines' commands and the task of a run, from its options.
 ghost use Rattle.std.specs.Prelude.{IfOk, IfErr};
 ghost use Rattle.twogtp_app.specs.Tasks.{AreCommandsOf, HasNoPlan, HaveWords, IsCommand, IsMistake, IsPlanOf, IsTaskOf};
 
@@ -10,7 +10,7 @@ use go_base::{Komi, Size};
 use gtp_match::Setup;
 use std::alloc::{AllocError, Global};
 
-/// What a run is to do, and with which engines.
+/// What a run has to do, and with which engines.
 #[derive(Drop)]
 pub struct Plan<'a> {
     /// The commands that start the engines.
@@ -23,8 +23,8 @@ pub struct Plan<'a> {
 ///
 /// # Errors
 ///
-/// `OutOfMemory`, or the first mistake in this order: Black's command has no word, White's has none, the text of komi
-/// is no komi, the size doesn't allow the handicap.
+/// `OutOfMemory`, or the first usage error in this order: Black's command is empty, White's is, the text of the komi is
+/// no komi, the size doesn't allow the handicap. A command of spaces alone is empty too.
 pub fn plan_of<'a>(alloc: Global, options: &Options<'a>) -> Result<Plan<'a>, PlanError<Mistake>>
     ensures plan { IfOk result (IsPlanOf options.now) }
     ensures no_plan { IfErr result (HasNoPlan options.now) }
@@ -34,7 +34,7 @@ pub fn plan_of<'a>(alloc: Global, options: &Options<'a>) -> Result<Plan<'a>, Pla
     Ok(Plan { commands, task })
 }
 
-/// The commands of the options. Black's is looked at first.
+/// The engines' commands. Black's is checked first.
 fn commands_of<'a>(alloc: Global, options: &Options<'a>) -> Result<Commands<'a>, PlanError<Mistake>>
     ensures commands { IfOk result (AreCommandsOf options.now) }
     ensures no_plan { IfErr result (HasNoPlan options.now) }
@@ -50,8 +50,8 @@ fn commands_of<'a>(alloc: Global, options: &Options<'a>) -> Result<Commands<'a>,
     Ok(Commands { black, white })
 }
 
-/// The task of options whose commands have words. Komi is looked at first. That a size or another number is past its
-/// limits isn't met, since the command line refuses it.
+/// The task of options whose commands aren't empty. Komi is checked first. Other numbers can't be out of their limits
+/// here, since the command line rejects them.
 fn task_of(options: &Options<'_>) -> Result<Task, Mistake>
     ensures task { IfOk result (IsTaskOf options.now) }
     ensures mistake { IfErr result (λ mistake.
@@ -79,7 +79,7 @@ fn task_of(options: &Options<'_>) -> Result<Task, Mistake>
     }
 }
 
-/// The words of a command, which is split at runs of spaces.
+/// The words of a command, split at runs of spaces.
 fn words_of<'a>(alloc: Global, command: &'a str) -> Result<Vec<&'a str>, AllocError>
     ensures { IfOk result (λ found. IsCommand command.entry.now found.items) }
 {

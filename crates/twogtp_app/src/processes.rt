@@ -9,7 +9,8 @@ use go_base::Side;
 use gtp_match::{Match, Status};
 use gtp_process::{Ending, Process, end, end_known};
 
-/// The process of each side that has one. It is not `Drop`: `end` ends them all, or `close` of a `WrittenGame`.
+/// The process of each side that has one. It is not `Drop`: `end` ends them all, and so does `close` of a
+/// `WrittenGame`.
 pub struct Processes<P> {
     /// Black's.
     pub black: Option<P>,
@@ -28,7 +29,7 @@ impl<P: Process> Processes<P> {
         }
     }
 
-    /// Puts a side's process, and returns the one that it had.
+    /// Replaces a side's process, and returns the one that it had.
     pub fn replace(&mut self, side: Side, process: P) -> Option<P>
         ensures put { process_of self.new side ≡ Some process }
         ensures had { result ≡ process_of self.old side }
@@ -40,7 +41,7 @@ impl<P: Process> Processes<P> {
         }
     }
 
-    /// The process of a side, if it has one, to be changed.
+    /// A mutable reference to a side's process, if it has one.
     pub fn process_mut(&mut self, side: Side) -> &mut Option<P>
         ensures* lends { sem 𝓛 (LendsProcess P.row self.entry side result) }
         ensures value { result.now ≡ process_of self.old side }

@@ -1,4 +1,4 @@
-//! The program, over any writers and any means to start processes.
+//! The program, for any writers and any starter of processes.
 ghost use Rattle.std.specs.Prelude.{◌≡◌, ◌⊎◌, map};
 ghost use Rattle.twogtp_app.specs.Games.{GamesEnd, HasBegun, HasDone, HasMistake, HasShown};
 ghost use Rattle.twogtp_app.specs.Games.{known_of, run_of, run_state};
@@ -8,6 +8,7 @@ ghost use Rattle.cli.specs.Status.{done, own_failure, usage_failure};
 
 use crate::failure::NAME;
 use crate::game::play_game;
+use crate::mistakes::report_no_plan;
 use crate::options::read_options;
 use crate::plan::{Plan, plan_of};
 use byte_streams::WriteOnce;
@@ -18,15 +19,16 @@ use gtp_process::Starter;
 use std::alloc::Global;
 use std::convert::AsStr;
 
-/// Plays the games that the words of the command line ask for, the first of which is the program's name. Writes the
-/// text of each to `output`, and returns the status that the program ends with:
+/// Plays the games that the command line asks for, writes the text of each to `output`, and returns the program's exit
+/// status. The first of `words` is the program's name, the others are its arguments.
 ///
-/// - 0 where each game ended by the rules, and where the words ask for help or the version, which goes to `output`;
-/// - 1 where in some game a side was unfit or abandoned;
-/// - 2 where the words have a mistake;
-/// - 3 where the output or a line of `--why` can't be written, memory was refused, or a game had too many turns.
+/// - 0: each game ended by the rules; or help or the version was asked for and written to `output`;
+/// - 1: in some game a side was unfit or abandoned;
+/// - 2: usage error;
+/// - 3: the output or a line of `--why` couldn't be written, memory ran out, or a game had too many turns.
 ///
-/// What a status of 2 or 3 means is written to `errors`, and whether that can be written changes nothing.
+/// With status 2 or 3 it also writes to `errors` what is wrong. With `--why` a second line says which komis or
+/// handicaps are allowed, if one of them is wrong. The status is the same if `errors` can't be written.
 pub fn run<A: AsStr, O: WriteOnce, E: WriteOnce, S: Starter>(
     alloc: Global,
     words: &[A],
@@ -35,26 +37,27 @@ pub fn run<A: AsStr, O: WriteOnce, E: WriteOnce, S: Starter>(
     starter: &mut S,
 ) -> u8
     ensures status { IsStatus result }
-    // After a mistake in the words nothing was started, and nothing was written to the output. Of
-    // the options the first mistake is reported on standard error.
+    // After a usage error nothing was started, and nothing was written to the output. The first
+    // usage error is reported on standard error; under `--why` a second line follows if it is a
+    // komi or a handicap.
     ensures usage { result ≡ usage_failure →
         HasMistake E.WriteOnce (map A.text words.now) errors.old errors.new
         × (output.new ≡ output.old) × (starter.new ≡ starter.old) }
-    // Where the status is 0 or 1 and it isn't asked why engines fail, nothing is written to
-    // standard error.
+    // With status 0 or 1 and without `--why` nothing is written to standard error.
     ensures quiet { (result ≡ done) ⊎ (result ≡ some_given_up) → IsWithoutWhy (map A.text words.now)
         → errors.new ≡ errors.old }
-    // All games of the task that the words ask for were played and written; or they ask for help or
-    // the version, that was written, and nothing was started.
+    // With status 0 or 1 all games that the arguments ask for were played and written; or help or
+    // the version was asked for and written, and nothing was started.
     ensures played { (result ≡ done) ⊎ (result ≡ some_given_up) →
         ((starter.new ≡ starter.old)
         × HasShown O.WriteOnce (map A.text words.now) result output.old output.new)
         ⊎ HasDone (known_of S.Process.Process O.WriteOnce E.WriteOnce) (map A.text words.now) result
         (run_state output.old errors.old (S.asked starter.old))
         (run_state output.new errors.new (S.asked starter.new)) }
-    // What was written before the program had to stop is the beginning of the games' texts, or of
-    // the help or the version: then the output broke at it. Why it stopped is reported last on
-    // standard error. Memory that was refused before any game is the one cause that isn't seen here.
+    // With status 3 what was written is the beginning of the games' texts; or of the help or the
+    // version, at which the output broke. Why the program stopped is reported last on standard
+    // error. If that is memory before any game, nothing was written or started; no clause says
+    // whether memory did run out.
     ensures stopped { result ≡ own_failure →
         ((starter.new ≡ starter.old) × (output.new ≡ output.old)
         × ReportsFailure E.WriteOnce Failure.OutOfMemory errors.old errors.new)
@@ -77,7 +80,7 @@ pub fn run<A: AsStr, O: WriteOnce, E: WriteOnce, S: Starter>(
     };
     let plan = match plan_of(alloc, &options) {
         Ok(plan) => plan,
-        Err(error) => return error.report(NAME, errors),
+        Err(error) => return report_no_plan(&error, &options, errors),
     };
     match play_games(&plan, output, errors, starter) {
         Ok(status) => status,
@@ -85,7 +88,7 @@ pub fn run<A: AsStr, O: WriteOnce, E: WriteOnce, S: Starter>(
     }
 }
 
-/// Plays the games of a plan, and writes the text of each.
+/// Plays the games of a plan, writes the text of each, and returns the status.
 fn play_games<O: WriteOnce, E: WriteOnce, S: Starter>(
     plan: &Plan<'_>,
     output: &mut O,
@@ -104,7 +107,7 @@ fn play_games<O: WriteOnce, E: WriteOnce, S: Starter>(
     Ok(status)
 }
 
-/// The status after one game more, that ended so.
+/// The status after one more game, which ended with this verdict.
 fn with_verdict(status: u8, verdict: Verdict) -> u8
     ensures { result ≡ status_with status verdict }
 {

@@ -1,4 +1,4 @@
-//! What a side's process is sent, and what is read of it, in a turn.
+//! Sends a side's process its commands, and reads its replies.
 ghost use Rattle.std.specs.Prelude.{◌≡◌, None, Option};
 ghost use Rattle.gtp_match.specs.declared.verdicts.Action.TheVariants as action;
 ghost use Rattle.gtp_match.specs.declared.verdicts.SideFault.{SideFault};
@@ -16,8 +16,8 @@ use go_base::Side;
 use gtp_match::{Match, Report, Status};
 use gtp_process::{CutOff, PipeCause, Process, READ_ROOM, read_some, write_whole};
 
-/// Sends a side its commands: all that come next for it. A side that has no process fails. It returns why it failed,
-/// if it did.
+/// Sends a side all commands that come next for it, and returns why the side failed, if it did. A side without a
+/// process fails.
 pub fn send<P: Process>(game: &mut Match, side: Side, process: &mut Option<P>) -> TurnReport
     requires { next game.old ≡ action.Send side }
     ensures sends { SendsToSide P.Process side (in_turn game.old process.old)
@@ -28,14 +28,14 @@ pub fn send<P: Process>(game: &mut Match, side: Side, process: &mut Option<P>) -
     match process {
         Some(process) => send_to(game, side, process),
         None => {
-            // Its bytes go nowhere: there is no process to take them.
+            // The bytes go nowhere, since there is no process to take them.
             let _ = game.send(side);
             cut_off(game, side, PipeCause::Writing)
         }
     }
 }
 
-/// Writes a side's commands to its process, in one text. A side that is cut off fails.
+/// Writes a side's commands to its process in one text. A side whose pipe breaks fails.
 fn send_to<P: Process>(game: &mut Match, side: Side, process: &mut P) -> TurnReport
     ensures sent { AreSent P.Process game.old side process.old process.new game.new result.loss }
     ensures retake { result.retake ≡ None }
@@ -48,7 +48,7 @@ fn send_to<P: Process>(game: &mut Match, side: Side, process: &mut P) -> TurnRep
     }
 }
 
-/// Hears what a side writes. A side that has no process fails. It returns what is reported of that.
+/// Reads once what a side wrote, passes it to the match, and returns what to report. A side without a process fails.
 pub fn hear<P: Process>(
     game: &mut Match,
     side: Side,
@@ -66,8 +66,8 @@ pub fn hear<P: Process>(
     }
 }
 
-/// Reads once, and hears all that the process wrote, before anything else is done. A side whose stream has ended or
-/// that is cut off fails. A process that has several commands to answer may run first.
+/// Reads once, and passes all that was read to the match before anything else is done. A side whose output has ended or
+/// whose pipe breaks fails. A process that has several commands to answer may run first.
 fn hear_from<P: Process>(
     game: &mut Match,
     side: Side,
@@ -88,8 +88,8 @@ fn hear_from<P: Process>(
     }
 }
 
-/// Hears the bytes of a side, all of them, and returns what is reported of them: the `play` that is retaken, and why
-/// the side failed by them.
+/// Passes all bytes of a side to the match, and returns what to report: a refused `play` that is retaken, and why the
+/// side failed.
 fn hear_bytes(game: &mut Match, side: Side, bytes: &[u8]) -> TurnReport
     ensures heard { (fault : Option SideFault)
         × HearsAllExactly side game.old bytes.now fault game.new }
@@ -106,7 +106,7 @@ fn hear_bytes(game: &mut Match, side: Side, bytes: &[u8]) -> TurnReport
     }
 }
 
-/// A side is cut off, and so fails. It returns why, with what the side owed; nothing else is reported.
+/// Records that a side's pipe broke or ended, so that it fails, and returns why, with what the side owed.
 fn cut_off(game: &mut Match, side: Side, cause: PipeCause) -> TurnReport
     ensures lost { game.new ≡ lost game.old side }
     ensures report { result ≡ only_loss (cut_off cause game.old side) }

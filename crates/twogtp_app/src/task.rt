@@ -1,4 +1,4 @@
-//! What a run of the program is to do.
+//! What a run of the program has to do.
 ghost use Rattle.std.specs.Prelude.{◌≡◌};
 ghost use Rattle.gtp_process.specs.Starts.{program_line};
 ghost use Rattle.twogtp_app.specs.Starts.{program_line_for};
@@ -6,29 +6,29 @@ ghost use Rattle.twogtp_app.specs.Starts.{program_line_for};
 use go_base::Side;
 use gtp_match::Setup;
 
-/// What is written beside the games' lines.
+/// What to write besides the games' lines.
 #[derive(Clone, Copy, Debug)]
 pub struct Details {
-    /// Whether the record is written.
+    /// Whether to write the record of each game.
     pub record: bool,
-    /// Whether the board is written.
+    /// Whether to write the final board of each game.
     pub show: bool,
-    /// Whether it is written why a side failed.
+    /// Whether to report why a side failed, each refused play, and which komis or handicaps are allowed.
     pub why: bool,
 }
 
-/// The games of a run, and what is written of them.
+/// The games of a run, and what to write about them.
 #[derive(Clone, Copy, Debug)]
 pub struct Task {
     /// The setup of each game.
     pub setup: Setup,
-    /// How many games are played.
+    /// The number of games.
     pub games: u32,
-    /// What is written beside their lines.
+    /// What to write besides their lines.
     pub details: Details,
 }
 
-/// The commands that start the engines, each split into words: the program and its arguments.
+/// The commands that start the engines, each split into a program and its arguments.
 #[derive(Drop)]
 pub struct Commands<'a> {
     /// Black's engine.
@@ -38,7 +38,7 @@ pub struct Commands<'a> {
 }
 
 impl<'a> Commands<'a> {
-    /// The words of a side's command.
+    /// A side's command: the program and its arguments.
     pub fn of(&self, side: Side) -> &[&'a str]
         ensures { program_line result.now ≡ program_line_for self.now side }
     {

@@ -1,4 +1,4 @@
-//! What is reported of a turn: that a refused `play` is retaken, and why a side failed.
+//! What `--why` reports about a turn: a refused `play` that is retaken, and why a side failed.
 ghost use Rattle.std.specs.Prelude.{◌≡◌};
 ghost use Rattle.twogtp_app.specs.Why.{only_loss};
 
@@ -9,25 +9,25 @@ use gtp_process::{Ending, PipeCause, Unstarted};
 /// Why a side failed in a turn.
 #[derive(Drop)]
 pub enum TurnLoss {
-    /// Its program was not started.
+    /// Its program couldn't be started.
     NotStarted(Unstarted),
-    /// It was cut off, and owed this.
+    /// Its pipe broke or ended, and it owed this.
     CutOff(PipeCause, Owed),
-    /// By what it wrote.
+    /// It wrote something wrong.
     Wrote(Loss),
 }
 
-/// What is reported of a turn.
+/// What `--why` reports about a turn.
 #[derive(Drop)]
 pub struct TurnReport {
-    /// The refused `play` that is retaken, if any. By this no side fails.
+    /// The refused `play` that is retaken, if any. No side fails by this.
     pub retake: Option<Retake>,
     /// Why the side failed, if it did.
     pub loss: Option<TurnLoss>,
 }
 
 impl TurnReport {
-    /// The side failed for this, if at all, and nothing is retaken.
+    /// A report of this failure, if any, and of no retake.
     pub fn only_loss(loss: Option<TurnLoss>) -> Self
         ensures { result ≡ only_loss loss }
     {
@@ -40,8 +40,8 @@ impl TurnReport {
 pub struct SideTurn {
     /// Whose turn it was.
     pub side: Side,
-    /// What is reported of it.
+    /// What to report about it.
     pub report: TurnReport,
-    /// How the side's process ended, where the side is down after the turn.
+    /// How the side's process ended, if the side is down after the turn.
     pub ending: Ending,
 }

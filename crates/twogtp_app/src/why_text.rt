@@ -1,4 +1,4 @@
-//! The lines of what is reported of a turn.
+//! The lines of `--why` about a turn.
 ghost use Rattle.std.specs.Prelude.{◌≡◌, ◌+◌, ◌<◌, ◌≤◌, ◌++◌, length, IfSome};
 ghost use Rattle.arrayvec.specs.ArrayVec.{array_vec_len};
 ghost use Rattle.gtp_match.specs.Losing.{CanBeShown};
@@ -20,13 +20,13 @@ use gtp_match::{LossCause, Owed, Retake, SentCommand, SideFault, side_name};
 use gtp_process::{Ending, PipeCause, pipe_text, push_ending, push_quoted, push_unstarted};
 use gtp_wire::{Command, CommandText, write_command};
 
-/// The room for a line: 320 bytes of what a side wrote, and less than 280 beside them.
+/// The buffer size for a line: 320 bytes of what a side wrote, and less than 280 for the rest.
 const LINE_ROOM: usize = 600;
 
-/// The line of what is reported of a side.
+/// A line of `--why` about a side.
 pub type ReportLine = ArrayVec<u8, LINE_ROOM>;
 
-/// The line of a game's side that refused a `play` which is retaken, with its newline: at most 600 bytes.
+/// The line about a side that refused a `play` which is retaken, with its newline: at most 600 bytes.
 pub fn retake_line(number: u32, side: Side, retake: &Retake) -> ReportLine
     requires { CanBeShown retake.now.owed }
     ensures { result.items ≡ retake_line number side retake.now }
@@ -37,7 +37,7 @@ pub fn retake_line(number: u32, side: Side, retake: &Retake) -> ReportLine
     line
 }
 
-/// The line of a game's side that failed, whose process ended so, with its newline: at most 600 bytes.
+/// The line about a side that failed, and how its process ended, with its newline: at most 600 bytes.
 pub fn loss_line(number: u32, side: Side, loss: &TurnLoss, ending: Ending) -> ReportLine
     requires { LossCanBeShown loss.now }
     ensures { result.items ≡ loss_line number side loss.now ending }
@@ -48,7 +48,7 @@ pub fn loss_line(number: u32, side: Side, loss: &TurnLoss, ending: Ending) -> Re
     line
 }
 
-/// The beginning of a line of a game's side.
+/// The beginning of a line: `twogtp: game N: SIDE: `.
 fn begin_line(number: u32, side: Side) -> ReportLine
     ensures bytes { result.items ≡ line_head number side }
     ensures few { array_vec_len result ≤ 32 }
@@ -62,7 +62,7 @@ fn begin_line(number: u32, side: Side) -> ReportLine
     line
 }
 
-/// Appends that a refused `play` is retaken.
+/// Appends that a `play` was refused and is retaken.
 fn push_retake(line: &mut ReportLine, retake: &Retake)
     requires room { array_vec_len line.old ≤ 32 }
     requires shown { CanBeShown retake.now.owed }
@@ -131,7 +131,7 @@ fn rule_text(fault: PlayFault) -> &'static [u8]
     }
 }
 
-/// Appends how many commands a side hasn't answered, and the oldest of them.
+/// Appends the number of a side's unanswered commands, and the oldest of them.
 fn push_owed(line: &mut ReportLine, owed: &Owed)
     requires room { array_vec_len line.old ≤ 100 }
     requires shown { CanBeShown owed.now }
@@ -144,7 +144,7 @@ fn push_owed(line: &mut ReportLine, owed: &Owed)
     push(line, b": ");
 }
 
-/// Appends the oldest of this number of unanswered commands as it was sent, in quotes, if there is one.
+/// Appends the oldest of `number` unanswered commands as it was sent, in quotes, if there is one.
 fn push_oldest(line: &mut ReportLine, number: u32, oldest: Option<SentCommand>)
     requires room { array_vec_len line.old ≤ 300 }
     requires shown { IfSome oldest (λ entry. IsWritable entry.command) }
@@ -161,7 +161,7 @@ fn push_oldest(line: &mut ReportLine, number: u32, oldest: Option<SentCommand>)
     push(line, b"\"");
 }
 
-/// What is before the oldest of this number of unanswered commands.
+/// The text before the oldest of `number` unanswered commands.
 fn before_oldest(number: u32) -> &'static [u8]
     ensures text { result.now ≡ before_oldest number }
     ensures few { length result.now ≤ 13 }
@@ -172,7 +172,7 @@ fn before_oldest(number: u32) -> &'static [u8]
     }
 }
 
-/// The words of a command, with single spaces between them.
+/// A command and its arguments, with single spaces between them.
 fn command_words(command: &Command) -> CommandText
     requires { IsWritable command.now }
     ensures { result.items ≡ join_with_byte space (words_of command.now) }
@@ -182,7 +182,7 @@ fn command_words(command: &Command) -> CommandText
     text
 }
 
-/// Appends what is written of the bytes of a side that a pipe cut off.
+/// Appends what was read of a side whose pipe broke or ended.
 fn push_read(line: &mut ReportLine, cause: PipeCause, bytes: &[u8])
     requires few { length bytes.now ≤ most_shown }
     requires room { array_vec_len line.old ≤ 250 }

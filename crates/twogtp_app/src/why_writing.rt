@@ -1,4 +1,4 @@
-//! What is reported of a turn is written.
+//! Writes the lines of `--why`.
 ghost use Rattle.std.specs.Prelude.{IfSome, OnOk, OnErr};
 ghost use Rattle.gtp_match.specs.Losing.{CanBeShown};
 ghost use Rattle.twogtp_app.specs.Turns.{turn_lines};
@@ -12,8 +12,8 @@ use go_base::Side;
 use gtp_match::Retake;
 use gtp_process::Ending;
 
-/// Writes what is reported of a turn, where that is asked for: first the `play` that is retaken, and then why the side
-/// failed. Each line is flushed before the next.
+/// With `--why` writes what is reported about a turn: first the `play` that is retaken, then why the side failed. Each
+/// line is flushed before the next.
 pub fn write_turn<E: WriteOnce>(
     why: bool,
     number: u32,
@@ -33,7 +33,7 @@ pub fn write_turn<E: WriteOnce>(
     write_loss(number, turn.side, &turn.report.loss, turn.ending, errors)
 }
 
-/// Writes the line of the side that refused a `play` which is retaken, if there is one.
+/// Writes the line about a side that refused a `play` which is retaken, if it did.
 fn write_retake<E: WriteOnce>(
     number: u32,
     side: Side,
@@ -52,7 +52,7 @@ fn write_retake<E: WriteOnce>(
     }
 }
 
-/// Writes the line of a side that failed, if it did. Its process ended so.
+/// Writes the line about a side that failed, and how its process ended, if it did fail.
 fn write_loss<E: WriteOnce>(
     number: u32,
     side: Side,

@@ -181,9 +181,22 @@ class Ended(OfStops):
             self.check("a release that is ended: its status, and nothing in dist/", (143, []), came)
 
 
-MISTAKES = [["--gate"], ["--gate", "fine"], ["--gate", "1 passed, 0 failed\n2"], ["now"], ["--final", "now"], ["--final", "--final"],
-            ["--final", "--gate"], ["--gate", "--final"], ["--gate", GATE, "--gate", GATE], ["--final=1.0"], ["--help", "--final"],
-            [""]]  # fmt: skip
+NO_LINE = "--gate needs the last line of ./test after it, such as '9 passed, 0 failed'"
+# arguments, and what is wrong with them
+MISTAKES = {
+    ("--gate",): NO_LINE,
+    ("--gate", "fine"): NO_LINE,
+    ("--gate", "1 passed, 0 failed\n2"): NO_LINE,
+    ("now",): "there is no option 'now'",
+    ("--final", "now"): "there is no option 'now'",
+    ("--final", "--final"): "--final is given twice",
+    ("--final", "--gate"): NO_LINE,
+    ("--gate", "--final"): NO_LINE,
+    ("--gate", GATE, "--gate", GATE): "--gate is given twice",
+    ("--final=1.0",): "there is no option '--final=1.0'",
+    ("--help", "--final"): "there is no option '--help'",
+    ("",): "there is no option ''",
+}
 
 
 class Words(OfStops):
@@ -194,8 +207,8 @@ class Words(OfStops):
         status, output, _ = release(self.folder, "--help")
         came = (status, len(output.splitlines()), output[:27])
         self.check("--help says it in seven lines", (0, 7, "usage: ./release [--final] "), came)
-        for words in MISTAKES:
-            self.check(f"a mistake: {words}", (2, "", output), release(self.folder, *words))
+        for words, said in MISTAKES.items():
+            self.check(f"a usage error: {words}", (2, "", f"release: {said}\n{output}"), release(self.folder, *words))
 
 
 # what a page may not have, and what is said of it

@@ -34,7 +34,7 @@ def plant(here, pairs):
 
 
 class Loop(Case):
-    """The loop that plays as long as a test wants more games. All games are there, so that none is played."""
+    """The loop that plays as long as a test needs more games. All games are there, so that none is played."""
 
     def loop(self, pairs, text):
         """What it prints last, and how many lines there are of games and of the test."""

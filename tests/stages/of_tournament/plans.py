@@ -122,7 +122,7 @@ class Plans(Case):
             status, output, errors = here.run("tournament", "--help")
             self.check("help: status 0, on the standard output", (0, "usage: tournament play FOLDER", ""), (status, output[:29], errors))
             here.environment["TWOGTP"] = "/no/such/twogtp"
-            said = "tournament: there is no /no/such/twogtp: name it by TWOGTP\n"
+            said = "tournament: there is no /no/such/twogtp: set TWOGTP to its path\n"
             self.check("without twogtp: status 2", (2, "", said), here.run("tournament", "play", "all"))
 
     def test_unknown(self):

@@ -1,4 +1,4 @@
-//! Texts of a check, its options and its counts, as they are written by hand.
+//! Texts of a check, its options and its counts, compared with texts written by hand.
 mod ahead;
 mod colours;
 mod complaints;

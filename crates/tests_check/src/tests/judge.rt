@@ -10,13 +10,13 @@ use gtp_check_judge::{CheckCommand, Examiner, Kind};
 use gtp_wire::{CommandText, Reply};
 use std::process::Abort;
 
-/// The line of a command, which may be asked and is.
+/// Asks this command, which has to be allowed, and returns its line.
 fn asked(rt: &impl Abort, examiner: &mut Examiner, command: CheckCommand) -> CommandText {
     assert_true(rt, examiner.has_room(&command));
     examiner.ask(command).text
 }
 
-/// Asks the command of this line, which is to be written so.
+/// Asks the command of this line, which has to be written exactly so.
 fn ask(rt: &impl Abort, examiner: &mut Examiner, line: &str) {
     let (_id, text) = some(rt, line.trim_end().split_once(' '));
     let written = asked(rt, examiner, command(rt, text));
@@ -45,8 +45,8 @@ fn may_ask(rt: &impl Abort, examiner: &Examiner, text: &str) -> bool {
     examiner.has_room(&command(rt, text))
 }
 
-/// An examiner whose engine has taken the size of this line, cleared its board, and said that it knows what it may be
-/// without. The next command has the id 6.
+/// An examiner whose engine has accepted this size, cleared its board, and said that it knows the optional commands.
+/// The next command has the id 6.
 fn begun(rt: &impl Abort, line: &str) -> Examiner {
     let mut examiner = Examiner::new(KoRule::Simple, 1);
     examiner.started();

@@ -1,4 +1,4 @@
-//! Examples of the values and their spellings, from the tables of the page of values.
+//! Examples of values and their spellings, from the tables of docs/values.md.
 mod handicaps;
 mod komis;
 mod texts;

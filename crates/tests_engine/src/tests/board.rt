@@ -1,4 +1,4 @@
-//! The game: examples worked out by hand, and games of random moves beside those of a plain game.
+//! The game: examples worked out by hand, and games of random moves compared with a simple game.
 mod chains;
 mod copies;
 mod drawn;
@@ -45,7 +45,7 @@ fn point_of(rt: &impl Abort, name: &str) -> Point {
     }
 }
 
-/// The move of a word: the colour's letter, and after it the vertex, as in `bD4` and `wpass`.
+/// The move of a word: the colour's letter, then the vertex, as in `bD4` and `wpass`.
 fn read_move(rt: &impl Abort, word: &str) -> Move {
     let (letter, vertex) = some(rt, word.as_bytes().split_first());
     Move {
@@ -54,8 +54,8 @@ fn read_move(rt: &impl Abort, word: &str) -> Move {
     }
 }
 
-/// Plays the moves of a text one after the other, with spaces between. The word `undo` takes one back, and `clear` all.
-/// Each call is to be accepted.
+/// Plays the moves of a text, separated by spaces. The word `undo` undoes one move, and `clear` all of them. Each call
+/// has to succeed.
 pub fn play_all(rt: &impl Abort, game: &mut Game, moves: &str) {
     for word in moves.split_whitespace() {
         if word == "undo" {
@@ -69,8 +69,8 @@ pub fn play_all(rt: &impl Abort, game: &mut Game, moves: &str) {
     }
 }
 
-/// Compares each point with a drawing: the rows from the highest down, with spaces between, `X` for Black's stone and
-/// `O` for White's.
+/// Compares each point with a drawing: the rows from the highest down, separated by spaces, with `X` for Black's stones
+/// and `O` for White's.
 fn assert_board(rt: &impl Abort, game: &Game, drawing: &str) {
     let lines = game.size().get();
     let mut rows = drawing.split_whitespace();

@@ -1,4 +1,4 @@
-//! Conversations over memory, and what they compare by.
+//! Conversations in memory, and how they are compared.
 use crate::asserts::assert_equal_for;
 use gtp_session::fault::Fault;
 use gtp_session::first::First;
@@ -17,18 +17,18 @@ mod memory;
 mod policies;
 mod replies;
 
-/// How an engine is called.
+/// Which call runs an engine.
 #[derive(Clone, Copy, Debug, PartialEq, Eq, Drop)]
 pub enum Call {
     Serve,
-    /// With at most so many reads.
+    /// With at most this many reads.
     Within(u32),
-    /// With at most so many reads, and a fault.
+    /// With at most this many reads, and a fault.
     With(u32, Fault),
 }
 
 impl Call {
-    /// The session answers what the reader gives.
+    /// Has the session answer what the reader gives.
     pub fn hold<R: Incoming, W: Outgoing, P: Policy>(
         self,
         reader: &mut R,
@@ -48,19 +48,19 @@ impl Call {
 pub struct Talk<'a> {
     pub how: Call,
     pub input: &'a [u8],
-    /// The input comes in pieces of these sizes, and then the rest.
+    /// The sizes of the first chunks of the input; the rest comes as one.
     pub sizes: &'a [usize],
     /// The read of this number fails.
     pub failing: Option<usize>,
-    /// The writer takes so many bytes, at most `step` of them in a write, none in the first `stuck` writes, and fails
-    /// after that, and at each flush after the first `flushes`.
+    /// The writer takes this many bytes, at most `step` of them in a write and none in the first `stuck` writes. After
+    /// that it fails, as does each flush after the first `flushes`.
     pub room: usize,
     pub step: usize,
     pub stuck: usize,
     pub flushes: usize,
 }
 
-/// The conversation comes to this output and this answer. What is left is the session, and how many reads there were.
+/// Asserts that the conversation gives this output and this answer. Returns the session and the number of reads.
 pub fn assert_comes_to(
     rt: &impl Abort,
     case: &str,
@@ -94,11 +94,11 @@ pub fn assert_comes_to(
     (session, pieces.turn)
 }
 
-/// The sizes of pieces of a byte each.
+/// The sizes of chunks of one byte each.
 static BYTES: [usize; 512] = [1; 512];
 
-/// The engine, called like this, answers the input with the output and comes to this end: byte after byte, in each two
-/// pieces, and in one piece.
+/// Asserts that the engine, called like this, answers the input with this output and ends so, whether the input comes
+/// byte by byte, in any two chunks, or in one.
 pub fn assert_serves_in_any_cuts(
     rt: &impl Abort,
     case: &str,

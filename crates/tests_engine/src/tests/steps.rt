@@ -1,4 +1,4 @@
-//! Conversations of engines in steps, and what they compare by.
+//! Conversations of sans-IO engines, and how they are compared.
 use crate::asserts::{assert_equal, assert_true};
 use arrayvec::ArrayVec;
 use gtp_session::first::First;
@@ -19,7 +19,7 @@ pub fn take(rt: &impl Abort, taken: &mut Taken, reply: &[u8]) {
     assert_true(rt, taken.try_extend_from_slice(reply).is_ok());
 }
 
-/// Gives the engine all of a piece. It is handed the first policy's choices, and declines each other command.
+/// Feeds the engine a whole chunk. It is supplied the first policy's choices, and each custom command is declined.
 pub fn feed_all(rt: &impl Abort, steps: &mut Steps, piece: &[u8], taken: &mut Taken) {
     let mut rest = piece;
     for _ in 0..=piece.len() {

@@ -1,4 +1,4 @@
-//! Examples of lines, replies and commands, worked out by hand from the page of the protocol.
+//! Examples of lines, replies and commands, worked out by hand from docs/protocol.md.
 mod lines;
 mod replies;
 mod reply_words;

@@ -18,7 +18,7 @@ pub enum Shows {
     Line(u32, &'static [u8]),
     /// It has no line.
     NoLine,
-    /// A side is up, and was not asked for a move: so many commands are confirmed, and so many unanswered.
+    /// A side is up, and was not asked for a move: this many commands are confirmed, and this many unanswered.
     Up(Side, u32, u32),
     /// A side is up, and was asked for a move: the same two numbers.
     Asked(Side, u32, u32),
@@ -32,13 +32,13 @@ pub enum Shows {
     Record(&'static [u8]),
     /// How often the move of this number was retaken.
     Retakes(u32, u32),
-    /// How often a side was started again.
+    /// How often a side was restarted.
     Restarts(Side, u32),
-    /// Whose move is to be taken back.
+    /// Whose move is to be undone.
     TakingBack(Option<Side>),
 }
 
-/// The match shows this.
+/// Asserts that the match shows this.
 pub fn assert_shows(rt: &impl Abort, place: Place, played: &Match, what: &Shows) {
     match what {
         Shows::Next(action) => assert_equal_for(rt, place, played.next(), *action),

@@ -1,4 +1,4 @@
-//! Runs of the program over memory.
+//! Runs of the program in memory.
 use crate::asserts::{assert_equal_for, assert_true};
 use crate::tests::streams::{Narrow, Source, WIDE, narrow_stream, new_log};
 use gtp_engine_app::run::run;
@@ -10,7 +10,7 @@ mod options;
 mod policies;
 mod texts;
 
-/// What a run of the program left.
+/// The results of a run of the program.
 #[derive(Drop)]
 struct Ran {
     status: u8,
@@ -18,8 +18,8 @@ struct Ran {
     errors: Narrow,
 }
 
-/// Runs the program with these arguments after its name. Where there is no input each read fails. The output and the
-/// errors have so much room.
+/// Runs the program with these arguments after its name. Without an input each read fails. The output and the errors
+/// take this many bytes.
 fn run_over<R: Abort + AllocGlobal>(
     rt: &R,
     arguments: &[&str],
@@ -46,7 +46,7 @@ fn run_over<R: Abort + AllocGlobal>(
     }
 }
 
-/// With these arguments the input gets the output, the status is this, and nothing is reported.
+/// Asserts that with these arguments the input gives this output and this status, and that nothing is reported.
 fn assert_ends<R: Abort + AllocGlobal>(
     rt: &R,
     arguments: &[&str],

@@ -1,4 +1,4 @@
-//! Streams that fail, and what was done with the engines of a run.
+//! Streams that fail, and a log of what was done with the engines of a run.
 use crate::asserts::{assert_equal_for, some};
 use std::cell::Cell;
 use std::fmt::Debug;
@@ -7,7 +7,7 @@ use std::io::{ErrorKind, Read, Write};
 use std::process::Abort;
 use std::rc::Rc;
 
-/// A reader of these bytes. Where there are none at all each read fails.
+/// A reader of these bytes. Without any bytes each read fails.
 #[derive(Clone, Copy, Drop)]
 pub struct Source<'a> {
     pub bytes: Option<&'a [u8]>,
@@ -67,11 +67,11 @@ pub fn new_log<R: Abort + AllocGlobal>(rt: &R) -> Log {
     some(rt, Rc::new(rt.alloc(), counts).ok())
 }
 
-/// The room of a stream that takes all that is written in these tests.
+/// The size of a stream that takes all that these tests write.
 pub const WIDE: usize = 20_000;
 
-/// A stream that takes `room` bytes; a write into it fails when it is full. At each flush it keeps how many it has
-/// taken, and notes that in the log.
+/// A stream that takes `room` bytes and fails a write when it is full. At each flush it records how many bytes it has
+/// taken, also in the log.
 #[derive(Drop)]
 pub struct Narrow {
     pub taken: Vec<u8>,
@@ -80,7 +80,7 @@ pub struct Narrow {
     pub log: Log,
 }
 
-/// A stream that has room for so many bytes, with this log.
+/// A stream that takes this many bytes, with this log.
 pub fn narrow_stream<R: Abort + AllocGlobal>(rt: &R, room: usize, log: &Log) -> Narrow {
     Narrow {
         taken: Vec::new(rt.alloc()),
@@ -107,7 +107,7 @@ impl Write for Narrow {
     }
 }
 
-/// This stream was handed the text whole, and by one flush; or nothing, where there is no text.
+/// Asserts that the text was written to this stream whole and with one flush; or that nothing was, if there is no text.
 pub fn assert_handed_on<C: PartialEq + Debug + Drop + Copy>(
     rt: &impl Abort,
     case: C,

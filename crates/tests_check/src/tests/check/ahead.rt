@@ -89,7 +89,7 @@ impl Starter for Starts {
     }
 }
 
-/// A trial of these commands on such an engine: how many were asked, and what was wrong, if anything.
+/// A trial of these commands on such an engine: the number of commands asked, and what was wrong, if anything.
 fn trial_of<R: Abort + AllocGlobal>(
     rt: &R,
     texts: &'static [&'static [u8]],
@@ -207,7 +207,8 @@ static ANSWERS: [&[u8]; 1] = [
 
 #[test]
 fn a_trial_asks_all_of_an_engine_that_answers_before_it_is_asked(rt: HostRuntime) {
-    // The lines of 30 such commands fill the room of those that wait. The engine has answered all that it was asked then.
+    // The lines of 30 such commands fill the buffer of those that wait. The engine has then answered all that it was
+    // asked.
     let mut commands = commands_of(&rt, &["boardsize 5"]);
     for _command in 0..35u32 {
         let known = command(&rt, "known_command fixed_handicap");

@@ -40,7 +40,7 @@ static ROWS: [Row; 12] = [
         REFUSED,
         true,
     ),
-    // The last move had the other colour, was taken back, or wasn't made.
+    // The last move had the other colour, was undone, or wasn't made.
     (
         &[("boardsize 9", 0), ("play b A1", 0), ("play w B2", 0)],
         REFUSED,

@@ -141,7 +141,7 @@ static ROWS: [Row; 15] = [
 
 ",
     },
-    // A colour in full isn't read.
+    // A colour written in full isn't accepted.
     Row {
         head: (
             1,
@@ -182,7 +182,7 @@ static ROWS: [Row; 15] = [
 
 ",
     },
-    // The same colour was read before: another thing decides.
+    // The same colour was accepted before, so something else is wrong.
     Row {
         head: (
             1,
@@ -239,7 +239,7 @@ static ROWS: [Row; 15] = [
 
 ",
     },
-    // The other colour doesn't show that this one is read, nor does another command.
+    // That the other colour was accepted doesn't show that this one is, nor does another command.
     Row {
         head: (
             1,
@@ -265,7 +265,7 @@ static ROWS: [Row; 15] = [
 
 ",
     },
-    // A reply is longer than what is read of one: a limit of ours.
+    // A reply is longer than what `gtp_check` reads of one: its own limit.
     Row {
         head: (
             5,
@@ -325,7 +325,7 @@ static ROWS: [Row; 15] = [
 
 ",
     },
-    // The board is drawn before the command, and the stones that it captures are named.
+    // The drawing shows the board before the command, and the captured stones are named.
     Row {
         head: (
             2,

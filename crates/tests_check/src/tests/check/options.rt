@@ -1,4 +1,4 @@
-//! The words of the command line, and the plan.
+//! The command line, and the plan.
 use crate::asserts::{assert_equal, assert_true_for};
 use cli::failure::PlanError;
 use go_base::Size;
@@ -56,7 +56,7 @@ fn options_have_defaults_and_lessons_are_chosen_in_their_order(
     Ok(())
 }
 
-/// Words that come to no plan, and why.
+/// Arguments that give no plan, and why.
 static NO_PLANS: [([&str; 4], Mistake); 4] = [
     (["gtp_check", "  ", "--seed", "1"], Mistake::NoCommand),
     (
@@ -86,7 +86,7 @@ fn a_plan_has_a_command_and_a_lesson(rt: HostRuntime) -> Result<(), Fail> {
     Ok(())
 }
 
-/// Words of which one option is out of its limits, or has a name that there isn't.
+/// Arguments in which one option is out of its range, or has an unknown name.
 static BEYOND: [[&str; 4]; 6] = [
     ["gtp_check", "engine", "--size", "4"],
     ["gtp_check", "engine", "--size", "26"],
@@ -104,7 +104,7 @@ fn numbers_have_limits(rt: HostRuntime) {
     }
 }
 
-/// The first and the last number that each option may have: the size, the seed, the restarts and the trials.
+/// The least and the greatest value of each option: the size, the seed, the restarts and the trials.
 static WITHIN: [([&str; 4], (u32, u32, u32, u32)); 2] = [
     (
         ["--size=5", "--seed=0", "--restarts=0", "--trials=0"],

@@ -1,4 +1,4 @@
-//! What is written of the progress, as it is written by hand.
+//! The progress lines, compared with lines written by hand.
 use super::talk_of;
 use crate::asserts::{assert_equal, assert_equal_for, text_of};
 use gtp_check_app::progress::{in_place, line_at, waiting_text};
@@ -7,8 +7,8 @@ use gtp_check_plan::plan::plan_of;
 use gtp_check_questions::Lesson;
 use std::test::Fail;
 
-/// Words of a check, the command and the lesson that is waited for, how many commands and starts there were, and the
-/// text.
+/// The arguments of a check, the command and the lesson that it waits for, the numbers of commands and starts so far,
+/// and the text.
 static WAITING: [(&[&str], &[u8], Lesson, (u32, u32), &str); 2] = [
     (
         &[

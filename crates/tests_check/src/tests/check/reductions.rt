@@ -38,8 +38,8 @@ fn conversation(alloc: Global, moves: u32) -> Result<Vec<CheckCommand>, AllocErr
     Ok(commands)
 }
 
-/// A conversation is made shorter. A trial ends by the same wrong answer where all of these commands are asked. Returns
-/// how many trials were made.
+/// Shortens a conversation. A trial reproduces the wrong answer if it asks all of these commands. Returns the number of
+/// trials.
 fn reduce(
     alloc: Global,
     reduction: &mut Reduction,

@@ -1,4 +1,4 @@
-//! The line of an answer that may have run on into the next one.
+//! The hint that an answer may have run on into the next one.
 use super::talk_of;
 use crate::asserts::{assert_equal_for, text_of};
 use gtp_check_judge::Kind;

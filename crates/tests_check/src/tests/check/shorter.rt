@@ -8,7 +8,7 @@ use gtp_check_shortening::flat::{
 use gtp_check_shortening::superko::is_positional;
 use std::test::Fail;
 
-/// Two games. In the first a stone is put on another one, and two moves are taken back.
+/// Two games. In the first a stone is put on another one, and two moves are undone.
 static TWO_GAMES: [(&str, usize); 17] = [
     ("known_command undo", 0),
     ("known_command final_score", 0),
@@ -29,7 +29,7 @@ static TWO_GAMES: [(&str, usize); 17] = [
     ("final_score", 0),
 ];
 
-/// How many of the last games stay, and whether they are whole, and not flat; and the commands that stay.
+/// How many of the last games are kept, whether they are kept whole and not flat, and the commands that are kept.
 static SHORTER: [(usize, bool, &[&str]); 3] = [
     (
         1,
@@ -96,8 +96,8 @@ fn the_last_games_are_flat_or_whole_and_ever_more_are_tried(rt: HostRuntime) -> 
     Ok(())
 }
 
-/// A game, with how many moves there are before each command. Black takes A1, plays there, and takes E1. White's C4 and D4
-/// are taken back, and its B1 is refused, since a stone is there.
+/// A game, with the number of moves before each command. Black captures A1, plays there, and captures E1. White's C4
+/// and D4 are undone, and its B1 is refused, since the point is occupied.
 static CAPTURES: [(&str, usize); 18] = [
     ("boardsize 5", 0),
     ("komi 6.5", 0),
@@ -119,13 +119,13 @@ static CAPTURES: [(&str, usize); 18] = [
     ("genmove b", 9),
 ];
 
-/// How many of the last commands are kept, and whether they are whole, and not flat; and the commands that stay after
-/// those that set the board up.
+/// How many of the last commands are kept, whether they are kept whole and not flat, and the commands that are kept
+/// after those that set the board up.
 static KEPT: [(usize, bool, &[&str]); 5] = [
     (1, false, &["play w E5", "genmove b"]),
     (4, false, &["play w E5", "genmove b"]),
     (4, true, &["play w E5", "play w D4", "undo", "genmove b"]),
-    // The stone that is taken back stood when these began.
+    // The stone that is undone was on the board when these began.
     (2, true, &["play w E5", "play w D4", "undo", "genmove b"]),
     (
         8,
@@ -143,7 +143,7 @@ static KEPT: [(usize, bool, &[&str]); 5] = [
     ),
 ];
 
-/// What sets the board up: neither the stones that were taken are in it, nor the pass.
+/// The commands that set the board up, without the captured stones and without the pass.
 static SET_UP: [&str; 8] = [
     "boardsize 5",
     "komi 6.5",
@@ -193,8 +193,8 @@ fn the_last_commands_stay_on_the_board_as_it_stood(rt: HostRuntime) -> Result<()
     Ok(())
 }
 
-/// Conversations that differ in the size that is set and in the last two commands, and whether positional ko forbids
-/// the last one. White takes B1. Once Black has passed, B1 takes A1 back, and the board is the one after White's B2.
+/// Conversations that differ in the size and in the last two commands, and whether positional ko forbids the last one.
+/// White captures B1. Once Black has passed, B1 recaptures A1, and the board is the one after White's B2.
 static LAST_PLAYS: [(&str, &[&str], bool); 5] = [
     ("boardsize 5", &["play b pass", "play b B1"], true),
     // The play before isn't one that it forbids.

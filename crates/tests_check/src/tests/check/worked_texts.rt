@@ -14,7 +14,7 @@ use gtp_wire::Command;
 use std::alloc::AllocError;
 use std::process::Abort;
 
-/// Both are equal. (What an assertion of std writes is proved anew at each place, and a call isn't.)
+/// Asserts that both are equal. (The message of a std assertion is proved again at each use, but a call isn't.)
 fn assert_equal(rt: &impl Abort, left: &[u8], right: &[u8]) {
     assert_eq!(rt; left, right);
 }
@@ -155,7 +155,7 @@ struct Asked {
 }
 
 impl Asked {
-    /// A command is asked by this line, after so many moves, of which this is the last.
+    /// A command asked by this line, after this many moves, of which this is the last.
     fn ask(
         &mut self,
         line: &str,
@@ -192,7 +192,7 @@ impl Asked {
     }
 }
 
-/// A game on 5x5, and what sets up a second one. The engine refuses the size 9.
+/// A game on 5x5, and the commands that set up a second one. The engine refuses the size 9.
 fn first_game(rt: &(impl Abort + AllocGlobal)) -> Result<Asked, AllocError> {
     let alloc = rt.alloc();
     let mut asked = Asked {

@@ -40,7 +40,7 @@ fn what_an_engine_says_of_itself_is_kept(rt: HostRuntime) {
     assert_true(&rt, !may_ask(&rt, &examiner, "undo"));
 }
 
-/// A command is asked, and a session answers it, of which nothing is to be found.
+/// Asks a command, which a session answers. There has to be no finding.
 fn answered(
     rt: &impl Abort,
     examiner: &mut Examiner,
@@ -54,8 +54,8 @@ fn answered(
     assert_equal(rt, examiner.unanswered(), 0);
 }
 
-/// What a session is asked: what it knows, and the list of that; a board of 9x9 with a score and a handicap, moves of both colours, a move
-/// that is taken back, and two passes. Some colours are written in full.
+/// What a session is asked: what it knows, and the list of commands; a 9x9 board with a score and a handicap, moves of
+/// both colours, a move that is undone, and two passes. Some colours are written in full.
 static COURSE: [&str; 31] = [
     "known_command fixed_handicap",
     "known_command undo",

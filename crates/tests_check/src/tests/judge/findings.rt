@@ -47,7 +47,7 @@ static ANSWERS: [(&str, &[&str], &str, Option<Kind>); 25] = [
         "=6 C7 G3\n\n",
         Some(Kind::OtherPoints),
     ),
-    // A choice is lawful.
+    // A choice has to be legal.
     ("1 boardsize 5\n", &["6 genmove b\n"], "=6 a1\n\n", None),
     ("1 boardsize 5\n", &["6 genmove b\n"], "=6 Resign\n\n", None),
     (

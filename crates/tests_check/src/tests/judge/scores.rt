@@ -7,7 +7,7 @@ use gtp_check_judge::{Kind, Opinion};
 type Row = (&'static [(&'static str, &'static str)], Option<Kind>);
 
 static SCORES: [Row; 30] = [
-    // The first score is compared with nothing, whatever it is, nor is one that comes out otherwise than the one before.
+    // The first score is compared with nothing, whatever it is; nor is one that differs from the one before.
     (
         &[
             ("6 komi 6.5\n", "=6\n\n"),
@@ -18,7 +18,7 @@ static SCORES: [Row; 30] = [
         ],
         None,
     ),
-    // One that was said twice is compared with nothing, nor is one after which another came.
+    // A score that was given twice is compared with nothing; nor is one after which another came.
     (
         &[
             ("6 komi 0.5\n", "=6\n\n"),
@@ -48,7 +48,7 @@ static SCORES: [Row; 30] = [
         ],
         Some(Kind::OtherScore),
     ),
-    // After one that was said three times they differ as the komis do: by 7 points.
+    // After a score that was given three times, scores have to differ as the komis do: by 7 points.
     (
         &[
             ("6 komi 0.5\n", "=6\n\n"),
@@ -82,7 +82,7 @@ static SCORES: [Row; 30] = [
         ],
         Some(Kind::OtherScore),
     ),
-    // One of the last digit may lie between them, a tenth here, and a point there.
+    // They may differ by one in the last digit: a tenth here, and a point there.
     (
         &[
             ("6 komi 0.5\n", "=6\n\n"),
@@ -116,7 +116,8 @@ static SCORES: [Row; 30] = [
         ],
         None,
     ),
-    // A hundredth of a point may lie between them, however many digits are written. Here 3.641593 less 999.5 is -995.858407.
+    // They may differ by a hundredth of a point, however many digits are written. Here 3.641593 less 999.5 is
+    // -995.858407.
     (
         &[
             ("6 komi 0.5\n", "=6\n\n"),
@@ -293,7 +294,7 @@ static SCORES: [Row; 30] = [
         ],
         Some(Kind::NoScore),
     ),
-    // A komi of more than 2 to the 24 half points may be refused, and one of so many has to be taken.
+    // A komi of more than 2 to the 24 half points may be refused, and one of exactly that has to be accepted.
     (
         &[
             ("6 komi 8388608.5\n", "?6 not a float\n\n"),
@@ -322,7 +323,7 @@ fn no_score_is_asked_after_a_komi_that_may_be_no_float(rt: HostRuntime) {
     let mut examiner = begun(&rt, "1 boardsize 5\n");
     assert_true(&rt, !may_ask(&rt, &examiner, "final_score"));
     ask(&rt, &mut examiner, "6 komi 6.5\n");
-    // What an engine thinks isn't known before its answer, so a score is asked alone.
+    // An engine's opinion isn't known before its answer, so a score is asked alone.
     assert_true(&rt, !may_ask(&rt, &examiner, "final_score"));
     assert_equal(&rt, hear(&rt, &mut examiner, b"=6\n\n"), None);
     ask(&rt, &mut examiner, "7 final_score\n");

@@ -9,10 +9,10 @@ use gtp_session::session::Session;
 use gtp_wire::{Command, Reply, ReplyText};
 use std::process::Abort;
 
-/// What an engine wrote that isn't heard yet: eight replies at most.
+/// What an engine wrote that hasn't been heard yet: eight replies at most.
 type Written = ArrayVec<u8, 65536>;
 
-/// A check of our engine, in memory. It may refuse all sizes but one, and say that it has no `undo`.
+/// A check of our engine, in memory. The engine may refuse all sizes except one, and say that it has no `undo`.
 #[derive(Drop)]
 struct Talk {
     only_size: Option<u32>,
@@ -120,7 +120,7 @@ impl Talk {
         }
     }
 
-    /// Does what a course says, until it is over.
+    /// Runs a course to its end.
     fn hold(&mut self, rt: &impl Abort, course: &mut Course) {
         for _call in 0..1_000_000u32 {
             let lesson = course.lesson();

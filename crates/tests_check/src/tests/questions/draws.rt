@@ -1,4 +1,5 @@
-//! What steps draw. The rows were worked out by hand from words that a few lines of Python made, apart from the program.
+//! The random choices of steps. The rows were worked out by hand from the output of a generator in a few lines of
+//! Python, independent of the program.
 use crate::asserts::{assert_equal_for, some};
 use go_base::Colour::{self, Black, White};
 use go_base::{Move, Size};
@@ -13,8 +14,8 @@ use gtp_check_questions::stretches::Stretch;
 use gtp_wire::Command;
 use std::process::Abort;
 
-/// A size; whether the board is filled but for three points, which only Black may play; the seed and the number of the
-/// step; and the colour, the column and the row that are drawn. For a pass there is no such crossing: 0 and 0.
+/// A size; whether the board is full except for three points, which only Black may play; the seed and the number of the
+/// step; and the random colour, column and row. A pass has no point: 0 and 0.
 type Row = (u32, bool, (u32, u32), (Colour, u32, u32));
 
 static ROWS: [Row; 12] = [
@@ -25,7 +26,7 @@ static ROWS: [Row; 12] = [
     (19, false, (1, 0), (White, 11, 2)),
     (19, false, (0, 7), (White, 1, 1)),
     (19, false, (4_294_967_295, 873_599_999), (Black, 5, 11)),
-    // The first legal one is the second point that is drawn, the fourteenth and the twenty-fifth.
+    // The first legal point is the second random point, the fourteenth and the twenty-fifth.
     (3, true, (1, 1), (Black, 3, 3)),
     (5, true, (1, 1), (Black, 2, 1)),
     (19, true, (2, 2), (Black, 1, 19)),
@@ -34,7 +35,7 @@ static ROWS: [Row; 12] = [
     (19, true, (1, 2), (White, 0, 0)),
 ];
 
-/// A game on this board, on which all points but three are filled, or none is.
+/// A game on this board, on which all points except three are filled, or none is.
 fn game_on(board: &Board, is_filled: bool) -> Game {
     let mut game = Game::new(board.size, board.komi);
     let steps = if is_filled {
@@ -64,7 +65,7 @@ fn play_at(colour: Colour, column: u32, row: u32) -> Question {
     Question::Ask(CheckCommand::Match(Command::Play(move_at(colour, column, row))))
 }
 
-/// What a step draws on a board of the row, and what is to be drawn.
+/// The random choice of a step on the row's board, and what it has to be.
 fn assert_drawn(rt: &impl Abort, row: &Row) {
     let (lines, is_filled, (seed, number), (colour, column, line)) = *row;
     let size = some(rt, Size::new(lines));

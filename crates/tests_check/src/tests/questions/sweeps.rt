@@ -12,7 +12,7 @@ use gtp_check_questions::stretches::Stretch;
 use gtp_wire::Command;
 use std::process::Abort;
 
-/// Takes the last move back.
+/// Undoes the last move.
 const UNDO: Question = Question::Ask(CheckCommand::Match(Command::Undo));
 
 /// The move that a question probes, or else the one that it asks for.
@@ -54,7 +54,7 @@ fn each_point_of_each_size_is_looked_at(rt: HostRuntime) {
     }
 }
 
-/// While a ko is open its point is probed, and one may retake after a pass.
+/// While a ko is open its point is probed, and it may be retaken after a pass.
 #[test]
 fn a_wait_is_for_a_ko(rt: HostRuntime) {
     for number in 0..WAYS {

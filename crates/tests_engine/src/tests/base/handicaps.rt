@@ -1,4 +1,4 @@
-//! Sizes, and the handicap points of each, as their table has them.
+//! Sizes, and the handicap points of each, as in the table of docs/values.md.
 use crate::asserts::{assert_equal_for, some};
 use arrayvec::ArrayVec;
 use go_base::{Size, Vertex, handicap};

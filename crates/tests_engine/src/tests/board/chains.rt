@@ -20,7 +20,7 @@ static CHAINS: [(u32, &str, &str, Option<(Colour, u32, u32)>); 24] = [
     (2, "bA1 bB2", "B2", Some((Colour::Black, 1, 2))),
     // B2 is beside two of the stones.
     (3, "bA1 bA2 bB1", "B1", Some((Colour::Black, 3, 3))),
-    // B2 is beside four of the stones, which are in a ring, and is all that they have.
+    // B2 is beside four of the stones, which form a ring, and is their only liberty.
     (
         3,
         "bA1 bB1 bC1 bA2 bC2 bA3 bB3 bC3",
@@ -29,12 +29,12 @@ static CHAINS: [(u32, &str, &str, Option<(Colour, u32, u32)>); 24] = [
     ),
     (3, "bA1 wB1", "A1", Some((Colour::Black, 1, 1))),
     (3, "bA1 wB1", "B1", Some((Colour::White, 1, 2))),
-    // A stone that is taken in the corner is a liberty of those that took it.
+    // The point of a captured corner stone becomes a liberty of the stones that captured it.
     (3, "bA1 wB1 bC3 wA2", "A1", None),
     (3, "bA1 wB1 bC3 wA2", "B1", Some((Colour::White, 1, 3))),
     (3, "bA1 wB1 bC3 wA2", "A2", Some((Colour::White, 1, 3))),
     (3, "bA1 wB1 bC3 wA2 undo", "A1", Some((Colour::Black, 1, 1))),
-    // A stone joins two, and doesn't once it is taken back.
+    // A stone joins two chains, and no longer does once it is undone.
     (3, "bA1 bC1 bB1", "C1", Some((Colour::Black, 3, 3))),
     (3, "bA1 bC1 bB1 undo", "C1", Some((Colour::Black, 1, 2))),
     (19, "bK10", "K10", Some((Colour::Black, 1, 4))),

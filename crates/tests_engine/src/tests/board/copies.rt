@@ -30,7 +30,7 @@ fn assert_same(rt: &impl Abort, left: &Game, right: &Game) {
     }
 }
 
-/// White has taken the stone on B1 by A1, so that Black may not take back.
+/// White has captured the stone on B1 by A1, so Black may not recapture.
 const TAKEN: &str = "bA2 wC1 bB1 wB2 bD4 wA1";
 
 #[test]
@@ -70,7 +70,7 @@ fn a_game_becomes_another(rt: HostRuntime) {
     assert_same(&rt, &game, &kept);
     assert_same(&rt, &other, &kept);
     assert_equal(&rt, game.captured(Colour::Black), 1);
-    // All moves are taken back, one after the other, and the handicap stays.
+    // All moves are undone, one after the other, and the handicap stays.
     play_all(&rt, &mut game, "undo undo undo undo undo undo");
     assert_equal(&rt, game.undo().is_err(), true);
     assert_board(

@@ -1,4 +1,4 @@
-//! Games of drawn moves, beside the same games in their plainest form.
+//! Games of random moves, compared with the same games in a simple game.
 use super::plain::{MOVES, PlainGame};
 use super::{at, new_game, new_game_under};
 use crate::asserts::{assert_equal, assert_equal_for, assert_true, some};
@@ -9,13 +9,13 @@ use rand_core::{Rng, SeedableRng};
 use rand_pcg::Pcg64;
 use std::process::Abort;
 
-/// How many games of legal moves are played.
+/// The number of games of legal moves.
 const GAMES: u32 = 200;
 
 /// The most legal moves of a colour: a play on each point of the largest board, and a pass.
 const LEGAL: usize = 82;
 
-/// How often a play was refused, by its cause.
+/// How often a play was rejected, by its error.
 #[derive(Clone, Copy, Drop)]
 struct Refused {
     off_board: u32,
@@ -24,7 +24,7 @@ struct Refused {
     ko: u32,
 }
 
-/// None was refused.
+/// None was rejected.
 const NONE: Refused = Refused {
     off_board: 0,
     occupied: 0,
@@ -47,7 +47,7 @@ fn assert_same(rt: &impl Abort, game: &Game, plain: &PlainGame) {
     }
 }
 
-/// Makes a move in both games. Both accept it, or refuse it by the same cause, which is counted.
+/// Makes a move in both games. Both accept it, or both reject it with the same error, which is counted.
 fn play_both(
     rt: &impl Abort,
     game: &mut Game,
@@ -69,8 +69,8 @@ fn play_both(
     }
 }
 
-/// The legal moves of a colour, a pass among them, of each point of the board and one line further. Both games must
-/// allow the same, and refuse the others alike.
+/// The legal moves of a colour, including the pass, among all points of the board and one line further. Both games must
+/// allow the same moves, and reject the others with the same errors.
 fn legal_moves(
     rt: &impl Abort,
     game: &mut Game,
@@ -103,7 +103,7 @@ fn legal_moves(
     legal
 }
 
-/// Takes all moves back, one after the other. On small boards the same moves must be legal after each.
+/// Undoes all moves, one after the other. On small boards the same moves must be legal after each.
 fn take_all_back(rt: &impl Abort, game: &mut Game, plain: &mut PlainGame, refused: &mut Refused) {
     let small = game.size().get() <= 4;
     for _ in 0..=MOVES {
@@ -160,8 +160,8 @@ fn below(state: &mut u64, limit: u32) -> u32 {
     ((*state >> 40) as u32).checked_rem(limit).unwrap_or(0)
 }
 
-/// A colour and a vertex to try: at times the point of a stone that the previous move took, where a ko would be. Else
-/// sometimes a pass, sometimes a point off the board.
+/// A colour and a vertex to try: at times the point of a stone that the previous move captured, where a ko would be, at
+/// times a pass or a point off the board.
 fn draw(rt: &impl Abort, state: &mut u64, game: &Game) -> Move {
     if let (Some(point), Some(last)) = (game.taken_by_last_move().first(), game.moves().last()) {
         if below(state, 2) == 0 {
@@ -186,7 +186,7 @@ fn draw(rt: &impl Abort, state: &mut u64, game: &Game) -> Move {
     Move { colour, vertex }
 }
 
-/// Draws a move, and tries it on both.
+/// Tries a random move in both games.
 fn play_drawn(
     rt: &impl Abort,
     state: &mut u64,
@@ -199,7 +199,7 @@ fn play_drawn(
     assert_same(rt, game, plain);
 }
 
-/// Takes back the last move of both, if there is one.
+/// Undoes the last move of both games, if there is one.
 fn undo_both(rt: &impl Abort, game: &mut Game, plain: &mut PlainGame) {
     assert_equal(rt, game.undo(), plain.undo());
     assert_same(rt, game, plain);

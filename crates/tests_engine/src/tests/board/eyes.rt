@@ -1,4 +1,4 @@
-//! Own eyes, and random moves that leave them.
+//! Own eyes, and random moves that don't fill them.
 use super::{new_game, play_all, point_of};
 use crate::asserts::{assert_equal_for, some};
 use go_base::{Colour, Vertex};
@@ -37,7 +37,7 @@ static EYES: [(u32, &str, &str, bool, bool); 31] = [
     (5, "wB5 wA4", "A5", false, true),
     (25, "bY25 bZ24", "Z25", true, false),
     (25, "bY25 bZ24 wY24", "Z25", false, false),
-    // Edge alone is beside the one point.
+    // The only point has nothing but edge beside it.
     (1, "", "A1", true, true),
     // Off the board.
     (5, "bE5", "F5", false, false),

@@ -1,4 +1,4 @@
-//! Hashes of boards, and those that are kept from move to move.
+//! Hashes of boards, and hashes kept from move to move.
 use super::{at, new_game, new_game_under, play_all, read_move};
 use crate::asserts::{assert_equal, assert_equal_for, assert_true, some};
 use arrayvec::ArrayVec;
@@ -36,10 +36,10 @@ static POSITIONS: [(u32, &str, Colour, u64); 6] = [
     (1, "", Colour::Black, 0x91d0_acec_2798_7918),
     (1, "", Colour::White, 0xfbae_ce99_2f59_f0ad),
     (25, "bpass", Colour::White, 0xbb99_d812_ca4d_32e8),
-    // White took a ko, so that Black may not play B1 at once. White may.
+    // White took a ko, so Black may not play B1 at once. White may.
     (4, TAKEN, Colour::Black, 0xe6b4_f71c_519b_0764),
     (4, TAKEN, Colour::White, 0x97c1_7cb8_a4bf_6a90),
-    // After two passes no play brings back the board before the last of them.
+    // After two passes no play recreates the board before the last of them.
     (
         4,
         "bA2 wC1 bB1 wB2 bD4 wA1 bpass wpass",
@@ -76,7 +76,7 @@ fn a_position_has_the_colour_to_move_and_its_ko_point_in_its_hash(rt: HostRuntim
     }
 }
 
-/// Moves on a board of 4 lines each way, and how many stones the last of them took.
+/// Moves on a board of 4 lines each way, and how many stones the last of them captured.
 static TAKEN_BY_LAST: [(&str, usize); 6] = [
     ("", 0),
     ("bA1", 0),
@@ -118,7 +118,7 @@ fn a_hash_is_kept_from_move_to_move_by_the_keys_of_stones(rt: HostRuntime) {
     }
 }
 
-/// Plays the moves of a text, with spaces between, as the other tests do. After each one the kept hash is to be the
+/// Plays the moves of a text, separated by spaces, as the other tests do. After each move the kept hash has to be the
 /// board's.
 fn play_hashed(rt: &impl Abort, hashed: &mut HashedGame, moves: &str) {
     for word in moves.split_whitespace() {
@@ -147,7 +147,7 @@ static SAME: [(KoRule, &str, &str); 8] = [
     (KoRule::Simple, "bA1 wB2", "wB2 bA1"),
     (KoRule::Simple, "bpass wpass bD4", "bD4"),
     (KoRule::Simple, "bA1 undo", ""),
-    // A stone is taken, and that is taken back.
+    // A stone is captured, and the capture undone.
     (
         KoRule::Simple,
         "bA3 bB3 wA2 wB2 bA1 wB1 undo",
@@ -158,7 +158,7 @@ static SAME: [(KoRule, &str, &str); 8] = [
         "bA3 bB3 wA2 wB2 bA1 wB1",
         "wB1 wB2 wA2 bB3 bA3",
     ),
-    // A ko is taken, and taken back after passes.
+    // A ko is taken, and retaken after passes.
     (
         KoRule::Simple,
         "bA2 wC1 bB1 wB2 wA1 bpass wpass bB1",
@@ -216,7 +216,7 @@ fn refusals_leave_the_hash_and_copies_have_hashes_of_their_own(rt: HostRuntime) 
     assert_equal(&rt, hashed.hash(), key);
     let mut copy = hashed.copied();
     play_hashed(&rt, &mut copy, "wB1 wA2");
-    // White's two stones took Black's.
+    // White's two stones captured Black's.
     assert_equal(&rt, copy.game().at(a1), None);
     assert_equal(&rt, hashed.hash(), key);
     hashed.copy_from(&copy);

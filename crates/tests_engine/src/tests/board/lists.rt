@@ -51,7 +51,7 @@ fn a_board_is_listed_point_by_point(rt: HostRuntime) {
     for (lines, moves, drawing) in &STONES {
         let mut game = new_game(&rt, *lines);
         play_all(&rt, &mut game, moves);
-        // What the list had of the case before goes.
+        // What the list held from the case before is dropped.
         game.board_into(&mut stones);
         assert_equal_for(&rt, moves, stones.len(), drawing.len());
         for (stone, wanted) in stones.iter().zip(drawing.bytes()) {
@@ -100,7 +100,7 @@ static CHAINS: [(&str, &str, &str, &str); 8] = [
     ("bA1 bB1 bB2 wC2 wA2", "A2", "A2", "A3"),
     // C3 is beside two of the stones, and counts once.
     ("bD3 bC2 bD2 wC4", "D3", "C2 D2 D3", "C1 D1 B2 E2 C3 E3 D4"),
-    // Another chain of the colour is none of it.
+    // Another chain of the same colour isn't part of it.
     ("bD3 bC2 wC3", "D3", "D3", "D2 E3 D4"),
 ];
 
@@ -111,7 +111,7 @@ fn a_chain_has_its_stones_and_liberties_in_order(rt: HostRuntime) {
         let mut game = new_game(&rt, 5);
         play_all(&rt, &mut game, moves);
         let point = point_of(&rt, name);
-        // What the list had goes.
+        // What the list held is dropped.
         game.chain_points_into(point, &mut points);
         assert_points(&rt, moves, &points, stones);
         game.chain_liberties_into(point, &mut points);
@@ -119,7 +119,7 @@ fn a_chain_has_its_stones_and_liberties_in_order(rt: HostRuntime) {
     }
 }
 
-/// The moves by which Black takes the stone on C3 with one on D3, which White could take back.
+/// The moves by which Black captures the stone on C3 with one on D3, which White could recapture.
 const TAKEN: &str = "bB3 wE3 bC2 wD2 bC4 wD4 wC3 bD3";
 
 /// Moves after these on a board of five lines, and then the ko point of Black and of White.
@@ -130,7 +130,7 @@ static KOS: [(&str, &str, &str); 8] = [
     ("wpass", "", ""),
     ("bpass", "", ""),
     ("undo", "", ""),
-    // Two plays elsewhere, and White takes back.
+    // Two plays elsewhere, and White retakes the ko.
     ("wA1 bA5 wC3", "D3", ""),
     ("wA1 bA5 wC3 bE5 wE1 bD3", "", "C3"),
 ];
@@ -159,7 +159,7 @@ fn positional_ko_has_the_same_ko_point(rt: HostRuntime) {
     let point = point_of(&rt, "C3");
     assert_equal(&rt, game.ko_point(Colour::White), Some(point));
     play_all(&rt, &mut game, "wpass");
-    // The board would come back still, but it isn't the one before the last move.
+    // The board would still be recreated, but it isn't the one before the last move.
     assert_equal(&rt, game.ko_point(Colour::White), None);
     let refused = game.refusal(Colour::White, Vertex::At(point));
     assert_equal(&rt, refused, Some(PlayFault::Ko));
@@ -168,7 +168,7 @@ fn positional_ko_has_the_same_ko_point(rt: HostRuntime) {
 #[test]
 fn a_play_that_takes_two_leaves_no_ko_point(rt: HostRuntime) {
     let mut game = new_game(&rt, 3);
-    // White's play on A1 takes B1 and C1: Black would take it back, and the board is another one.
+    // White's play on A1 captures B1 and C1. Black's recapture would leave another board.
     play_all(&rt, &mut game, "bB1 bC1 wB2 wC2 bA2 wA1");
     assert_true(&rt, game.ko_point(Colour::Black).is_none());
     assert_true(&rt, game.ko_point(Colour::White).is_none());

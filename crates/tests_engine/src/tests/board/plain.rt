@@ -1,5 +1,5 @@
-//! The game in its plainest form, to compare with: liberties by flood fill over the whole board, the ko test by
-//! comparing whole boards, all of which are kept, `undo` by playing the shorter record again.
+//! A simple game to compare with. It finds liberties by flood fill over the whole board, tests ko by comparing whole
+//! boards, all of which it keeps, and undoes a move by playing the shorter record again.
 use arrayvec::ArrayVec;
 use go_base::{Colour, Move, Point, Vertex};
 use go_board::{KoRule, NothingToUndo, PlayFault};
@@ -103,8 +103,8 @@ impl PlainBoard {
         marked
     }
 
-    /// Puts a stone on a point, and then removes, all at once, the other colour's stones whose chains have no liberty.
-    /// Returns how many it took.
+    /// Puts a stone on a point, then removes at once all stones of the other colour whose chains have no liberty.
+    /// Returns how many it captured.
     fn put(&mut self, colour: Colour, place: usize) -> u32 {
         self.set(place, Cell::stone(colour));
         let other = Cell::stone(colour.other());
@@ -119,7 +119,7 @@ impl PlainBoard {
         taken
     }
 
-    /// How many points count for a colour: its stones, and the empty points from which one reaches its stones alone.
+    /// The area of a colour: its stones, and the empty points from which only its stones can be reached.
     fn area(&self, colour: Colour) -> i32 {
         let own = self.touching(Cell::Empty, Cell::stone(colour));
         let others = self.touching(Cell::Empty, Cell::stone(colour.other()));
@@ -134,7 +134,7 @@ impl PlainBoard {
     }
 }
 
-/// A game from an empty board, or one with stones that are no moves.
+/// A game from an empty board, or from one with setup stones.
 #[derive(Drop)]
 pub struct PlainGame {
     rule: KoRule,
@@ -170,7 +170,7 @@ impl PlainGame {
         }
     }
 
-    /// Puts a stone down that is no move, before the first move.
+    /// Adds a setup stone, before the first move.
     pub fn begin_with(&mut self, colour: Colour, point: Point) {
         self.board.set(place_of(point), Cell::stone(colour));
         self.boards[0] = self.board;
@@ -193,7 +193,7 @@ impl PlainGame {
         lead.saturating_mul(2)
     }
 
-    /// Whether the ko rule forbids to bring a board back: that before the last move, or any.
+    /// Whether the ko rule forbids recreating this board: the one before the last move, or any earlier one.
     fn forbids(&self, board: &PlainBoard) -> bool {
         let moves = self.moves.len();
         let first = match self.rule {
@@ -209,7 +209,7 @@ impl PlainGame {
         })
     }
 
-    /// The board that a move would leave and how many stones it would take, or why it is refused.
+    /// The board that a move would leave and how many stones it would capture, or why it is rejected.
     pub fn next(&self, colour: Colour, vertex: Vertex) -> Result<(PlainBoard, u32), PlayFault> {
         let Vertex::At(point) = vertex else {
             return Ok((self.board, 0));

@@ -1,5 +1,5 @@
-//! Playouts by a seed, beside those of a plain program in Python: `Pcg64` as the paper on PCG has it, chains by floods, and
-//! the turns as the definitions say them.
+//! Playouts by a seed, compared with those of a simple Python program, which has `Pcg64` as in the paper on PCG, finds
+//! chains by flood fill, and takes the turns as the definitions say.
 use super::{new_game_under, play_all, read_move};
 use crate::asserts::assert_equal_for;
 use go_base::{Colour, Move};
@@ -8,7 +8,7 @@ use go_playouts::{playout, rollout};
 use std::process::Abort;
 
 /// The lines of the board, the moves before, the colour that begins, the seed and the limit, and then the moves and the
-/// score that the plain program has.
+/// score of that program.
 static MOVES: [(u32, &str, Colour, u64, u32, &str, i32); 9] = [
     (1, "", Colour::Black, 0, 10, "bpass wpass", 0),
     (2, "", Colour::Black, 3, 1000, "bB1 wA1 bA2 wpass bpass", 8),
@@ -47,8 +47,8 @@ static MOVES: [(u32, &str, Colour, u64, u32, &str, i32); 9] = [
     (5, "", Colour::Black, 1, 7, "bA5 wA1 bC1 wB5 bD4 wE2 bD1", 2),
 ];
 
-/// The lines of the board, the ko rule, the colour that begins, the seed and the limit, and then the number of moves and
-/// the score.
+/// The lines of the board, the ko rule, the colour that begins, the seed and the limit, and then the number of moves
+/// and the score.
 static SCORES: [(u32, KoRule, Colour, u64, u32, usize, i32); 10] = [
     // The two ko rules differ here.
     (2, KoRule::Simple, Colour::Black, 5, 500, 11, 8),

@@ -1,11 +1,11 @@
-//! The points on which a colour may play, and those of the stones that the last move took, all in one call.
+//! The points on which a colour may play, and those of the stones that the last move captured, each in one call.
 use super::{new_game, new_game_under, play_all};
 use crate::asserts::{assert_equal_for, assert_true, some};
 use go_base::{Colour, Point, Vertex};
 use go_board::KoRule;
 use std::process::Abort;
 
-/// The points are these: their names, with spaces between.
+/// Asserts that these are the points, given by their names with spaces between.
 pub fn assert_points(rt: &impl Abort, case: &str, points: &[Point], names: &str) {
     let mut rest = points.iter();
     for name in names.split_whitespace() {
@@ -22,9 +22,9 @@ static POSITIONS: [(KoRule, u32, &str, &str, &str); 11] = [
     (KoRule::Simple, 1, "", "", ""),
     (KoRule::Simple, 1, "bpass wpass", "", ""),
     (KoRule::Simple, 2, "", "A1 B1 A2 B2", "A1 B1 A2 B2"),
-    // Each corner that is left is shut in by Black.
+    // Each empty corner is surrounded by Black.
     (KoRule::Simple, 2, "bB1 bA2", "A1 B2", ""),
-    // Black's three stones have one liberty left: Black may not fill it, and White takes them there.
+    // Black's three stones have one liberty left: Black may not fill it, and White captures them there.
     (KoRule::Simple, 2, "bB1 bA2 bB2", "", "A1"),
     (KoRule::Simple, 2, "bA1 wB1 bA2 wB2", "A1 A2", "A1 A2"),
     (
@@ -34,7 +34,7 @@ static POSITIONS: [(KoRule, u32, &str, &str, &str); 11] = [
         "A1 C2 B3 C3",
         "C2 B3 C3",
     ),
-    // A play on B1 would bring back the board before White took there.
+    // A play on B1 would recreate the board before White's capture there.
     (
         KoRule::Simple,
         3,
@@ -50,8 +50,8 @@ static POSITIONS: [(KoRule, u32, &str, &str, &str); 11] = [
         "B1",
         "A3",
     ),
-    // White's play on B1 takes three stones. Black's play on A1 would then make the board of the first two moves again,
-    // which only positional superko forbids. A2, beside it, is empty.
+    // White's play on B1 captures three stones. Black's play on A1 would then recreate the board after the first two
+    // moves, which only positional superko forbids. A2, beside it, is empty.
     (
         KoRule::Simple,
         2,
@@ -76,7 +76,7 @@ fn each_legal_point_is_listed(rt: HostRuntime) {
         let mut points = game.legal_points(Colour::Black);
         assert_points(&rt, moves, &points, black);
         assert_points(&rt, moves, &game.legal_points(Colour::White), white);
-        // What the list had goes.
+        // What the list held is dropped.
         game.legal_points_into(Colour::White, &mut points);
         assert_points(&rt, moves, &points, white);
     }
@@ -105,35 +105,35 @@ fn on_large_boards_each_empty_point_is_listed(rt: HostRuntime) {
     }
 }
 
-/// The lines of the board, the handicap stones, the moves, and the points of the stones that the last of them took.
+/// The lines of the board, the handicap stones, the moves, and the points of the stones that the last of them captured.
 static TAKEN: [(u32, u32, &str, &str); 22] = [
     (1, 0, "", ""),
     (1, 0, "bpass", ""),
     (2, 0, "bA1", ""),
     (2, 0, "bA1 wB1 bA2", ""),
     (2, 0, "bA1 wB1 bA2 wB2", "A1 A2"),
-    // A pass takes none.
+    // A pass captures none.
     (2, 0, "bA1 wB1 bA2 wB2 bpass", ""),
-    // The last move is the one before, which took none.
+    // The last move is the one before, which captured none.
     (2, 0, "bA1 wB1 bA2 wB2 undo", ""),
     (2, 0, "bA1 wB1 bA2 wB2 undo wB2", "A1 A2"),
     (2, 0, "bA1 wB1 bA2 wB2 bpass undo", "A1 A2"),
-    // A play that takes none, after one that did.
+    // A play that captures none, after one that did.
     (2, 0, "bA1 wB1 bA2 wB2 bA1", ""),
     (2, 0, "bA1 wB1 bA2 wB2 bA1 undo", "A1 A2"),
-    // One stone takes two chains.
+    // One stone captures two chains.
     (3, 0, "bA3 bB2 bC1 wA2 wB1 bA1", "B1 A2"),
-    // One stone is taken, and then three for it.
+    // One stone is captured, and then three in return.
     (4, 0, "bA3 bB3 bC2 bC1 wA2 wB2 bA1 wB1", "A1"),
     (4, 0, "bA3 bB3 bC2 bC1 wA2 wB2 bA1 wB1 bA1", "B1 A2 B2"),
     (4, 0, "bA3 bB3 bC2 bC1 wA2 wB2 bA1 wB1 bA1 undo", "A1"),
-    // A ko is taken, and taken back after two plays elsewhere.
+    // A ko is taken, and retaken after two plays elsewhere.
     (4, 0, "bA2 wC1 bB1 wB2 bD4 wA1", "B1"),
     (4, 0, "bA2 wC1 bB1 wB2 bD4 wA1 bD3 wD2", ""),
     (4, 0, "bA2 wC1 bB1 wB2 bD4 wA1 bD3 wD2 bB1", "A1"),
     // Both corners of the largest board.
     (25, 0, "bZ25 wY25 bA1 wZ24", "Z25"),
-    // Handicap stones take none.
+    // Handicap stones capture none.
     (19, 9, "", ""),
     (19, 9, "wA1 bA2 wpass bB1", "A1"),
     (19, 9, "wA1 bA2 wpass bB1 clear", ""),

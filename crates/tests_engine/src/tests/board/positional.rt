@@ -1,18 +1,18 @@
-//! Positional ko: which plays it forbids that simple ko allows.
+//! Positional ko: plays that it forbids and simple ko allows.
 use super::{new_game_under, play_all, read_move};
 use crate::asserts::{assert_equal_for, assert_true};
 use go_board::{KoRule, PlayFault};
 
-/// White takes one stone at B1 by A1, in a corner where Black can take back. Then both pass.
+/// White captures one stone at B1 by A1, in a corner where Black can recapture. Then both pass.
 const LEFT: &str = "bA2 wC1 bB1 wB2 bD4 wA1 bpass wpass";
 
-/// White plays on all points of seven lines but C3, and so takes both handicap stones, C3 and E5. Black's C3 takes all
-/// stones of White.
+/// White plays on all points of seven lines except C3, and so captures both handicap stones, C3 and E5. Black's C3
+/// captures all of White's stones.
 const FILLED: &str =
     "wA1 wB1 wC1 wD1 wE1 wF1 wG1 wA2 wB2 wC2 wD2 wE2 wF2 wG2 wA3 wB3 wD3 wE3 wF3 wG3 wA4 wB4 wC4 wD4 wE4 \
     wF4 wG4 wA5 wB5 wC5 wD5 wF5 wG5 wA6 wB6 wC6 wD6 wE6 wF6 wG6 wA7 wB7 wC7 wD7 wE7 wF7 wG7 wE5 bC3 wpass";
 
-/// A play that brings a board back: what is shown, the lines, the handicap stones, the moves, the play, and its answer
+/// A play that recreates a board: what it shows, the lines, the handicap stones, the moves, the play, and its result
 /// under simple ko.
 type Back = (
     &'static str,
@@ -23,7 +23,7 @@ type Back = (
     Result<(), PlayFault>,
 );
 
-/// Those that bring back another board than the one before the previous move, and one that brings back that.
+/// Plays that recreate another board than the one before the previous move, and one that recreates that one.
 static BACK: [Back; 10] = [
     ("two passes", 4, 0, LEFT, "bB1", Ok(())),
     (
@@ -82,8 +82,8 @@ static BACK: [Back; 10] = [
         "bF1",
         Ok(()),
     ),
-    // The first A1 and the first capture by it were taken back, and so may come again. The board before the capture was
-    // not.
+    // The first A1 and its capture were undone, so that board may come again. The board before the capture was not
+    // undone.
     (
         "boards of moves that were taken back do not count",
         2,

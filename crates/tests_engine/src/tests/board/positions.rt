@@ -1,9 +1,9 @@
-//! What plays leave on the board, what they take, what the board counts, and the board as text.
+//! What plays leave on the board, what they capture, the score, and the board as text.
 use super::{assert_board, new_game, play_all};
 use crate::asserts::{assert_equal_for, some};
 use go_base::{Colour, Komi};
 
-/// What is shown, the lines of the board, the moves, the board after them, and what Black and White have taken.
+/// What is shown, the lines of the board, the moves, the board after them, and how much Black and White have captured.
 static POSITIONS: [(&str, u32, &str, &str, u32, u32); 16] = [
     (
         "a point between two stones is left",

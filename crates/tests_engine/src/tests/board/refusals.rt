@@ -1,4 +1,4 @@
-//! Which cause a play is refused for.
+//! With which error a play is rejected.
 use super::{new_game, play_all, read_move};
 use crate::asserts::{assert_equal, assert_equal_for};
 use go_base::{Colour, Move, Vertex};
@@ -6,8 +6,8 @@ use go_board::{Game, HandicapFault, NothingToUndo, PlayFault};
 use std::process::Abort;
 use std::test::Fail;
 
-/// The cause that a play is refused for is returned before it, the play is refused for the same, and the game stays. Or
-/// no cause is returned, and the play is accepted.
+/// Asks for the error of a play beforehand, then plays. Either both give the same error and the game stays, or there is
+/// none and the play is accepted.
 fn assert_refusal(rt: &impl Abort, game: &mut Game, word: &str, fault: Option<PlayFault>) {
     let made = read_move(rt, word);
     let before = game.show();
@@ -23,10 +23,10 @@ fn assert_refusal(rt: &impl Abort, game: &mut Game, word: &str, fault: Option<Pl
     }
 }
 
-/// White takes the stone on B1 by A1.
+/// White captures the stone on B1 by A1.
 const TAKEN: &str = "bA2 wC1 bB1 wB2 bC3 wA1";
 
-/// The lines of the board, the moves, the play, and the cause that it is refused for.
+/// The lines of the board, the moves, the play, and the error with which it is rejected.
 static PLAYS: [(u32, &str, &str, Option<PlayFault>); 17] = [
     (2, "bB1 bA2", "wA1", Some(PlayFault::Suicide)),
     (2, "bB1 bA2", "bA1", None),
@@ -57,7 +57,8 @@ fn each_refusal_of_a_play(rt: HostRuntime) {
     }
 }
 
-/// Plays on a full record, and the cause that is returned of each: fullness is none, the others are returned as ever.
+/// Plays on a full record, and the error returned for each. A full record is no error here; the others are returned as
+/// ever.
 static FULL: [(&str, Option<PlayFault>); 3] = [
     ("bpass", None),
     ("wA1", None),
@@ -89,7 +90,7 @@ fn a_full_record_refuses_first(rt: HostRuntime) {
     assert_equal(&rt, game.moves().len(), 2000);
 }
 
-/// Why handicap stones are refused, and the text of each cause.
+/// Why handicap stones are rejected, and the text of each error.
 static HANDICAP_TEXTS: [(HandicapFault, &str); 2] = [
     (
         HandicapFault::NotEmpty,
@@ -101,7 +102,7 @@ static HANDICAP_TEXTS: [(HandicapFault, &str); 2] = [
     ),
 ];
 
-/// Why plays are refused, and the text of each cause.
+/// Why plays are rejected, and the text of each error.
 static PLAY_TEXTS: [(PlayFault, &str); 5] = [
     (PlayFault::Full, "the record of moves is full"),
     (PlayFault::OffBoard, "the point is off the board"),

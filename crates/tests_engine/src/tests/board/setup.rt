@@ -4,7 +4,7 @@ use crate::asserts::{assert_equal, assert_equal_for, some};
 use go_base::{Colour, Komi, Size, Vertex};
 use go_board::{HandicapFault, KoRule, NothingToUndo};
 
-/// The moves before, the number of stones, and the cause that they are refused for.
+/// The moves before, the number of stones, and the error with which they are rejected.
 static HANDICAPS: [(&str, u32, HandicapFault); 6] = [
     ("", 0, HandicapFault::BadNumber),
     ("", 1, HandicapFault::BadNumber),

@@ -1,4 +1,4 @@
-//! Conversations whose streams break, over memory.
+//! Conversations in memory whose streams break.
 use crate::asserts::{assert_equal, assert_equal_for, some};
 use crate::tests::sessions::commands::{KO_INPUT, KO_OUTPUT};
 use crate::tests::sessions::memory::{Limited, Pieces, Written};
@@ -55,7 +55,7 @@ fn a_writer_breaks_after_each_number_of_bytes_and_at_each_flush(rt: HostRuntime)
     let output = KO_OUTPUT;
     for room in 0..output.len() {
         talk.room = room;
-        // That of no lines is among them, so that this is one more than were answered whole.
+        // The entry for no lines is among them, so this is one more than were answered whole.
         let executed = KO_REPLIES.iter().filter(|row| row.0 <= room).count();
         let (session, reads) = assert_comes_to(&rt, "room", &talk, &output[..room], broken);
         assert_equal_for(&rt, room, reads, executed);
@@ -73,7 +73,7 @@ fn a_writer_breaks_after_each_number_of_bytes_and_at_each_flush(rt: HostRuntime)
     }
 }
 
-/// How an engine is called at first, and the sizes of the pieces of the ko.
+/// Which call runs the engine first, and the sizes of the chunks of the ko.
 static CUTS: [(Call, &[usize]); 2] = [(Call::Serve, KO_SIZES), (Call::Within(1000), &[1; 126])];
 
 #[test]
@@ -122,7 +122,7 @@ fn a_reader_fails_at_each_line_or_byte_and_the_next_call_goes_on(rt: HostRuntime
 /// A call and its answer, and how many moves the record has after it.
 type Called = (Call, Result<Served, ServeFault>, usize);
 
-/// What is shown, the input, the size of its first piece, how many of the writer's first writes take nothing, the
+/// What is shown, the input, the size of its first chunk, how many of the writer's first writes take nothing, the
 /// calls, and the output of both.
 static TWICE: [(&str, &[u8], usize, usize, [Called; 2], &[u8]); 2] = [
     // The reply that was not taken isn't written again.

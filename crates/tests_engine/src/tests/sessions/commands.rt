@@ -3,7 +3,7 @@
 use crate::tests::sessions::{Call, assert_serves_in_any_cuts};
 use gtp_session::serve::Served;
 
-/// A ko on a board of size 4, which Black may take back only after two passes.
+/// A ko on a board of size 4, which Black may retake only after two passes.
 pub const KO_INPUT: &[u8] =
     b"boardsize 4\nplay b A2\nplay w C1\nplay b B1\nplay w B2\nplay b D4\nplay w A1\nplay b B1\n\
         play b pass\nplay w pass\nplay b B1\nshowboard\n";

@@ -12,11 +12,11 @@ use std::cell::Cell;
 use std::rc::Rc;
 use std::test::Fail;
 
-/// How an engine is called, and its input.
+/// Which call runs an engine, and its input.
 type Asked = (Call, &'static [u8]);
 
-/// The sizes of the pieces, the number of the read that fails, how many bytes the writer takes, how many in a write, and
-/// how many of its first writes take none.
+/// The sizes of the chunks, the number of the read that fails, how many bytes the writer takes, how many in a write,
+/// and how many of its first writes take none.
 type Streams = (&'static [usize], Option<usize>, usize, usize, usize);
 
 /// The output, the answer, the moves that were made, and how many reads there were.
@@ -27,7 +27,7 @@ type Outcome = (
     usize,
 );
 
-/// One piece, and a writer that takes all.
+/// One chunk, and a writer that takes everything.
 const WHOLE: Streams = (&[], None, 16384, 100, 0);
 
 /// What is shown, and the conversation.
@@ -159,7 +159,7 @@ fn one_read_has_room_for_4096_bytes(rt: HostRuntime) {
     assert_equal(&rt, reads, 1);
 }
 
-/// How an engine is called, and what each read gives.
+/// Which call runs an engine, and what each read gives.
 static READS: [(&str, Call, &[&[u8]]); 3] = [
     (
         "a line a read",

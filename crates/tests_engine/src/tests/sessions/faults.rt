@@ -1,4 +1,4 @@
-//! Faults that are asked for, over memory.
+//! Requested faults, in memory.
 use crate::asserts::{assert_equal, assert_equal_for, some};
 use crate::tests::sessions::memory::Written;
 use crate::tests::sessions::{Call, Talk, assert_comes_to, assert_serves_in_any_cuts};
@@ -20,9 +20,10 @@ const CUT: &[u8] = b"? syntax error\n\n=1 A1\n\n=2 stepgo\n\n=3 B1\n";
 
 const JUNK: &[u8] = b"? syntax error\n\nhello\n\n=2 stepgo\n\n=3 B1\n\n=4 stepgo\n\n";
 
-/// A fault, what is answered with it, and how that ends. The answer has three parts: the second is so many newlines.
+/// A fault, the output with it, and how the conversation ends. The output has three parts; the second is this many
+/// newlines.
 static BENT: [(Fault, &[u8], usize, &[u8], Served); 15] = [
-    // Of no genmove, or of one that doesn't come.
+    // A fault at no genmove, or at one that never comes.
     (Fault::Off, UNBENT, 0, b"", Served::EndOfInput),
     (Fault::Stop(3), UNBENT, 0, b"", Served::EndOfInput),
     (Fault::Junk(3), UNBENT, 0, b"", Served::EndOfInput),

@@ -10,7 +10,7 @@ use std::rc::Rc;
 /// What an engine has written.
 pub type Written = ArrayVec<u8, 16384>;
 
-/// Gives a text in pieces of these sizes, and then the rest, and fails the read of one number.
+/// Gives a text in chunks of these sizes, and then the rest, and fails the read of one number.
 #[derive(Drop)]
 pub struct Pieces<'a> {
     pub rest: &'a [u8],
@@ -37,8 +37,8 @@ impl Read for Pieces<'_> {
     }
 }
 
-/// Takes nothing of its first `stuck` texts, and doesn't fail. After that it takes at most `step` bytes a write, and
-/// fails once it took `room` bytes, and at each flush after the first `flushes`.
+/// Takes nothing in its first `stuck` writes, without an error. After that it takes at most `step` bytes a write, and
+/// fails once it has taken `room` bytes, and at each flush after the first `flushes`.
 #[derive(Drop)]
 pub struct Limited<'a> {
     pub taken: &'a mut Written,

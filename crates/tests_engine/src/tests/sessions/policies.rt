@@ -57,7 +57,7 @@ fn candidates_come_row_by_row_without_points_among_own_stones(rt: HostRuntime) {
     assert_true(&rt, game.legal(Colour::Black, a1));
 }
 
-/// The candidates, looked for at each column and row and with each point of the board as a neighbour.
+/// The candidates, found by trying each column and row with each point of the board as a neighbour.
 fn slow_candidates(game: &Game, colour: Colour) -> ArrayVec<Point, 625> {
     let mut found = ArrayVec::new();
     for row in 1..=25 {
@@ -89,7 +89,7 @@ fn has_loose_neighbour(game: &Game, colour: Colour, point: Point) -> bool {
     false
 }
 
-/// A seed, the lines of the board, and how many moves are drawn.
+/// A seed, the lines of the board, and the number of random moves.
 static DRAWN: [(u32, u32, u32); 6] = [
     (1, 1, 4),
     (2, 2, 20),
@@ -99,7 +99,7 @@ static DRAWN: [(u32, u32, u32); 6] = [
     (4_294_967_295, 5, 100),
 ];
 
-/// The candidate that the next word names, or a pass where there is none, for which no word is drawn.
+/// The candidate that the generator's next word selects; or a pass if there is none, which takes no word.
 fn wanted_of(rt: &impl Abort, candidates: &[Point], words: &mut Pcg64) -> Vertex {
     if candidates.is_empty() {
         return Vertex::Pass;
@@ -155,7 +155,7 @@ fn random_without_a_candidate_passes_and_draws_no_word(rt: HostRuntime) {
     }
 }
 
-/// Plays moves, with spaces between. After a `?` stands what the policy chooses for the colour before it, and that is
+/// Plays moves separated by spaces. After a `?` comes what the policy has to choose for the colour before it, which is
 /// played too.
 fn assert_plays<P: Policy>(rt: &impl Abort, policy: &mut P, game: &mut Game, moves: &str) {
     for word in moves.split_whitespace() {
@@ -180,7 +180,8 @@ static FIRST: [(KoRule, u32, &str); 2] = [
 
 /// A book, the ko rule, the lines of the board, and what is played with it.
 static BOOKS: [(&str, KoRule, u32, &str); 5] = [
-    // It is read by the length of the record. Past its last entry it passes. Taking moves back turns its pages back.
+    // The length of the record selects the entry. Past the last entry it passes. After an undo it gives earlier entries
+    // again.
     (
         "C3,,resign",
         KoRule::Simple,

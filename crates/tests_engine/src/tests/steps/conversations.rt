@@ -1,4 +1,4 @@
-//! Conversations from the bytes in to the bytes out.
+//! Conversations, from the bytes in to the bytes out.
 use crate::asserts::{assert_equal, assert_equal_for, assert_true};
 use crate::tests::sessions::commands::CONVERSATIONS;
 use crate::tests::steps::{Taken, feed_all, take};

@@ -1,4 +1,4 @@
-//! Commands of an author's own.
+//! Custom commands.
 use crate::asserts::{assert_equal, assert_equal_for, assert_true, some};
 use arrayvec::ArrayVec;
 use go_board::KoRule;

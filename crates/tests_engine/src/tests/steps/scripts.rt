@@ -1,4 +1,4 @@
-//! What each call of an engine in steps returns, and what the engine shows after it.
+//! What each call of a sans-IO engine returns, and what the engine shows afterwards.
 use crate::asserts::{assert_equal_for, some};
 use crate::tests::steps::{Taken, take};
 use go_base::Colour;
@@ -11,23 +11,23 @@ use std::process::Abort;
 
 /// A call and what it returns, or something that the engine shows.
 enum Step {
-    /// So many lines, and the reply to each at once, without the newlines that end both.
+    /// This many lines, and the immediate reply to each, without the newlines at the end of both.
     Lines(u32, &'static [u8], &'static [u8]),
-    /// A piece, how many bytes of it are used, and the event.
+    /// A chunk, how many bytes of it are used, and the event.
     Feed(&'static [u8], usize, Event),
     /// A choice, as it is spelled.
     Choose(&'static [u8], Result<(), ChoiceFault>),
     /// Whether the answer is a success, and its text.
     Answer(bool, &'static [u8], Result<(), AnswerFault>),
     Decline(Result<(), AnswerFault>),
-    /// The name of a command of the author's own.
+    /// The name of a custom command.
     Add(&'static [u8], Result<(), CommandFault>),
     Name(&'static [u8], Result<(), NoTitle>),
     Version(&'static [u8], Result<(), NoTitle>),
     /// The last reply, without the newlines that end it.
     Reply(&'static [u8]),
     Waits(Wait),
-    /// The line that waits, if one does: its id, its name and its first argument.
+    /// The custom command that waits for its answer, if one does: its id, its name and its first argument.
     Line(Option<(Option<u32>, &'static [u8], &'static [u8])>),
     /// How many moves the record has.
     Moves(usize),
@@ -42,7 +42,7 @@ fn assert_ends_reply(rt: &impl Abort, place: (&str, usize), steps: &Steps, reply
     assert_equal_for(rt, place, steps.reply(), whole.as_slice());
 }
 
-/// The step of this place in its script goes as it says.
+/// Asserts that the step at this place of its script does what it says.
 fn assert_step(rt: &impl Abort, place: (&str, usize), steps: &mut Steps, step: &Step) {
     match step {
         Step::Lines(times, line, reply) => {

@@ -75,7 +75,7 @@ fn a_line_is_an_id_and_words(rt: HostRuntime) {
 fn the_words_of_a_line_have_at_most_1000_bytes(rt: HostRuntime) {
     let letters = [b'x'; 987];
     let spaces = [b' '; 5000];
-    // Three pieces, and whether a newline after them ends a line that is a command, if it ends one.
+    // Three chunks, and whether a newline after them ends a line that is a command, if it ends a line.
     let lines: [(&[u8], &[u8], &[u8], Option<bool>); 5] = [
         (b"known_command ", &letters[..986], b"", Some(true)),
         (b"known_command ", &letters, b"", Some(false)),

@@ -4,7 +4,7 @@ use arrayvec::ArrayVec;
 use go_base::write_int;
 use gtp_wire::{ReplyFault, ReplyReader};
 
-/// What a new reader returns first: how many bytes it used, and the status, the id in brackets and the text, or the
+/// The first result of a new reader: how many bytes it used, and the status, the id in brackets and the text, or the
 /// fault.
 fn show_first(bytes: &[u8]) -> ArrayVec<u8, 64> {
     let fed = ReplyReader::new().feed(bytes);

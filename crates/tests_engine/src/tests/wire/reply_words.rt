@@ -1,4 +1,4 @@
-//! What the words of a reply's text say.
+//! What the text of a reply says, word by word.
 use crate::asserts::{assert_equal_for, some};
 use go_base::{Choice, Point, Size, Vertex, handicap};
 use gtp_wire::{names_points, read_choice};

@@ -1,4 +1,4 @@
-//! What Black's first `genmove` is answered by.
+//! Answers to Black's first `genmove`.
 use super::steps::{Opening, Played};
 use crate::tests::shows::{Shows, assert_shows};
 use go_base::Colour::{Black, White};

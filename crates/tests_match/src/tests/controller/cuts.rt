@@ -1,4 +1,4 @@
-//! Bytes that show a fault, heard whole and in two pieces.
+//! Bytes that show a fault, heard whole and in two chunks.
 use super::steps::{Opening, Played, Scene, Step, padded, play};
 use crate::asserts::{assert_equal_for, assert_true, some};
 use crate::tests::shows::Shows;
@@ -22,9 +22,9 @@ const UNASKED: Hearing = (Opening::Sent(1), Side::White, Action::Send(Side::Blac
 /// A name, where bytes are heard, the bytes, and the fault that they show.
 type Case<'a> = (&'static str, Hearing, &'a [u8], SideFault);
 
-/// These bytes show the fault by their last byte, in two pieces that are cut here: the first, if it isn't empty, shows
-/// nothing, and leaves the side as it is. Then the side is down, no move was made, and the match goes on. So it is
-/// where all of a piece is heard by one call, and where each call hears what it uses.
+/// Asserts that these bytes, in two chunks split here, show the fault by their last byte. The first chunk, if it isn't
+/// empty, shows nothing and leaves the side as it is. After the second the side is down, no move was made, and the
+/// match goes on. It is the same whether one call hears a whole chunk or each call hears what it uses.
 fn assert_cut(rt: &impl Abort, case: &Case, at: usize) {
     let (name, (opening, side, after), bytes, fault) = *case;
     let first = some(rt, bytes.get(..at));

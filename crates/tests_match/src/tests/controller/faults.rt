@@ -1,4 +1,4 @@
-//! What a side does wrong, or right, once it was sent its first command.
+//! What a side does wrong, or right, after its first command.
 use super::steps::{Opening, Played, Scene, Step, play};
 use crate::asserts::assert_equal;
 use crate::tests::shows::{Shows, assert_shows};

@@ -1,11 +1,11 @@
-//! Why a side fails by what it wrote, what is shown of that, and what it owes.
+//! Why a side fails because of what it wrote, what is shown of that, and what it owes.
 use super::steps::{Opening, Played, Scene, Step, padded, play};
 use crate::asserts::some;
 use go_base::Side;
 use gtp_match::LossCause::{self, NoVertex, Shows};
 use gtp_match::SideFault::{NoStatus, WrongId};
 
-/// Bytes by which Black, which was sent its first command alone, fails, the cause, and what of them is shown.
+/// Bytes by which Black fails after its first command, the cause, and what is shown of the bytes.
 static FAILS: [(&str, &[u8], LossCause, &[u8]); 12] = [
     ("another id", b"=2 D4\n\nmore", Shows(WrongId), b"=2 D4\n\n"),
     ("no id", b"\n= 1\n\n", Shows(WrongId), b"\n= 1\n\n"),

@@ -111,8 +111,8 @@ static OTHER_ENDS: [Scene; 4] = [
         ],
     ),
     (
-        // Black's script and `genmove` twice, and White's script. Of two sides, each started twice at most, and each
-        // engine sent at most 74, it would be 296.
+        // Black's script and `genmove` twice, and White's script. With two sides, each started at most twice and each
+        // sent at most 74 commands, it would be 296.
         "a match in which each genmove of Black is lost stays below its bound",
         Opening::Asked(1),
         &[

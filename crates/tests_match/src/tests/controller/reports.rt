@@ -1,4 +1,4 @@
-//! What is reported of a refused `play` that is retaken.
+//! What is reported about a refused `play` that is retaken.
 use super::steps::{Opening, Played, Scene, Step, padded, play};
 use crate::asserts::some;
 use crate::tests::shows::Shows;
@@ -11,7 +11,7 @@ static A1_SENT: [Step; 2] = [
     Step::SendAndWait(Side::White, b"4 play b A1\n"),
 ];
 
-/// It is to be taken back.
+/// It is to be undone.
 static A1_REFUSED: [Step; 3] = [
     Step::See(Shows::TakingBack(Some(Side::Black))),
     Step::See(Shows::Moves(1)),
@@ -58,7 +58,7 @@ fn a_retake_and_a_loss_in_one_read_in_any_cut(rt: HostRuntime) {
         let mut played = Played::new(&rt, "a retake and a loss", Opening::Asked(1));
         played.go(&rt, &A1_SENT);
         played.place = ("a retake and a loss, cut here", at);
-        // Each is reported by the piece that ends its reply.
+        // Each is reported with the chunk that ends its reply.
         let (early, late) = if at >= 7 {
             (refusal, None)
         } else {

@@ -44,7 +44,7 @@ static SCENES: [Scene; 4] = [
         ],
     ),
     (
-        // Black makes the same move each time, White refuses it, and Black takes it back.
+        // Black makes the same move each time, White refuses it, and Black undoes it.
         "the fourth refusal of a number forfeits",
         Opening::Asked(1),
         &[

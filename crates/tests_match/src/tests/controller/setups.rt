@@ -12,7 +12,7 @@ static SETUPS: [(u32, u32, u32, u32, Option<SetupFault>); 9] = [
     (19, 0, 2001, 0, Some(SetupFault::MaxMoves)),
     (19, 0, 1, 1001, Some(SetupFault::MaxRestarts)),
     (19, 0, 2000, 1000, None),
-    // Several causes at once.
+    // Several errors at once.
     (6, 2, 0, 1001, Some(SetupFault::Handicap)),
     (19, 10, 2001, 1001, Some(SetupFault::Handicap)),
     (19, 9, 0, 1001, Some(SetupFault::MaxMoves)),

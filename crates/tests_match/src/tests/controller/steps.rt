@@ -11,7 +11,7 @@ use std::process::Abort;
 /// How many commands are unanswered, the line of the oldest, empty where there is none, and the bytes that are kept.
 pub type Owes<'a> = (u32, &'a [u8], &'a [u8]);
 
-/// A step of a test: what is done to a match, or what it has to show.
+/// A step of a test: what is done with a match, or what it has to show.
 #[derive(Clone, Copy)]
 pub enum Step {
     /// A side is started, which has to come next.
@@ -26,7 +26,7 @@ pub enum Step {
     Bring(Side),
     /// A side answers with these bytes: all of them are used, without a fault.
     Answer(Side, &'static [u8]),
-    /// Of these bytes so many are used, and they show this fault, if any.
+    /// This many of the bytes are used, and they show this fault, if any.
     Heard(Side, &'static [u8], usize, Option<SideFault>),
     /// All these bytes are heard by one call, without a fault.
     HearAll(Side, &'static [u8]),
@@ -40,7 +40,7 @@ pub enum Step {
     Owes(Side, Option<Owes<'static>>),
     /// How many commands were sent so far.
     Sent(u32),
-    /// The match shows this.
+    /// Asserts that the match shows this.
     See(Shows),
 }
 
@@ -49,9 +49,10 @@ pub enum Step {
 pub enum Opening {
     /// Both sides are started: of this size, komi in half points, most moves and most restarts.
     Started(u32, i32, u32, u32),
-    /// Of size 2, komi 0, 10 moves and so many restarts, both sides are started, and Black is sent its first command.
+    /// With size 2, komi 0, 10 moves and this many restarts, both sides are started, and Black is sent its first
+    /// command.
     Sent(u32),
-    /// Of the same size, komi, moves and restarts, both sides are in step, and Black is asked for the first move.
+    /// With the same size, komi, moves and restarts, both sides are in step, and Black is asked for the first move.
     Asked(u32),
 }
 
@@ -84,7 +85,7 @@ pub struct Played {
 }
 
 impl Played {
-    /// A match that begins so, for the row of this name.
+    /// A match with this beginning, for the row of this name.
     pub fn new(rt: &impl Abort, name: &'static str, opening: Opening) -> Self {
         let setup = match opening {
             Opening::Started(size, half_points, max_moves, max_restarts) => {
@@ -109,7 +110,7 @@ impl Played {
         played
     }
 
-    /// These steps are taken.
+    /// Takes these steps.
     pub fn go(&mut self, rt: &impl Abort, steps: &[Step]) {
         let (name, _) = self.place;
         for (number, step) in steps.iter().enumerate() {
@@ -162,7 +163,7 @@ impl Played {
         self.sent = self.sent.saturating_add(1);
     }
 
-    /// A side's bytes are heard: so many are used, and this fault is shown, if any.
+    /// Passes a side's bytes to the match. This many have to be used, and they have to show this fault, if any.
     pub fn hear(
         &mut self,
         rt: &impl Abort,
@@ -175,8 +176,8 @@ impl Played {
         assert_equal_for(rt, self.place, heard, Heard { used, fault });
     }
 
-    /// Of these bytes the first retake of a move is reported where something was owed at one, and a loss of this cause
-    /// where something was owed at one.
+    /// Asserts that the first retake of a move is reported for these bytes if something was owed at one, and a failure
+    /// of this cause if something was owed at one.
     pub fn report(
         &mut self,
         rt: &impl Abort,
@@ -209,7 +210,7 @@ impl Played {
     }
 }
 
-/// This is owed.
+/// Asserts that this is owed.
 fn assert_owed(rt: &impl Abort, place: Place, owed: &Owed, want: Owes)
     requires { CanBeShown owed.now }
 {
@@ -226,7 +227,7 @@ fn assert_owed(rt: &impl Abort, place: Place, owed: &Owed, want: Owes)
     }
 }
 
-/// Each row is played.
+/// Plays each row.
 pub fn play(rt: &impl Abort, scenes: &[Scene]) {
     for (name, opening, steps) in scenes {
         Played::new(rt, name, *opening).go(rt, steps);
@@ -249,7 +250,7 @@ pub fn setup_with(
     )
 }
 
-/// An array of one byte, but for what it begins with and what it ends in.
+/// An array of one byte, except for its beginning and its end.
 pub fn padded<const LEN: usize>(head: &[u8], byte: u8, tail: &[u8]) -> [u8; LEN] {
     let mut bytes = [byte; LEN];
     for (place, other) in bytes.iter_mut().zip(head) {

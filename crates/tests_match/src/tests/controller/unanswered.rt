@@ -96,8 +96,7 @@ fn round_trip(
     sent
 }
 
-/// A game of 200 moves, of which Black fills the lines from the first on, and White passes. Then Black is started
-/// again.
+/// A game of 200 moves, in which Black fills the lines from the first on and White passes. Then Black is restarted.
 fn after_200_moves(rt: &impl Abort) -> Played {
     let mut played = Played::new(rt, "a game of 200 moves", Opening::Started(19, 0, 300, 1));
     for side in [Black, White] {

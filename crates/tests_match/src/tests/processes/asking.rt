@@ -1,4 +1,4 @@
-//! A conversation with an engine in memory: the code that the page for callers has.
+//! A conversation with an engine in memory: the example code of CALLING.md.
 ghost use Rattle.std.specs.Prelude.{⊤, None};
 
 use crate::asserts::assert_equal_for;

@@ -1,4 +1,4 @@
-//! What a process wrote, how it ended and why it was not started, as they are shown.
+//! How the output of a process, its end and the reason why it couldn't be started are shown.
 use crate::asserts::assert_equal;
 use arrayvec::ArrayVec;
 use gtp_process::{

@@ -1,4 +1,4 @@
-//! Why no process is started, and which program goes first.
+//! Why a process can't be started, and which program goes first.
 use crate::asserts::{assert_equal, assert_equal_for};
 use gtp_process::{Precedence, StartFault, StartReason, start_fault_of};
 use std::cell::Cell;
@@ -6,7 +6,7 @@ use std::io;
 use std::io::ErrorKind;
 use std::time::{Clock, Duration};
 
-/// A clock that goes on by `step` microseconds at each reading. Where it has no step it can't be read at all.
+/// A clock that advances by `step` microseconds at each reading. Without a step it can't be read.
 #[derive(Drop)]
 struct Ticking {
     now: Cell<u64>,
@@ -51,7 +51,7 @@ fn a_process_goes_first_while_the_processor_is_back_within_a_millisecond(rt: Hos
     }
 }
 
-/// Errors of the system by their numbers, and what they are at a start.
+/// The system's error numbers, and what each means at a start.
 static NUMBERS: [(i32, StartFault); 13] = [
     (12, StartFault::OutOfMemory),
     (1, StartFault::NotStarted(StartReason::NotAllowed)),

@@ -1,4 +1,4 @@
-//! Worlds of sessions and worlds of engines in steps, seen alike.
+//! Worlds of sessions and worlds of sans-IO engines, through one interface.
 use super::policies::Kind;
 use crate::asserts::some;
 use go_base::Side;
@@ -9,7 +9,7 @@ use gtp_session::steps::{Steps, Wait};
 use gtp_world::{Call, Event, StepsEvent, StepsWorld, World};
 use std::process::Abort;
 
-/// A text that an author hands in.
+/// A text that an author supplies.
 #[derive(Clone, Copy, Drop)]
 pub enum Text {
     /// A title, and no name of a command of the table.
@@ -35,7 +35,7 @@ impl Text {
     }
 }
 
-/// A call of an author, but for that of a choice.
+/// A call of an author, except that of a choice.
 #[derive(Clone, Copy, Drop)]
 pub enum Handed {
     Answer(bool, Text),
@@ -49,7 +49,7 @@ pub enum Handed {
 #[derive(Clone, Copy, Drop)]
 pub enum Doing {
     Happens(Event),
-    /// The author of a side's engine, which engines in steps alone have, hands in a choice.
+    /// The author of a side's sans-IO engine supplies a choice.
     Chooses(Side, Choice),
     /// Another call of that author.
     Calls(Side, Handed),
@@ -80,7 +80,7 @@ impl Doings {
     }
 }
 
-/// The engines of a world: sessions with policies of these kinds, Black's first, or engines in steps.
+/// The engines of a world: sessions with policies of these kinds, Black's first, or sans-IO engines.
 #[derive(Clone, Copy, Drop)]
 pub enum Engines {
     Sessions(Kind, Kind),
@@ -145,7 +145,7 @@ impl AnyWorld {
         }
     }
 
-    /// The game of a side's engine, where one runs.
+    /// The game of a side's engine, if one runs.
     pub fn game(&self, side: Side) -> Option<&Game> {
         match self {
             AnyWorld::Sessions(world) => world.running(side),
@@ -153,7 +153,7 @@ impl AnyWorld {
         }
     }
 
-    /// A side's engine in steps, where one runs.
+    /// A side's sans-IO engine, if one runs.
     pub fn steps(&self, side: Side) -> Option<&Steps> {
         match self {
             AnyWorld::Sessions(_) => None,
@@ -161,7 +161,7 @@ impl AnyWorld {
         }
     }
 
-    /// What a side's engine in steps waits for, where one runs.
+    /// What a side's sans-IO engine waits for, if one runs.
     pub fn waits_for(&self, side: Side) -> Option<Wait> {
         Some(self.steps(side)?.wait())
     }
@@ -171,7 +171,7 @@ impl AnyWorld {
         self.waits_for(side) == Some(Wait::Choice(side))
     }
 
-    /// The event happens.
+    /// Makes the event happen.
     pub fn happens(&mut self, doing: &Doing) {
         match self {
             AnyWorld::Sessions(world) => {
@@ -183,7 +183,7 @@ impl AnyWorld {
         }
     }
 
-    /// All events of a list happen: in a world of sessions by one call.
+    /// Makes all events of a list happen, in a world of sessions by one call.
     pub fn run(&mut self, rt: &impl Abort, doings: &[Doing]) {
         match self {
             AnyWorld::Sessions(world) => {

@@ -1,4 +1,4 @@
-//! Games of engines in steps, worked by hand.
+//! Games of sans-IO engines, worked out by hand.
 use super::any::{Engines, Handed, Text};
 use super::scenes::{Has, IN_STEP, Recorded, Step};
 use super::small_setup;
@@ -15,7 +15,7 @@ static IDLE: [Step; 2] = [Step::Has(Has::Idle(Black)), Step::Has(Has::Idle(White
 
 static SCENES: [(&str, &[Step]); 6] = [
     (
-        // Black takes White's stone at B1, and after that all four points are Black's.
+        // Black captures White's stone at B1, and then all four points are Black's.
         "both authors choose a whole game",
         &[
             Step::Turn(Black, b"A1", b"=4 A1\n\n"),
@@ -46,7 +46,7 @@ static SCENES: [(&str, &[Step]); 6] = [
             Step::Ask(Black),
             Step::Event(Event::Crash(Black, 100)),
             Step::Has(Has::Running(Black, false)),
-            // There is no engine to be called.
+            // There is no engine to call.
             Step::Choose(Black, b"A1"),
             Step::Has(Has::Running(Black, false)),
             Step::Has(Has::FromEngine(Black, b"")),
@@ -73,7 +73,7 @@ static SCENES: [(&str, &[Step]); 6] = [
             Step::Has(Has::Asked(White)),
             Step::Choose(White, b"C1"),
             Step::Has(Has::Asked(White)),
-            // It waits for no line of its author's own, and the other engine waits for nothing.
+            // It waits for no answer to a custom command, and the other engine waits for nothing.
             Step::Call(White, Handed::Answer(true, Text::Thinker)),
             Step::Call(White, Handed::Decline),
             Step::Choose(Black, b"B1"),

@@ -1,4 +1,4 @@
-//! Drawn openings of worlds, and drawn events.
+//! Random openings of worlds, and random events.
 use super::any::{AnyWorld, Doing, Engines, Handed, Opening, Text};
 use super::policies::Kind;
 use crate::asserts::some;
@@ -39,7 +39,7 @@ impl Draws {
         self.below(limit) as usize
     }
 
-    /// An event. Those that bring a match forward come more often than those that break something.
+    /// A random event. Those that advance a match come more often than those that break something.
     fn event(&mut self) -> Event {
         match self.below(200) {
             0 | 1 => Event::BrokenWrite(self.count()),
@@ -87,7 +87,7 @@ impl Draws {
         Doing::Calls(side, handed)
     }
 
-    /// One of the six events, or in a world of engines in steps a call at any side.
+    /// One of the six events, or in a world of sans-IO engines a call by the author of either side.
     pub fn any(&mut self, rt: &impl Abort, world: &AnyWorld) -> Doing {
         match world {
             AnyWorld::Steps(_) if self.below(5) == 0 => {
@@ -98,8 +98,8 @@ impl Draws {
         }
     }
 
-    /// An event of a match that is to get far: often one that brings it forward, and else any. While a move is to be
-    /// taken back, and where an engine waits for a choice, a side fails more often.
+    /// An event of a match that has to get far: often one that advances it, otherwise any. A side fails more often
+    /// while a move is to be undone, and while an engine waits for a choice.
     pub fn forward(&mut self, rt: &impl Abort, world: &AnyWorld) -> Doing {
         if self.below(4) == 0 {
             return self.any(rt, world);
@@ -146,9 +146,9 @@ impl Draws {
         }
     }
 
-    /// An opening without handicap, of 0 to 2 restarts. For a match that is to get far it has size 2, 8 moves or more,
-    /// and ko rules that differ, so that one side may refuse a move of the other. Else it has size 1 to 3 and few
-    /// moves.
+    /// A random opening without handicap and with 0 to 2 restarts. For a match that has to get far it has size 2, 8
+    /// moves or more, and different ko rules, so that one side may refuse a move of the other. Otherwise it has size 1
+    /// to 3 and few moves.
     pub fn opening(&mut self, rt: &impl Abort, sessions: bool, far: bool) -> Opening {
         let (lines, least) = if far {
             (2, 8)

@@ -1,4 +1,4 @@
-//! The laws at makers of our own.
+//! The laws, applied to policy makers of our own.
 use super::policies::Kind;
 use gtp_world::laws;
 

@@ -15,7 +15,7 @@ pub enum Kind {
     First,
     /// They choose as `First` does, and pass where they are asked again at the same length of the record.
     FirstOnce,
-    /// They draw their choices, each from this seed.
+    /// They choose at random, each by this seed.
     Random(u32),
 }
 

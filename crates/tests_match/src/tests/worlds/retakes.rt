@@ -1,4 +1,4 @@
-//! A move that the other engine refuses is taken back at its maker.
+//! A move that the other engine refuses is undone at its maker.
 use super::any::Engines;
 use super::policies::Kind;
 use super::scenes::{Has, Recorded, Step, Until};
@@ -8,7 +8,7 @@ use go_board::KoRule;
 use gtp_match::{Action, Verdict};
 use gtp_world::Event;
 
-/// White plays under positional ko, and so refuses move 7 of Black, A1, which is to be taken back.
+/// White plays under positional ko, and so refuses move 7, Black's A1, which is then to be undone.
 static REFUSED: [Step; 6] = [
     Step::GoOn(200, Until::TakingBack),
     Step::See(Shows::Moves(7)),
@@ -18,7 +18,7 @@ static REFUSED: [Step; 6] = [
     Step::See(Shows::Retakes(7, 1)),
 ];
 
-/// The move is taken back, and the match goes on to its end.
+/// The move is undone, and the match goes on to its end.
 static TAKEN_BACK: [Step; 14] = [
     Step::Event(Event::Act),
     Step::Has(Has::ToEngine(Black, b"11 undo\n")),
@@ -65,8 +65,8 @@ static LOST: [(&str, &[Step]); 2] = [
     ),
 ];
 
-/// Black is started again, and both get in step without the move. Black's new policy is asked for it, and makes the
-/// same move, which is refused again and taken back. Then both pass.
+/// Black is restarted, and both get in step without the move. Black's new policy makes the same move, which is refused
+/// again and undone. Then both pass.
 static ASKED_AGAIN: [Step; 17] = [
     Step::See(Shows::Moves(6)),
     Step::See(Shows::TakingBack(None)),

@@ -8,7 +8,7 @@ use gtp_match::Status;
 use gtp_session::steps::Wait;
 use std::process::Abort;
 
-/// Two games are the same: size, komi, handicap and moves, the board at each point, captures and score.
+/// Asserts that two games are the same: size, komi, handicap and moves, the board at each point, captures and score.
 pub fn assert_same_game(rt: &impl Abort, one: &Game, two: &Game) {
     assert_equal(rt, one.size(), two.size());
     assert_equal(rt, one.komi(), two.komi());
@@ -27,7 +27,8 @@ pub fn assert_same_game(rt: &impl Abort, one: &Game, two: &Game) {
     }
 }
 
-/// Two worlds show the same: what the controllers do next, their games, and what they and the worlds have of each side.
+/// Asserts that two worlds show the same: what the controllers do next, their games, and what they and the worlds have
+/// of each side.
 pub fn assert_same_world(rt: &impl Abort, one: &AnyWorld, two: &AnyWorld) {
     let (first, second) = (one.controller(), two.controller());
     assert_equal(rt, first.next(), second.next());
@@ -48,8 +49,9 @@ pub fn assert_same_world(rt: &impl Abort, one: &AnyWorld, two: &AnyWorld) {
     }
 }
 
-/// A running engine in step holds the controller's game and waits for nothing. Nor does one wait that has answered all.
-/// None waits for an answer to a line of its author's own, and the lists keep their room.
+/// Asserts that a running engine in step holds the controller's game and waits for nothing, that no engine which has
+/// answered everything waits, that none waits for an answer to a custom command, and that the lists keep their
+/// capacity.
 pub fn assert_agrees(rt: &impl Abort, world: &AnyWorld) {
     let played = world.controller();
     for side in SIDES {

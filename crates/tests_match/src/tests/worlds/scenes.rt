@@ -16,13 +16,13 @@ use std::process::Abort;
 #[derive(Clone, Copy)]
 pub enum Step {
     Event(Event),
-    /// So many commands of a side, each read and answered at once, and its answer heard.
+    /// This many commands to a side, each read and answered at once, and its answer heard.
     Rounds(Side, u32),
-    /// So often at most, until this holds: the controller acts; where it waits, the side reads, answers and is heard.
+    /// At most this often, until this holds: the controller acts; if it waits, the side reads, answers and is heard.
     GoOn(u32, Until),
-    /// A call of the author of a side's engine, but for that of a choice.
+    /// A call of the author of a side's engine, except that of a choice.
     Call(Side, Handed),
-    /// The author of a side's engine hands in the choice of this text.
+    /// The author of a side's engine supplies the choice of this text.
     Choose(Side, &'static [u8]),
     /// A side is asked for a move, which has to come next, and its author thinks.
     Ask(Side),
@@ -41,11 +41,11 @@ pub enum Step {
 pub enum Has {
     /// The engine of a side waits for its author's choice, was asked for a move, and nothing is on its way.
     Asked(Side),
-    /// The engine of a side in steps runs, and waits for nothing.
+    /// A side's sans-IO engine runs, and waits for nothing.
     Idle(Side),
     /// Whether an engine of a side runs.
     Running(Side, bool),
-    /// The game of a side's engine has so many moves.
+    /// The game of a side's engine has this many moves.
     Moves(Side, usize),
     /// The game of a side's engine has this score.
     Score(Side, i32),
@@ -57,12 +57,12 @@ pub enum Has {
     InStep(bool, bool),
 }
 
-/// Until when a world goes on.
+/// When a world stops.
 #[derive(Clone, Copy)]
 pub enum Until {
-    /// As often as is said.
+    /// After the given number of rounds.
     TheEnd,
-    /// A move is to be taken back.
+    /// A move is to be undone.
     TakingBack,
     /// Both sides are in step.
     InStep,
@@ -125,7 +125,7 @@ impl Recorded {
         }
     }
 
-    /// These steps are taken, which have this name.
+    /// Takes these steps, which have this name.
     pub fn go(&mut self, rt: &impl Abort, name: &'static str, steps: &[Step]) {
         for (number, step) in steps.iter().enumerate() {
             self.place = (name, number);
@@ -267,7 +267,7 @@ impl Recorded {
         assert_equal_for(rt, self.place, played.in_step(side), true);
     }
 
-    /// All the events once more lead to a world that shows the same.
+    /// Asserts that all the events, made again, lead to a world that shows the same.
     pub fn assert_once_more(&self, rt: &impl Abort) {
         let mut world = self.opening.world();
         world.run(rt, self.doings.all(rt));

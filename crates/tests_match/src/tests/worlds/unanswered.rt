@@ -29,7 +29,7 @@ static SCRIPT: [Step; 16] = [
     Step::Has(Has::InStep(true, false)),
 ];
 
-/// Six moves, each of which the other side is sent. Then Black's engine is lost and started again.
+/// Six moves, each of which is sent to the other side. Then Black's engine is lost and restarted.
 static SIX_MOVES: [Step; 13] = [
     Step::Rounds(Black, 3),
     Step::Rounds(White, 3),

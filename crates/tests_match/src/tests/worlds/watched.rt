@@ -1,4 +1,4 @@
-//! Drawn lists of events, in drawn worlds that are watched.
+//! Random lists of events, in random worlds that are watched.
 use super::any::{AnyWorld, Doing, Doings, Handed};
 use super::drawn::Draws;
 use super::same::{assert_agrees, assert_same_game, assert_same_world};
@@ -12,7 +12,7 @@ use std::process::Abort;
 /// How many events a list has.
 const EVENTS: u32 = 200;
 
-/// A thing that is to be seen.
+/// A thing that has to be seen.
 #[derive(Clone, Copy, Debug, PartialEq, Drop)]
 enum Thing {
     BothInStep,
@@ -33,22 +33,22 @@ enum Thing {
     /// Moves that left the record since their side went down.
     Dropped,
     RefusedForGood,
-    /// Events after which a move is to be taken back.
+    /// Events after which a move is to be undone.
     TakingBack,
     /// Events that happened while an engine waited for a choice, and that left it waiting.
     Thought,
     Chosen,
     RefusedChoices,
-    /// Names, versions and commands that were handed in while an engine waited.
+    /// Names, versions and commands that were supplied while an engine waited.
     Set,
     /// Crashes and ends while an engine waited.
     CrashesMeanwhile,
     EndsMeanwhile,
-    /// Choices of engines that were started after a crash while their side's engine waited.
+    /// Choices of engines that were restarted after a crash while they waited.
     WentOn,
 }
 
-/// What is to be seen in worlds of sessions, and how often.
+/// What has to be seen in worlds of sessions, and how often.
 static OF_SESSIONS: [(Thing, u64); 15] = [
     (Thing::BothInStep, 400),
     (Thing::WithAMove, 400),
@@ -68,7 +68,7 @@ static OF_SESSIONS: [(Thing, u64); 15] = [
     (Thing::RefusedForGood, 40),
 ];
 
-/// What is to be seen in worlds of engines in steps, and how often.
+/// What has to be seen in worlds of sans-IO engines, and how often.
 static OF_STEPS: [(Thing, u64); 11] = [
     (Thing::Thought, 100),
     (Thing::Chosen, 100),
@@ -155,7 +155,7 @@ fn thing_of(world: &AnyWorld, event: Event) -> Thing {
     }
 }
 
-/// Where both sides are in step, their running engines hold the same game.
+/// Asserts that if both sides are in step, their running engines hold the same game.
 fn watch_both(rt: &impl Abort, world: &AnyWorld, seen: &mut Seen) {
     let played = world.controller();
     if !played.in_step(Side::Black) || !played.in_step(Side::White) {
@@ -170,9 +170,9 @@ fn watch_both(rt: &impl Abort, world: &AnyWorld, seen: &mut Seen) {
     }
 }
 
-/// Before the last event the move of `before` was to be taken back, if any, and the record had so many moves. A side
-/// takes its move back before anything else is done. Where it isn't to be taken back any more, it left the record, but
-/// where the side that refused it was abandoned.
+/// Before the last event the move of `before` was to be undone, if any, and the record had this many moves. A side
+/// undoes its move before anything else is done. Once it isn't to be undone any more, it has left the record, unless
+/// the side that refused it was abandoned.
 fn watch_taking_back(
     rt: &impl Abort,
     played: &Match,
@@ -209,8 +209,8 @@ fn watch_taking_back(
     }
 }
 
-/// Where the match has ended, no side is blamed, but one under positional ko which refused a move of one under simple
-/// ko for the fourth time. The ko rules of Black and White are given.
+/// Asserts that a match which has ended blames no side, except one under positional ko that refused a move of one under
+/// simple ko for the fourth time. The ko rules of Black and White are given.
 fn watch_verdict(rt: &impl Abort, played: &Match, rules: (KoRule, KoRule), seen: &mut Seen) {
     let Action::Done(verdict) = played.next() else {
         return;
@@ -233,7 +233,7 @@ fn watch_verdict(rt: &impl Abort, played: &Match, rules: (KoRule, KoRule), seen:
     }
 }
 
-/// One event happens, before and after which the world is looked at.
+/// Makes one event happen, and checks the world before and after it.
 fn step_watched(rt: &impl Abort, world: &mut AnyWorld, doing: &Doing, seen: &mut Seen) {
     let before = world.controller().taking_back();
     let moves = world.controller().game().moves().len();
@@ -253,8 +253,8 @@ fn step_watched(rt: &impl Abort, world: &mut AnyWorld, doing: &Doing, seen: &mut
     watch_both(rt, world, seen);
 }
 
-/// A list of events happens in a drawn world, up to a few after the end of the match. All of them once more lead to a
-/// world that shows the same.
+/// Makes a list of events happen in a random world, up to a few after the end of the match. Made again, they have to
+/// lead to a world that shows the same.
 fn one_list(rt: &impl Abort, draws: &mut Draws, sessions: bool, far: bool, seen: &mut Seen) {
     let opening = draws.opening(rt, sessions, far);
     let mut world = opening.world();

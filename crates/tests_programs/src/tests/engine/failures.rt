@@ -6,19 +6,19 @@ use gtp_engine_app::failure::{Failure, report};
 use gtp_session::serve::ServeFault;
 use std::io::ErrorKind;
 
-/// The input of a run of which each read fails, and that of another.
+/// The input of a run whose reads all fail, and that of another.
 const BROKEN: Option<&[u8]> = None;
 
 const NAME: Option<&[u8]> = Some(b"1 name\n");
 
-/// Where neither the output nor the errors can be written; where the output can't be; and where both can.
+/// Sizes with which neither the output nor the errors can be written; only the errors; and both.
 const NEITHER: (usize, usize) = (0, 0);
 
 const ERRORS: (usize, usize) = (0, WIDE);
 
 const BOTH: (usize, usize) = (WIDE, WIDE);
 
-/// Arguments, input and rooms of runs that fail, with the status of each and what it reports.
+/// Arguments, input and stream sizes of runs that fail, with the status of each and what it reports.
 static RUNS: [(&[&str], Option<&[u8]>, (usize, usize), u8, &str); 23] = [
     (&[], BROKEN, BOTH, 3, "gtp_engine: read fault\n"),
     (&[], NAME, ERRORS, 3, "gtp_engine: write fault\n"),

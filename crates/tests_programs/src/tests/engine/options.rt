@@ -1,4 +1,4 @@
-//! The options of the command line, and the mistakes in them.
+//! The command-line options, and usage errors.
 use super::{assert_ends, run_over};
 use crate::asserts::assert_equal_for;
 use crate::tests::streams::WIDE;
@@ -35,7 +35,7 @@ fn each_option_is_taken_and_the_end_of_the_input_is_status_0(rt: HostRuntime) {
     }
 }
 
-/// Arguments with a mistake, of which nothing is answered, and how the text that reports it begins.
+/// Usage errors, after which nothing is answered, and the beginning of the text that reports each.
 static MISTAKES: [(&[&str], &str); 16] = [
     (
         &["--policy", "third"],

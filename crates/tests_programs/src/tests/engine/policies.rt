@@ -1,4 +1,4 @@
-//! The policies, the seed, the ko rule, and faults that are asked for.
+//! The policies, the seed, the ko rule, and requested faults.
 use super::{assert_ends, run_over};
 use crate::asserts::assert_true;
 use crate::tests::streams::WIDE;
@@ -12,7 +12,7 @@ const SMALL: &[u8] = b"boardsize 2\ngenmove b\ngenmove w\nboardsize 1\ngenmove b
 
 const CANDIDATES: &[u8] = b"=\n\n= A1\n\n= B1\n\n=\n\n= pass\n\n";
 
-/// White takes at A1, and after two passes Black wants to take back.
+/// White captures at A1, and after two passes Black wants to recapture.
 const CORNER: &[u8] =
     b"boardsize 4\nplay b A2\nplay w C1\nplay b B1\nplay w B2\nplay b D4\nplay w A1\n\
     play b B1\nplay b pass\nplay w pass\nplay b B1\nshowboard\n";
@@ -49,7 +49,7 @@ static ANSWERS: [(&[&str], &[u8], &[u8], u8); 17] = [
         captures B 0 W 1\n\n",
         0,
     ),
-    // A fault that stops is status 4 without a text, and after one that goes on the status is 0.
+    // After a fault that stops the engine the status is 4, without an error text; after one that goes on it is 0.
     (&["--fault", "stop:1"], GENMOVES, b"? syntax error\n\n", 4),
     (
         &["--fault", "stop:2"],
@@ -140,7 +140,7 @@ static SEEDS: [(&[&str], u32); 5] = [
 #[test]
 fn the_random_policy_draws_by_its_seed_which_is_1_by_default(rt: HostRuntime) {
     for (arguments, seed) in &SEEDS {
-        // What a fresh engine writes that draws by this seed.
+        // What a fresh engine with this seed writes.
         let mut drawn = Vec::new(rt.alloc());
         let mut reader = Counted::new(TWENTY_MOVES);
         let mut writer = Counted::new(&mut drawn);

@@ -1,4 +1,4 @@
-//! The help and the version.
+//! Help and the version.
 use super::run_over;
 use crate::asserts::assert_equal_for;
 use crate::tests::streams::{WIDE, assert_handed_on};
@@ -9,31 +9,31 @@ Usage: gtp_engine [OPTIONS]
 
 Options:
       --policy <POLICY>  Policy: first, random or book [default: first]
-      --seed <N>         Seed of --policy random, 0 to 4294967295 [default: 1]
-      --ko <RULE>        Rule of ko: simple or positional [default: simple]
-      --book <TEXT>      Entries of --policy book, at most 2000, with commas
-                         between: each a vertex, resign, or nothing for a pass
+      --seed <N>         Random seed, 0 to 4294967295 [default: 1]
+      --ko <RULE>        Ko rule: simple or positional [default: simple]
+      --book <TEXT>      Moves of --policy book, at most 2000, separated by
+                         commas: each a vertex, resign, or nothing for a pass
                          [default: empty]
       --fault <TEXT>     Fault at the N-th successful genmove, for tests: none,
                          stop:N, cut:N:K, junk:N or flood:N [default: none]
   -h, --help             Print help
   -V, --version          Print version
 
-Policies, by which genmove chooses:
+Policies, by which genmove chooses a move:
   first   the first candidate
-  random  a candidate drawn at random, from --seed
+  random  a random candidate, by --seed
   book    the entry of --book for this move
 A candidate is a legal point with a neighbour that is empty or has a stone of
-the other colour. --seed is used by random alone, and --book by book alone;
-both are checked under each policy.
+the other colour. Only random uses --seed, and only book uses --book, but both
+are checked under each policy.
 
-Rules of ko, by the boards that no play may bring back:
+Ko rules, by the boards that no play may recreate:
   simple      the board before the previous move
-  positional  each board that the game had
+  positional  each earlier board of the game
 
 Status:
-  0  after quit, at the end of the input, after the help and the version
-  2  the arguments have a mistake
+  0  quit, the end of the input, or help or the version was printed
+  2  usage error
   3  the program could not go on: read fault, write fault, out of memory,
      too many reads
   4  the engine stopped at the fault that --fault asks for
@@ -44,7 +44,7 @@ Example:
 More: man gtp_engine
 ";
 
-/// Words that ask for a text, and the text.
+/// Arguments that ask for help or the version, and the text.
 static REQUESTS: [(&[&str], &str); 4] = [
     (&["--help"], HELP),
     (&["-h"], HELP),
@@ -52,7 +52,7 @@ static REQUESTS: [(&[&str], &str); 4] = [
     (&["-V", "--policy", "third"], "gtp_engine 1.0\n"),
 ];
 
-/// So does the version. It is handed on whole and once.
+/// So does the version. The text is written whole and once.
 #[test]
 fn help_goes_to_the_output_with_status_0(rt: HostRuntime) {
     for (arguments, text) in &REQUESTS {

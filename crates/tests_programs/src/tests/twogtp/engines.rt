@@ -1,4 +1,4 @@
-//! What is said with engines: how they are started, read and written, interrupted, and ended.
+//! How engines are started, read and written, interrupted, and ended.
 use super::runs::{Engines, FIRST, FREE, Limits, played, run_with};
 use crate::asserts::{assert_equal, assert_equal_for, assert_true_for};
 
@@ -88,7 +88,7 @@ fn quit_is_said_where_all_was_answered_and_commands_go_out_in_one_write(rt: Host
     assert_equal(&rt, ran.log.let_run_first.get(), 2);
 }
 
-/// The numbers of starts of two games, for each of which memory is refused, and what was written before.
+/// The numbers of starts of two games, at each of which memory runs out, and what was written before.
 static REFUSED: [(usize, &str); 4] = [
     (1, ""),
     (2, ""),
@@ -109,7 +109,7 @@ fn memory_refused_at_each_start_ends_the_program(rt: HostRuntime) {
         assert_equal_for(&rt, *refused, ran.written(&rt), *output);
         assert_equal_for(&rt, *refused, ran.reported(&rt), "twogtp: out of memory\n");
         assert_equal_for(&rt, *refused, ran.status, 3);
-        // The one that memory was refused for was none to end.
+        // The start at which memory ran out left no engine to end.
         assert_equal_for(
             &rt,
             *refused,

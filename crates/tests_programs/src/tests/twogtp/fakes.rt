@@ -23,8 +23,8 @@ enum Engine {
     Says,
     /// Takes what it is sent, and writes one text. Once that was read its pipes are broken.
     Stops,
-    /// Answers each command by the next one of these answers, which end at semicolons and have their spaces written as
-    /// underscores, and none once they are used up.
+    /// Answers each command by the next of these answers, which end at semicolons and have underscores for spaces; once
+    /// they are used up, nothing.
     Answers,
     /// Writes what it is sent, and nothing else.
     Echoes,
@@ -32,8 +32,8 @@ enum Engine {
     Mute,
     /// Its pipes are broken.
     Broken,
-    /// Plays the first candidate; each call of its pipes is interrupted so often before it goes through, and a read or
-    /// a write takes one byte.
+    /// Plays the first candidate. Each call of its pipes is interrupted this often before it goes through, and a read
+    /// or a write takes one byte.
     Interrupted(Session<First>, u32),
 }
 
@@ -59,7 +59,7 @@ impl Talk {
         }
     }
 
-    /// Interrupts a call, if it wasn't so often enough.
+    /// Interrupts a call, unless it was interrupted often enough.
     fn interrupt(&mut self) -> Result<(), CallFault> {
         let Engine::Interrupted(_, often) = &self.engine else {
             return Ok(());
@@ -236,7 +236,7 @@ fn add(count: &Cell<usize>, more: usize) {
 pub struct InMemory {
     pub alloc: Global,
     pub log: Log,
-    /// The number of the start, from 1, for which memory is refused; 0 where it never is.
+    /// The number of the start, from 1, at which memory runs out; 0 for none.
     pub refused: usize,
 }
 
@@ -279,7 +279,7 @@ impl Starter for InMemory {
     }
 }
 
-/// A conversation with the engine, which wrote this text at once and has these answers.
+/// A conversation with an engine that wrote this text at once and has these answers.
 fn make_talk(
     alloc: Global,
     engine: Engine,

@@ -1,4 +1,4 @@
-//! Games, and what is written of them.
+//! Games, and what is written about them.
 use super::runs::{FIRST, played};
 
 /// An engine that only passes.
@@ -12,7 +12,7 @@ const RESIGNS: &str = "gtp_engine --policy book --book resign";
 /// One game on the smallest board.
 const PASSED: &str = "game 1: W+6.5 moves 2 restarts 0 0\n";
 
-/// Both engines, arguments, what is written, and the status. Komi is 6.5 where the words don't say.
+/// Both engines, arguments, what is written, and the status. Komi is 6.5 by default.
 static PLAYED: [(&str, &str, &[&str], &str, u8); 16] = [
     // Both pass on the smallest board.
     (FIRST, FIRST, &["--size", "1", "--komi", "6.5"], PASSED, 0),
@@ -31,7 +31,7 @@ static PLAYED: [(&str, &str, &[&str], &str, u8); 16] = [
         "game 1: W+6.5 moves 2 restarts 0 0\ngame 2: W+6.5 moves 2 restarts 0 0\n",
         0,
     ),
-    // A command is cut at runs of spaces.
+    // A command is split at runs of spaces.
     (
         "  gtp_engine   --policy first ",
         FIRST,
@@ -94,7 +94,7 @@ static PLAYED: [(&str, &str, &[&str], &str, u8); 16] = [
         "game 1: B+8.5 moves 7 restarts 0 0\n. X . 3\n. X . 2\n. X . 1\nA B C\ncaptures B 0 W 0\n\n",
         0,
     ),
-    // White moves first where there is a handicap. It resigns at once in the second game, before Black is asked.
+    // White moves first in a handicap game. In the second game it resigns at once, before Black is asked.
     (
         PASSES,
         PASSES,

@@ -1,14 +1,14 @@
-//! Mistakes in the words, and the lines of failures.
-use super::runs::{FREE, run_with};
+//! Usage errors, and the lines of failures.
+use super::runs::{FREE, Limits, run_with};
 use crate::asserts::{assert_equal_for, assert_true_for};
-use crate::tests::streams::{narrow_stream, new_log};
+use crate::tests::streams::{WIDE, narrow_stream, new_log};
 use cli::failure::{Failure, PlanError};
 use std::io::ErrorKind;
 use std::process::Abort;
 use twogtp_app::failure::{Mistake, NAME};
 
-/// A run with these arguments writes nothing to the output and starts nothing, and its status is 2. What it reports
-/// begins with this text, is no more where that ends with a newline, and has these parts.
+/// Asserts that a run with these arguments writes nothing to the output, starts nothing and returns status 2. What it
+/// reports has to begin with this text, or to be this text if that ends with a newline, and to contain these parts.
 fn assert_refused<R: Abort + AllocGlobal>(rt: &R, arguments: &[&str], text: &str, parts: &[&str]) {
     let ran = run_with(rt, arguments, &[], FREE);
     let reported = ran.reported(rt);
@@ -26,8 +26,12 @@ fn assert_refused<R: Abort + AllocGlobal>(rt: &R, arguments: &[&str], text: &str
     assert_equal_for(rt, arguments, ran.log.started.get(), 0);
 }
 
-/// Arguments with a mistake, and how it is reported.
-static WORDS: [(&[&str], &str); 6] = [
+/// Usage errors that the program finds itself: arguments, and the line that reports the first one.
+static WORDS: [(&[&str], &str); 7] = [
+    (
+        &["--black", "", "--white", "gtp_engine", "--why"],
+        "twogtp: no command for black\n",
+    ),
     (
         &["--black", "", "--white", "gtp_engine"],
         "twogtp: no command for black\n",
@@ -79,7 +83,87 @@ fn mistakes_in_the_words_are_reported_in_their_order(rt: HostRuntime) {
     }
 }
 
-/// Arguments that `clap` refuses, and how it reports that.
+/// The line of the komis that are allowed.
+const KOMI_LIMITS: &str =
+    "twogtp: komi may be a multiple of 0.5 from -999999999.5 to 999999999.5, with at most nine digits on each \
+    side of the point; write a negative one as --komi=-3.5\n";
+
+/// Arguments with a wrong komi or handicap, the line that says so, and under `--why` the next one.
+static EXPLAINED: [(&[&str], &str, &str); 9] = [
+    (&["--komi", "6.7"], "twogtp: bad komi\n", KOMI_LIMITS),
+    (
+        &["--komi", "3,5", "--handicap", "1"],
+        "twogtp: bad komi\n",
+        KOMI_LIMITS,
+    ),
+    (
+        &["--handicap", "1"],
+        "twogtp: bad handicap\n",
+        "twogtp: on size 19 the handicap may be 0, or 2 to 9\n",
+    ),
+    (
+        &["--size", "10", "--handicap", "9"],
+        "twogtp: bad handicap\n",
+        "twogtp: on size 10 the handicap may be 0, or 2 to 4\n",
+    ),
+    (
+        &["--size", "9", "--handicap", "1"],
+        "twogtp: bad handicap\n",
+        "twogtp: on size 9 the handicap may be 0, or 2 to 9\n",
+    ),
+    (
+        &["--size", "8", "--handicap", "5"],
+        "twogtp: bad handicap\n",
+        "twogtp: on size 8 the handicap may be 0, or 2 to 4\n",
+    ),
+    (
+        &["--size", "7", "--handicap", "5"],
+        "twogtp: bad handicap\n",
+        "twogtp: on size 7 the handicap may be 0, or 2 to 4\n",
+    ),
+    (
+        &["--size", "6", "--handicap", "2"],
+        "twogtp: bad handicap\n",
+        "twogtp: on size 6 the handicap may only be 0\n",
+    ),
+    (
+        &["--size", "1", "--handicap", "9"],
+        "twogtp: bad handicap\n",
+        "twogtp: on size 1 the handicap may only be 0\n",
+    ),
+];
+
+#[test]
+fn with_why_a_second_line_says_what_is_allowed(rt: HostRuntime) {
+    for (more, line, limits) in &EXPLAINED {
+        let without = run_with(&rt, &["--black", "x", "--white", "y"], more, FREE);
+        assert_equal_for(&rt, *more, without.reported(&rt), *line);
+        let with = run_with(&rt, &["--black", "x", "--white", "y", "--why"], more, FREE);
+        let reported = with.reported(&rt);
+        assert_true_for(&rt, (*more, reported), reported.starts_with(*line));
+        assert_true_for(&rt, (*more, reported), reported.ends_with(*limits));
+        assert_equal_for(&rt, *more, reported.len(), line.len() + limits.len());
+        assert_equal_for(&rt, *more, with.written(&rt), "");
+        assert_equal_for(&rt, *more, with.status, 2);
+        assert_equal_for(&rt, *more, with.log.started.get(), 0);
+    }
+}
+
+/// The errors have room for the first line and three bytes.
+#[test]
+fn a_second_line_that_breaks_leaves_the_status(rt: HostRuntime) {
+    let narrow = Limits {
+        output: WIDE,
+        errors: 20,
+        refused: 0,
+    };
+    let words = ["--black", "x", "--white", "y", "--why", "--komi", "x"];
+    let ran = run_with(&rt, &words, &[], narrow);
+    assert_equal_for(&rt, 20, ran.reported(&rt), "twogtp: bad komi\ntwo");
+    assert_equal_for(&rt, 20, ran.status, 2);
+}
+
+/// Arguments that `clap` rejects, and the beginning of what reports that.
 static REFUSED: [(&[&str], &str); 3] = [
     (
         &["--black", "x"],
@@ -95,7 +179,7 @@ static REFUSED: [(&[&str], &str); 3] = [
     ),
 ];
 
-/// Options, a number out of the limits of each, and the limits.
+/// Options, a number out of the range of each, and the range.
 static NUMBERS: [(&str, &str, &str); 8] = [
     ("--size", "0", "1..=25"),
     ("--size", "26", "1..=25"),
@@ -134,7 +218,7 @@ static FAILURES: [(Failure, &str); 4] = [
     ),
 ];
 
-/// Why arguments are not collected, with the line and the status of each.
+/// Why the arguments can't be collected, with the line and the status of each.
 static NOT_COLLECTED: [(ErrorKind, &str, u8); 2] = [
     (ErrorKind::InvalidData, "twogtp: bad argument\n", 2),
     (ErrorKind::OutOfMemory, "twogtp: out of memory\n", 3),

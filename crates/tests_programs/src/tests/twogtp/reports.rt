@@ -1,11 +1,11 @@
-//! Why a side failed or a move was taken back, as it is reported on standard error.
+//! The lines of `--why`: why a side failed, and which move was undone.
 use super::fakes::Talk;
 use super::runs::{FIRST, FREE, Limits, played, run_with};
 use crate::asserts::assert_equal_for;
 use crate::tests::streams::Narrow;
 use twogtp_app::laws::{down_sides_have_no_process, lines_are_few, losses_have_lines};
 
-/// Engines that fail in their first game, each with what its line says of it.
+/// Engines that fail in their first game, each with the line about it.
 static LOSSES: [(&str, &str); 15] = [
     (
         "no_such_program",
@@ -139,7 +139,8 @@ fn each_game_and_each_move_that_is_taken_back_is_reported(rt: HostRuntime) {
     }
 }
 
-/// Arguments of a game in which White refuses Black's first move, and in the same piece writes what is no reply.
+/// Arguments of a game in which White refuses Black's first move, and in the same chunk writes something that is no
+/// reply.
 static BOTH: [&str; 7] = [
     "--why",
     "--restarts",
@@ -150,7 +151,7 @@ static BOTH: [&str; 7] = [
     "answers =1;=2;=3;?4_no\n\nhello;",
 ];
 
-/// What is reported of the one, and then of the other.
+/// What is reported about the one, and then about the other.
 const REFUSED: &str =
     "twogtp: game 1: white: 1 unanswered, \"4 play b A1\": the play was refused (retake 1 of 3); \
         it wrote \"?4 no\\n\\n\"\n";
@@ -159,7 +160,7 @@ const LOST: &str =
     "twogtp: game 1: white: 0 unanswered: not a GTP reply (it begins with neither = nor ?); \
         it wrote \"hello\\n\\n\"\n";
 
-/// Arguments of a game of which Black fails each time that it is started: three times.
+/// Arguments of a game in which Black fails each of the three times that it is started.
 static THRICE: [&str; 7] = [
     "--why",
     "--size",
@@ -170,7 +171,7 @@ static THRICE: [&str; 7] = [
     "gtp_engine",
 ];
 
-/// What is reported of Black each time.
+/// What is reported about Black each time.
 const BROKEN: &str =
     "twogtp: game 1: black: 3 unanswered, the first \"1 boardsize 5\": writing failed, exit status 7; \
         nothing of it was read\n";
@@ -178,8 +179,8 @@ const BROKEN: &str =
 #[test]
 fn each_line_is_flushed_by_itself_and_before_the_next_start(rt: HostRuntime) {
     let len = BROKEN.len();
-    // The retake comes first. Black is started again after the first line, and after the second one; before, both are
-    // started.
+    // The retake comes first. Both sides are started before it, and Black is restarted after the first and after the
+    // second line.
     let rows: [(&[&str], &[&str], usize, usize); 2] = [
         (&BOTH, &[REFUSED, LOST], 2, 0),
         (&THRICE, &[BROKEN, BROKEN, BROKEN], 4, len.saturating_mul(3)),

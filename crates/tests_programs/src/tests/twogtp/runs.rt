@@ -5,8 +5,8 @@ use crate::tests::streams::{Log, Narrow, WIDE, narrow_stream, new_log};
 use std::process::Abort;
 use twogtp_app::run::run;
 
-/// What a run may use: so many bytes of the output and of the errors, and memory at each start but that of this number,
-/// from 1.
+/// The limits of a run: how many bytes the output and the errors take, and the number of the start, from 1, at which
+/// memory runs out.
 #[derive(Clone, Copy, Drop)]
 pub struct Limits {
     pub output: usize,
@@ -14,14 +14,14 @@ pub struct Limits {
     pub refused: usize,
 }
 
-/// Memory is refused for no start.
+/// No limits: memory runs out at no start.
 pub const FREE: Limits = Limits {
     output: WIDE,
     errors: WIDE,
     refused: 0,
 };
 
-/// What a run of the program left.
+/// The results of a run of the program.
 #[derive(Drop)]
 pub struct Ran {
     pub status: u8,
@@ -42,7 +42,7 @@ impl Ran {
     }
 }
 
-/// Runs the program with these words after its name.
+/// Runs the program with these arguments after its name.
 pub fn run_with<'a, R: Abort + AllocGlobal>(
     rt: &R,
     front: &[&'a str],
@@ -81,8 +81,8 @@ pub const FIRST: &str = "gtp_engine --policy first";
 /// The commands of Black's engine and of White's.
 pub type Engines<'a> = (&'a str, &'a str);
 
-/// With these engines and arguments the output, the errors and the status are these, and each engine that was started
-/// was ended. Returns what the run left.
+/// Asserts that with these engines and arguments the output, the errors and the status are these, and that each engine
+/// that was started was ended. Returns the results of the run.
 pub fn played<'a, R: Abort + AllocGlobal>(
     rt: &R,
     engines: Engines<'a>,

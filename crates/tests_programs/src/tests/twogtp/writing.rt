@@ -1,4 +1,4 @@
-//! What goes out: outputs that break, when they are flushed, the help and the version.
+//! What is written: outputs that break, when they are flushed, help and the version.
 use super::runs::{FIRST, FREE, Limits, run_with};
 use crate::asserts::{assert_equal, assert_equal_for, assert_true_for};
 
@@ -14,8 +14,8 @@ static VERSION: [&str; 1] = ["--version"];
 #[test]
 fn what_goes_out_before_a_write_fault_is_a_beginning(rt: HostRuntime) {
     let whole = "game 1: W+6.5 moves 2 restarts 0 0\ngame 2: W+6.5 moves 2 restarts 0 0\n";
-    // Arguments, the room of the output, and how many engines were started and sent `quit`: those of the games that are
-    // written whole, and no others, are sent `quit`, and all are ended.
+    // Arguments, the size of the output, and how many engines were started and sent `quit`. Only those of games that
+    // are written whole are sent `quit`, and all are ended.
     let rows: [(&[&str], usize, usize, usize); 8] = [
         (&HELP, 0, 0, 0),
         (&VERSION, 0, 0, 0),
