@@ -192,9 +192,10 @@ class Wrong(checks.Case):
 
     def test_replaced(self):
         """a word that the glossary replaces."""
-        right = 'never "folder" or `folder`; FOLDER, not "anew"; a gateway; [x](anew.md); an engine, in steps of two; hand it in\n'
+        right = 'never "folder" or `folder`; FOLDER, not "anew"; a gateway; [x](anew.md); an engine, in steps of two; by hand; a refused play\n'
         self.check("words that stay", [], words.replaced("p", pages.prose_of(right), words.REPLACED))
-        samples = ("Folders", "anew", "but for", "handed in", "lends", "an own command", "Engines in steps", "the gate")
+        samples = ("Folders", "anew", "but for", "hands it in", "lends", "an own command", "Engines in steps", "the gate", "taken stones",
+                   "refused call", "mended")  # fmt: skip
         for pattern, sample in zip(words.REPLACED, samples):
             faults = words.replaced("p", pages.prose_of(f"One.\nSo {sample} ends."), words.REPLACED)
             self.check(f"'{sample}'", [f"p:2: '{sample.removeprefix('the ')}' for '{words.REPLACED[pattern]}'"], faults)
