@@ -141,7 +141,8 @@ class Wrong(checks.Case):
 
     def test_files(self):
         """a file or a directory that isn't there."""
-        right = "`docs/map.md` `./docs/` `crates/NAME/src/lib.rt` `src/lib.rt` `lib.rt` `crates/*/out` `rt/none` `3.5` `byte_streams/streams` docs/none.md\n"
+        right = "`docs/map.md` `./docs/` `crates/NAME/src/lib.rt` `src/lib.rt` `lib.rt` `crates/*/out` `rt/none` `3.5` " \
+            "`byte_streams/streams` docs/none.md\n"
         self.check("files that are there", [], names.lost_files("p", right))
         for name in ("docs/none.md", "crates/none", "crates/NAME/none.rt", "none.rt", "src/none.rt", "tests/none", "twogtp/none"):
             self.check(f"the file {name}", [f"p: {name}"], names.lost_files("p", f"see `{name}`"))
@@ -163,9 +164,11 @@ class Wrong(checks.Case):
 
     def test_names(self):
         """a name that no source has."""
-        right = "`Session::feed_into` `final_score` `Game.from_moves(1)` `MOST_..` `vintsaky_game_new()` `_undo` `tests_NAME` `word`\n\n```\nno_such_name\n```\n"
+        right = "`Session::feed_into` `final_score` `Game.from_moves(1)` `MOST_..` " \
+            "`vintsaky_game_new()` `_undo` `tests_NAME` `word`\n\n```\nno_such_name\n```\n"
         self.check("names that there are", [], names.lost_names("p", right))
-        for name in ("no_such_name", "Session::no_such_verb", "_no_such_end", "NoSuchType", "unheard_of()", "unheardof()", "Game.no_such_name", "Game.unheardof()"):
+        for name in ("no_such_name", "Session::no_such_verb", "_no_such_end", "NoSuchType", "unheard_of()", "unheardof()",
+                     "Game.no_such_name", "Game.unheardof()"):  # fmt: skip
             self.check(f"the name {name}", [f"p: {name}"], names.lost_names("p", f"calls `{name}` of"))
 
     def test_spelling(self):
@@ -192,9 +195,11 @@ class Wrong(checks.Case):
 
     def test_replaced(self):
         """a word that the glossary replaces."""
-        right = 'never "folder" or `folder`; FOLDER, not "anew"; a gateway; [x](anew.md); an engine, in steps of two; hand it in\n'
+        right = \
+            'never "folder" or `folder`; FOLDER, not "anew"; a gateway; [x](anew.md); an engine, in steps of two; by hand; a refused play\n'
         self.check("words that stay", [], words.replaced("p", pages.prose_of(right), words.REPLACED))
-        samples = ("Folders", "anew", "but for", "handed in", "lends", "an own command", "Engines in steps", "the gate")
+        samples = ("Folders", "anew", "but for", "hands it in", "lends", "an own command", "Engines in steps", "the gate", "taken stones",
+                   "refused call", "mended")  # fmt: skip
         for pattern, sample in zip(words.REPLACED, samples):
             faults = words.replaced("p", pages.prose_of(f"One.\nSo {sample} ends."), words.REPLACED)
             self.check(f"'{sample}'", [f"p:2: '{sample.removeprefix('the ')}' for '{words.REPLACED[pattern]}'"], faults)

@@ -22,11 +22,14 @@ REPLACED = {
     "folders?": "directory",
     "anew": "again, from scratch",
     "but for": "except",
-    "hand(?:s|ed|ing)? in": "supply",
+    "hand(?:s|ed|ing)? (?:it |them )?in": "supply",
     "len(?:d|ds|t|ding)": "borrow, pass by reference",
     "an own command": "a custom command",
     "engines? in steps": "sans-IO engine",
     "gates?": "CI",
+    "taken stones?": "captured stones",
+    "refused calls?": "rejected calls",
+    "mend(?:s|ed|ing)?": "fix",
 }
 
 
