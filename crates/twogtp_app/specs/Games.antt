@@ -21,7 +21,8 @@ use Rattle.twogtp_app.specs.Options.{AsksFor, AsksForText, HasFault}
 use Rattle.twogtp_app.specs.Processes.{AreEnded}
 use Rattle.gtp_process.specs.Starts.{Attempts}
 use Rattle.cli.specs.Status.{IsRequest, done, own_failure}
-use Rattle.twogtp_app.specs.Status.{ReportsFailure, ReportsMistake, status_with}
+use Rattle.twogtp_app.specs.Mistakes.{ReportsMistake}
+use Rattle.twogtp_app.specs.Status.{ReportsFailure, status_with}
 use Rattle.twogtp_app.specs.Tasks.{IsMistake, IsPlanOf}
 use Rattle.twogtp_app.specs.Turns.{Engines, GameState, HasStopped, IsPlayed, Reporting, Stage, engines_of, opening}
 use Rattle.twogtp_app.specs.Turns.{reporting, stage}
@@ -182,13 +183,14 @@ pub record HasShown {O : Type 0} (outs : WriterGhosts O) (words : List Text) (st
   pub text : List ℕ
   pub shown : IsShown outs text status before after
 
--- The options that the words ask for have a mistake. The first one is reported.
+-- The options that the words ask for have a mistake. The first one is reported. With `--why` a second line says which
+-- komis or handicaps are allowed, where one is wrong.
 pub record AsksWrongly {E : Type 0} (errs : WriterGhosts E) (words : List Text) (before after : E) : Type 0 where
   pub options : Options
   pub asked : AsksFor words options
   pub what : Mistake
   pub mistake : IsMistake options what
-  pub reported : ReportsMistake errs what before after
+  pub reported : ReportsMistake errs options what before after
 
 -- The words have a mistake. One text is written.
 pub record IsRefusedByClap {E : Type 0} (errs : WriterGhosts E) (words : List Text) (before after : E) : Type 0 where

@@ -1,6 +1,7 @@
 pub mod Closing
 pub mod Games
 pub mod Losses
+pub mod Mistakes
 pub mod Options
 pub mod Processes
 pub mod Speaking

@@ -1,6 +1,6 @@
 -- The statuses with which the program ends, and the lines of its failures. (Own.)
 use Rattle.std.specs.Prelude.{◌≡◌, ◌⊎◌, ℕ, List, codes}
-use Rattle.cli.specs.Failures.{IsReported, ReportsFailure as NamedReportsFailure}
+use Rattle.cli.specs.Failures.{ReportsFailure as NamedReportsFailure}
 use Rattle.cli.specs.Status.{done, own_failure, usage_failure}
 use Rattle.gtp_match.specs.declared.verdicts.Verdict.{Verdict}
 use Rattle.gtp_match.specs.declared.verdicts.Verdict.TheVariants.{Score, Resign, Limit, Forfeit, Unfit, Abandoned}
@@ -23,10 +23,6 @@ mistake_text NoBlackCommand = codes "no command for black"
 mistake_text NoWhiteCommand = codes "no command for white"
 mistake_text BadKomi = codes "bad komi"
 mistake_text BadHandicap = codes "bad handicap"
-
--- the line of a mistake was written, whole unless the stream broke at it
-abbrev pub ReportsMistake : {E : Type 0} → Ghosts E → Mistake → E → E → Type 0
-ReportsMistake errs what before after = IsReported errs program_name (mistake_text what) before after
 
 -- the line of a failure was written, whole unless the stream broke at it
 abbrev pub ReportsFailure : {E : Type 0} → Ghosts E → Failure → E → E → Type 0

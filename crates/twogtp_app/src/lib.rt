@@ -10,6 +10,7 @@ pub mod failure;
 mod game;
 mod game_text;
 pub mod laws;
+mod mistakes;
 mod next_commands;
 mod options;
 mod plan;

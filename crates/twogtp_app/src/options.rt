@@ -119,8 +119,8 @@ static OPTIONS: [OptionRow<'static>; 11] = [
     OptionRow {
         name: "why",
         takes: Takes::Nothing,
-        help: "Report on standard error why a side fails, and each\n\
-            refused play",
+        help: "Report on standard error why a side fails, each refused\n\
+            play, and which komi and handicap are allowed",
     },
 ];
 

@@ -8,6 +8,7 @@ ghost use Rattle.cli.specs.Status.{done, own_failure, usage_failure};
 
 use crate::failure::NAME;
 use crate::game::play_game;
+use crate::mistakes::report_no_plan;
 use crate::options::read_options;
 use crate::plan::{Plan, plan_of};
 use byte_streams::WriteOnce;
@@ -26,7 +27,8 @@ use std::convert::AsStr;
 /// - 2: usage error;
 /// - 3: the output or a line of `--why` couldn't be written, memory ran out, or a game had too many turns.
 ///
-/// With status 2 or 3 it also writes to `errors` what is wrong. The status is the same if `errors` can't be written.
+/// With status 2 or 3 it also writes to `errors` what is wrong. With `--why` a second line says which komis or
+/// handicaps are allowed, if one of them is wrong. The status is the same if `errors` can't be written.
 pub fn run<A: AsStr, O: WriteOnce, E: WriteOnce, S: Starter>(
     alloc: Global,
     words: &[A],
@@ -36,7 +38,8 @@ pub fn run<A: AsStr, O: WriteOnce, E: WriteOnce, S: Starter>(
 ) -> u8
     ensures status { IsStatus result }
     // After a usage error nothing was started, and nothing was written to the output. The first
-    // usage error is reported on standard error.
+    // usage error is reported on standard error; under `--why` a second line follows if it is a
+    // komi or a handicap.
     ensures usage { result ≡ usage_failure →
         HasMistake E.WriteOnce (map A.text words.now) errors.old errors.new
         × (output.new ≡ output.old) × (starter.new ≡ starter.old) }
@@ -77,7 +80,7 @@ pub fn run<A: AsStr, O: WriteOnce, E: WriteOnce, S: Starter>(
     };
     let plan = match plan_of(alloc, &options) {
         Ok(plan) => plan,
-        Err(error) => return error.report(NAME, errors),
+        Err(error) => return report_no_plan(&error, &options, errors),
     };
     match play_games(&plan, output, errors, starter) {
         Ok(status) => status,

@@ -13,7 +13,7 @@ pub struct Details {
     pub record: bool,
     /// Whether to write the final board of each game.
     pub show: bool,
-    /// Whether to report why a side failed, and each refused play.
+    /// Whether to report why a side failed, each refused play, and which komis or handicaps are allowed.
     pub why: bool,
 }
 

@@ -155,7 +155,7 @@ def play(match, timing=TIMINGS[0]):
     """What comes of a match."""
     wrong = mistake(match)
     if wrong:
-        return Result(2, b"", [[f"twogtp: {wrong}\n".encode()]], {BLACK: b"", WHITE: b""})
+        return Result(2, b"", [[f"twogtp: {line}\n".encode()] for line in wrong[: 1 + match.why]], {BLACK: b"", WHITE: b""})
     komi = values.read_komi(match.komi.encode())
     setup = Setup(match.size, komi, match.handicap, match.most_moves, match.restarts)
     starter = Starter(match.engines, timing)
@@ -170,12 +170,20 @@ def play(match, timing=TIMINGS[0]):
     return Result(status, output, errors, {side: b"".join(starter.notes[side]) for side in SIDES})
 
 
+KOMI_LIMITS = (
+    "komi may be a multiple of 0.5 from -999999999.5 to 999999999.5, with at most nine digits on each side of the point; "
+    "write a negative one as --komi=-3.5"
+)
+
+
 def mistake(match):
-    """The first mistake in the options, or none."""
+    """The first usage error in the options, and what is allowed, which `--why` reports too; or none."""
     if values.read_komi(match.komi.encode()) is None:
-        return "bad komi"
+        return "bad komi", KOMI_LIMITS
     if match.handicap and values.handicap_points(match.size, match.handicap) is None:
-        return "bad handicap"
+        most = max((stones for stones in range(10) if values.handicap_points(match.size, stones)), default=0)
+        allowed = f"be 0, or 2 to {most}" if most else "only be 0"
+        return "bad handicap", f"on size {match.size} the handicap may {allowed}"
     return None
 
 

@@ -350,9 +350,17 @@ def retakes(small):
 
 
 def mistakes():
-    """Mistakes in the options."""
+    """Usage errors. With `--why` a second line says what is allowed."""
     for komi, handicap, said in (("6.7", 0, "bad komi"), ("6.5", 1, "bad handicap"), ("6.7", 1, "bad komi")):
         yield match(FIRST, FIRST, komi=komi, handicap=handicap), 2, "", f"twogtp: {said}\n"
+    limits = (
+        "komi may be a multiple of 0.5 from -999999999.5 to 999999999.5, with at most nine digits on each side of the point; "
+        "write a negative one as --komi=-3.5"
+    )
+    yield match(FIRST, FIRST, komi="6.7", handicap=1, why=True), 2, "", f"twogtp: bad komi\ntwogtp: {limits}\n"
+    for size, handicap, allowed in ((6, 2, "only be 0"), (7, 5, "be 0, or 2 to 4"), (8, 1, "be 0, or 2 to 4"), (9, 1, "be 0, or 2 to 9")):
+        said = f"twogtp: bad handicap\ntwogtp: on size {size} the handicap may {allowed}\n"
+        yield match(FIRST, FIRST, size=size, handicap=handicap, why=True), 2, "", said
 
 
 # ---- worked calls: what the controller says, call by call, on 2x2 with a komi of 0 and at most 10 moves

@@ -264,14 +264,25 @@ def printed(name, *parts, run):
     return Case(name, parts, 0, run=run, why=None)
 
 
-# `clap` says what it can't read, and how to get help.
+# `clap` says what it can't read, and how to get help. With --why a second line says which komis or handicaps are allowed.
+KOMI_LIMITS = (
+    "twogtp: komi may be a multiple of 0.5 from -999999999.5 to 999999999.5, with at most nine digits on each side of the point; "
+    "write a negative one as --komi=-3.5\n"
+)
 OPTIONS = [
     mistyped("a komi below zero without the sign =", ("error: ", "-3", "--help"), "--komi", "-3.5"),
     mistyped("a komi that is no multiple of a half", "twogtp: bad komi\n", "--komi", "3.75"),
+    mistyped("a komi that is no multiple of a half, with --why", "twogtp: bad komi\n" + KOMI_LIMITS, "--komi", "3.75", "--why"),
     mistyped("restarts below zero", ("error: ", "-1", "--help"), "--restarts", "-1"),
     mistyped("a size of 26", ("error: ", "--size", "26", "--help"), "--size", "26"),
     mistyped("a handicap that the size doesn't allow", "twogtp: bad handicap\n", "--size", "6", "--handicap", "2"),
     mistyped("a handicap that an even size doesn't allow", "twogtp: bad handicap\n", "--size", "10", "--handicap", "9"),
+    mistyped("a handicap that the size doesn't allow, with --why",
+             "twogtp: bad handicap\ntwogtp: on size 6 the handicap may only be 0\n", "--size", "6", "--handicap", "2", "--why"),
+    mistyped("a handicap that an even size doesn't allow, with --why",
+             "twogtp: bad handicap\ntwogtp: on size 10 the handicap may be 0, or 2 to 4\n", "--size", "10", "--handicap", "9", "--why"),
+    mistyped("a handicap of one, with --why",
+             "twogtp: bad handicap\ntwogtp: on size 19 the handicap may be 0, or 2 to 9\n", "--handicap", "1", "--why"),
     printed("the help says which handicaps a size allows", "0, or 2 to 9", "2 to 4", "even sizes", "size 7", run=("twogtp", "--help")),
     printed("the help of the engine says which options go together", "--policy random", "--policy book", run=("gtp_engine", "--help")),
     Case("nobody reads the help", "", 3, run=("twogtp", "--help"), is_read=False, errors="twogtp: write fault\n", why=None),

@@ -8,13 +8,15 @@ use Rattle.clap.specs.declared.error.kind.ErrorKind.TheVariants as kinds
 use Rattle.cli.specs.declared.failure.Failure.TheVariants.{OutOfMemory, Write}
 use Rattle.cli.specs.declared.failure.PlanError.{PlanError}
 use Rattle.cli.specs.declared.failure.PlanError.TheVariants.{BadArgument, BadWords, OutOfMemory as PlanOutOfMemory}
-use Rattle.cli.specs.Failures.{IsReported, plan_error_status, plan_error_text}
+use Rattle.cli.specs.Failures.{plan_error_status}
 use Rattle.cli.specs.Requests.{Answers, IsRefused, Outputs, Shows, Writers}
 use Rattle.cli.specs.Status.{IsRequest, done, own_failure, usage_failure}
 use Rattle.twogtp_app.specs.declared.failure.Mistake.{Mistake}
+use Rattle.twogtp_app.specs.declared.options.Options.{Options}
 use Rattle.twogtp_app.specs.Games.{HasMistake, HasShown}
+use Rattle.twogtp_app.specs.Mistakes.{ReportsNoPlan}
 use Rattle.twogtp_app.specs.Options.{HasFault}
-use Rattle.twogtp_app.specs.Status.{IsStatus, ReportsFailure, mistake_text, program_name, some_given_up}
+use Rattle.twogtp_app.specs.Status.{IsStatus, ReportsFailure, program_name, some_given_up}
 
 -- an error that isn't want of memory is a fault of the words
 fault_of_words : {F : Type 0} (kind : ErrorKind) → (kind ≡ kinds.OutOfMemory) ⊎ F → (kind ≡ kinds.OutOfMemory → ⊥) → F
@@ -27,13 +29,14 @@ never_both kind (inl help) refused = cc (refused, help)
 never_both kind (inr version) refused = cc (refused, version)
 
 -- with status 3 an error of a plan is want of memory, which is reported
-pub plan_error_stopped : {E : Type 0} (errs : Ghosts E) (error : PlanError Mistake) (status : ℕ) (before after : E)
-    → status ≡ plan_error_status error
-    → IsReported errs program_name (plan_error_text mistake_text error) before after → status ≡ own_failure
+pub plan_error_stopped : {E : Type 0} (errs : Ghosts E) (options : Options) (error : PlanError Mistake) (status : ℕ)
+    (before after : E)
+    → status ≡ plan_error_status error → ReportsNoPlan errs options error before after → status ≡ own_failure
     → ReportsFailure errs OutOfMemory before after
-plan_error_stopped errs BadArgument status before after is reports three = absurd (omega (arith, is, three))
-plan_error_stopped errs (BadWords what) status before after is reports three = absurd (omega (arith, is, three))
-plan_error_stopped errs PlanOutOfMemory status before after is reports three = reports
+plan_error_stopped errs options BadArgument status before after is reports three = absurd (omega (arith, is, three))
+plan_error_stopped errs options (BadWords what) status before after is reports three =
+    absurd (omega (arith, is, three))
+plan_error_stopped errs options PlanOutOfMemory status before after is reports three = reports
 
 module _ {A O E : Type 0} (known : Writers O E) (kind : ErrorKind) (text : Result (String A) AllocError)
     (before : Outputs O E) where

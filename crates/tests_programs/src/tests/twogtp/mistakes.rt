@@ -1,7 +1,7 @@
 //! Usage errors, and the lines of failures.
-use super::runs::{FREE, run_with};
+use super::runs::{FREE, Limits, run_with};
 use crate::asserts::{assert_equal_for, assert_true_for};
-use crate::tests::streams::{narrow_stream, new_log};
+use crate::tests::streams::{WIDE, narrow_stream, new_log};
 use cli::failure::{Failure, PlanError};
 use std::io::ErrorKind;
 use std::process::Abort;
@@ -81,6 +81,86 @@ fn mistakes_in_the_words_are_reported_in_their_order(rt: HostRuntime) {
     for (arguments, text) in &WORDS {
         assert_refused(&rt, arguments, text, &[]);
     }
+}
+
+/// The line of the komis that are allowed.
+const KOMI_LIMITS: &str =
+    "twogtp: komi may be a multiple of 0.5 from -999999999.5 to 999999999.5, with at most nine digits on each \
+    side of the point; write a negative one as --komi=-3.5\n";
+
+/// Arguments with a wrong komi or handicap, the line that says so, and under `--why` the next one.
+static EXPLAINED: [(&[&str], &str, &str); 9] = [
+    (&["--komi", "6.7"], "twogtp: bad komi\n", KOMI_LIMITS),
+    (
+        &["--komi", "3,5", "--handicap", "1"],
+        "twogtp: bad komi\n",
+        KOMI_LIMITS,
+    ),
+    (
+        &["--handicap", "1"],
+        "twogtp: bad handicap\n",
+        "twogtp: on size 19 the handicap may be 0, or 2 to 9\n",
+    ),
+    (
+        &["--size", "10", "--handicap", "9"],
+        "twogtp: bad handicap\n",
+        "twogtp: on size 10 the handicap may be 0, or 2 to 4\n",
+    ),
+    (
+        &["--size", "9", "--handicap", "1"],
+        "twogtp: bad handicap\n",
+        "twogtp: on size 9 the handicap may be 0, or 2 to 9\n",
+    ),
+    (
+        &["--size", "8", "--handicap", "5"],
+        "twogtp: bad handicap\n",
+        "twogtp: on size 8 the handicap may be 0, or 2 to 4\n",
+    ),
+    (
+        &["--size", "7", "--handicap", "5"],
+        "twogtp: bad handicap\n",
+        "twogtp: on size 7 the handicap may be 0, or 2 to 4\n",
+    ),
+    (
+        &["--size", "6", "--handicap", "2"],
+        "twogtp: bad handicap\n",
+        "twogtp: on size 6 the handicap may only be 0\n",
+    ),
+    (
+        &["--size", "1", "--handicap", "9"],
+        "twogtp: bad handicap\n",
+        "twogtp: on size 1 the handicap may only be 0\n",
+    ),
+];
+
+#[test]
+fn with_why_a_second_line_says_what_is_allowed(rt: HostRuntime) {
+    for (more, line, limits) in &EXPLAINED {
+        let without = run_with(&rt, &["--black", "x", "--white", "y"], more, FREE);
+        assert_equal_for(&rt, *more, without.reported(&rt), *line);
+        let with = run_with(&rt, &["--black", "x", "--white", "y", "--why"], more, FREE);
+        let reported = with.reported(&rt);
+        assert_true_for(&rt, (*more, reported), reported.starts_with(*line));
+        assert_true_for(&rt, (*more, reported), reported.ends_with(*limits));
+        assert_equal_for(&rt, *more, reported.len(), line.len() + limits.len());
+        assert_equal_for(&rt, *more, with.written(&rt), "");
+        assert_equal_for(&rt, *more, with.status, 2);
+        assert_equal_for(&rt, *more, with.log.started.get(), 0);
+    }
+}
+
+/// The errors have room for the first line and three bytes.
+#[test]
+fn a_second_line_that_breaks_leaves_the_status(rt: HostRuntime) {
+    let narrow = Limits {
+        output: WIDE,
+        errors: 20,
+        refused: 0,
+    };
+    let words = ["--black", "x", "--white", "y", "--why", "--komi", "x"];
+    let ran = run_with(&rt, &words, &[], narrow);
+    assert_equal_for(&rt, 20, ran.reported(&rt), "twogtp: bad komi\ntwo");
+    assert_equal_for(&rt, 20, ran.status, 2);
 }
 
 /// Arguments that `clap` rejects, and the beginning of what reports that.

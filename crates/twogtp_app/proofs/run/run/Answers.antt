@@ -40,8 +40,8 @@ returns-in-Err-clause-stopped g c = λ three.
 -- Where the options come to no plan with status 3, memory was refused.
 pub returns-in-Err-plan_of-clause-stopped : goal.returns-in-Err-plan_of-clause-stopped
 returns-in-Err-plan_of-clause-stopped g c = λ three.
-    let why = plan_error_stopped g.E.WriteOnce c.in-Err-plan_of.error c.report.result _ _ c.report.ensures.status
-    c.report.ensures.written three in
+    let why = plan_error_stopped g.E.WriteOnce c.in-Ok.options c.in-Err-plan_of.error c.report_no_plan.result _ _
+    c.report_no_plan.ensures.status c.report_no_plan.ensures.written three in
     inl (refl, refl, why)
 
 -- The status of games is 0 or 1.
@@ -92,5 +92,5 @@ returns-clause-stopped g c = λ three. inr (inr (record {
   lines = c.play_games.new.errors;
   failure = c.in-Err-play_games.failure;
   stopped = c.in-Err-play_games.ensures;
-  reported = c.report-in-Err-play_games.ensures.written;
+  reported = c.report.ensures.written;
 }))
