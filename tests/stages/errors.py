@@ -73,9 +73,9 @@ def usage_of(script, count=None):
     """The usage text of a script: what --help prints, or these many lines of its head, from the one that begins so."""
     if count is None:
         return running.run([TOP / script, "--help"]).output
-    lines = (TOP / script).read_text().split("\n")
-    first = next(number for number, line in enumerate(lines) if line.startswith("# usage: "))
-    return "".join(re.sub("^# ?", "", line) + "\n" for line in lines[first : first + count])
+    lines = [re.sub("^# ?", "", line) for line in (TOP / script).read_text().split("\n")]
+    first = next(number for number, line in enumerate(lines) if line.startswith("usage: "))
+    return "".join(f"{line}\n" for line in lines[first : first + count])
 
 
 def provoke(case):

@@ -267,6 +267,9 @@ ERRORS = {
         " names another place": At("of_release/stopped.py"),
         " has no end": At("of_release/stopped.py"),
         " is no mark": At("of_release/stopped.py"),
+        "packaging/page: give archive, package or source, a VERSION, and pages":
+            Run('"$TOP/packaging/page" shop 1.0 README.md README.md', 2,
+                "packaging/page: give archive, package or source, a VERSION, and pages\n{usage of 1}"),
     },
     "packaging/pkg_config": {
         "packaging/pkg_config: give a PREFIX, and at most two directories after it":
@@ -288,6 +291,7 @@ ERRORS = {
             Run('mkdir p; for it in bash dirname; do ln -s "$(type -P $it)" p; done; PATH=$PWD/p; "$TOP/cargo/build" twogtp', 1,
                 "build: there is no python3, which a build by cargo needs (3.9 or later)\n"),
         "a source was changed meanwhile: run it again": RACE,
+        "build: name a program, or library": Run('"$TOP/cargo/build"', 2, "build: name a program, or library\n{usage of 1}"),
         "cargo can't build it": SLOW,
     },
     "tournament/between": {
@@ -473,6 +477,7 @@ ERRORS = {
         "'{}' is one argument too many: write {}{}": ASKED,
     },
     "packaging/source": {
+        "packaging/source: name one FOLDER": Run('"$TOP/packaging/source" a b', 2, "packaging/source: name one FOLDER\n{usage of 2}"),
         "the workspace has no {}": SLOW,
         "{} has no licence, or {} no copyright": Never("Debian's packages have both"),
     },
