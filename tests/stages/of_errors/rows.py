@@ -198,10 +198,10 @@ ERRORS = {
             Run("tap log", 2, "tap: give the name of a LOG and the command of an ENGINE\n{usage}"),
     },
     "tournament/tournament.sbatch": {
-        "tournament.sbatch: squeue doesn't say how much time is left, so games are begun to the end":
+        "tournament.sbatch: squeue doesn't say how much time is left, so a game may be cut off":
             Run("printf '#!/bin/sh\\n' > squeue; chmod +x squeue; PATH=$PWD:$PATH TOURNAMENT=true SLURM_ARRAY_TASK_ID=1 "
                 'bash "$TOP/tournament/tournament.sbatch" all 2', 0,
-                "tournament.sbatch: squeue doesn't say how much time is left, so games are begun to the end\n"),
+                "tournament.sbatch: squeue doesn't say how much time is left, so a game may be cut off\n"),
         "tournament.sbatch: SLURM_ARRAY_TASK_ID is not set: submit it by sbatch, as an array":
             Run('bash "$TOP/tournament/tournament.sbatch" all 2', 2,
                 "tournament.sbatch: SLURM_ARRAY_TASK_ID is not set: submit it by sbatch, as an array\n"
@@ -400,8 +400,8 @@ ERRORS = {
         "to play the games of the others: {}": TRIES,
         "{}/plan {}: {}": At("of_tournament/tries.py", "plan is not made"),
         "stopped: {}; the same command goes on": At("of_tournament/stops.py", "; the same command goes on"),
-        "the time left doesn't hold another game of {} seconds; the same command goes on":
-            At("of_tournament/plans.py", "the time left doesn't hold"),
+        "another game of {} seconds doesn't fit into the time left; the same command goes on":
+            At("of_tournament/plans.py", "doesn't fit into the time left"),
         "games that another process plays: {}": DAMAGED,
         "{}; the same command goes on": At("of_tournament/plans.py"),
         "{}: another process plays it": DAMAGED,
