@@ -1,21 +1,22 @@
 /* vintsaky.h: the rules of Go, the controller of a match and the engine of the Go Text Protocol, as a library.
  *
- * Each object lies in memory that the caller gives: as many bytes and the alignment that its _bytes and _align return. The memory is
- * the object's alone and stays where it is, and so does the handle, as long as it is used. A handle isn't copied. An object is placed
- * before it is used, and may be placed anew; it needs no end. One thread at a time uses an object; it may be another one each time,
- * where something orders the uses, as a lock does.
+ * Each object lies in memory that the caller gives, with at least the size and the alignment that its _bytes and _align return. The
+ * memory must be the object's alone, and neither it nor the handle may move while the object is used; don't copy a handle. Place an
+ * object before you use it. You may place it again, and needn't destroy it. Only one thread at a time may use an object. It may be
+ * another one each time, if something orders the uses, as a lock does.
  *
- * No pointer is NULL, also where its length or room is 0, and it has as many bytes or numbers as that says. What the pointers of one
- * call lead to doesn't overlap: objects, handles, buffers, numbers. Only vintsaky_game_copy may be given one game twice. All other
- * arguments may be anything. No call takes memory, blocks, or reads or writes anything but its object and the caller's buffers. A call
- * of a match takes at most 320 kB of stack, and any other at most 160 kB.
+ * No pointer may be NULL, even if its length or its _room is 0, and it must have as many bytes or items as that says. What the pointers
+ * of one call lead to (objects, handles, buffers, numbers) must not overlap; only vintsaky_game_copy may be given one game twice. All
+ * other arguments may have any value. No call allocates memory, blocks, or reads or writes anything except its object and the caller's
+ * buffers. A call of a match needs at most 320 kB of stack, any other at most 160 kB.
  *
- * A call that may be refused returns 0 where it was done, and else a cause, the first that holds in the order that it names: then its
- * object is as it was, and it has written nothing. A text is written with a NUL after it, where the buffer has room for both, else not
- * at all; its length is without the NUL, and a greater room may be given then. So a short buffer is no cause, but of vintsaky_match_send,
- * whose command would be lost. What an engine wrote may have a NUL in it. */
+ * A call that can be rejected returns 0 if it was done, or else an error: the first that applies, in the order in which its comment
+ * lists them. Then its object is unchanged, and nothing is written. A text is written with a NUL after it if the buffer has space for
+ * both, else not at all. Its length, without the NUL, is returned or written either way; a call that only reads can then be repeated
+ * with a larger buffer. So a short buffer is no error, except in vintsaky_match_send, whose command would be lost, and in the calls over
+ * many games. What an engine wrote may contain a NUL. */
 
-/* Written by library/declare: what a call does is said at its export in crates/vintsaky/src, all else in vintsaky.h.in. */
+/* Written by library/declare from the comments of the exports in crates/vintsaky/src and from vintsaky.h.in: edit those. */
 #ifndef VINTSAKY_H
 #define VINTSAKY_H
 
@@ -28,8 +29,8 @@
 extern "C" {
 #endif
 
-/* The number of the interface. A program is linked with a library of the same number alone: each file that has this header asks for
- * vintsaky_interface_1, which no other has. */
+/* The number of the interface. A program can be linked only with a library of the same number: each file that includes this header
+ * refers to vintsaky_interface_1, which no other library has. */
 #define VINTSAKY_INTERFACE 1
 void vintsaky_interface_1(void);
 #ifdef __GNUC__
@@ -37,13 +38,13 @@ __attribute__((used))
 #endif
 static void (*const vintsaky_interface)(void) = vintsaky_interface_1;
 
-/* The version of this header, as vintsaky_version returns that of the library: 65536 times the first number, 256 times the second,
- * and the third. */
+/* The version of this header, in the form in which vintsaky_version returns that of the library: 65536 times the first number, plus
+ * 256 times the second, plus the third. */
 #define VINTSAKY_VERSION 0x010000
 
 /* ---- numbers ---- */
 
-/* The memory of an object as constants: what its _bytes and _align return, or more where cargo built the library. */
+/* Object sizes and the alignment as compile-time constants: what _bytes and _align return, or more if cargo built the library. */
 #define VINTSAKY_GAME_BYTES ((size_t)35640)
 #define VINTSAKY_ENGINE_BYTES ((size_t)41472)
 #define VINTSAKY_MATCH_BYTES ((size_t)62648)
@@ -51,8 +52,9 @@ static void (*const vintsaky_interface)(void) = vintsaky_interface_1;
 #define VINTSAKY_REPLIES_BYTES ((size_t)16432)
 #define VINTSAKY_ALIGN ((size_t)8)
 
-/* Room for each text of its kind, with its NUL: the line of a command, a reply, what a side wrote since its last whole reply, a board,
- * the result line of a match, its moves, the reason of a ruling. And the most points of a board, and the most moves of a record. */
+/* Buffer sizes that hold any text of a kind, with its NUL: the line of a command, a reply, what a side wrote since its last whole
+ * reply, a board, the result line of a match, its moves, the reason of a ruling. Then the most points of a board, and the most moves of
+ * a record. */
 #define VINTSAKY_COMMAND_ROOM ((size_t)65)
 #define VINTSAKY_REPLY_ROOM ((size_t)2049)
 #define VINTSAKY_WROTE_ROOM ((size_t)81)
@@ -63,45 +65,45 @@ static void (*const vintsaky_interface)(void) = vintsaky_interface_1;
 #define VINTSAKY_MOST_POINTS ((size_t)625)
 #define VINTSAKY_MOST_MOVES ((size_t)2000)
 
-/* why a call is refused */
+/* errors: why a call is rejected */
 enum {
     VINTSAKY_DONE = 0,
-    VINTSAKY_BAD_COLOUR = 1, /* The number is no colour and no side: it is neither 1, Black, nor 2, White. */
-    VINTSAKY_BAD_VERTEX = 2, /* The number is no vertex: a row times 256 and a column, 1 to 25 each, or where the call takes a pass, 0. */
-    VINTSAKY_BAD_RULE = 3, /* The number is no ko rule: it is neither 1, simple ko, nor 2, positional superko. */
-    VINTSAKY_BAD_SIZE = 4, /* The size isn't from 1 to 25. */
-    VINTSAKY_BAD_KOMI = 5, /* The komi isn't from -1,999,999,999 to 1,999,999,999 half points. */
-    VINTSAKY_BAD_TEXT = 6, /* The text is none that can be read, or that a reply may have. */
-    VINTSAKY_NO_ROOM = 7, /* The buffer is too short. */
-    VINTSAKY_FULL = 8, /* The record has 2,000 moves. */
+    VINTSAKY_BAD_COLOUR = 1, /* Not a colour or side: use 1 (Black) or 2 (White). */
+    VINTSAKY_BAD_VERTEX = 2, /* Not a vertex: use 256 times the row plus the column, each 1 to 25, or 0 (a pass) where allowed. */
+    VINTSAKY_BAD_RULE = 3, /* Not a ko rule: use 1 (simple ko) or 2 (positional superko). */
+    VINTSAKY_BAD_SIZE = 4, /* The size must be 1 to 25. */
+    VINTSAKY_BAD_KOMI = 5, /* The komi must be -1,999,999,999 to 1,999,999,999 half points. */
+    VINTSAKY_BAD_TEXT = 6, /* The text can't be parsed, or isn't allowed in a reply. */
+    VINTSAKY_NO_ROOM = 7, /* A buffer or array is shorter than the call needs. */
+    VINTSAKY_FULL = 8, /* The record is full: it has 2,000 moves, the maximum. */
     VINTSAKY_OFF_BOARD = 9, /* The point isn't on a board of this size. */
     VINTSAKY_OCCUPIED = 10, /* A stone is on the point. */
     VINTSAKY_SUICIDE = 11, /* The new stone's chain would have no liberty. */
-    VINTSAKY_KO = 12, /* The board would be one that the ko rule forbids. */
-    VINTSAKY_NOTHING_TO_UNDO = 13, /* There is no move to take back. */
-    VINTSAKY_NOT_EMPTY = 14, /* A stone is on the board, or a move is in the record. */
-    VINTSAKY_BAD_HANDICAP = 15, /* The size doesn't allow this number of handicap stones, or the number is negative. */
-    VINTSAKY_NO_MOVE = 16, /* The record has no move of this number. */
+    VINTSAKY_KO = 12, /* The move would repeat a board that the ko rule forbids. */
+    VINTSAKY_NOTHING_TO_UNDO = 13, /* The record has no move to undo. */
+    VINTSAKY_NOT_EMPTY = 14, /* The board and the record must be empty. */
+    VINTSAKY_BAD_HANDICAP = 15, /* Not a handicap of this size: use 2 to 9 stones on odd sizes from 9, 2 to 4 on 7 and even sizes from 8. */
+    VINTSAKY_NO_MOVE = 16, /* The record has no move with this number, counted from 0. */
     VINTSAKY_NO_STONE = 17, /* No stone is on the point. */
-    VINTSAKY_NOT_ASKED = 18, /* Nothing is asked for that the call hands in. */
-    VINTSAKY_NO_WORD = 19, /* The line has no word of this number. */
+    VINTSAKY_NOT_ASKED = 18, /* No such move or answer is being waited for. */
+    VINTSAKY_NO_WORD = 19, /* The line has no word with this number, counted from 0 after the id. */
     VINTSAKY_NO_ID = 20, /* The line or the reply has no id. */
-    VINTSAKY_BAD_LENGTH = 21, /* The name of the command has no byte, or more than 32. */
-    VINTSAKY_BAD_BYTE = 22, /* A byte of the name is #, or is none of 33 to 126. */
-    VINTSAKY_ONLY_DIGITS = 23, /* The name has digits alone, as an id. */
-    VINTSAKY_IN_TABLE = 24, /* The protocol's table has a command of this name. */
-    VINTSAKY_ADDED_BEFORE = 25, /* A command of this name was added before. */
-    VINTSAKY_TOO_MANY = 26, /* The engine has 32 own commands. */
-    VINTSAKY_BAD_MAX_MOVES = 27, /* The limit of moves is not 1 to 2,000. */
-    VINTSAKY_BAD_MAX_RESTARTS = 28, /* The limit of restarts is more than 1,000. */
-    VINTSAKY_NOT_NEXT = 29, /* The call is not what the match says next. */
-    VINTSAKY_NOT_OVER = 30, /* The match is not over. */
-    VINTSAKY_NO_LINE = 31, /* No line of a command was read, or the last one was too long. */
-    VINTSAKY_BAD_COMMAND = 32, /* The number is no command: it isn't from 1 to 8. */
-    VINTSAKY_BAD_ID = 33, /* The id is negative, and not -1, which is none. */
-    VINTSAKY_DOWN = 34, /* The side was not started or went down, or the match is over. */
-    VINTSAKY_IS_OVER = 35, /* The match is over. */
-    VINTSAKY_BAD_REASON = 36, /* The reason isn't 1 to 20 letters (a-z, A-Z) and spaces, or it is that of a forfeit. */
+    VINTSAKY_BAD_LENGTH = 21, /* A name must have 1 to 32 bytes. */
+    VINTSAKY_BAD_BYTE = 22, /* A name may have only bytes 33 to 126, except #. */
+    VINTSAKY_ONLY_DIGITS = 23, /* A name can't have only digits: it would be read as an id. */
+    VINTSAKY_IN_TABLE = 24, /* The protocol already has a command of this name. */
+    VINTSAKY_ADDED_BEFORE = 25, /* A custom command of this name was already added. */
+    VINTSAKY_TOO_MANY = 26, /* The engine already has 32 custom commands, the maximum. */
+    VINTSAKY_BAD_MAX_MOVES = 27, /* The move limit must be 1 to 2,000. */
+    VINTSAKY_BAD_MAX_RESTARTS = 28, /* The restart limit must be 0 to 1,000. */
+    VINTSAKY_NOT_NEXT = 29, /* Not the call that the match expects next. */
+    VINTSAKY_NOT_OVER = 30, /* The match is not over yet. */
+    VINTSAKY_NO_LINE = 31, /* No command line was read, or the last one was too long. */
+    VINTSAKY_BAD_COMMAND = 32, /* Not a command: use 1 to 8. */
+    VINTSAKY_BAD_ID = 33, /* The id must be 0 to 2,147,483,647, or -1 for none. */
+    VINTSAKY_DOWN = 34, /* The side isn't up: it was not started or it went down, or the match is over. */
+    VINTSAKY_IS_OVER = 35, /* The match is already over. */
+    VINTSAKY_BAD_REASON = 36, /* A reason must be 1 to 20 letters (a-z, A-Z) and spaces, and not that of a forfeit. */
 };
 
 /* colours of stones, and the sides that play them */
@@ -110,34 +112,34 @@ enum { VINTSAKY_BLACK = 1, VINTSAKY_WHITE = 2 };
 /* ko rules: simple ko, and positional superko */
 enum { VINTSAKY_SIMPLE = 1, VINTSAKY_POSITIONAL = 2 };
 
-/* A vertex is a pass, or a point: its row times 256 and its column, both from 1 to 25, counted from the lower left corner. Only
- * vintsaky_engine_choose takes a resignation. */
+/* A vertex is a pass, or a point: 256 times its row plus its column, both from 1 to 25, counted from the lower left corner. Only
+ * vintsaky_engine_choose accepts a resignation. */
 #define VINTSAKY_PASS ((uint32_t)0)
 #define VINTSAKY_RESIGN ((uint32_t)65535)
 
-/* what vintsaky_engine_feed returns: VINTSAKY_BLACK or VINTSAKY_WHITE, whose choice is asked for, or one of these */
+/* what vintsaky_engine_feed returns: VINTSAKY_BLACK or VINTSAKY_WHITE if that colour's choice is waited for, or one of these */
 enum {
-    VINTSAKY_MORE = 0,  /* all bytes were used: read on. Only now */
-    VINTSAKY_OTHER = 3, /* a line of another command: answer or decline it, and write the reply */
-    VINTSAKY_REPLY = 4, /* a line was answered: write the reply. A quit is answered so too */
+    VINTSAKY_MORE = 0,  /* all bytes were used: read more, which no other result asks for */
+    VINTSAKY_OTHER = 3, /* a command that isn't in the protocol's table: answer or decline it, then write the reply */
+    VINTSAKY_REPLY = 4, /* a line was answered, also a quit: write the reply */
     VINTSAKY_ENDED = 5  /* a quit was answered before: stop */
 };
 
-/* what vintsaky_match_next returns: start this side's engine, send it a command, wait for what it writes; or the match is over */
+/* what vintsaky_match_next returns: start this side's engine, send it a command, wait for its output; or the match is over */
 enum { VINTSAKY_START = 1, VINTSAKY_SEND = 2, VINTSAKY_WAIT = 3, VINTSAKY_OVER = 4 };
 
-/* why a side fails by what it writes, where it isn't 0. A match ends before a record is full, so VINTSAKY_LOSS_FULL doesn't come. */
+/* why a side fails by its output, if it isn't 0. A match ends before its record is full, so VINTSAKY_LOSS_FULL never occurs. */
 enum {
-    VINTSAKY_LOSS_NO_STATUS = 1,    /* What it wrote is no reply: it begins with neither = nor ?. It goes down. */
+    VINTSAKY_LOSS_NO_STATUS = 1,    /* What it wrote isn't a reply: it begins with neither = nor ?. It goes down. */
     VINTSAKY_LOSS_OVERLONG = 2,     /* More than 8,192 bytes came since its last reply. It goes down. */
-    VINTSAKY_LOSS_WRONG_ID = 3,     /* The reply hasn't the id of the oldest unanswered command. It goes down. */
-    VINTSAKY_LOSS_UNASKED = 4,      /* A reply came where no command is unanswered. It goes down. */
-    VINTSAKY_LOSS_UNFIT = 5,        /* It failed at a command of its script but a play, or placed another handicap. It is unfit. */
+    VINTSAKY_LOSS_WRONG_ID = 3,     /* The reply doesn't have the id of the oldest unanswered command. It goes down. */
+    VINTSAKY_LOSS_UNASKED = 4,      /* A reply came when no command was unanswered. It goes down. */
+    VINTSAKY_LOSS_UNFIT = 5,        /* It failed at a command of its script other than a play, or placed another handicap. It is unfit. */
     VINTSAKY_LOSS_REFUSES_PLAY = 6, /* It refused a play that isn't retaken. It forfeits. */
-    VINTSAKY_LOSS_KEEPS_MOVE = 7,   /* It didn't take back its move, which the other side refused. The other side forfeits. */
+    VINTSAKY_LOSS_KEEPS_MOVE = 7,   /* It didn't undo its move, which the other side refused. The other side forfeits. */
     VINTSAKY_LOSS_NO_MOVE = 8,      /* It failed at a genmove. It forfeits. */
     VINTSAKY_LOSS_NO_VERTEX = 9,    /* Its answer to a genmove is neither a vertex nor a resignation. It forfeits. */
-    VINTSAKY_LOSS_FULL = 10,        /* Its move is refused, for the causes of the same names. It forfeits. */
+    VINTSAKY_LOSS_FULL = 10,        /* Its move is illegal, by the error of the same name. It forfeits. */
     VINTSAKY_LOSS_OFF_BOARD = 11,
     VINTSAKY_LOSS_OCCUPIED = 12,
     VINTSAKY_LOSS_SUICIDE = 13,
@@ -146,30 +148,30 @@ enum {
 
 /* how a match ended */
 enum {
-    VINTSAKY_BY_SCORE = 1,        /* by two passes */
+    VINTSAKY_BY_SCORE = 1,        /* two passes ended the game */
     VINTSAKY_BY_RESIGNATION = 2,  /* the side resigned */
     VINTSAKY_BY_LIMIT = 3,        /* the record has as many moves as the match allows */
-    VINTSAKY_BY_REFUSED_PLAY = 4, /* the side refused a play that isn't retaken, or that the other side didn't take back: it forfeits */
-    VINTSAKY_BY_NO_MOVE = 5,      /* the side failed to answer with a move: it forfeits */
-    VINTSAKY_BY_NO_VERTEX = 6,    /* the side answered with what is no move: it forfeits */
-    VINTSAKY_BY_ILLEGAL_MOVE = 7, /* the side answered with a move that isn't legal: it forfeits */
+    VINTSAKY_BY_REFUSED_PLAY = 4, /* the side refused a play that isn't retaken, or that the other side didn't undo: it forfeits */
+    VINTSAKY_BY_NO_MOVE = 5,      /* the side failed at a genmove: it forfeits */
+    VINTSAKY_BY_NO_VERTEX = 6,    /* the side answered a genmove by what is neither a vertex nor a resignation: it forfeits */
+    VINTSAKY_BY_ILLEGAL_MOVE = 7, /* the side answered a genmove by an illegal move: it forfeits */
     VINTSAKY_BY_UNFIT = 8,        /* the side can't be brought to the record */
     VINTSAKY_BY_ABANDONED = 9,    /* the side went down too often */
-    VINTSAKY_BY_TIME = 10,        /* the side ran out of time: a ruling ended the match */
-    VINTSAKY_BY_RULING = 11       /* the side lost by a ruling that has a reason */
+    VINTSAKY_BY_TIME = 10,        /* the side lost on time, by a ruling */
+    VINTSAKY_BY_RULING = 11       /* the side lost by a ruling with a reason */
 };
 
 /* the commands that vintsaky_write_command writes */
 enum { VINTSAKY_BOARDSIZE = 1, VINTSAKY_KOMI = 2, VINTSAKY_CLEAR_BOARD = 3, VINTSAKY_FIXED_HANDICAP = 4 };
 enum { VINTSAKY_PLAY = 5, VINTSAKY_GENMOVE = 6, VINTSAKY_UNDO = 7, VINTSAKY_QUIT = 8 };
 
-/* what vintsaky_lines_feed returns, where it is not 0: a command line, or one that is too long */
+/* what vintsaky_lines_feed returns, if it isn't 0: a command line, or one that is too long */
 enum { VINTSAKY_LINE = 1, VINTSAKY_TOO_LONG = 2 };
 
-/* what vintsaky_replies_feed returns, where it is not 0: a reply, bytes that are none, or one that is too long */
+/* what vintsaky_replies_feed returns, if it isn't 0: a reply, bytes that aren't one, or one that is too long */
 enum { VINTSAKY_READ = 1, VINTSAKY_NO_REPLY = 2, VINTSAKY_LONG_REPLY = 3 };
 
-/* handles, which nobody but the library reads */
+/* opaque handles */
 typedef struct { void *at; } vintsaky_game;
 typedef struct { void *at; } vintsaky_engine;
 typedef struct { void *at; } vintsaky_match;
@@ -178,485 +180,485 @@ typedef struct { void *at; } vintsaky_replies;
 
 /* ---- the library ---- */
 
-/* The version of the library: see VINTSAKY_VERSION. */
+/* Returns the version of the library: see VINTSAKY_VERSION. */
 uint32_t vintsaky_version(void);
 
-/* Writes a sentence that says what a cause means. How many bytes it has. Each number has one: also 0, and what is no cause. */
+/* Writes the sentence that explains an error, and returns its length. Every number has one, even 0 and unknown ones. */
 size_t vintsaky_cause_text(uint32_t cause, char *text, size_t text_room);
 
 /* ---- values ---- */
 
-/* Reads a colour: b, w, black or white, where each letter may be small or capital.
- * Causes: VINTSAKY_BAD_TEXT. Nothing is written. */
+/* Reads a colour: b, w, black or white, in upper or lower case or a mix of both.
+ * Errors: VINTSAKY_BAD_TEXT. Nothing is written. */
 uint32_t vintsaky_read_colour(const char *text, size_t text_length, uint32_t *colour);
 
-/* Writes a colour, as the protocol spells it: b or w, and the length of that text.
- * Causes: VINTSAKY_BAD_COLOUR. Nothing is written. */
+/* Writes a colour as the protocol spells it, b or w, and the length of that text.
+ * Errors: VINTSAKY_BAD_COLOUR. Nothing is written. */
 uint32_t vintsaky_colour_text(uint32_t colour, char *text, size_t text_room, size_t *count);
 
-/* The number of the point of a column and a row, both from 1 to 25.
- * Causes: VINTSAKY_BAD_VERTEX. Nothing is written. */
+/* Writes the number of the point at a column and a row, each from 1 to 25.
+ * Errors: VINTSAKY_BAD_VERTEX. Nothing is written. */
 uint32_t vintsaky_point(uint32_t column, uint32_t row, uint32_t *vertex);
 
-/* Reads a vertex, as the protocol spells it: pass, or a letter and a row, in any case.
- * Causes: VINTSAKY_BAD_TEXT. Nothing is written. */
+/* Reads a vertex as the protocol spells it: pass, or a column letter and a row number, in upper or lower case.
+ * Errors: VINTSAKY_BAD_TEXT. Nothing is written. */
 uint32_t vintsaky_read_vertex(const char *text, size_t text_length, uint32_t *vertex);
 
-/* Writes a vertex, as the protocol spells it, and the length of that text.
- * Causes: VINTSAKY_BAD_VERTEX. Nothing is written. */
+/* Writes a vertex as the protocol spells it, and the length of that text.
+ * Errors: VINTSAKY_BAD_VERTEX. Nothing is written. */
 uint32_t vintsaky_vertex_text(uint32_t vertex, char *text, size_t text_room, size_t *count);
 
-/* Reads a komi in points, as the protocol spells it: the half points.
- * Causes: VINTSAKY_BAD_TEXT. Nothing is written. */
+/* Reads a komi in points, as the protocol spells it, and writes it in half points.
+ * Errors: VINTSAKY_BAD_TEXT. Nothing is written. */
 uint32_t vintsaky_read_komi(const char *text, size_t text_length, int32_t *half_points);
 
-/* Writes a komi in points, as the protocol spells it, and the length of that text.
- * Causes: VINTSAKY_BAD_KOMI. Nothing is written. */
+/* Writes a komi in points, as the protocol spells it, and the length of that text. It is given in half points.
+ * Errors: VINTSAKY_BAD_KOMI. Nothing is written. */
 uint32_t vintsaky_komi_text(int32_t half_points, char *text, size_t text_room, size_t *count);
 
-/* ---- lines that are written ---- */
+/* ---- writing lines ---- */
 
-/* Writes the line of a command, with its newline, and its length: 64 bytes at most. The id is -1 for none. The value is the size of
- * boardsize, the half points of komi, the number of stones of fixed_handicap, the colour of play and genmove; the vertex is that of
- * play. What a command doesn't have isn't looked at.
- * Causes: VINTSAKY_BAD_ID, or else VINTSAKY_BAD_COMMAND, or else VINTSAKY_BAD_SIZE, VINTSAKY_BAD_KOMI, VINTSAKY_BAD_HANDICAP (of a
- * negative number alone), VINTSAKY_BAD_COLOUR or VINTSAKY_BAD_VERTEX, the first of these that holds. Nothing is written. */
+/* Writes the line of a command with its newline, at most 64 bytes, and its length. The id is -1 for none. value is the size of
+ * boardsize, the half points of komi, the number of stones of fixed_handicap, or the colour of play and genmove; vertex is that of
+ * play. An argument that the command doesn't have is ignored.
+ * Errors: VINTSAKY_BAD_ID, VINTSAKY_BAD_COMMAND, VINTSAKY_BAD_SIZE, VINTSAKY_BAD_KOMI, VINTSAKY_BAD_HANDICAP (only for a negative
+ * number), VINTSAKY_BAD_COLOUR or VINTSAKY_BAD_VERTEX, the first of these that applies. Nothing is written. */
 uint32_t vintsaky_write_command(
     int32_t id, uint32_t command, int32_t value, uint32_t vertex, char *text, size_t text_room, size_t *count);
 
-/* Writes a reply: a success where ok isn't 0, else a failure, and its length: 2,014 bytes at most. The id is -1 for none. A reply may
- * have a text of at most 2,000 bytes, each a newline or 32 to 126, with no two newlines in a row, and no space or newline at its
- * beginning or its end.
- * Causes: VINTSAKY_BAD_ID, or else VINTSAKY_BAD_TEXT where no reply may have the text. Nothing is written. */
+/* Writes a reply, at most 2,014 bytes, and its length: a success if ok isn't 0, else a failure. The id is -1 for none. The text may
+ * have up to 2,000 bytes, each a newline or one of 32 to 126, without two newlines in a row, and without a space or newline at its
+ * beginning or end.
+ * Errors: VINTSAKY_BAD_ID, or else VINTSAKY_BAD_TEXT if the text isn't allowed in a reply. Nothing is written. */
 uint32_t vintsaky_write_reply(
     int32_t id, uint32_t ok, const char *said, size_t said_length, char *text, size_t text_room, size_t *count);
 
 /* ---- games ---- */
 
-/* Puts a game into the memory, and its handle. It has size 19, no komi and simple ko. */
+/* Initialises a game in the caller's memory, and its handle. It has size 19, no komi and simple ko. */
 void vintsaky_game_place(vintsaky_game *out, void *at);
 
-/* How many bytes a game takes. */
+/* Returns the size of a game in bytes. */
 size_t vintsaky_game_bytes(void);
 
-/* Of what number the address of a game is a multiple. */
+/* Returns the alignment of a game in bytes. */
 size_t vintsaky_game_align(void);
 
-/* The size of the board, from 1 to 25. */
+/* Returns the size of the board, 1 to 25. */
 uint32_t vintsaky_game_size(vintsaky_game *game);
 
-/* The komi in half points. */
+/* Returns the komi in half points. */
 int32_t vintsaky_game_komi(vintsaky_game *game);
 
-/* How many handicap stones were placed, or 0. */
+/* Returns the number of handicap stones that were placed, or 0. */
 uint32_t vintsaky_game_handicap(vintsaky_game *game);
 
-/* The number of the colour whose turn it is: the other one than that of the last move. Without a move that is Black, or White where
- * handicap stones were placed. */
+/* Returns the colour whose turn it is: the one that didn't make the last move. Before the first move it is Black, or White if handicap
+ * stones were placed. */
 uint32_t vintsaky_game_turn(vintsaky_game *game);
 
-/* How many moves the record has. */
+/* Returns the number of moves in the record. */
 size_t vintsaky_game_length(vintsaky_game *game);
 
-/* The score by area with every stone alive, and after the komi, in half points: positive where Black leads. */
+/* Returns the area score with every stone alive, after komi, in half points: positive if Black leads. */
 int32_t vintsaky_game_score(vintsaky_game *game);
 
-/* Whether the last two moves are passes. */
+/* Returns whether the last two moves are passes. */
 bool vintsaky_game_finished(vintsaky_game *game);
 
-/* A hash of the board and its size: equal boards of one size have equal hashes. So different ones show that size or board differs, and
- * equal ones show nothing. */
+/* Returns a hash of the board and its size. Equal boards of one size have equal hashes. So different hashes show that board or size
+ * differ; equal hashes show nothing. */
 uint64_t vintsaky_game_hash(vintsaky_game *game);
 
-/* Becomes a copy of another game, with its record, its komi and its ko rule. A game that is given for both stays as it was. */
+/* Copies another game into this one, with its record, its komi and its ko rule. A game that is given for both is unchanged. */
 void vintsaky_game_copy(vintsaky_game *game, vintsaky_game *other);
 
-/* Begins the game anew, on an empty board.
- * Causes: VINTSAKY_BAD_RULE, VINTSAKY_BAD_SIZE or VINTSAKY_BAD_KOMI, the first of these that holds. The game stays as it was. */
+/* Resets the game to an empty board, with this ko rule, size and komi.
+ * Errors: VINTSAKY_BAD_RULE, VINTSAKY_BAD_SIZE or VINTSAKY_BAD_KOMI, the first of these that applies. The game is unchanged. */
 uint32_t vintsaky_game_begin(vintsaky_game *game, uint32_t rule, uint32_t size, int32_t half_komi);
 
-/* Makes a move of either colour, whoever moved last.
- * Causes: VINTSAKY_BAD_COLOUR, or else VINTSAKY_BAD_VERTEX, or else why the move is refused: VINTSAKY_FULL, VINTSAKY_OFF_BOARD,
- * VINTSAKY_OCCUPIED, VINTSAKY_SUICIDE or VINTSAKY_KO. The game stays as it was. */
+/* Plays a move of either colour, whoever moved last.
+ * Errors: VINTSAKY_BAD_COLOUR, or else VINTSAKY_BAD_VERTEX, or else why the move is illegal: VINTSAKY_FULL, VINTSAKY_OFF_BOARD,
+ * VINTSAKY_OCCUPIED, VINTSAKY_SUICIDE or VINTSAKY_KO. The game is unchanged. */
 uint32_t vintsaky_game_play(vintsaky_game *game, uint32_t colour, uint32_t vertex);
 
-/* Whether a colour may make a move next.
- * Causes: As those of vintsaky_game_play, of which it leaves out VINTSAKY_FULL. */
+/* Checks whether a colour may make a move next: 0 if it may.
+ * Errors: Those of vintsaky_game_play, except VINTSAKY_FULL. */
 uint32_t vintsaky_game_legal(vintsaky_game *game, uint32_t colour, uint32_t vertex);
 
-/* Takes back the last move.
- * Causes: VINTSAKY_NOTHING_TO_UNDO where the record has no move. The game stays as it was. */
+/* Undoes the last move.
+ * Errors: VINTSAKY_NOTHING_TO_UNDO if the record has no move. The game is unchanged. */
 uint32_t vintsaky_game_undo(vintsaky_game *game);
 
-/* Sets the komi. The board and the record stay.
- * Causes: VINTSAKY_BAD_KOMI. The game stays as it was. */
+/* Sets the komi. The board and the record are unchanged.
+ * Errors: VINTSAKY_BAD_KOMI. The game is unchanged. */
 uint32_t vintsaky_game_set_komi(vintsaky_game *game, int32_t half_komi);
 
-/* Puts handicap stones on their fixed points.
- * Causes: VINTSAKY_NOT_EMPTY, or else VINTSAKY_BAD_HANDICAP. The game stays as it was. */
+/* Places handicap stones on their fixed points.
+ * Errors: VINTSAKY_NOT_EMPTY, or else VINTSAKY_BAD_HANDICAP. The game is unchanged. */
 uint32_t vintsaky_game_place_handicap(vintsaky_game *game, uint32_t stones);
 
-/* Writes the numbers of the points on which a colour may play next, row by row from A1, where there is room for all of them, and how
- * many these are. The number of moves doesn't count, though a full record takes no more.
- * Causes: VINTSAKY_BAD_COLOUR. Nothing is written. */
+/* Writes the points where a colour may play next, row by row from A1, if the buffer holds all of them, and how many there are. The call
+ * ignores that a full record takes no more moves.
+ * Errors: VINTSAKY_BAD_COLOUR. Nothing is written. */
 uint32_t vintsaky_game_legal_points(vintsaky_game *game, uint32_t colour, uint32_t *points, size_t points_room, size_t *count);
 
-/* Writes the numbers of the points whose stones the last move took, row by row from A1, where there is room for all of them. How many
- * these are. */
+/* Writes the points whose stones the last move captured, row by row from A1, if the buffer holds all of them. Returns how many there
+ * are. */
 size_t vintsaky_game_taken_by_last_move(vintsaky_game *game, uint32_t *points, size_t points_room);
 
-/* The colour of the stone on a point: 0 where there is none.
- * Causes: VINTSAKY_BAD_VERTEX, also of a pass, or else VINTSAKY_OFF_BOARD. Nothing is written. */
+/* Writes the colour of the stone on a point, or 0 if it is empty.
+ * Errors: VINTSAKY_BAD_VERTEX, also for a pass, or else VINTSAKY_OFF_BOARD. Nothing is written. */
 uint32_t vintsaky_game_stone_at(vintsaky_game *game, uint32_t vertex, uint32_t *colour);
 
-/* How many stones a chain has, and how many liberties.
- * Causes: VINTSAKY_BAD_VERTEX, also of a pass, or else VINTSAKY_OFF_BOARD or VINTSAKY_NO_STONE. Nothing is written. */
+/* Writes how many stones and how many liberties the chain on a point has.
+ * Errors: VINTSAKY_BAD_VERTEX, also for a pass, or else VINTSAKY_OFF_BOARD or VINTSAKY_NO_STONE. Nothing is written. */
 uint32_t vintsaky_game_chain(vintsaky_game *game, uint32_t vertex, uint32_t *stones, uint32_t *liberties);
 
-/* A move of the record, counted from 0.
- * Causes: VINTSAKY_NO_MOVE where the record has no such move. Nothing is written. */
+/* Writes a move of the record, counted from 0.
+ * Errors: VINTSAKY_NO_MOVE if the record has no such move. Nothing is written. */
 uint32_t vintsaky_game_made(vintsaky_game *game, size_t number, uint32_t *colour, uint32_t *vertex);
 
-/* How many stones a colour has taken.
- * Causes: VINTSAKY_BAD_COLOUR. Nothing is written. */
+/* Writes how many stones a colour has captured.
+ * Errors: VINTSAKY_BAD_COLOUR. Nothing is written. */
 uint32_t vintsaky_game_captured(vintsaky_game *game, uint32_t colour, uint32_t *stones);
 
-/* The number of the ko rule. */
+/* Returns the number of the ko rule. */
 uint32_t vintsaky_game_rule(vintsaky_game *game);
 
-/* Writes the board as text, as an engine answers showboard. */
+/* Writes the board as text, as an engine answers showboard, and returns its length. */
 size_t vintsaky_game_board_text(vintsaky_game *game, char *text, size_t text_room);
 
-/* The index of a point of the board, by which a search keeps a list with a value for each point. It is counted from 0 in the board's
- * order: row by row from A1, as A1, B1, .., A2, B2.
- * Causes: VINTSAKY_BAD_VERTEX, also of a pass, or else VINTSAKY_OFF_BOARD. Nothing is written. */
+/* Writes the index of a point, by which a search keeps a list with one value for each point. It is counted from 0 in board order: row
+ * by row from A1, as A1, B1, .., A2, B2.
+ * Errors: VINTSAKY_BAD_VERTEX, also for a pass, or else VINTSAKY_OFF_BOARD. Nothing is written. */
 uint32_t vintsaky_game_index(vintsaky_game *game, uint32_t vertex, size_t *index);
 
-/* The number of the point of an index.
- * Causes: VINTSAKY_OFF_BOARD where the board has no more points than the index says. Nothing is written. */
+/* Writes the number of the point with this index.
+ * Errors: VINTSAKY_OFF_BOARD if the board has no such index. Nothing is written. */
 uint32_t vintsaky_game_point_at(vintsaky_game *game, size_t index, uint32_t *vertex);
 
-/* Writes a byte for each point of the board, in its order, where there is room for all of them: the colour of the stone there, and 0
- * where there is none. How many these are. */
+/* Writes one byte for each point in board order, if the buffer holds all of them: the colour of its stone, or 0 if it is empty. Returns
+ * how many there are. */
 size_t vintsaky_game_board(vintsaky_game *game, uint8_t *bytes, size_t bytes_room);
 
-/* Writes a byte for each point of the board, in its order, where there is room for all of them, and how many these are: 1 where a
- * colour may play next, and 0 where it may not. The number of moves doesn't count, though a full record takes no more.
- * Causes: VINTSAKY_BAD_COLOUR. Nothing is written. */
+/* Writes one byte for each point in board order, if the buffer holds all of them, and how many there are: 1 where a colour may play
+ * next, else 0. The call ignores that a full record takes no more moves.
+ * Errors: VINTSAKY_BAD_COLOUR. Nothing is written. */
 uint32_t vintsaky_game_legal_mask(vintsaky_game *game, uint32_t colour, uint8_t *bytes, size_t bytes_room, size_t *count);
 
-/* Whether a point is an own eye of a colour, which a playout doesn't fill: 1 where it is one, and else 0. It is empty, and has only
- * stones of the colour beside it. The other colour has a stone on at most one of its diagonals, and on none where the point is on the
- * edge.
- * Causes: VINTSAKY_BAD_COLOUR, or else VINTSAKY_BAD_VERTEX, also of a pass, or else VINTSAKY_OFF_BOARD. Nothing is written. */
+/* Writes 1 if a point is an own eye of a colour, which a playout doesn't fill, else 0. An own eye is empty, and all its neighbours are
+ * stones of the colour. The other colour has a stone on at most one of its diagonals, and on none if the point is on the edge.
+ * Errors: VINTSAKY_BAD_COLOUR, or else VINTSAKY_BAD_VERTEX, also for a pass, or else VINTSAKY_OFF_BOARD. Nothing is written. */
 uint32_t vintsaky_game_is_own_eye(vintsaky_game *game, uint32_t colour, uint32_t vertex, uint32_t *holds);
 
-/* Writes the numbers of the points of a chain's stones, row by row from A1, where there is room for all of them, and how many these
- * are.
- * Causes: As those of vintsaky_game_chain. */
+/* Writes the points of a chain's stones, row by row from A1, if the buffer holds all of them, and how many there are.
+ * Errors: Those of vintsaky_game_chain. */
 uint32_t vintsaky_game_chain_points(vintsaky_game *game, uint32_t vertex, uint32_t *points, size_t points_room, size_t *count);
 
-/* Writes the numbers of a chain's liberties, row by row from A1 and each once, where there is room for all of them, and how many these
- * are.
- * Causes: As those of vintsaky_game_chain. */
+/* Writes a chain's liberties, row by row from A1 and each once, if the buffer holds all of them, and how many there are.
+ * Errors: Those of vintsaky_game_chain. */
 uint32_t vintsaky_game_chain_liberties(vintsaky_game *game, uint32_t vertex, uint32_t *points, size_t points_room, size_t *count);
 
-/* The ko point of a colour: the one empty point on which its play would bring back the board before the last move. 0, as a pass, where
- * there is none.
- * Causes: VINTSAKY_BAD_COLOUR. Nothing is written. */
+/* Writes the ko point of a colour: the one empty point where its play would bring back the board before the last move. If there is
+ * none, it writes 0, the number of a pass.
+ * Errors: VINTSAKY_BAD_COLOUR. Nothing is written. */
 uint32_t vintsaky_game_ko_point(vintsaky_game *game, uint32_t colour, uint32_t *vertex);
 
-/* The move that a word chooses for a colour: of the n points on which the colour may play next and that are no own eyes of it, number
- * word mod n, counted from 0 in the board's order. A pass where there is none. The first 2^64 mod n of them are chosen by one word more
- * than the others: the choice is even but for one word in 2^64 / n. The number of moves doesn't count, though a full record takes no
- * more.
- * Causes: VINTSAKY_BAD_COLOUR. Nothing is written. */
+/* Writes the move that a random word chooses for a colour. Of the n points where the colour may play next and that aren't own eyes of
+ * it, this is number word mod n, counted from 0 in board order, or a pass if there are none. The choice is even except for one word in
+ * 2^64 / n: each of the first 2^64 mod n points is chosen by one word more than the others. The call ignores that a full record takes
+ * no more moves.
+ * Errors: VINTSAKY_BAD_COLOUR. Nothing is written. */
 uint32_t vintsaky_game_random_move(vintsaky_game *game, uint32_t colour, uint64_t word, uint32_t *vertex);
 
-/* A hash of the position with a colour to move: of the board, its size, that colour, and its ko point. Positions that are equal in
- * these have equal hashes. So different ones show a difference, and equal ones show nothing. It leaves out the komi, the ko rule,
- * whether the last move was a pass, and the record that positional ko asks.
- * Causes: VINTSAKY_BAD_COLOUR. Nothing is written. */
+/* Writes a hash of the position with a colour to move: of the board, its size, that colour and its ko point. Positions that are equal
+ * in these have equal hashes. So different hashes show a difference; equal hashes show nothing. The hash leaves out the komi, the ko
+ * rule, whether the last move was a pass, and the record, on which positional superko depends.
+ * Errors: VINTSAKY_BAD_COLOUR. Nothing is written. */
 uint32_t vintsaky_game_position_hash(vintsaky_game *game, uint32_t colour, uint64_t *hash);
 
-/* Plays on at random, a colour first and then both in turn. Each plays a point that is drawn from those on which it may play and that
- * are no own eyes of it, and passes where there is none. It ends after two passes, also of the record before, after so many moves as
- * the limit says, or where the record has 2,000. All draws are the seed's: the same game, colour, seed and limit make the same moves.
- * docs/library.md says how they are drawn.
- * Causes: VINTSAKY_BAD_COLOUR. The game stays as it was. */
+/* Plays on at random, a colour first and then both in turn. Each plays a random point of those where it may play and that aren't own
+ * eyes of it, and passes if there is none. The playout ends after two passes in a row, counting those made before it, after limit
+ * moves, or when the record has 2,000. The same game, colour, seed and limit always make the same moves. docs/library.md says how they
+ * are chosen.
+ * Errors: VINTSAKY_BAD_COLOUR. The game is unchanged. */
 uint32_t vintsaky_game_playout(vintsaky_game *game, uint32_t colour, uint64_t seed, uint32_t limit);
 
-/* The score that a game has after such a playout, as vintsaky_game_score counts it. The game stays as it was.
- * Causes: VINTSAKY_BAD_COLOUR. Nothing is written. */
+/* Writes the score that the game would have after such a playout, as vintsaky_game_score counts it. The game is unchanged.
+ * Errors: VINTSAKY_BAD_COLOUR. Nothing is written. */
 uint32_t vintsaky_game_rollout(vintsaky_game *game, uint32_t colour, uint64_t seed, uint32_t limit, int32_t *half_points);
 
 /* ---- many games ---- */
 
-/* An array of handles is given with its length: games of any sizes, each placed before. No game is in it twice. */
+/* An array of handles comes with its length. The games may have any sizes. Each must have been placed, and none may be there twice. */
 
-/* Each game makes the move of its number for the colour whose turn it is, which vintsaky_game_turn returns. The number of a move is the
- * index of its point, or how many points the board has for a pass. For each game a byte is written: 0, or the cause for which that game
- * alone refuses the move and stays as it was. That is VINTSAKY_OFF_BOARD of a number that is higher, and else the one that
- * vintsaky_game_play returns.
- * Causes: VINTSAKY_NO_ROOM where moves or causes has fewer items than there are games. No move is made. */
+/* Plays one move in each game, for the colour whose turn it is, as vintsaky_game_turn returns it. The number of a move is the index of
+ * its point, or the number of points of the board for a pass. Writes one byte for each game: 0, or the error for which this game alone
+ * rejects its move and is unchanged. That is VINTSAKY_OFF_BOARD for a higher number, or else what vintsaky_game_play returns.
+ * Errors: VINTSAKY_NO_ROOM if moves or causes has fewer items than there are games. No move is made. */
 uint32_t vintsaky_games_play(
     vintsaky_game *games, size_t games_length, const uint32_t *moves, size_t moves_length, uint8_t *causes, size_t causes_room);
 
-/* For each game a byte is written: 1 where its last two moves are passes, else 2 where its record has limit moves or more, or is full,
- * and else 0. With 1 and 2 its score is written, in half points, and then the game loses its moves: size, komi, ko rule and handicap
- * stay. With 0 the score is 0, and the game stays as it was.
- * Causes: VINTSAKY_NO_ROOM where over or half_points has fewer items than there are games. No game changes. */
+/* Writes one byte for each game: 1 if its last two moves are passes, else 2 if its record has at least limit moves or is full, else 0.
+ * For 1 and 2 it writes the game's score in half points, and then removes the game's moves; size, komi, ko rule and handicap stay. For
+ * 0 it writes the score 0, and the game is unchanged.
+ * Errors: VINTSAKY_NO_ROOM if over or half_points has fewer items than there are games. No game changes. */
 uint32_t vintsaky_games_restart(vintsaky_game *games, size_t games_length, uint32_t limit, uint8_t *over, size_t over_room,
     int32_t *half_points, size_t half_points_room);
 
-/* Writes the planes of each game, one game's after the other's. A plane is a byte for each point of the board, in its order: 1 where a
- * stone of one colour is, and else 0. First come the stones of the colour whose turn it is, then those of the other one; then both
- * again of the board one move earlier, and so on, as many moves as earlier says. Where a game has fewer moves, these planes have 0
- * alone.
- * Causes: VINTSAKY_NO_ROOM where the planes of all games have more bytes. A game of size n has 2 * n * n for each board. */
+/* Writes the planes of each game, one game after the other. A plane has one byte for each point in board order: 1 where a stone of one
+ * colour is, else 0. First come the stones of the colour whose turn it is, then those of the other; then both for the board one move
+ * earlier, and so on, for as many moves as earlier says. Where a game has fewer moves, these planes are all 0.
+ * Errors: VINTSAKY_NO_ROOM if the buffer doesn't hold the planes of all games. A game of size n has 2 * n * n bytes for each board.
+ * Nothing is written. */
 uint32_t vintsaky_games_planes(vintsaky_game *games, size_t games_length, uint32_t earlier, uint8_t *bytes, size_t bytes_room);
 
 /* Writes the same planes as floating-point numbers of 32 bits: 1.0 and 0.0.
- * Causes: As those of vintsaky_games_planes. */
+ * Errors: Those of vintsaky_games_planes. */
 uint32_t vintsaky_games_planes_f32(vintsaky_game *games, size_t games_length, uint32_t earlier, float *floats, size_t floats_room);
 
-/* Writes a mask of each game, one game's after the other's. It has a byte for the move of each number: 1 where the colour whose turn it
- * is may make it, and else 0. The last one is a pass, which is always 1. The number of moves doesn't count, though a full record takes
- * no more.
- * Causes: VINTSAKY_NO_ROOM where the masks of all games have more bytes. A game of size n has n * n + 1. */
+/* Writes a mask for each game, one game after the other. It has one byte for the move of each number: 1 if the colour whose turn it is
+ * may make it, else 0. The last one is for a pass, and always 1. The call ignores that a full record takes no more moves.
+ * Errors: VINTSAKY_NO_ROOM if the buffer doesn't hold the masks of all games. A game of size n has n * n + 1 bytes. Nothing is
+ * written. */
 uint32_t vintsaky_games_masks(vintsaky_game *games, size_t games_length, uint8_t *bytes, size_t bytes_room);
 
 /* Writes the same masks as floating-point numbers of 32 bits: 1.0 and 0.0.
- * Causes: As those of vintsaky_games_masks. */
+ * Errors: Those of vintsaky_games_masks. */
 uint32_t vintsaky_games_masks_f32(vintsaky_game *games, size_t games_length, float *floats, size_t floats_room);
 
-/* Writes the score of a rollout of each game, in half points, as vintsaky_game_rollout writes it. Each game has its own seed, and the
- * colour whose turn it is begins.
- * Causes: VINTSAKY_NO_ROOM where seeds or half_points has fewer items than there are games. */
+/* Writes the score of one rollout of each game, in half points, as vintsaky_game_rollout writes it. Each game has its own seed, and the
+ * colour whose turn it is moves first.
+ * Errors: VINTSAKY_NO_ROOM if seeds or half_points has fewer items than there are games. Nothing is written. */
 uint32_t vintsaky_games_rollouts(vintsaky_game *games, size_t games_length, const uint64_t *seeds, size_t seeds_length, uint32_t limit,
     int32_t *half_points, size_t half_points_room);
 
 /* ---- engines ---- */
 
-/* Puts an engine in steps into the memory, and its handle. It has simple ko, and was given nothing. */
+/* Initialises a sans-IO engine in the caller's memory, and its handle. It has simple ko, and has received nothing. */
 void vintsaky_engine_place(vintsaky_engine *out, void *at);
 
-/* How many bytes an engine takes. */
+/* Returns the size of an engine in bytes. */
 size_t vintsaky_engine_bytes(void);
 
-/* Of what number the address of an engine is a multiple. */
+/* Returns the alignment of an engine in bytes. */
 size_t vintsaky_engine_align(void);
 
-/* Whether the session has ended, by a quit. */
+/* Returns whether the session has ended, by a quit. */
 bool vintsaky_engine_ended(vintsaky_engine *engine);
 
-/* Begins the engine anew, under a ko rule. It loses its name, its version and its own commands. Call it only before the engine's first
- * byte. Later the engine would lose its game, and what it hasn't answered; no call refuses that.
- * Causes: VINTSAKY_BAD_RULE. The engine stays as it was. */
+/* Resets the engine, under a ko rule. It loses its name, its version and its custom commands. Call it only before the engine's first
+ * byte. Later the engine would lose its game, and what it hasn't answered; no call rejects that.
+ * Errors: VINTSAKY_BAD_RULE. The engine is unchanged. */
 uint32_t vintsaky_engine_begin(vintsaky_engine *engine, uint32_t rule);
 
-/* Takes the next piece, up to and with the newline of the first line that has a word, or all of it. How many bytes were used is
- * written: feed the others next. Returns what came of them. While a choice or an answer is waited for, and after the end, no byte is
- * used, and the same comes again. A line of more than 1,000 bytes of words is answered by a failure. */
+/* Takes the next chunk, up to and including the newline of the first line that has a word, or all of it. Writes how many bytes were
+ * used: feed the others next. Returns what came of them. While the engine waits for a choice or an answer, and after the end, no byte
+ * is used, and the same is returned again. A line of more than 1,000 bytes of words is answered by a failure. */
 uint32_t vintsaky_engine_feed(vintsaky_engine *engine, const void *bytes, size_t bytes_length, size_t *used);
 
-/* What is waited for: 0 for nothing, VINTSAKY_BLACK or VINTSAKY_WHITE for a choice, VINTSAKY_OTHER for an answer. */
+/* Returns what the engine waits for: 0 for nothing, VINTSAKY_BLACK or VINTSAKY_WHITE for the choice of a move, VINTSAKY_OTHER for an
+ * answer. */
 uint32_t vintsaky_engine_wait(vintsaky_engine *engine);
 
-/* Makes the choice that is asked for.
- * Causes: VINTSAKY_BAD_VERTEX, or else VINTSAKY_NOT_ASKED, or else why the move is refused: VINTSAKY_OFF_BOARD, VINTSAKY_OCCUPIED,
- * VINTSAKY_SUICIDE or VINTSAKY_KO. The engine stays as it was, and a choice that was asked for is still asked for. */
+/* Supplies the choice that the engine waits for: a move or a resignation.
+ * Errors: VINTSAKY_BAD_VERTEX, or else VINTSAKY_NOT_ASKED, or else why the move is illegal: VINTSAKY_OFF_BOARD, VINTSAKY_OCCUPIED,
+ * VINTSAKY_SUICIDE or VINTSAKY_KO. The engine is unchanged, and still waits for a choice if it did before. */
 uint32_t vintsaky_engine_choose(vintsaky_engine *engine, uint32_t vertex);
 
-/* Answers the line of another command: by a success, where ok isn't 0, or else by a failure.
- * Causes: VINTSAKY_NOT_ASKED, or else VINTSAKY_BAD_TEXT where no reply may have the text. The engine stays as it was. */
+/* Answers a command that isn't in the protocol's table: by a success if ok isn't 0, else by a failure.
+ * Errors: VINTSAKY_NOT_ASKED, or else VINTSAKY_BAD_TEXT if the text isn't allowed in a reply. The engine is unchanged. */
 uint32_t vintsaky_engine_answer(vintsaky_engine *engine, uint32_t ok, const char *text, size_t text_length);
 
-/* Answers the line of another command as the protocol's table does: unknown command.
- * Causes: VINTSAKY_NOT_ASKED. The engine stays as it was. */
+/* Answers such a command as the protocol's table does: unknown command.
+ * Errors: VINTSAKY_NOT_ASKED. The engine is unchanged. */
 uint32_t vintsaky_engine_decline(vintsaky_engine *engine);
 
-/* Answers name by this text from now on.
- * Causes: VINTSAKY_BAD_TEXT where it has more than 200 bytes, or no reply may have it. The engine stays as it was. */
+/* Sets the text that answers name from now on.
+ * Errors: VINTSAKY_BAD_TEXT if it has more than 200 bytes, or isn't allowed in a reply. The engine is unchanged. */
 uint32_t vintsaky_engine_set_name(vintsaky_engine *engine, const char *text, size_t text_length);
 
-/* Answers version by this text from now on.
- * Causes: As those of vintsaky_engine_set_name. */
+/* Sets the text that answers version from now on.
+ * Errors: Those of vintsaky_engine_set_name. */
 uint32_t vintsaky_engine_set_version(vintsaky_engine *engine, const char *text, size_t text_length);
 
-/* Adds a command of the author's own.
- * Causes: VINTSAKY_BAD_LENGTH, VINTSAKY_BAD_BYTE, VINTSAKY_ONLY_DIGITS, VINTSAKY_IN_TABLE, VINTSAKY_ADDED_BEFORE or VINTSAKY_TOO_MANY,
- * the first of these that holds. The engine stays as it was. */
+/* Adds a custom command.
+ * Errors: VINTSAKY_BAD_LENGTH, VINTSAKY_BAD_BYTE, VINTSAKY_ONLY_DIGITS, VINTSAKY_IN_TABLE, VINTSAKY_ADDED_BEFORE or VINTSAKY_TOO_MANY,
+ * the first of these that applies. The engine is unchanged. */
 uint32_t vintsaky_engine_add_command(vintsaky_engine *engine, const char *name, size_t name_length);
 
 /* Copies the engine's game into another one. */
 void vintsaky_engine_copy_game(vintsaky_engine *engine, vintsaky_game *game);
 
-/* Writes the last reply. How many bytes it has: none before the first, and 2,048 at most. */
+/* Writes the last reply, and returns its length: 0 before the first, and at most 2,048. */
 size_t vintsaky_engine_reply(vintsaky_engine *engine, char *text, size_t text_room);
 
-/* Writes a word of the line that is waited for, counted from 0 after the id, and its length: at most 1,000 bytes.
- * Causes: VINTSAKY_NOT_ASKED where no line is waited for, or else VINTSAKY_NO_WORD. Nothing is written. */
+/* Writes a word of the command line for which a choice or an answer is waited for, counted from 0 after the id, and its length: at most
+ * 1,000 bytes.
+ * Errors: VINTSAKY_NOT_ASKED if nothing is waited for, or else VINTSAKY_NO_WORD. Nothing is written. */
 uint32_t vintsaky_engine_word(vintsaky_engine *engine, size_t number, char *text, size_t text_room, size_t *count);
 
-/* The id of the line that is waited for.
- * Causes: VINTSAKY_NOT_ASKED where no line is waited for, or else VINTSAKY_NO_ID. Nothing is written. */
+/* Writes the id of the command line for which a choice or an answer is waited for.
+ * Errors: VINTSAKY_NOT_ASKED if nothing is waited for, or else VINTSAKY_NO_ID. Nothing is written. */
 uint32_t vintsaky_engine_id(vintsaky_engine *engine, uint32_t *id);
 
 /* ---- matches ---- */
 
-/* Puts a match into the memory, and its handle. It has size 19, no komi, no handicap, 2,000 moves at most, and no restart. */
+/* Initialises a match in the caller's memory, and its handle. It has size 19, no komi, no handicap, at most 2,000 moves, and no
+ * restart. */
 void vintsaky_match_place(vintsaky_match *out, void *at);
 
-/* How many bytes a match takes. */
+/* Returns the size of a match in bytes. */
 size_t vintsaky_match_bytes(void);
 
-/* Of what number the address of a match is a multiple. */
+/* Returns the alignment of a match in bytes. */
 size_t vintsaky_match_align(void);
 
-/* Begins a match between two engines that are not started yet.
- * Causes: VINTSAKY_BAD_SIZE, VINTSAKY_BAD_KOMI, VINTSAKY_BAD_HANDICAP, VINTSAKY_BAD_MAX_MOVES or VINTSAKY_BAD_MAX_RESTARTS, the first
- * of these that holds. The match stays as it was. */
+/* Begins a match between two engines that aren't started yet.
+ * Errors: VINTSAKY_BAD_SIZE, VINTSAKY_BAD_KOMI, VINTSAKY_BAD_HANDICAP, VINTSAKY_BAD_MAX_MOVES or VINTSAKY_BAD_MAX_RESTARTS, the first
+ * of these that applies. The match is unchanged. */
 uint32_t vintsaky_match_begin(
     vintsaky_match *held, uint32_t size, int32_t half_komi, uint32_t handicap, uint32_t max_moves, uint32_t max_restarts);
 
-/* What is to be done next, as a number. The number of the side with which it is done is written, or 0. After a ruling the match is
- * over. */
+/* Returns what to do next, as a number, and writes the side to do it with, or 0. After a ruling the match is over. */
 uint32_t vintsaky_match_next(vintsaky_match *held, uint32_t *side);
 
-/* A side was started. Where its start fails, vintsaky_match_lost comes next.
- * Causes: VINTSAKY_BAD_COLOUR, or else VINTSAKY_NOT_NEXT where its start isn't what is next. The match stays as it was. */
+/* Reports that a side was started. If its start fails, call vintsaky_match_lost next.
+ * Errors: VINTSAKY_BAD_COLOUR, or else VINTSAKY_NOT_NEXT if its start isn't what is next. The match is unchanged. */
 uint32_t vintsaky_match_started(vintsaky_match *held, uint32_t side);
 
 /* Writes the next command for a side, and its length. It counts as sent.
- * Causes: VINTSAKY_BAD_COLOUR, or else VINTSAKY_NOT_NEXT where that isn't what is next, or else VINTSAKY_NO_ROOM where the buffer has
- * fewer than 65 bytes, also for a shorter line. The match stays as it was, and nothing is written. */
+ * Errors: VINTSAKY_BAD_COLOUR, or else VINTSAKY_NOT_NEXT if that isn't what is next, or else VINTSAKY_NO_ROOM if the buffer has fewer
+ * than 65 bytes, even for a shorter line. The match is unchanged, and nothing is written. */
 uint32_t vintsaky_match_send(vintsaky_match *held, uint32_t side, char *text, size_t text_room, size_t *count);
 
-/* Hears what a side wrote, in any pieces. Why the side fails by it is written, or 0. Of a side that is down, and after the end of the
- * match, also by a ruling, nothing is heard.
- * Causes: VINTSAKY_BAD_COLOUR. The match stays as it was, and nothing is written. */
+/* Takes a side's output, in any chunks. Writes why the side fails by it, or 0. The output of a side that is down is ignored, and so is
+ * all output once the match is over, also by a ruling.
+ * Errors: VINTSAKY_BAD_COLOUR. The match is unchanged, and nothing is written. */
 uint32_t vintsaky_match_hear(vintsaky_match *held, uint32_t side, const void *bytes, size_t bytes_length, uint32_t *loss);
 
-/* Hears what a side wrote as vintsaky_match_hear does, and writes more of what it reports: which retake of its number of a move it is,
- * 1 to 3, where the side refused a play that is retaken, or 0; and of the loss, or else of the retake, how many commands the side
- * hadn't answered, with the one that this reply answers; the oldest of them, as it was sent but without its newline; and the first 80
- * bytes of the reply, or where it is none, of all that came since the last whole reply. Each text comes with its length. Where there is
- * neither a loss nor a retake, these are 0 and the texts empty.
- * Causes: VINTSAKY_BAD_COLOUR. The match stays as it was, and nothing is written. */
+/* Takes a side's output as vintsaky_match_hear does, and writes more about it. retake becomes 0, or if the side refused a play that is
+ * retaken, which retake of this move number it is, 1 to 3. For a loss, or else for a retake, it writes how many commands the side
+ * hadn't answered, including the one that this reply answers; the oldest of them, as it was sent but without its newline; and the first
+ * 80 bytes of the reply, or if the bytes aren't a reply, of all that came since the last whole one. Each text comes with its length.
+ * Without a loss or a retake, these are 0 and the texts empty.
+ * Errors: VINTSAKY_BAD_COLOUR. The match is unchanged, and nothing is written. */
 uint32_t vintsaky_match_hear_reporting(vintsaky_match *held, uint32_t side, const void *bytes, size_t bytes_length, uint32_t *loss,
     uint32_t *retake, uint32_t *unanswered, char *command, size_t command_room, size_t *command_count, char *wrote, size_t wrote_room,
     size_t *wrote_count);
 
-/* Writes what a side owes: how many commands it hasn't answered, the oldest of them, as it was sent but without its newline, or an
- * empty text, and the first 80 bytes that it wrote since its last whole reply, each with its length.
- * Causes: VINTSAKY_BAD_COLOUR, or else VINTSAKY_DOWN. Nothing is written. */
+/* Writes what a side owes: how many commands it hasn't answered; the oldest of them, as it was sent but without its newline, or an
+ * empty text; and the first 80 bytes that it wrote since its last whole reply. Each text comes with its length.
+ * Errors: VINTSAKY_BAD_COLOUR, or else VINTSAKY_DOWN. Nothing is written. */
 uint32_t vintsaky_match_owed(vintsaky_match *held, uint32_t side, uint32_t *unanswered, char *command, size_t command_room,
     size_t *command_count, char *wrote, size_t wrote_room, size_t *wrote_count);
 
-/* Writes how many commands a side has confirmed of those that bring it to the record, how many it hasn't answered, and whether a
- * genmove is among them: 1 where it is, else 0. It doesn't matter whether the match is over.
- * Causes: VINTSAKY_BAD_COLOUR, or else VINTSAKY_DOWN. Nothing is written. */
+/* Writes how many of the commands that bring a side to the record it has confirmed, how many commands it hasn't answered, and 1 if a
+ * genmove is among these, else 0. It doesn't matter whether the match is over.
+ * Errors: VINTSAKY_BAD_COLOUR, or else VINTSAKY_DOWN. Nothing is written. */
 uint32_t vintsaky_match_status(vintsaky_match *held, uint32_t side, uint32_t *confirmed, uint32_t *unanswered, uint32_t *asked);
 
-/* A side is gone: its output has ended, a read or a write failed, or its start did. After a ruling nothing changes.
- * Causes: VINTSAKY_BAD_COLOUR. The match stays as it was. */
+/* Reports that a side is gone: its output has ended, a read or a write failed, or its start did. After a ruling nothing changes.
+ * Errors: VINTSAKY_BAD_COLOUR. The match is unchanged. */
 uint32_t vintsaky_match_lost(vintsaky_match *held, uint32_t side);
 
-/* Whether a side is in step: 1 where it is up, owes no answer and has confirmed all commands that bring it to the record, else 0.
- * Causes: VINTSAKY_BAD_COLOUR. Nothing is written. */
+/* Writes 1 if a side is in step: it is up, owes no answer, and has confirmed all commands that bring it to the record. Else it writes
+ * 0.
+ * Errors: VINTSAKY_BAD_COLOUR. Nothing is written. */
 uint32_t vintsaky_match_in_step(vintsaky_match *held, uint32_t side, uint32_t *holds);
 
-/* Writes how often a side was started again.
- * Causes: VINTSAKY_BAD_COLOUR. Nothing is written. */
+/* Writes how often a side was restarted.
+ * Errors: VINTSAKY_BAD_COLOUR. Nothing is written. */
 uint32_t vintsaky_match_restarts(vintsaky_match *held, uint32_t side, uint32_t *restarts);
 
-/* How many refusals of the move of this number, counted from 1, were met by a retake: 3 at most, and 0 for a number that has none. */
+/* Returns how often the move of this number, counted from 1, was retaken because it was refused: at most 3, and 0 for a number without
+ * a retake. */
 uint32_t vintsaky_match_retakes(vintsaky_match *held, uint32_t number);
 
-/* The side whose last move is to be taken back, because the other side refused it, or 0. */
+/* Returns the side whose last move is to be undone because the other side refused it, or 0. */
 uint32_t vintsaky_match_taking_back(vintsaky_match *held);
 
-/* Writes how a match ended, the side that it says it of, or 0, and the score in half points, positive where Black leads, or 0. Of a
- * ruling it is the side that loses.
- * Causes: VINTSAKY_NOT_OVER. Nothing is written. */
+/* Writes how the match ended, the side concerned (or 0), and the score in half points (positive: Black leads; or 0). By a ruling, the
+ * side is the one that loses.
+ * Errors: VINTSAKY_NOT_OVER. Nothing is written. */
 uint32_t vintsaky_match_verdict(vintsaky_match *held, uint32_t *ending, uint32_t *side, int32_t *half_points);
 
 /* Copies the match's game into another one. */
 void vintsaky_match_copy_game(vintsaky_match *held, vintsaky_game *game);
 
-/* Writes the result line of a match that is over, without its newline, and its length. The number is that of the game in it. Where
- * Black loses by a ruling, the verdict is W+T, or W+F(REASON) where there is a reason.
- * Causes: VINTSAKY_NOT_OVER. Nothing is written. */
+/* Writes the result line of a match that is over, without its newline, and its length. number is the number of the game in that line.
+ * If Black loses by a ruling, the verdict is W+T, or W+F(REASON) if there is a reason.
+ * Errors: VINTSAKY_NOT_OVER. Nothing is written. */
 uint32_t vintsaky_match_result(vintsaky_match *held, uint32_t number, char *text, size_t text_room, size_t *count);
 
-/* Writes the moves of a match, as --record of twogtp prints them, without the newline. How many bytes they have. */
+/* Writes the moves of a match as twogtp --record prints them, without the newline, and returns their length. */
 size_t vintsaky_match_record(vintsaky_match *held, char *text, size_t text_room);
 
-/* Ends a match that isn't over: the side loses. Where the reason is empty, it loses for time. Else the reason is of 1 to 20 letters and
- * spaces, and none of refused play, no move, no vertex and illegal move. After that nothing changes the match but vintsaky_match_begin.
- * Causes: VINTSAKY_BAD_COLOUR, or else VINTSAKY_IS_OVER, or else VINTSAKY_BAD_REASON. The match stays as it was. */
+/* Ends a match that isn't over: the side loses. An empty reason means that it loses on time. Otherwise the reason has 1 to 20 letters
+ * and spaces, and is none of refused play, no move, no vertex and illegal move. After that only vintsaky_match_begin changes the match.
+ * Errors: VINTSAKY_BAD_COLOUR, or else VINTSAKY_IS_OVER, or else VINTSAKY_BAD_REASON. The match is unchanged. */
 uint32_t vintsaky_match_adjudicate(vintsaky_match *held, uint32_t side, const char *reason, size_t reason_length);
 
-/* Writes the reason of the ruling that ended a match. How many bytes it has: 0 where the side lost for time, and where there is no
- * ruling. */
+/* Writes the reason of the ruling that ended a match, and returns its length: 0 if the side lost on time, or if there is no ruling. */
 size_t vintsaky_match_reason(vintsaky_match *held, char *text, size_t text_room);
 
 /* ---- readers of command lines ---- */
 
-/* Puts a reader of command lines into the memory, and its handle. It was given nothing. */
+/* Initialises a reader of command lines in the caller's memory, and its handle. It has received nothing. */
 void vintsaky_lines_place(vintsaky_lines *out, void *at);
 
-/* How many bytes such a reader takes. */
+/* Returns the size of such a reader in bytes. */
 size_t vintsaky_lines_bytes(void);
 
-/* Of what number the address of such a reader is a multiple. */
+/* Returns the alignment of such a reader in bytes. */
 size_t vintsaky_lines_align(void);
 
-/* Takes the next piece up to and with the newline that ends a line with a word, or all of it. How many bytes were used is written.
- * Returns 0 where none ended a line, VINTSAKY_LINE for a command line, and VINTSAKY_TOO_LONG for one of more than 1,000 bytes of
+/* Takes the next chunk, up to and including the newline that ends a line with a word, or all of it. Writes how many bytes were used.
+ * Returns 0 if no such line ended, VINTSAKY_LINE for a command line, and VINTSAKY_TOO_LONG for one of more than 1,000 bytes of
  * words. */
 uint32_t vintsaky_lines_feed(vintsaky_lines *lines, const void *bytes, size_t bytes_length, size_t *used);
 
-/* The id of the line that was read last.
- * Causes: VINTSAKY_NO_LINE where none was read, or it is too long, or else VINTSAKY_NO_ID. Nothing is written. */
+/* Writes the id of the line that was read last.
+ * Errors: VINTSAKY_NO_LINE if none was read or it was too long, or else VINTSAKY_NO_ID. Nothing is written. */
 uint32_t vintsaky_lines_id(vintsaky_lines *lines, uint32_t *id);
 
 /* Writes a word of the line that was read last, counted from 0 after the id, and its length: at most 1,000 bytes.
- * Causes: VINTSAKY_NO_LINE where none was read, or it is too long, or else VINTSAKY_NO_WORD. Nothing is written. */
+ * Errors: VINTSAKY_NO_LINE if none was read or it was too long, or else VINTSAKY_NO_WORD. Nothing is written. */
 uint32_t vintsaky_lines_word(vintsaky_lines *lines, size_t number, char *text, size_t text_room, size_t *count);
 
 /* ---- readers of replies ---- */
 
-/* Puts a reader of replies into the memory, and its handle. It was given nothing. */
+/* Initialises a reader of replies in the caller's memory, and its handle. It has received nothing. */
 void vintsaky_replies_place(vintsaky_replies *out, void *at);
 
-/* How many bytes such a reader takes. */
+/* Returns the size of such a reader in bytes. */
 size_t vintsaky_replies_bytes(void);
 
-/* Of what number the address of such a reader is a multiple. */
+/* Returns the alignment of such a reader in bytes. */
 size_t vintsaky_replies_align(void);
 
-/* Takes the next piece up to and with the byte that ends a reply or shows a fault, or all of it. How many bytes were used is written.
- * Returns 0 where none did, VINTSAKY_READ for a reply, VINTSAKY_NO_REPLY where what came is none, and VINTSAKY_LONG_REPLY where more
- * than 8,192 bytes came since the last reply. After a fault no byte is used, and the same comes again: place it anew. */
+/* Takes the next chunk, up to and including the byte that ends a reply or shows a fault, or all of it. Writes how many bytes were used.
+ * Returns 0 if there was no such byte, VINTSAKY_READ for a reply, VINTSAKY_NO_REPLY if the bytes are not a reply, and
+ * VINTSAKY_LONG_REPLY if more than 8,192 bytes came since the last reply. After a fault no byte is used, and the same is returned
+ * again: place the reader again. */
 uint32_t vintsaky_replies_feed(vintsaky_replies *replies, const void *bytes, size_t bytes_length, size_t *used);
 
-/* Whether the reply that was read last is a success: false before the first. */
+/* Returns whether the reply that was read last is a success: false before the first. */
 bool vintsaky_replies_ok(vintsaky_replies *replies);
 
-/* The id of the reply that was read last.
- * Causes: VINTSAKY_NO_ID, also before the first. Nothing is written. */
+/* Writes the id of the reply that was read last.
+ * Errors: VINTSAKY_NO_ID, also before the first. Nothing is written. */
 uint32_t vintsaky_replies_id(vintsaky_replies *replies, uint32_t *id);
 
-/* Writes the text of the reply that was read last. How many bytes it has: none before the first, and 8,192 at most. */
+/* Writes the text of the reply that was read last, and returns its length: 0 before the first, and at most 8,192. */
 size_t vintsaky_replies_text(vintsaky_replies *replies, char *text, size_t text_room);
 
-/* ---- in memory of malloc ---- */
+/* ---- memory from malloc ---- */
 
-/* For each kind of object, as vintsaky_game_new and vintsaky_game_free:
- * - _new puts one into memory of malloc, as its _place does. It returns false where there is no memory.
- * - _free gives back the memory of one that _new put there, which can't be used then. */
+/* For each kind of object, such as vintsaky_game_new and vintsaky_game_free:
+ * - _new initialises one as its _place does, in memory that it allocates with malloc. It returns false if there is no memory.
+ * - _free frees the memory of an object that _new made. The object can't be used afterwards. */
 #define VINTSAKY_IN_MALLOC(kind)                                         \
     static inline bool vintsaky_##kind##_new(vintsaky_##kind *out) {     \
         void *at = malloc(vintsaky_##kind##_bytes());                    \

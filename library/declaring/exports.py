@@ -174,7 +174,7 @@ def all_calls(files):
 
 def causes_of(call, calls):
     """The causes for which a call is refused, in the order in which it names them. It may name those of another call."""
-    other = re.search(r"As those of \[`(vintsaky_\w+)`\]", call.errors)
+    other = re.search(r"Those of \[`(vintsaky_\w+)`\]", call.errors)
     named = re.findall(r"`([A-Z]\w*)`", call.errors)
     if not other:
         return named

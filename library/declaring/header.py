@@ -58,7 +58,7 @@ def wrapped(text):
 def comment_of(call, causes):
     """The comment of a call: what it does, and for which causes it is refused."""
     said = in_c(call.said, causes, call.name)
-    errors = call.errors and f"Causes: {in_c(call.errors, causes, call.name)}"
+    errors = call.errors and f"Errors: {in_c(call.errors, causes, call.name)}"
     lines = wrapped(said if errors else said + LAST) + (wrapped(errors + LAST) if errors else [])
     return "/* " + "\n * ".join(lines).replace(LAST, " */")
 

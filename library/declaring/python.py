@@ -1,4 +1,4 @@
-"""Modules of the Python package: `_declared.py`, with the table of the calls, and `_numbers.py`, with the numbers of which much is said."""
+"""Modules of the Python package: `_declared.py`, with the table of the calls, and `_numbers.py`, with the numbers that are explained there."""
 import textwrap
 
 from . import exports, header, numbers
@@ -8,16 +8,16 @@ NUMBERS = "library/python/vintsaky/_numbers.py"
 WIDTH = 120
 ENUMS = ("losses", "endings")  # the kinds that are enumerations of _numbers.py
 HANDLES = {
-    "game": "a game: where it is",
-    "engine": "an engine in steps",
+    "game": "a game: its address",
+    "engine": "a sans-IO engine",
     "match": "a match",
     "lines": "a reader of command lines",
     "replies": "a reader of replies",
 }
 HEAD_OF_DECLARED = '''"""What the library declares: the constants of vintsaky.h, its handles, and the table of its calls.
 
-library/declare writes this module. All names are those of vintsaky.h without the prefix, but the calls', which are
-whole."""
+library/declare writes this module. Names are those of vintsaky.h without the prefix; only calls keep their whole
+names."""
 import ctypes
 from ctypes import POINTER, c_bool, c_char, c_char_p, c_float, c_int32, c_size_t, c_uint8, c_uint32, c_uint64, c_void_p
 from typing import Any, Dict, Tuple
@@ -32,12 +32,12 @@ class {}Handle(ctypes.Structure):
 HEAD_OF_TABLE = """
 
 # Each call of vintsaky.h: the type of its result, and those of its arguments. Texts that are read are c_char_p, bytes
-# c_void_p, and texts that are written POINTER(c_char).
+# are c_void_p, and texts that are written are POINTER(c_char).
 CALLS: Dict[str, Tuple[Any, Tuple[Any, ...]]] = {
 """
-HEAD_OF_NUMBERS = '''"""Numbers of the library with what is said of each: why a call is refused, why a side fails, and how a match ends.
+HEAD_OF_NUMBERS = '''"""Numbers of the library, each with its explanation: why a call is rejected, why a side fails, and how a match ends.
 
-library/declare writes this module. All names are those of vintsaky.h without the prefix."""
+library/declare writes this module. Names are those of vintsaky.h without the prefix."""
 from ._library import Numbered, Told
 '''
 CLASS = '''
@@ -49,7 +49,7 @@ class {}({}):
     """
 
 {}'''
-DONE = "It was done."  # what the library says of the number of no cause
+DONE = "No error."  # what the library says of 0
 
 
 def constants_of(files):
@@ -111,7 +111,7 @@ def named(files):
     losses = [numbers.Value(it.name[len("LOSS_"):], it.number, it.said) for it in numbers.values_of("losses", files)]
     return (
         HEAD_OF_NUMBERS
-        + enumeration("Cause", "Told", "Why a call is refused.", causes)
-        + enumeration("Loss", "Numbered", "Why a side fails by what it writes.", losses)
+        + enumeration("Cause", "Told", "Why a call is rejected: its error.", causes)
+        + enumeration("Loss", "Numbered", "Why a side fails by its output.", losses)
         + enumeration("Ending", "Numbered", "How a match ended.", numbers.values_of("endings", files))
     )

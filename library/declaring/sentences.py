@@ -14,17 +14,16 @@ DEFINITION_WIDTH = 120
 CODE_ROWS = re.compile(r'(?<=^    match cause \{\n)(?:        Cause::\w+ =>\s+b"[^"\n]*",\n)+', re.MULTILINE)
 DEFINITION_ROWS = re.compile(r'(?<=^abbrev pub sentence : Cause → List ℕ\n)(?:sentence cause\.\w+ =\s+codes "[^"\n]*"\n)+', re.MULTILINE)
 HEAD_OF_RUST = """\
-//! The causes: of each its name, its number, and what it means to users of this crate. `library/declare` writes this file.
+//! The errors: the name and the number of each, and its meaning to users of this crate. `library/declare` writes this file.
 
 causes! {
 """
 # what the Rust crate says otherwise: for these causes no call of it is refused, since its types leave them out
 NEVER = ("BadColour", "BadVertex", "BadRule", "NoRoom", "BadCommand")
 OTHERWISE = {
-    "BadHandicap": "The size doesn't allow this number of handicap stones.",
     "NoId": "The line has no id.",
-    "NoLine": "No line of a command was read.",
-    "BadId": "The id is more than 2,147,483,647.",
+    "NoLine": "No command line was read.",
+    "BadId": "The id must be at most 2,147,483,647.",
 }
 
 
@@ -56,7 +55,7 @@ def definition(files):
 def meaning(cause):
     """What a cause means in Rust."""
     if cause.name in NEVER:
-        return f"{cause.comment.partition(':')[0].rstrip('.')}. No call of this crate is refused for it."
+        return f"{cause.comment.partition(':')[0].rstrip('.')}. No call of this crate returns it."
     return OTHERWISE.get(cause.name, cause.comment)
 
 

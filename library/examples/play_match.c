@@ -1,5 +1,5 @@
-/* A tournament program: plays two commands against each other, by the controller of the library. An engine that ends or breaks the
- * protocol is started again, at most twice. Why it failed is written to standard error. usage: play_match SIZE HALF_KOMI BLACK WHITE */
+/* A tournament program: plays two engines against each other, with the library's controller. An engine that exits or breaks the protocol
+ * is restarted, at most twice, and the reason is written to standard error. usage: play_match SIZE HALF_KOMI BLACK WHITE */
 #include "vintsaky.h"
 #include <signal.h>
 #include <stdio.h>
@@ -28,7 +28,7 @@ static bool start(uint32_t side, const char *command) {
     return true;
 }
 
-static void end(uint32_t side) { /* by a quit where its engine owes no answer */
+static void end(uint32_t side) { /* by a quit if its engine owes no answer */
     uint32_t confirmed, unanswered = 1, asked;
     if (child[side] <= 0) return;
     vintsaky_match_status(&match, side, &confirmed, &unanswered, &asked);
@@ -37,7 +37,7 @@ static void end(uint32_t side) { /* by a quit where its engine owes no answer */
     close(from[side]), waitpid(child[side], NULL, 0), child[side] = 0;
 }
 
-static uint32_t take(uint32_t next, uint32_t side, const char *command) { /* why its engine fails, or 0 */
+static uint32_t take(uint32_t next, uint32_t side, const char *command) { /* returns why its engine fails, or 0 */
     uint32_t loss = 0;
     if (next == VINTSAKY_START) return end(side), vintsaky_match_started(&match, side), start(side, command) ? 0 : GONE;
     if (next == VINTSAKY_SEND)

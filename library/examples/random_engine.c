@@ -1,4 +1,4 @@
-/* An engine that plays a random legal point, but none of its own eyes: all but the choice is the library.
+/* An engine that plays a random legal point that isn't an own eye: the library does everything but choose the move.
  *
  * usage: random_engine [SEED] */
 #include "vintsaky.h"
@@ -7,7 +7,7 @@
 
 static vintsaky_game game;
 
-/* Is the point off the board, or has it the colour's own stone? */
+/* Is the point off the board, or is a stone of the colour there? */
 static bool is_own(uint32_t colour, uint32_t vertex) {
     uint32_t found;
     return vintsaky_game_stone_at(&game, vertex, &found) != VINTSAKY_DONE || found == colour;
@@ -17,7 +17,7 @@ static bool is_eye(uint32_t colour, uint32_t vertex) {
     return is_own(colour, vertex + 1) && is_own(colour, vertex - 1) && is_own(colour, vertex + 256) && is_own(colour, vertex - 256);
 }
 
-/* The vertex that is chosen for a colour: a search of one's own comes here. */
+/* Chooses the vertex for a colour: put your own search here. */
 static uint32_t choose(vintsaky_engine *engine, uint32_t colour) {
     uint32_t points[625];
     size_t count = 0, kept = 0;
@@ -28,8 +28,8 @@ static uint32_t choose(vintsaky_engine *engine, uint32_t colour) {
     return kept ? points[(size_t)rand() % kept] : VINTSAKY_PASS;
 }
 
-/* Takes what came of a piece of the input, and writes the reply. Returns false where it can't be written, or the choice is refused:
- * then there is no reply yet, since the choice is still asked for. */
+/* Handles what came of a chunk of the input, and writes the reply. Returns false if it can't be written, or if the choice is rejected:
+ * then there is no reply yet, since the engine still waits for a choice. */
 static bool reply(vintsaky_engine *engine, uint32_t came) {
     char text[VINTSAKY_REPLY_ROOM];
     uint32_t cause = VINTSAKY_DONE;
@@ -37,7 +37,7 @@ static bool reply(vintsaky_engine *engine, uint32_t came) {
     if (came == VINTSAKY_BLACK || came == VINTSAKY_WHITE) cause = vintsaky_engine_choose(engine, choose(engine, came));
     if (cause != VINTSAKY_DONE) {
         vintsaky_cause_text(cause, text, sizeof text);
-        fprintf(stderr, "random_engine: the choice is refused: %s\n", text);
+        fprintf(stderr, "random_engine: the choice is rejected: %s\n", text);
         return false;
     }
     return fwrite(text, 1, vintsaky_engine_reply(engine, text, sizeof text), stdout) > 0 && fflush(stdout) == 0;

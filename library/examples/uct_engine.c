@@ -1,6 +1,6 @@
-/* An engine that searches by UCT: a tree of moves, each node with a copy of the game, and random playouts by the library.
+/* An engine that searches by UCT: a tree of moves, with a copy of the game in each node, and random playouts by the library.
  *
- * usage: uct_engine [PLAYOUTS [SEED]]: so many playouts for each choice, else 1000 */
+ * usage: uct_engine [PLAYOUTS [SEED]]: PLAYOUTS playouts for each choice, 1000 by default */
 #include "vintsaky.h"
 #include <math.h>
 #include <stdio.h>
@@ -8,10 +8,10 @@
 
 enum { MOST_NODES = 1 << 20 };
 typedef struct {
-    uint32_t vertex, colour; /* the move that leads here, and who makes it */
-    vintsaky_game game;      /* the game after it, from the first visit on */
+    uint32_t vertex, colour; /* the move that leads here, and its colour */
+    vintsaky_game game;      /* the game after that move, from the first visit on */
     uint32_t first, count;   /* the nodes after this one, from the second visit on */
-    double visits, wins;     /* playouts through this node, and those that its colour won; half of a draw */
+    double visits, wins;     /* playouts through this node, and how many of them its colour won; a draw counts half */
 } node;
 
 static node *nodes;
@@ -22,7 +22,7 @@ static void add(uint32_t vertex, uint32_t colour) {
     nodes[used++] = (node){.vertex = vertex, .colour = colour};
 }
 
-/* Adds the moves after a node, where the game goes on and there is room: a pass, and all legal points but own eyes. */
+/* Adds the moves after a node, if the game isn't over and there is space: a pass, and all legal points except own eyes. */
 static void expand(node *at) {
     uint32_t points[VINTSAKY_MOST_POINTS], colour = 3 - at->colour, is_eye = 0;
     size_t count = 0;
@@ -37,7 +37,7 @@ static void expand(node *at) {
     at->count = used - at->first;
 }
 
-/* How much a node promises: its share of wins, and more where it has few visits. */
+/* How promising a node is: its share of wins, and more if it has few visits. */
 static double promise(const node *at, double log_above) {
     return at->visits == 0 ? INFINITY : at->wins / at->visits + sqrt(log_above / at->visits);
 }
@@ -50,14 +50,14 @@ static node *most_promising(const node *at) {
     return best;
 }
 
-/* What a playout from a node is worth to the colour that made its move: 1 for a win, half of that for a draw. */
+/* The value of a playout from a node to the colour that made its move: 1 for a win, 1/2 for a draw. */
 static double play_out(node *at) {
     int32_t half_points = 0;
     vintsaky_game_rollout(&at->game, 3 - at->colour, seed++, VINTSAKY_MOST_MOVES, &half_points);
     return half_points == 0 ? 0.5 : (half_points > 0) == (at->colour == VINTSAKY_BLACK);
 }
 
-/* Makes a playout below a node, which has its game. What it is worth to the node's colour. Without memory it is no playout: a draw. */
+/* Makes a playout below a node, which has its game. Returns its value to the node's colour: that of a draw if there is no memory. */
 static double visit(node *at) {
     double worth;
     if (at->visits > 0 && at->count == 0) expand(at);
@@ -71,7 +71,7 @@ static double visit(node *at) {
     return worth;
 }
 
-/* The vertex for a colour that was visited most, and of several the one that won most. */
+/* Chooses for a colour the vertex that was visited most; of several, the one that won most. */
 static uint32_t choose(vintsaky_engine *engine, uint32_t colour) {
     used = 0, add(VINTSAKY_PASS, 3 - colour);
     if (!vintsaky_game_new(&nodes[0].game)) return VINTSAKY_PASS;
@@ -85,7 +85,7 @@ static uint32_t choose(vintsaky_engine *engine, uint32_t colour) {
     return nodes[0].count > 0 ? best->vertex : VINTSAKY_PASS;
 }
 
-/* Takes what came of a piece of the input, and writes the reply. Returns false where that can't be. */
+/* Handles what came of a chunk of the input, and writes the reply. Returns false if that fails. */
 static bool reply(vintsaky_engine *engine, uint32_t came) {
     char text[VINTSAKY_REPLY_ROOM];
     if (came == VINTSAKY_OTHER) vintsaky_engine_decline(engine);

@@ -51,7 +51,7 @@ static void of_the_library(void) {
     HAS_ALIGN(vintsaky_match_align());
     HAS_ALIGN(vintsaky_lines_align());
     HAS_ALIGN(vintsaky_replies_align());
-    SAYS("The record has 2,000 moves.", vintsaky_cause_text(VINTSAKY_FULL, TEXT));
+    SAYS("The record is full: it has 2,000 moves, the maximum.", vintsaky_cause_text(VINTSAKY_FULL, TEXT));
 }
 
 static void of_values(void) {

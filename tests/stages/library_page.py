@@ -16,7 +16,7 @@ from pathlib import Path
 sys.dont_write_bytecode = True
 sys.path[0] = str(Path(__file__).resolve().parents[2])
 
-from tests.shared import checks, running  # noqa: E402
+from tests.shared import checks, pages, running  # noqa: E402
 from tests.shared.library import ARCHIVE, SHARED, TOP, Needing, python_with_numpy  # noqa: E402
 
 TOOLS = ["cc", "python3", "cargo"]  # a block is skipped where it names one that isn't there
@@ -26,8 +26,7 @@ RESULT = re.compile(r"game 1: (?:[BW]\+[0-9.]+|[BW]\+R|0) moves [0-9]+ restarts 
 
 def blocks_of(page, language):
     """The page's blocks of this language."""
-    blocks = re.findall(r"^```(\w*)\n(.*?)^```$", (TOP / page).read_text(), re.MULTILINE | re.DOTALL)
-    return [block for of, block in blocks if of == language]
+    return pages.blocks_in((TOP / page).read_text(), language)
 
 
 PYTHON = blocks_of("docs/library.md", "python")

@@ -3,7 +3,7 @@
 
 A row of its last table gives crates and, for these, files and the names that are in them: `NAME.antt` is a file below the crate's specs/,
 `name.rt` one below its src/, and any other name in code is a word of these. Where the crates are in groups, between semicolons, so are the
-files. `of CRATE` after a file gives that crate in their place. The table of the folders names each crate of crates.txt, and no other. In
+files. `of CRATE` after a file gives that crate in their place. The table of the directories names each crate of crates.txt, and no other. In
 the drawings each word that only a source can have, by its form, has to be in a source.
 """
 import re
@@ -91,11 +91,11 @@ class Rows(checks.Case):
 
 
 class Folders(checks.Case):
-    """The table of the folders."""
+    """The table of the directories."""
 
     def test_crates(self):
         """the map names each crate, and no other."""
-        table = MAP.partition("\n## The folders\n")[2].partition("\n\nEach crate")[0]
+        table = MAP.partition("\n## The directories\n")[2].partition("\n\nEach crate")[0]
         self.same(sorted(crates()), sorted(set(re.findall(r"`crates/(\w+)`", table))))
 
 

@@ -3,7 +3,7 @@
 
 There are whole games, engines under positional ko, refused moves, missing programs, mistakes in the arguments, and outputs that can't be
 written. Games in which an engine is killed or fails on request have the same record, board and result as without. What is wanted was
-worked out by hand from docs/controller.md.
+worked out by hand from docs/matches.md and docs/controller.md.
 """
 from __future__ import annotations
 

@@ -1,7 +1,7 @@
 #!/usr/bin/env python3
 """Plays matches of the built `twogtp` against engines that misbehave, each as Black and as White.
 
-Each match has to end by itself within 30 seconds, with the line and the status that docs/controller.md gives, and each process that was
+Each match has to end by itself within 30 seconds, with the line and the status that docs/matches.md gives, and each process that was
 started has to be gone then. The engines are those of tests/engines/hostile/engine. They exit early, write junk, wrong ids or without
 end, close their output, refuse moves, don't take back their own, or don't end when they should; beside each group it is said why the
 match ends so.

@@ -5,7 +5,7 @@ That is its standard output, its status, and its standard error, on which nothin
 reported of a mistake in the arguments.
 
 Each mistake is a row of of_mistakes/rows.py, in a folder of its own, in which there is an engine of a few lines of Python. What is wanted
-was worked out by hand from README.md, docs/controller.md and docs/protocol.md; beside each group the script says why.
+was worked out by hand from README.md, docs/matches.md and docs/protocol.md; beside each group the script says why.
 
 The table has some 100 rows, in the order of docs/troubleshooting.md. Each is a mistake as a person makes it, by a
 command line or by an engine, which else always passes. Some run the program with fewer files or processes than it needs. Root has

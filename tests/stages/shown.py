@@ -4,8 +4,8 @@
 An example is a block between lines of ``` whose first line begins with `$ `: each such line is a command, and the lines up to the
 next one are what it prints, in which a line that is `..` alone stands for any lines. The commands run in a folder that has the
 programs of bin/, the scripts of tournament/, and ./demo; programs and scripts are in PATH. An example that names somebody else's
-program is left out where that isn't there. Also compared is the kit's logic with what `rt version` prints, and the code that a page
-quotes with the source.
+program is left out where that isn't there. Each example of any page is run here, or it is said why not. Also compared is the kit's logic
+with what `rt version` prints, and the code that a page quotes with the source.
 """
 import os
 import re
@@ -16,12 +16,20 @@ from pathlib import Path
 sys.dont_write_bytecode = True
 sys.path[0] = str(Path(__file__).resolve().parents[2])
 
-from tests.shared import checks, running  # noqa: E402
+from tests.shared import checks, pages, running  # noqa: E402
 from tests.shared.running import TOP  # noqa: E402
 
 PROGRAMS = ["gtp_engine", "twogtp", "gtp_check"]
 # the pages whose examples need nothing but the programs, or name the full path of what else they need
-PAGES = ["README.md", "docs/check.md", "docs/protocol.md", "docs/controller.md", "docs/troubleshooting.md", "docs/tournaments.md"]
+PAGES = [
+    "README.md", "docs/check.md", "docs/protocol.md", "docs/matches.md", "docs/controller.md", "docs/troubleshooting.md", "docs/tournaments.md",
+]  # fmt: skip
+# the pages whose examples this stage doesn't run, and why
+NOT_RUN = {
+    "docs/interop.md": "they need GNU Go and Leela Zero, which they name without a path",
+    "interop/scripts.md": "they need the scripts of GNU Go's source, and Perl and Pike",
+    "packaging/README.release.md": "tests/stages/release.py runs them, in the archive and in the package",
+}
 OTHERS = r"/usr/games/\w+"  # somebody else's programs
 # the pages that quote code, and the folders of which a source has it
 QUOTES = {
@@ -31,19 +39,21 @@ QUOTES = {
 }
 
 
-def blocks_of(text):
-    """The blocks between lines of ```."""
-    return re.findall(r"^```\w*\n(.*?)^```$", text, re.MULTILINE | re.DOTALL)
-
-
 def examples_of(text):
     """The examples of a page: of each its command, and what is under it."""
     examples = []
-    for block in blocks_of(text):
+    for block in pages.blocks_of(text):
         if block.startswith("$ "):
             parts = re.split(r"^\$ (.*)\n", block, flags=re.MULTILINE)[1:]
             examples += zip(parts[::2], parts[1::2])
     return examples
+
+
+def not_run(page, text):
+    """What a page shows as a command and no stage runs: a block that has a prompt and doesn't begin with one, or any on another page."""
+    shown = [block for block in pages.blocks_of(text) if re.search(r"^ *\$ ", block, re.MULTILINE)]
+    left = [block for block in shown if page not in PAGES or not block.startswith("$ ")]
+    return [] if page in NOT_RUN else [f"{page}: {re.search(r'^ *[$] .*', block, re.MULTILINE)[0].strip()}" for block in left]
 
 
 def is_printed(shown, printed):
@@ -104,6 +114,19 @@ class Pages(checks.Case):
     def test_pages(self):
         """each page has examples."""
         self.same([], [page for page in PAGES if not EXAMPLES[page]])
+
+    def test_not_run(self):
+        """each example of a page is run by a stage, or it is said why not."""
+        found = {page: (TOP / page).read_text() for page in pages.page_paths()}
+        self.same([], [fault for page, text in found.items() for fault in not_run(page, text)])
+        self.same([], [page for page in NOT_RUN if not examples_of(found[page])])
+
+    def test_wrong_pages(self):
+        """an example that no stage runs is seen."""
+        one, late = "```\n$ one\n1\n```\n", "```\nfirst\n$ late\n```\n"
+        for page, text, wanted in (("README.md", one, []), ("none.md", one, ["none.md: $ one"]), ("README.md", late, ["README.md: $ late"]),
+                                   ("none.md", "```\n$(one)\n```\n`$ two`\n", [])):  # fmt: skip
+            self.check(f"{page}: {text!r}", wanted, not_run(page, text))
 
 
 def example_named(row):

@@ -26,8 +26,8 @@ The stage finds all processes that a script started by a word in their environme
   gtp_engine.
 - The same games are played by xargs, by the script for Slurm without Slurm, and by GNU Parallel on two machines, for which a
   script plays ssh. The results have to be the same. Machines leave that can't be reached, or have no engine. Each lock fails.
-- Each process that watches over a game is killed, and two of them at one moment, and no engine may be left. Silent engines are tried as docs/controller.md says,
-  and what docs/tournaments.md has for copying is run.
+- Each process that watches over a game is killed, and two of them at one moment, and no engine may be left. Engines that hang are
+  tried as docs/matches.md says, and what docs/tournaments.md has for copying is run.
 """
 import sys
 from pathlib import Path

@@ -34,17 +34,17 @@ module _ {S : Type 0} (calls : Calls S) where
   FlushBreaks before after = (fault : CallFault) × calls before (Flushes (Err fault)) after
 
   module _ {E : Type 0} where
-    -- one read into the buffer led from the one to the other, with the same answer but for the fault
+    -- one read into the buffer led from the one to the other, with the same answer except for the fault
     abbrev pub IsOneRead : List ℕ → Result ℕ E → S → S → Type 0
     IsOneRead buffer (Ok count) before after = calls before (Reads (length buffer) (Ok (take count buffer))) after
     IsOneRead buffer (Err _) before after = ReadBreaks (length buffer) before after
 
-    -- one write of the text did, with the same answer but for the fault; to take no byte of a text that has one fails
+    -- one write of the text did, with the same answer except the fault; to take no byte of a text that has one fails
     abbrev pub IsOneWrite : List ℕ → Result ℕ E → S → S → Type 0
     IsOneWrite text (Ok count) before after = calls before (Writes text (Ok count)) after
     IsOneWrite text (Err _) before after = WriteBreaks text before after
 
-    -- one flush did, with the same answer but for the fault
+    -- one flush did, with the same answer except for the fault
     abbrev pub IsOneFlush : Result (Unit {0}) E → S → S → Type 0
     IsOneFlush (Ok nothing) before after = calls before (Flushes (Ok nothing)) after
     IsOneFlush (Err _) before after = FlushBreaks before after

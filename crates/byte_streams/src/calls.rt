@@ -1,9 +1,10 @@
 //! One call of a reader or a writer, and what it did.
 //!
-//! The clauses of the standard library say the bytes of a call. They don't say that it was one call, nor that it
-//! failed or let go out what it had. Here a reader or a writer names what its calls do, by a relation between itself
-//! before a call, the call with what it returned, and itself afterwards. So a function over it can promise which calls
-//! it makes. One of the standard library names nothing.
+//! The contracts of the standard library say which bytes a call reads or writes. They don't say that it was a single
+//! call, that it failed, or that it flushed what was written. Here a reader or a writer names what its calls do, as a
+//! relation between its state before a call, the call with its result, and its state afterwards. So a function that
+//! uses it can promise which calls it makes. Readers and writers of the standard library get a relation that says
+//! nothing.
 ghost use Rattle.std.specs.Prelude.{ℕ, List, Option, ◌≡◌, ◌≢◌, length, Ok, IfOk, IfErr, IsErrOf};
 ghost use Rattle.std.specs.IoError.{error_kind};
 ghost use Rattle.std.specs.Io.{ReadsAtMost, WritesAtMost};
@@ -16,15 +17,15 @@ use thiserror::Error;
 /// Why one call of a reader or a writer failed.
 #[derive(Clone, Copy, Debug, PartialEq, Eq, Drop, Error)]
 pub enum CallFault {
-    /// A signal came before anything was done. The call can be tried again.
+    /// A signal interrupted the call before it did anything. The call can be tried again.
     #[error("interrupted")]
     Interrupted,
-    /// Anything else.
+    /// Any other failure.
     #[error("broken stream")]
     Other,
 }
 
-/// Why a call failed, by the kind of its error.
+/// The fault for an error of this kind.
 pub(crate) fn call_fault_of(kind: ErrorKind) -> CallFault
     ensures interrupted { kind ≡ ErrorKind.Interrupted → result ≡ CallFault.Interrupted }
     ensures other { kind ≢ ErrorKind.Interrupted → result ≡ CallFault.Other }
@@ -35,11 +36,11 @@ pub(crate) fn call_fault_of(kind: ErrorKind) -> CallFault
     }
 }
 
-/// What a call of the standard library returned: its value, or why it failed.
+/// Turns the result of a standard library call into its value, or into the fault of the call.
 ///
 /// # Errors
 ///
-/// A fault where the call failed.
+/// The fault, if the call failed.
 pub fn outcome_of<T>(called: io::Result<T>) -> Result<T, CallFault>
     ensures done { IfOk called (λ value. result ≡ Ok value) }
     ensures interrupted { IfErr called (λ error. error_kind error ≡ ErrorKind.Interrupted
@@ -55,17 +56,17 @@ pub fn outcome_of<T>(called: io::Result<T>) -> Result<T, CallFault>
 
 /// A reader that names what each of its reads does.
 pub trait ReadOnce {
-    // The bytes that reads will give from here on, where they are known.
+    // The bytes that reads will give from here on, if they are known.
     ghost gives: { Self → Option (List ℕ) };
 
-    // This call, which came out so, led from the one to the other.
+    // Whether this call, with this result, can lead from the first state to the second.
     ghost calls: { Self → Call → Self → Type 0 };
 
-    /// Reads once, into the front of the buffer, and returns how many bytes it read.
+    /// Makes one read into the front of the buffer, and returns how many bytes it read.
     ///
     /// # Errors
     ///
-    /// A fault where the read failed.
+    /// The fault, if the read failed.
     fn read_once(&mut self, buffer: &mut [u8]) -> Result<usize, CallFault>
         ensures bound { ReadsAtMost result buffer.new }
         ensures bytes { ReadConsumes (gives self.old) (gives self.new) result buffer.new }
@@ -75,27 +76,27 @@ pub trait ReadOnce {
 
 /// A writer that names what each of its writes and flushes does.
 pub trait WriteOnce {
-    // The bytes that the writer holds, where they are known.
+    // The bytes that the writer holds, if they are known.
     ghost holds: { Self → Option (List ℕ) };
 
-    // This call, which came out so, led from the one to the other.
+    // Whether this call, with this result, can lead from the first state to the second.
     ghost calls: { Self → Call → Self → Type 0 };
 
-    /// Writes once, from the front of the text, and returns how many bytes it took.
+    /// Makes one write from the front of the text, and returns how many bytes were written.
     ///
     /// # Errors
     ///
-    /// A fault where the write failed.
+    /// The fault, if the write failed.
     fn write_once(&mut self, text: &[u8]) -> Result<usize, CallFault>
         ensures bound { WritesAtMost result text.now }
         ensures bytes { WriteAppends (holds self.old) (holds self.new) result text.now }
         ensures call { calls self.old (Writes text.now result) self.new };
 
-    /// Flushes once.
+    /// Makes one flush.
     ///
     /// # Errors
     ///
-    /// A fault where the flush failed.
+    /// The fault, if the flush failed.
     fn flush_once(&mut self) -> Result<(), CallFault>
         ensures bytes { Keeps (holds self.old) (holds self.new) }
         ensures call { calls self.old (Flushes result) self.new };

@@ -1,9 +1,9 @@
-//! What tests assert. What an assertion of std writes is proved anew at each place, and a call isn't: so tests call
-//! these.
+//! What tests assert. The text that an assertion of std writes is proved again at each place, while a call isn't. So
+//! tests call these functions.
 use std::fmt::Debug;
 use std::process::Abort;
 
-/// Both are equal.
+/// Asserts that both are equal.
 pub fn assert_equal<T: PartialEq + Debug + Drop>(rt: &impl Abort, left: T, right: T) {
     assert_eq!(rt; left, right);
 }

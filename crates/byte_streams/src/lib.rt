@@ -1,4 +1,4 @@
-//! Bytes that come and go: single calls of readers and writers, the counts of them, and texts that are written whole.
+//! Byte streams: single calls of readers and writers, counts of these calls, and writing whole texts.
 #![tactic(auto)]
 
 mod calls;

@@ -16,15 +16,15 @@ use thiserror::Error;
 #[error("broken stream")]
 pub struct Broken;
 
-/// A reader that counts its reads, those that found the end and those that failed, and keeps what the last one gave.
-/// Each count stays at its greatest value, 2^64 - 1.
+/// A reader that counts its reads, those that reached the end of the input, and those that failed, and remembers how
+/// many bytes the last one gave. A count that has reached 2^64 - 1 stays there.
 pub trait Incoming {
-    // The bytes that reads will give from here on, where they are known, how many reads were made, how many of them
-    // gave no byte and how many failed, and how many bytes the last one gave.
+    // The bytes that reads will give from here on, if they are known; how many reads were made, how many of them gave
+    // no byte, and how many failed; and how many bytes the last one gave.
     ghost shown: { Self → Source };
 
-    /// Reads into the front of the buffer, and returns how many bytes it read. `Ok(0)` from a read into a buffer that
-    /// has room is the end of the input.
+    /// Reads into the front of the buffer, and returns how many bytes it read. `Ok(0)` for a buffer that isn't empty
+    /// means the end of the input.
     ///
     /// # Errors
     ///
@@ -40,19 +40,19 @@ pub trait Incoming {
         ensures last { (shown self.new).last ≡ bytes_moved result };
 }
 
-/// A writer that counts the calls that failed, and keeps whether the last one did and whether what it took waits for a
-/// flush.
+/// A writer that counts the calls that failed, and remembers whether the last one did and whether written bytes still
+/// wait for a flush.
 pub trait Outgoing {
-    // The bytes that the writer holds, where they are known, how many writes and flushes failed, how many bytes the
-    // last call took, and whether a byte that was taken waits for a flush.
+    // The bytes that the writer holds, if they are known; how many writes and flushes failed; how many bytes the last
+    // call wrote; and whether a written byte waits for a flush.
     ghost shown: { Self → Sink };
 
-    /// Takes bytes from the front of the text, and returns how many: at least one of a text that is not empty, or it
-    /// fails. What it took waits for a flush.
+    /// Writes from the front of the text, and returns how many bytes were written: at least one, unless the text is
+    /// empty. They wait for a flush.
     ///
     /// # Errors
     ///
-    /// `Broken` at any failure of the writer, and where it takes no byte of a text that is not empty.
+    /// `Broken` at any failure of the writer, and if it writes no byte of a text that isn't empty.
     fn write(&mut self, text: &[u8]) -> Result<usize, Broken>
         ensures bound { WritesAtMost result text.now }
         ensures progress { IfOk result (λ count. 0 < length text.now → 0 < count) }
@@ -64,7 +64,7 @@ pub trait Outgoing {
         ensures waiting { (shown self.new).waiting
             ≡ waiting_after_write (shown self.old).waiting result };
 
-    /// Hands on what it took. A flush that fails leaves it waiting.
+    /// Flushes what was written. If the flush fails, the bytes still wait.
     ///
     /// # Errors
     ///
@@ -78,11 +78,11 @@ pub trait Outgoing {
             ≡ waiting_after_flush (shown self.old).waiting result };
 }
 
-/// Writes the text and flushes it.
+/// Writes the whole text and flushes it.
 ///
 /// # Errors
 ///
-/// `Broken` where a write or the flush failed; the writer then took a front of the text.
+/// `Broken` if a write or the flush failed. The writer has then taken some prefix of the text, perhaps all of it.
 pub fn send<W: Outgoing>(writer: &mut W, text: &[u8]) -> Result<(), Broken>
     ensures sent { OnOk result (TookWhole text.now (W.shown writer.old) (W.shown writer.new)) }
     ensures broke { OnErr result (TookPart text.now (W.shown writer.old) (W.shown writer.new)) }
@@ -95,17 +95,17 @@ pub fn send<W: Outgoing>(writer: &mut W, text: &[u8]) -> Result<(), Broken>
     writer.flush()
 }
 
-/// Any reader or writer of the standard library, with its counts: its reads, those that found the end, its calls that
-/// failed, what the last call did, and whether what it took waits for a flush. A write that takes no byte of a text
-/// that isn't empty counts as failed.
+/// Any reader or writer of the standard library, with its counts: its reads, those that reached the end of the input,
+/// the calls that failed, what the last call did, and whether written bytes wait for a flush. A write that writes no
+/// byte of a text that isn't empty counts as failed.
 #[derive(Drop)]
 pub struct Counted<T> {
     pub(crate) inner: T,
     pub(crate) reads: u64,
     pub(crate) ends: u64,
     pub(crate) failures: u64,
-    /// How many bytes the last call gave or took; `None` where it failed. No program looks at it: the contracts do,
-    /// which say by it that no call follows one that failed.
+    /// How many bytes the last call read or wrote; `None` if it failed. Only contracts use it, to say that no call
+    /// follows a failed one.
     pub(crate) last: Option<usize>,
     pub(crate) waiting: bool,
 }
@@ -127,7 +127,7 @@ impl<T> Model for Counted<T> {
 }
 
 impl<T> Counted<T> {
-    /// Begins to count, from 0, and not waiting.
+    /// Starts with all counts at 0 and nothing waiting for a flush.
     pub fn new(inner: T) -> Self
         ensures { result ≡ record {
           inner = inner;
@@ -148,7 +148,7 @@ impl<T> Counted<T> {
         }
     }
 
-    /// Counts a call that failed.
+    /// Counts a failed call.
     fn fail(&mut self) -> Broken
         ensures { self.new
             ≡ record self.old { failures = raised self.old.failures 1; last = None } }
@@ -169,7 +169,7 @@ impl<T: ReadOnce> Incoming for Counted<T> {
           last = c.last;
         } };
 
-    /// Reads the reader in it once, with the whole buffer, and fails exactly where that fails.
+    /// Makes one read of the inner reader, with the whole buffer, and fails exactly if that read fails.
     fn read(&mut self, buffer: &mut [u8]) -> Result<usize, Broken>
         ensures bound { ReadsAtMost result buffer.new }
         ensures bytes { ReadConsumes (T.gives self.old.inner) (T.gives self.new.inner)
@@ -204,8 +204,8 @@ impl<T: WriteOnce> Outgoing for Counted<T> {
           waiting = c.waiting;
         } };
 
-    /// Writes to the writer in it once, with the whole text, and fails exactly where that fails or takes no byte of a
-    /// text that is not empty.
+    /// Makes one write to the inner writer, with the whole text, and fails exactly if that write fails or writes no
+    /// byte of a text that isn't empty.
     fn write(&mut self, text: &[u8]) -> Result<usize, Broken>
         ensures bound { WritesAtMost result text.now }
         ensures progress { IfOk result (λ count. 0 < length text.now → 0 < count) }
@@ -227,7 +227,7 @@ impl<T: WriteOnce> Outgoing for Counted<T> {
         }
     }
 
-    /// Flushes the writer in it once, and fails exactly where that fails.
+    /// Makes one flush of the inner writer, and fails exactly if that flush fails.
     fn flush(&mut self) -> Result<(), Broken>
         ensures bytes { Keeps (T.holds self.old.inner) (T.holds self.new.inner) }
         ensures failures { self.new.failures ≡ failures_after self.old.failures result }

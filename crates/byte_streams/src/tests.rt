@@ -1,4 +1,4 @@
-//! Streams that fail, and what is counted of them.
+//! Streams that fail, and how their calls are counted.
 use crate::calls::{CallFault, call_fault_of};
 use crate::equal::assert_equal;
 use crate::streams::{Broken, Counted, Incoming, Outgoing, send};
@@ -6,7 +6,7 @@ use crate::writing::write_text;
 use std::io;
 use std::io::{ErrorKind, Read, Write};
 
-/// Takes at most two bytes a write, none in the write of one number, and fails each flush if it is closed.
+/// Takes at most two bytes per write, and none in the write with one given number. It fails each flush if it is closed.
 #[derive(Drop)]
 struct Narrow {
     taken: Vec<u8>,
@@ -37,7 +37,7 @@ impl Write for Narrow {
     }
 }
 
-/// Fails its first read by an interruption, and then finds the end.
+/// Its first read is interrupted, and the next ones find the end of the input.
 #[derive(Drop)]
 struct Interrupted {
     first: bool,

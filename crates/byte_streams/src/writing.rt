@@ -1,15 +1,15 @@
-//! Texts that are written whole.
+//! Writing whole texts.
 ghost use Rattle.std.specs.Prelude.{OnOk, OnErr};
 ghost use Rattle.byte_streams.specs.Writing.{BreaksAt, GoesOut, IsWritten};
 
 use crate::calls::WriteOnce;
 use crate::streams::Broken;
 
-/// Writes the whole text and flushes it. Each write is of all that is left.
+/// Writes the whole text and flushes it. Each write is given all that is left.
 ///
 /// # Errors
 ///
-/// `Broken` where a write takes nothing or fails, or the flush fails. No further call is made then.
+/// `Broken` if a write fails or writes nothing, or the flush fails. Then no further call is made.
 pub fn write_text<W: WriteOnce>(writer: &mut W, text: &[u8]) -> Result<(), Broken>
     ensures whole { OnOk result (GoesOut W.WriteOnce text.now writer.old writer.new) }
     ensures broke { OnErr result (BreaksAt W.WriteOnce text.now writer.old writer.new) }
@@ -28,7 +28,7 @@ pub fn write_text<W: WriteOnce>(writer: &mut W, text: &[u8]) -> Result<(), Broke
     }
 }
 
-/// Writes the whole text and flushes it. A writer that breaks at it changes nothing else.
+/// Writes the whole text and flushes it. A failure of the writer is ignored.
 pub fn write_or_break<W: WriteOnce>(writer: &mut W, text: &[u8])
     ensures { IsWritten W.WriteOnce text.now writer.old writer.new }
 {

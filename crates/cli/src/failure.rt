@@ -1,4 +1,4 @@
-//! What a program reports in a line of its own: mistakes in the words of its command line, and failures.
+//! The lines in which a program reports usage errors and failures.
 ghost use Rattle.std.specs.Prelude.{◌≡◌, ◌≢◌, ◌≤◌, ℕ, List, length};
 ghost use Rattle.cli.specs.declared.failure.Failure.TheVariants as the_failure;
 ghost use Rattle.cli.specs.declared.failure.PlanError.TheVariants as plan_error;
@@ -13,19 +13,19 @@ use std::io::ErrorKind;
 /// Why a program can't go on.
 #[derive(Clone, Copy, Debug, PartialEq, Eq, Drop)]
 pub enum Failure {
-    /// What it has to write could not be written.
+    /// The output could not be written.
     Write,
-    /// Memory was refused.
+    /// The system gave no memory.
     OutOfMemory,
-    /// There were more turns than what it was asked for can have.
+    /// The program took more turns than any run within its limits can take.
     TooManyTurns,
-    /// A standard stream is closed, and the null device that would hold its number can't be opened.
+    /// A standard stream is closed, and the null device that would take its place can't be opened.
     NoNullDevice,
 }
 
 impl Failure {
-    /// Reports the failure in one line of the program of this name, and returns the status 3. A writer that fails
-    /// doesn't change the status.
+    /// Writes the failure to `errors`, as one line that begins with the program's name, and returns the status 3. The
+    /// status is the same if that line can't be written.
     pub fn report<E: WriteOnce>(self, name: &[u8], errors: &mut E) -> u8
         requires name { length name.now ≤ 20 }
         ensures status { result ≡ own_failure }
@@ -35,7 +35,7 @@ impl Failure {
         3
     }
 
-    /// What it is called.
+    /// The text of the failure.
     fn text(self) -> &'static [u8]
         ensures text { result.now ≡ failure_text self }
         ensures short { length result.now ≤ 100 }
@@ -65,30 +65,30 @@ impl From<Broken> for Failure {
     }
 }
 
-/// A mistake in the words of a command line, where `clap` has no text for it.
+/// A usage error for which `clap` has no text.
 pub trait MistakeText {
-    // What it is called.
+    // The text of the usage error.
     ghost called: { Self → List ℕ };
 
-    /// What it is called, in at most 100 bytes.
+    /// Returns the text of the usage error, at most 100 bytes.
     fn text(&self) -> &'static [u8]
         ensures text { result.now ≡ called self.now }
         ensures short { length result.now ≤ 100 };
 }
 
-/// Why the words of a command line come to no plan of what a program does.
+/// Why a program can't make a plan of its arguments.
 #[derive(Clone, Copy, Debug, PartialEq, Eq, Drop)]
 pub enum PlanError<M> {
     /// An argument isn't UTF-8.
     BadArgument,
-    /// They have a mistake.
+    /// The arguments have this usage error.
     BadWords(M),
-    /// Memory was refused.
+    /// The system gave no memory.
     OutOfMemory,
 }
 
 impl<M: MistakeText> PlanError<M> {
-    /// Why arguments could not be collected, by the kind of the error.
+    /// Why the arguments could not be collected, by the kind of the error.
     pub fn of_arguments(kind: ErrorKind) -> Self
         ensures memory { kind ≡ ErrorKind.OutOfMemory → result ≡ plan_error.OutOfMemory }
         ensures other { kind ≢ ErrorKind.OutOfMemory → result ≡ plan_error.BadArgument }
@@ -99,8 +99,8 @@ impl<M: MistakeText> PlanError<M> {
         }
     }
 
-    /// Reports it in one line of the program of this name, and returns the status: 2 for a mistake, 3 for want of
-    /// memory. A writer that fails doesn't change the status.
+    /// Writes the error to `errors`, as one line that begins with the program's name, and returns the status: 2 for a
+    /// usage error, 3 if there was no memory. The status is the same if that line can't be written.
     pub fn report<E: WriteOnce>(&self, name: &[u8], errors: &mut E) -> u8
         requires name { length name.now ≤ 20 }
         ensures status { result ≡ plan_error_status self.now }
@@ -115,7 +115,7 @@ impl<M: MistakeText> PlanError<M> {
     }
 }
 
-/// Reports a mistake that is called so, and returns the status 2.
+/// Reports a usage error with this text, and returns the status 2.
 fn report_mistake<E: WriteOnce>(name: &[u8], text: &[u8], errors: &mut E) -> u8
     requires name { length name.now ≤ 20 }
     requires text { length text.now ≤ 100 }

@@ -1,5 +1,5 @@
-//! What every program of this repository does alike: with the options and the words of its command line, with the
-//! standard streams that it was started without, and with a failure that it reports.
+//! What all programs of this repository have in common: they read options and arguments, keep closed standard streams
+//! from being reused, and report failures.
 #![tactic(auto)]
 
 pub mod failure;
@@ -9,6 +9,6 @@ pub mod requests;
 pub mod standard;
 pub mod words;
 
-/// The programs' number, which all of them print for `--version`, and by which a release is named. What the engine
-/// answers to the command `version` is another number, fixed at `1.0`.
+/// The version of the programs, which all of them print for `--version`, and which names a release. The engine's reply
+/// to the command `version` is another number, always `1.0`.
 pub const VERSION: &str = "1.0";

@@ -1,4 +1,4 @@
-//! The options of a command line: a table of them, and what was found of each in the words.
+//! The options of a program: a table of them, and the values that the arguments give them.
 ghost use Rattle.std.specs.Prelude.{◌≡◌, false, map, option_map, IfOk};
 ghost use Rattle.clap.specs.Words.{all_of, app_of, found_of, rows_of, rule_of};
 ghost use Rattle.cli.specs.Options.{HasFlag, HasNumber, named_rule, option_text};
@@ -8,44 +8,44 @@ use clap::builder::ValueParser;
 use clap::{Arg, ArgAction, ArgMatches, Command};
 use std::alloc::{AllocError, Global};
 
-/// An option of a command line.
+/// An option of a program.
 #[derive(Clone, Copy)]
 pub struct OptionRow<'a> {
-    /// The name that follows the two dashes.
+    /// The name after the two dashes.
     pub name: &'a str,
     /// What follows the name.
     pub takes: Takes<'a>,
-    /// What the help says.
+    /// The help text.
     pub help: &'a str,
 }
 
-/// What an option takes. Of each value the help says first what it is called. It doesn't list names, since the text of
-/// the row does.
+/// What an option takes. The first text is the name of the value in the help. The help lists no possible values, since
+/// the row's own help text has them.
 #[derive(Clone, Copy)]
 pub enum Takes<'a> {
-    /// No value.
+    /// No value: a flag.
     Nothing,
-    /// Any text, which has to be there.
+    /// Any text. The option has to be given.
     Required(&'a str),
-    /// Any text; the second where the words don't say.
+    /// Any text; the second one is the default.
     Text(&'a str, &'a str),
-    /// The same, but the help doesn't say what it is where the words don't.
+    /// Any text; the second one is the default, which the help doesn't show.
     HiddenText(&'a str, &'a str),
-    /// A whole number, from the first to the second; what the text spells where the words don't say.
+    /// A whole number from the first to the second; the last text is the default.
     Number(&'a str, i64, i64, &'a str),
-    /// A whole number, from the first to the second, or none.
+    /// A whole number from the first to the second. There is no default.
     MaybeNumber(&'a str, i64, i64),
-    /// One of these names; the last text where the words don't say.
+    /// One of these names; the last text is the default.
     Name(&'a str, &'a [&'a str], &'a str),
-    /// One of these names, any number of times.
+    /// One of these names. The option may be repeated.
     Names(&'a str, &'a [&'a str]),
 }
 
-/// A command line, and the options of these rows after its own.
+/// Adds the options of these rows to a command line, after those that it has, and returns it.
 ///
 /// # Errors
 ///
-/// Where memory is refused.
+/// If memory can't be allocated.
 pub fn with_options<'a>(
     alloc: Global,
     mut command: Command<'a>,
@@ -60,7 +60,7 @@ pub fn with_options<'a>(
     Ok(command)
 }
 
-/// The option of a row.
+/// Returns the option of a row.
 fn option<'a>(alloc: Global, row: OptionRow<'a>) -> Arg<'a>
     ensures rule { rule_of result ≡ rule_of_row row.entry }
     ensures local { result.global ≡ false }
@@ -89,7 +89,7 @@ fn option<'a>(alloc: Global, row: OptionRow<'a>) -> Arg<'a>
     }
 }
 
-/// The option of a row, as one of any text that the help calls so.
+/// Returns the option of a row with a value of any text, which the help calls by this name.
 fn value<'a>(alloc: Global, row: OptionRow<'a>, called: &'a str) -> Arg<'a>
     ensures rule { rule_of result ≡ value_rule row.entry.name.now }
     ensures local { result.global ≡ false }
@@ -97,7 +97,7 @@ fn value<'a>(alloc: Global, row: OptionRow<'a>, called: &'a str) -> Arg<'a>
     named(alloc, row).value_name(called)
 }
 
-/// The option of a row, with its name and its help alone.
+/// Returns the option of a row with just its name and its help.
 fn named<'a>(alloc: Global, row: OptionRow<'a>) -> Arg<'a>
     ensures rule { rule_of result ≡ named_rule row.entry.name.now }
     ensures local { result.global ≡ false }
@@ -105,14 +105,14 @@ fn named<'a>(alloc: Global, row: OptionRow<'a>) -> Arg<'a>
     Arg::new(alloc, row.name).long(row.name).help(row.help)
 }
 
-/// The text of an option, and the empty one where it has none.
+/// Returns the text of an option, or the empty text if it has none.
 pub fn text_at<'a>(matches: &ArgMatches<'a>, name: &str) -> &'a str
     ensures { result.now ≡ option_text name.now (rows_of (found_of matches.now)) }
 {
     matches.get_str(name).unwrap_or("")
 }
 
-/// The texts of an option that is used any number of times, or `None` where the words don't use it.
+/// Returns the texts of an option that may be repeated, or `None` if it isn't given.
 pub fn texts_at<'m, 'a>(matches: &'m ArgMatches<'a>, name: &str) -> Option<&'m [&'a str]>
     ensures { option_map (λ texts. map (λ text. text.now) texts.now) result
         ≡ all_of name.now (rows_of (found_of matches.now)) }
@@ -120,14 +120,14 @@ pub fn texts_at<'m, 'a>(matches: &'m ArgMatches<'a>, name: &str) -> Option<&'m [
     matches.get_strs(name)
 }
 
-/// The number of an option, and 0 where it has none.
+/// Returns the number of an option, or 0 if it has none.
 pub fn number_at(matches: &ArgMatches<'_>, name: &str) -> u32
     ensures { HasNumber name.now (rows_of (found_of matches.now)) result }
 {
     matches.get_one::<u32>(name).unwrap_or(0)
 }
 
-/// Whether a flag is used.
+/// Returns whether a flag is given.
 pub fn flag_at(matches: &ArgMatches<'_>, name: &str) -> bool
     ensures { HasFlag name.now (rows_of (found_of matches.now)) result }
 {

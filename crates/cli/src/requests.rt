@@ -1,4 +1,4 @@
-//! What is written where `clap` returns no options: the help or the version, or what is wrong with the words.
+//! What a program writes when `clap` returns no options: the help, the version or a usage error.
 ghost use Rattle.std.specs.Prelude.{◌≡◌, ◌≤◌, Ok, length, IfOk, IfErr};
 ghost use Rattle.cli.specs.Requests.{Answers, IsRefused, Shows, outputs, writers};
 ghost use Rattle.cli.specs.Status.{IsRequest};
@@ -9,9 +9,9 @@ use byte_streams::{Broken, WriteOnce, write_or_break, write_text};
 use clap::error::ErrorKind;
 use std::alloc::AllocError;
 
-/// Writes what `clap` returns in place of options, an error of this kind with this text, for the program of this name:
-/// a text that was asked for to the output, and a mistake to `errors`. Where memory was refused, for the text too, that
-/// is reported instead. Returns the status: 0 where a text that was asked for went out, 2 for a mistake, else 3.
+/// Handles an error that `clap` returns instead of options, of this kind and with this text: writes the help or the
+/// version to `output`, and a usage error to `errors`. If memory couldn't be allocated, for the text or before, it
+/// reports that instead. Returns the status: 0 if the help or the version was written, 2 for a usage error, else 3.
 pub fn answer_error<O: WriteOnce, E: WriteOnce>(
     name: &[u8],
     kind: ErrorKind,
@@ -29,12 +29,12 @@ pub fn answer_error<O: WriteOnce, E: WriteOnce>(
     }
 }
 
-/// The text of such an error, where the words ask for the help or the version.
+/// Returns the text of such an error, if it is the help or the version.
 ///
 /// # Errors
 ///
-/// The status, after `errors` was written to: 2 for a mistake, whose text is written, and 3 where memory was refused,
-/// which is reported. A writer that fails doesn't change the status.
+/// The status, after a line or more was written to `errors`: 2 for a usage error, whose text is written, or 3 if memory
+/// couldn't be allocated, which is reported. The status is the same if `errors` can't be written.
 pub fn requested_text<E: WriteOnce>(
     name: &[u8],
     kind: ErrorKind,
@@ -60,8 +60,8 @@ pub fn requested_text<E: WriteOnce>(
     Ok(text)
 }
 
-/// Writes a text that was asked for to the output of the program of this name, and returns the status 0. Where the
-/// output breaks at it, that is reported, and the status is 3.
+/// Writes the help or the version to `output`, and returns the status 0. If `output` can't be written, it reports that
+/// to `errors`, and returns 3.
 pub fn show<O: WriteOnce, E: WriteOnce>(
     name: &[u8],
     text: &[u8],

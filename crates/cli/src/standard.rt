@@ -1,7 +1,7 @@
-//! The standard streams that a program was started without.
+//! Standard streams that are closed when the program starts.
 //!
-//! What is opened gets the lowest free number. So a file or a pipe of the program's own would get that of a closed
-//! stream, and what is meant for the standard output would go into it.
+//! A file or pipe that is opened gets the lowest free descriptor. So one of the program's own would take the place of a
+//! closed standard stream, and what is meant for the standard output, say, would go into it.
 ghost use Rattle.std.specs.Prelude.{◌≡◌, ◌↔◌, pos, true, false, Some, IsTrue, IsOk};
 ghost use Rattle.std.specs.Fs.{asks_read, asks_write, IsValidOptions};
 ghost use Rattle.std.specs.IoError.{raw_os_error};
@@ -11,30 +11,30 @@ use std::io;
 use std::io::{Stderr, Stdin, Stdout};
 use std::os::fd::AsFd;
 
-/// What each closed stream becomes.
+/// The file that takes the place of each closed stream.
 const NULL_DEVICE: &str = "/dev/null";
 
-/// The error number of a call that names a closed number, `EBADF`: the same on all Unixes.
+/// The error `EBADF` of a call on a descriptor that is closed. It has the same number on all Unixes.
 const NOT_OPEN: i32 = 9;
 
-/// Keeps the numbers of the closed standard streams, as long as it lives.
+/// Keeps the descriptors of the closed standard streams in use, as long as it lives.
 #[derive(Drop)]
 pub struct Held<F: Drop> {
-    /// The file at 0.
+    /// The file at descriptor 0.
     input: Option<F>,
-    /// The file at 1.
+    /// The file at descriptor 1.
     output: Option<F>,
-    /// The file at 2.
+    /// The file at descriptor 2.
     errors: Option<F>,
 }
 
-/// Holds the number of each standard stream that is closed by the null device, opened the wrong way round: for writing
-/// at 0, for reading at 1 and 2. So each use of such a stream fails, as it does where the number is closed. A program
-/// calls it before it opens any other file.
+/// Opens the null device in place of each standard stream that is closed, in the wrong direction: for writing at 0, for
+/// reading at 1 and 2. So each use of such a stream fails, as it does on a closed descriptor. Call it before the
+/// program opens any other file. It opens nothing for a stream that is open.
 ///
 /// # Errors
 ///
-/// Where a stream is closed and the null device can't be opened. A stream that is open opens nothing.
+/// If a stream is closed and the null device can't be opened.
 pub fn hold_closed<R: Files>(
     files: &R,
     input: Stdin,
@@ -48,7 +48,8 @@ pub fn hold_closed<R: Files>(
     })
 }
 
-/// Holds the number of one stream where it is closed. The numbers below it are open, so the file gets this one.
+/// Opens the null device in place of one stream, if that is closed. The lower descriptors are in use, so the file gets
+/// this one.
 fn hold<R: Files, S: AsFd>(
     files: &R,
     stream: &S,
@@ -61,7 +62,7 @@ fn hold<R: Files, S: AsFd>(
     }
 }
 
-/// Whether the number of a stream is closed: then it can't be copied.
+/// Returns whether the descriptor of a stream is closed: then it can't be duplicated.
 fn is_closed<S: AsFd>(stream: &S) -> bool {
     match stream.as_fd().try_clone_to_owned() {
         Ok(_copy) => false,
@@ -69,14 +70,14 @@ fn is_closed<S: AsFd>(stream: &S) -> bool {
     }
 }
 
-/// Whether an error says that a number is closed.
+/// Returns whether an error says that a descriptor is closed.
 fn says_not_open(error: &io::Error) -> bool
     ensures { IsTrue result ↔ (raw_os_error error.now ≡ Some (pos 9)) }
 {
     error.raw_os_error() == Some(NOT_OPEN)
 }
 
-/// Opens for writing alone.
+/// Options that open a file only for writing.
 fn for_writing() -> OpenOptions
     ensures writes { asks_write result ≡ true }
     ensures reads { asks_read result ≡ false }
@@ -87,7 +88,7 @@ fn for_writing() -> OpenOptions
     options
 }
 
-/// Opens for reading alone.
+/// Options that open a file only for reading.
 fn for_reading() -> OpenOptions
     ensures reads { asks_read result ≡ true }
     ensures writes { asks_write result ≡ false }

@@ -1,4 +1,4 @@
-//! The words of the command line.
+//! The arguments of the program.
 ghost use Rattle.std.specs.Prelude.{◌≡◌, true, false};
 ghost use Rattle.cli.specs.Status.{IsRequest};
 
@@ -7,16 +7,16 @@ use std::alloc::Alloc;
 use std::env::Env;
 use std::{env, io};
 
-/// The program's name and its arguments, in their order.
+/// Returns the program's name and its arguments, in their order.
 ///
 /// # Errors
 ///
-/// `OutOfMemory` where memory is refused, and else `InvalidData` where an argument isn't UTF-8.
+/// `OutOfMemory` if memory can't be allocated, or `InvalidData` if an argument isn't UTF-8.
 pub fn arguments<R: Env + Alloc>(rt: &R) -> io::Result<Vec<String<R::A>, R::A>> {
     Ok(env::args(rt)?.collect(rt.alloc())?)
 }
 
-/// Whether what `clap` returns in place of options is no mistake: the words ask for the help or for the version.
+/// Returns whether an error of `clap` is a request for the help or the version, and not a usage error.
 pub fn is_request(kind: ErrorKind) -> bool
     ensures yes { result ≡ true → IsRequest kind }
     ensures no { result ≡ false → ¬ IsRequest kind }

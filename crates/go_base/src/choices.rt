@@ -1,12 +1,12 @@
 //! Choices: what an engine does when it is asked for a move.
 use crate::vertices::Vertex;
 
-/// What an engine chooses.
+/// What an engine answers to a request for a move.
 #[derive(Clone, Copy, Debug, PartialEq, Eq)]
 pub enum Choice {
-    /// To resign.
+    /// It resigns.
     Resign,
-    /// To play on a point, or to pass.
+    /// It plays on a point, or passes.
     Play(Vertex),
 }
 
@@ -14,7 +14,7 @@ impl Choice {
     ghost use Rattle.std.specs.Prelude.{◌≡◌, IfSome, IfNone};
     ghost use Rattle.go_base.specs.Choice.{SpellsChoice, choice_of};
 
-    /// Reads a choice: `resign`, where each letter may be small or capital, or a vertex. `None` for every other text.
+    /// Reads a choice: `resign` in any case, or a vertex. Returns `None` for every other text.
     pub fn read(text: &[u8]) -> Option<Choice>
         ensures read { IfSome result (λ choice. SpellsChoice choice text.now) }
         ensures unread { IfNone result ((choice : Choice) → SpellsChoice choice text.now → ⊥) }

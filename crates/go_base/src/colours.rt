@@ -6,9 +6,9 @@ ghost use Rattle.go_base.specs.Word.{IsWord};
 /// The colour of a stone, and of the player who plays it.
 #[derive(Clone, Copy, Debug, PartialEq, Eq)]
 pub enum Colour {
-    /// Black: a handicap puts its stones on the board.
+    /// Black, who gets the handicap stones.
     Black,
-    /// White: komi counts for it.
+    /// White, who gets komi.
     White,
 }
 
@@ -18,8 +18,7 @@ pub type Side = Colour;
 impl Colour {
     ghost use Rattle.go_base.specs.Colour.{other, SpellsColour, colour_of, written_colour};
 
-    /// Reads a colour: the word `b` or `black`, `w` or `white`, where each letter may be small or capital. `None` for
-    /// every other text.
+    /// Reads a colour: `b` or `black`, `w` or `white`, in any case. Returns `None` for every other text.
     pub fn read(text: &[u8]) -> Option<Colour>
         ensures read { IfSome result (λ colour. SpellsColour colour text.now) }
         ensures unread { IfNone result ((colour : Colour) → SpellsColour colour text.now → ⊥) }
@@ -44,7 +43,7 @@ impl Colour {
         }
     }
 
-    /// The written spelling: `b` or `w`.
+    /// The colour as it is written: `b` or `w`.
     pub fn write(self) -> u8
         ensures { result ∷ [] ≡ written_colour self }
     {
@@ -55,7 +54,7 @@ impl Colour {
     }
 }
 
-/// Whether the text is one of two words, whatever the case of its letters.
+/// Whether the text is one of two words, in any case.
 fn is_either(text: &[u8], letter: &[u8], name: &[u8]) -> bool
     ensures { IsTrue result
         ↔ (IsWord (str_to_ascii_lowercase letter.now) text.now

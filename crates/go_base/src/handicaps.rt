@@ -8,13 +8,12 @@ use crate::points::Point;
 use crate::sizes::Size;
 use arrayvec::ArrayVec;
 
-/// The points of `stones` handicap stones, in the order in which they are put, or `None` where the size doesn't allow
-/// that number: 2 to 9 stones are allowed on odd sizes from 9 up, 2 to 4 on size 7 and on even sizes from 8 up, and
-/// none on sizes below 7.
+/// Returns the points of `stones` handicap stones, in the order in which they are placed, or `None` if the size doesn't
+/// allow that number. Odd sizes from 9 up allow 2 to 9 stones, size 7 and even sizes from 8 up allow 2 to 4, and all
+/// other sizes allow none.
 ///
-/// The stones are on the third line from the edges on sizes below 13, on the fourth from 13 up, and on the lines in
-/// the middle: first in the corners, then on the sides by pairs. From 5 on, an odd number has its last stone in the
-/// centre.
+/// The stones are on the third line from the edges on sizes below 13, on the fourth from 13 up, and on the middle
+/// lines: first in the corners, then in pairs on the sides. From 5 on, an odd number has its last stone in the centre.
 pub fn handicap(size: Size, stones: u32) -> Option<ArrayVec<Point, 9>>
     ensures allowed { IsSome result ↔ AllowsHandicap size stones }
     ensures points { IfSome result (λ points. points.items ≡ handicap_points size stones) }
@@ -27,7 +26,7 @@ pub fn handicap(size: Size, stones: u32) -> Option<ArrayVec<Point, 9>>
     Some(stone_points(size, stones))
 }
 
-/// Whether the size allows that number of stones.
+/// Whether the size allows this number of stones.
 fn allows(size: Size, stones: u32) -> bool
     ensures allowed { IsTrue result ↔ AllowsHandicap size stones }
     ensures limits { IsSize size }
@@ -35,7 +34,7 @@ fn allows(size: Size, stones: u32) -> bool
     stones >= 2 && stones <= most_stones(size)
 }
 
-/// The most stones that a size allows, or 0.
+/// The most stones that a size allows, or 0 if it allows none.
 fn most_stones(size: Size) -> u32
     ensures most { (stones : ℕ) → ((2 ≤ stones) × (stones ≤ result)) ↔ AllowsHandicap size stones }
     ensures limits { IsSize size }
@@ -64,7 +63,7 @@ fn stone_points(size: Size, stones: u32) -> ArrayVec<Point, 9>
     }
 }
 
-/// The first `stones` of the points of eight stones.
+/// The first `stones` points of a handicap of eight stones.
 fn first_points(size: Size, stones: u32) -> ArrayVec<Point, 9>
     requires large { 7 ≤ size }
     requires few { stones ≤ 8 }
@@ -84,7 +83,7 @@ fn has_centre(stones: u32) -> bool
     stones >= 5 && stones % 2 == 1
 }
 
-/// The points of eight stones: the corners, and then the middles of the sides.
+/// The points of a handicap of eight stones: the corners, then the middles of the sides.
 fn outer_points(size: Size) -> [Point; 8]
     requires { 7 ≤ size }
     ensures { result ≡ handicap_points size 8 }

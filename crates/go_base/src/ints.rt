@@ -1,4 +1,4 @@
-//! Ints of the protocol.
+//! The integers of the protocol.
 ghost use Rattle.std.specs.Prelude.{◌≡◌, ◌+◌, ◌≤◌, ℕ, IfSome, IfNone, length};
 ghost use Rattle.std.specs.Char.{is_ascii_digit};
 ghost use Rattle.std.specs.List.{prefix_len};
@@ -7,11 +7,11 @@ ghost use Rattle.go_base.specs.Text.{front_while, skip_while};
 
 use arrayvec::ArrayVec;
 
-/// The greatest int of the protocol.
+/// The greatest integer of the protocol.
 const MOST_INT: u32 = 2_147_483_647;
 
-/// Reads an int: one digit or more and nothing else, with leading zeros or without, of a value up to 2,147,483,647.
-/// `None` for every other text, so for one with a sign, and for a greater value.
+/// Reads an integer: one or more digits and nothing else, with or without leading zeros, of a value up to
+/// 2,147,483,647. Returns `None` for every other text, such as one with a sign, and for a greater value.
 pub fn read_int(text: &[u8]) -> Option<u32>
     ensures read { IfSome result (λ n. SpellsInt n text.now) }
     ensures unread { IfNone result ((n : ℕ) → SpellsInt n text.now → ⊥) }
@@ -34,7 +34,7 @@ pub fn read_int(text: &[u8]) -> Option<u32>
     Some(value)
 }
 
-/// The digits in front of a text, all of them, and what follows them.
+/// Splits a text after the digits at its front. Returns these digits and the rest.
 #[tactic(auto, using(crate::proofs::general::Fronts::take_prefix_len, crate::proofs::general::Fronts::drop_prefix_len))]
 pub fn split_digits(text: &[u8]) -> (&[u8], &[u8])
     ensures digits { result.0.now ≡ front_while is_ascii_digit text.now }
@@ -44,7 +44,7 @@ pub fn split_digits(text: &[u8]) -> (&[u8], &[u8])
     text.split_at(digits_len(text))
 }
 
-/// How many digits are in front of a text.
+/// How many digits are at the front of a text.
 fn digits_len(text: &[u8]) -> usize
     ensures value { result ≡ prefix_len is_ascii_digit text.now }
     ensures within { result ≤ length text.now }
@@ -52,7 +52,8 @@ fn digits_len(text: &[u8]) -> usize
     text.iter().take_while(|byte| byte.is_ascii_digit()).count()
 }
 
-/// Writes a number in decimal, without leading zeros. Up to 2,147,483,647 this is the written spelling of an int.
+/// Writes a number in decimal, without leading zeros. Up to 2,147,483,647 this is how an integer of the protocol is
+/// written.
 pub fn write_int(number: u32) -> ArrayVec<u8, 10>
     ensures { result.items ≡ written_int number }
 {

@@ -13,14 +13,14 @@ use crate::texts::push;
 use arrayvec::ArrayVec;
 use std::marker::Model;
 
-/// The greatest komi in half points, either way.
+/// The greatest komi in half points, for either colour.
 const MOST_HALF_POINTS: i32 = 1_999_999_999;
 
-/// The most digits of a komi on either side of the point.
+/// The most digits that a komi has on either side of the decimal point.
 const MOST_DIGITS: usize = 9;
 
-/// What White gets for playing second: a number of half points, from -1,999,999,999 to 1,999,999,999. The score is less
-/// by komi, so a komi below zero is in Black's favour.
+/// The points that White gets for playing second, as a number of half points from -1,999,999,999 to 1,999,999,999. Komi
+/// is subtracted from the score, so a negative komi favours Black.
 #[derive(Clone, Copy, Debug, PartialEq, Eq)]
 pub struct Komi {
     half_points: i32,
@@ -40,9 +40,9 @@ impl Model for Komi {
 }
 
 impl Komi {
-    /// Reads a komi in points: a `+` or `-` or neither, at most nine digits, and then nothing, or a point and at most
-    /// nine digits, which are zeros, or a 5 followed by zeros. There is at least one digit in all. `None` for every
-    /// other text.
+    /// Reads a komi in points: an optional `+` or `-`, at most nine digits, and optionally a decimal point with at most
+    /// nine digits after it, which are zeros, or a 5 followed by zeros. There must be at least one digit. Returns
+    /// `None` for every other text.
     pub fn read(text: &[u8]) -> Option<Komi>
         ensures read { IfSome result (λ komi. SpellsKomi komi text.now) }
         ensures unread { IfNone result ((half_points : ℤ) → SpellsKomi half_points text.now → ⊥) }
@@ -55,7 +55,8 @@ impl Komi {
         })
     }
 
-    /// The komi of `half_points` half points, from -1,999,999,999 to 1,999,999,999. `None` for every other number.
+    /// Makes a komi of `half_points` half points, from -1,999,999,999 to 1,999,999,999. Returns `None` for every other
+    /// number.
     pub fn from_half_points(half_points: i32) -> Option<Komi>
         ensures limits { IsSome result ↔ IsKomi half_points }
         ensures value { IfSome result (λ komi. komi ≡ half_points) }
@@ -74,8 +75,8 @@ impl Komi {
         self.half_points
     }
 
-    /// The written spelling in points: `-` where it is negative, the whole part without leading zeros, and `.5` where
-    /// there is a half.
+    /// Writes the komi in points: `-` if it is negative, the whole part without leading zeros, and `.5` if there is a
+    /// half.
     pub fn write(self) -> ArrayVec<u8, 12>
         ensures { result.items ≡ written_half_points self }
     {
@@ -102,7 +103,7 @@ fn with_sign(is_negative: bool, magnitude: u32) -> i32
     }
 }
 
-/// Whether the text begins with a minus, and what follows its sign, or all of it where it has none.
+/// Whether the text begins with a minus, and what follows its sign, or the whole text if it has none.
 fn split_sign(text: &[u8]) -> (bool, &[u8])
     ensures negative { IsTrue result.0 ↔ (sign_of text.now ≡ minus) }
     ensures unsigned { result.1.now ≡ without_sign text.now }
@@ -148,7 +149,7 @@ fn read_decimals(rest: &[u8]) -> Option<&[u8]>
     }
 }
 
-/// The half points of the digits after the point: of none, of zeros, or of 5 and zeros.
+/// The half points of the digits after the decimal point: no digits, zeros, or a 5 followed by zeros.
 fn read_half(decimals: &[u8]) -> Option<u32>
     ensures value { result ≡ half_of decimals.now }
     ensures limit { IfSome result (λ halves. halves ≤ 1) }

@@ -1,6 +1,6 @@
 //! Laws of the values and their texts.
 //!
-//! Each function does nothing, or only compares: that it is proved is the law in its contract.
+//! The body of each function is empty, or only compares: the law is its contract, and it is proved.
 ghost use Rattle.std.specs.Prelude.{◌≡◌, ◌↔◌, IsTrue};
 ghost use Rattle.go_base.specs.Int.{IntOfAgrees, IntsReadBack, SpellsOneInt};
 ghost use Rattle.go_base.specs.Colour.{ColourOfAgrees, ColoursReadBack, SpellsOneColour};
@@ -19,7 +19,7 @@ use crate::points::Point;
 use crate::sizes::Size;
 use crate::vertices::Vertex;
 
-/// A value of each kind.
+/// One value of each kind.
 #[derive(Clone, Copy)]
 pub struct Values {
     /// A size.
@@ -38,26 +38,26 @@ pub struct Values {
     pub choice: Choice,
 }
 
-/// Of which kinds the values are equal (`==`).
+/// For which kinds two values are equal (`==`).
 #[derive(Clone, Copy)]
 pub struct Equal {
-    /// The sizes are.
+    /// Whether the sizes are equal.
     pub size: bool,
-    /// The colours are.
+    /// Whether the colours are equal.
     pub colour: bool,
-    /// The points are.
+    /// Whether the points are equal.
     pub point: bool,
-    /// The vertices are.
+    /// Whether the vertices are equal.
     pub vertex: bool,
-    /// The moves are.
+    /// Whether the moves are equal.
     pub played: bool,
-    /// The komis are.
+    /// Whether the komis are equal.
     pub komi: bool,
-    /// The choices are.
+    /// Whether the choices are equal.
     pub choice: bool,
 }
 
-/// Two values are equal (`==`) exactly where they are one and the same. The function only compares.
+/// Two values are equal (`==`) exactly if they are identical. The function only compares.
 pub fn equality_law(one: Values, another: Values) -> Equal
     ensures sizes { IsTrue result.size ↔ (one.size ≡ another.size) }
     ensures colours { IsTrue result.colour ↔ (one.colour ≡ another.colour) }
@@ -78,21 +78,21 @@ pub fn equality_law(one: Values, another: Values) -> Equal
     }
 }
 
-/// A written int is read back, and a text spells at most one int.
+/// Writing an integer and reading it gives the same integer, and a text spells at most one.
 pub fn int_laws()
     ensures function { IntOfAgrees }
     ensures read_back { IntsReadBack }
     ensures one { SpellsOneInt }
 {}
 
-/// A written colour is read back, and a text spells at most one colour.
+/// Writing a colour and reading it gives the same colour, and a text spells at most one.
 pub fn colour_laws()
     ensures function { ColourOfAgrees }
     ensures read_back { ColoursReadBack }
     ensures one { SpellsOneColour }
 {}
 
-/// A written vertex is read back, and a text spells at most one vertex.
+/// Writing a vertex and reading it gives the same vertex, and a text spells at most one.
 pub fn vertex_laws()
     ensures function { VertexOfAgrees }
     ensures read_back { VerticesReadBack }
@@ -105,32 +105,32 @@ pub fn choice_laws()
     ensures one { SpellsOneChoice }
 {}
 
-/// A written komi is read back, and a text spells at most one komi.
+/// Writing a komi and reading it gives the same komi, and a text spells at most one.
 pub fn komi_laws()
     ensures function { KomiOfAgrees }
     ensures read_back { KomisReadBack }
     ensures one { SpellsOneKomi }
 {}
 
-/// A text spells an int exactly where its digits count one that is at most 2,147,483,647, and a point exactly where it
-/// is a letter and digits. The letter, small or capital, names the column: `A` to `H` are 1 to 8, and `J` to `Z` 9 to
-/// 25. The digits count the row, 1 to 25, without a zero in front. It spells a komi exactly where it is a decimal
-/// number with at most nine digits on either side of its point; the half points are twice its value, and below zero
-/// after a `-`.
+/// A text spells an integer exactly if it consists of one or more digits whose decimal value is at most 2,147,483,647,
+/// and a point exactly if it is a letter and digits. The letter, in upper or lower case, names the column: `A` to `H`
+/// are columns 1 to 8, and `J` to `Z` are 9 to 25. The digits are the row, 1 to 25, without leading zeros. A text
+/// spells a komi exactly if it is a decimal number with at most nine digits on either side of its decimal point; its
+/// half points are twice its value, and negative after a `-`.
 pub fn decimal_laws()
     ensures ints { IntsAreCounted }
     ensures points { PointsAreCounted }
     ensures komis { KomisAreTwiceTheirValue }
 {}
 
-/// Two points of the largest board are neighbours on the mailbox board exactly where they share a column or a row and
-/// are next to each other in it.
+/// Two points of the largest board are neighbours on the mailbox board exactly if they are in the same column or row
+/// and next to each other in it.
 pub fn neighbours_law()
     ensures { NeighboursAreBeside }
 {}
 
-/// A text that spells a point spells one on the board of a size exactly where its letter names one of the first `size`
-/// columns and its digits count one of the first `size` rows.
+/// A text that spells a point spells one on a board of size `size` exactly if its letter names one of the first `size`
+/// columns and its digits name one of the first `size` rows.
 pub fn board_points_law()
     ensures { PointsOnBoardsAreWithin }
 {}

@@ -1,4 +1,4 @@
-//! The values of the protocol and of Go, and their texts.
+//! The values of Go and of the protocol, and how they are written.
 #![tactic(auto)]
 
 mod choices;

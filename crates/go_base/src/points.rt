@@ -10,14 +10,14 @@ use std::marker::Model;
 /// The greatest column and the greatest row of a point.
 const MOST_LINES: u32 = 25;
 
-/// A point of the largest board: where a column and a row cross, both from 1 to 25. A1, in the lower left corner, is
-/// column 1 and row 1.
+/// A point of the largest board: the crossing of a column and a row, both from 1 to 25. A1, in the lower left corner,
+/// is column 1 and row 1.
 ///
-/// A contract sees it as its place on a mailbox board of 26 to a row: `26 * row + column`. Such a board is one array,
-/// with the rows one after the other from the bottom up and one place more to a row than the largest board has
-/// columns. That place and the rows below and above hold no point, so the four neighbours of every point, on any edge,
-/// are the places one less, one more, 26 less and 26 more, and no step leads from the end of one row to the start of
-/// the next.
+/// Contracts see a point as its place on a mailbox board with 26 places to a row: `26 * row + column`. Such a board is
+/// one array that has the rows one after the other from the bottom up. A row has one place more than the largest board
+/// has columns. That extra place, the row below the board and the row above it hold no points. So the neighbours of
+/// every point, edge points included, are the places one less, one more, 26 less and 26 more, and no step leads from
+/// the end of one row to the start of the next.
 #[derive(Clone, Copy, Debug, PartialEq, Eq)]
 pub struct Point {
     column: u8,
@@ -41,7 +41,7 @@ impl Model for Point {
 }
 
 impl Point {
-    /// The point where a column and a row cross, where both are 1 to 25.
+    /// The point where a column and a row cross. Returns `None` unless both are 1 to 25.
     #[inline]
     pub fn new(column: u32, row: u32) -> Option<Point>
         ensures limits { IsSome result ↔ IsCrossing column row }
@@ -93,7 +93,7 @@ impl Point {
         }
     }
 
-    /// Whether a board of that size has the point.
+    /// Whether a board of this size has the point.
     pub fn on(self, size: Size) -> bool
         ensures { IsTrue result ↔ IsOn size self }
     {

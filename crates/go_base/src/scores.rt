@@ -1,4 +1,4 @@
-//! Numbers of half points, and scores, as texts.
+//! Half points and scores as texts.
 ghost use Rattle.std.specs.Prelude.{◌≡◌, ◌≤◌, pos, length};
 ghost use Rattle.go_base.specs.HalfPoints.{written_half_points, leader, score_text};
 
@@ -6,7 +6,7 @@ use crate::ints::write_int;
 use crate::texts::push;
 use arrayvec::ArrayVec;
 
-/// Writes a number of half points in points: the whole part without leading zeros, and `.5` where there is a half.
+/// Writes a number of half points in points: the whole part without leading zeros, and `.5` if there is a half.
 pub fn write_half_points(half_points: u32) -> ArrayVec<u8, 12>
     ensures { result.items ≡ written_half_points (pos half_points) }
 {
@@ -18,8 +18,8 @@ pub fn write_half_points(half_points: u32) -> ArrayVec<u8, 12>
     text
 }
 
-/// Writes a score in half points, which is positive where Black leads: `B+` or `W+` and the points by which that colour
-/// leads, or `0`.
+/// Writes a score that is given in half points, positive if Black leads: `B+` or `W+` and by how many points that
+/// colour leads, or `0`.
 pub fn write_score(half_points: i32) -> ArrayVec<u8, 14>
     ensures { result.items ≡ score_text half_points }
 {

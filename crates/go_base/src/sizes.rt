@@ -7,7 +7,7 @@ use std::marker::Model;
 /// The greatest size of a board.
 const MOST_SIZE: u32 = 25;
 
-/// The number of columns of a board, and of its rows: 1 to 25.
+/// The size of a board, which is the number of its columns and of its rows: 1 to 25.
 #[derive(Clone, Copy, Debug, PartialEq, Eq)]
 pub struct Size {
     number: u32,
@@ -27,7 +27,7 @@ impl Model for Size {
 }
 
 impl Size {
-    /// The size, where it is 1 to 25.
+    /// The size of this number. Returns `None` unless it is 1 to 25.
     pub fn new(number: u32) -> Option<Size>
         ensures limits { IsSome result ↔ IsSize number }
         ensures value { IfSome result (λ size. size ≡ number) }

@@ -1,4 +1,4 @@
-//! Texts in lists with room for a fixed number of bytes, written piece by piece.
+//! Texts in lists of a fixed capacity, written part by part.
 ghost use Rattle.std.specs.Prelude.{◌≡◌, ◌+◌, ◌≤◌, ◌++◌, length};
 ghost use Rattle.arrayvec.specs.ArrayVec.{array_vec_len};
 ghost use Rattle.go_base.specs.Bytes.{space};
@@ -9,7 +9,7 @@ use crate::points::Point;
 use crate::vertices::Vertex;
 use arrayvec::ArrayVec;
 
-/// Appends bytes, for which there is room.
+/// Appends bytes. The list must have the capacity for them.
 pub fn push<const ROOM: usize>(text: &mut ArrayVec<u8, ROOM>, bytes: &[u8])
     requires { array_vec_len text.old + length bytes.now ≤ ROOM }
     ensures bytes { text.new.items ≡ text.old.items ++ bytes.now }
@@ -19,7 +19,7 @@ pub fn push<const ROOM: usize>(text: &mut ArrayVec<u8, ROOM>, bytes: &[u8])
     let _ = text.try_extend_from_slice(bytes);
 }
 
-/// Appends a word, after the separator where the text isn't empty. There is room for both.
+/// Appends a word, after the separator if the text isn't empty. The list must have the capacity for both.
 pub fn push_word<const ROOM: usize>(text: &mut ArrayVec<u8, ROOM>, separator: u8, word: &[u8])
     requires { array_vec_len text.old + 1 + length word.now ≤ ROOM }
     ensures bytes { text.new.items ≡ joined separator text.old.items word.now }
@@ -31,7 +31,7 @@ pub fn push_word<const ROOM: usize>(text: &mut ArrayVec<u8, ROOM>, separator: u8
     push(text, word);
 }
 
-/// Appends a vertex, after a space where the text isn't empty. There is room for five bytes.
+/// Appends a vertex, after a space if the text isn't empty. The list must have the capacity for five more bytes.
 pub fn push_vertex<const ROOM: usize>(text: &mut ArrayVec<u8, ROOM>, vertex: Vertex)
     requires { array_vec_len text.old + 5 ≤ ROOM }
     ensures bytes { text.new.items ≡ joined space text.old.items (written_vertex vertex) }
@@ -40,10 +40,10 @@ pub fn push_vertex<const ROOM: usize>(text: &mut ArrayVec<u8, ROOM>, vertex: Ver
     push_word(text, b' ', &vertex.write());
 }
 
-/// The room for the vertices of nine points, by five bytes each: a space and a vertex.
+/// The capacity for the vertices of nine points: five bytes for each, a space and a vertex.
 pub const VERTICES_ROOM: usize = 45;
 
-/// The vertices of points, separated by single spaces.
+/// Writes the vertices of points, separated by single spaces.
 pub fn write_vertices(points: &ArrayVec<Point, 9>) -> ArrayVec<u8, VERTICES_ROOM>
     ensures { result.items ≡ written_vertices points.now.items }
 {

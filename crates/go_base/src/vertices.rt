@@ -12,9 +12,9 @@ use arrayvec::ArrayVec;
 /// A point, or a pass.
 #[derive(Clone, Copy, Debug, PartialEq, Eq)]
 pub enum Vertex {
-    /// No stone is put down.
+    /// A pass: no stone is placed.
     Pass,
-    /// A stone is put on this point.
+    /// A stone is placed on this point.
     At(Point),
 }
 
@@ -22,8 +22,8 @@ impl Vertex {
     ghost use Rattle.go_base.specs.Vertex.{SpellsVertex, vertex_of};
 
     /// Reads a vertex: the letter of a column, `A` to `H` or `J` to `Z`, and a row, 1 to 25 without leading zeros; or
-    /// `pass`. The letters may be small or capital. `None` for every other text. A point that is read may be off a
-    /// board that is smaller than the largest.
+    /// `pass`. Letters may be in any case. Returns `None` for every other text. The point may be off a board that is
+    /// smaller than the largest.
     pub fn read(text: &[u8]) -> Option<Vertex>
         ensures read { IfSome result (λ vertex. SpellsVertex vertex text.now) }
         ensures unread { IfNone result ((vertex : Vertex) → SpellsVertex vertex text.now → ⊥) }
@@ -36,7 +36,7 @@ impl Vertex {
         Some(Vertex::At(point))
     }
 
-    /// The written spelling: the capital letter of the column and the row, or `pass`.
+    /// Writes the vertex: the capital letter of its column and its row, or `pass`.
     pub fn write(self) -> ArrayVec<u8, 4>
         ensures { result.items ≡ written_vertex self }
     {
@@ -59,7 +59,7 @@ fn read_point(text: &[u8]) -> Option<Point>
     Point::new(column, row)
 }
 
-/// The column of a letter, small or capital.
+/// The column of a letter in upper or lower case.
 fn read_column(letter: u8) -> Option<u32>
     ensures value { result ≡ column_of_letter letter }
     ensures limits { IfSome result (λ column. (1 ≤ column) × (column ≤ most_size)) }

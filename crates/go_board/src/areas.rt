@@ -13,32 +13,32 @@ use crate::columns::Columns;
 use crate::places::Places;
 use go_base::Colour;
 
-/// Of which colours stones are beside a point or a region.
+/// Which colours have stones beside a point or a region.
 #[derive(Clone, Copy, Debug, PartialEq, Eq)]
 pub struct Beside {
-    /// Whether there are black ones.
+    /// Whether Black has.
     pub black: bool,
-    /// Whether there are white ones.
+    /// Whether White has.
     pub white: bool,
 }
 
 /// How many empty points count for each colour.
 #[derive(Clone, Copy, Debug, PartialEq, Eq)]
 pub struct OpenArea {
-    /// How many count for Black.
+    /// How many of them count for Black.
     pub black: u32,
-    /// How many count for White.
+    /// How many of them count for White.
     pub white: u32,
 }
 
-/// What is beside the regions that were flooded so far.
+/// What is beside the regions that were found so far by flood fill.
 #[derive(Drop)]
 pub struct Regions {
-    /// For each place what is beside its region, where that is known.
+    /// For each place, what is beside its region, if that is known.
     known: [Option<Beside>; PLACES],
 }
 
-/// 1 where a place that holds this has a stone of a colour.
+/// 1 if a place with this content has a stone of the colour, and 0 if not.
 #[inline]
 pub fn one_of(colour: Colour, cell: Cell) -> u32
     ensures value { result ≡ one_of colour cell }
@@ -50,7 +50,7 @@ pub fn one_of(colour: Colour, cell: Cell) -> u32
     }
 }
 
-/// Whether one of two is true.
+/// Whether at least one of two values is true.
 #[inline]
 fn either(a: bool, b: bool) -> bool
     ensures { IsTrue result ↔ (IsTrue a ⊎ IsTrue b) }
@@ -68,7 +68,7 @@ fn alone(a: bool, b: bool) -> u32
 }
 
 impl Regions {
-    /// Nothing is known.
+    /// Starts with nothing known.
     fn new() -> Self
         ensures { result.known ≡ replicate place_count None }
     {
@@ -77,7 +77,7 @@ impl Regions {
         }
     }
 
-    /// What is beside the region of a place, where that is known.
+    /// What is beside the region of a place, if that is known.
     #[inline]
     fn at(&self, place: usize) -> Option<Beside>
         requires { place < place_count }
@@ -86,7 +86,7 @@ impl Regions {
         self.known[place]
     }
 
-    /// Learns what is beside the region of these places.
+    /// Records what is beside the region of these places.
     fn learn(&mut self, places: &Places, beside: Beside)
         ensures { IsLearnt self.old.known self.new.known places.now beside }
     {
@@ -109,8 +109,8 @@ impl Board {
         count
     }
 
-    /// How many empty points count for each colour: those of regions that only its stones are beside. A region of more
-    /// than one point is flooded once.
+    /// How many empty points count for each colour: those in regions with only its stones beside them. A region of more
+    /// than one point is flood-filled once.
     pub fn open_area(&self) -> OpenArea
         ensures area { AreOpenBelow self.now place_count result }
         ensures black { result.black ≤ place_count }
@@ -125,7 +125,7 @@ impl Board {
         area
     }
 
-    /// Adds a row's empty points that count for each colour.
+    /// Adds the empty points of a row that count for each colour.
     fn count_row(&self, row: usize, area: &mut OpenArea, regions: &mut Regions, region: &mut Places)
         requires row { row < 27 }
         requires before { AreOpenBelow self.now (26 * row) area.old }
@@ -142,8 +142,8 @@ impl Board {
         }
     }
 
-    /// Of which colours stones are beside the region of an empty point. Where no empty point is beside it, these are
-    /// its neighbours.
+    /// Which colours have stones beside the region of an empty point. If the point has no empty neighbour, these are
+    /// the colours of its neighbours.
     #[inline]
     fn beside_empty(&self, place: usize, regions: &mut Regions, region: &mut Places) -> Beside
         requires point { IsOn most_size place }
@@ -159,7 +159,7 @@ impl Board {
         }
     }
 
-    /// Of which colours stones are beside the region of an empty point, by a flood where that isn't known.
+    /// Which colours have stones beside the region of an empty point. A flood fill finds it if it isn't known yet.
     fn beside_region(&self, place: usize, regions: &mut Regions, region: &mut Places) -> Beside
         requires place { place < place_count }
         requires empty { at self.now place ≡ Empty }
@@ -176,7 +176,7 @@ impl Board {
         beside
     }
 
-    /// Of which colours stones are beside any of these points.
+    /// Which colours have stones beside any of these points.
     fn beside_all(&self, places: &Places) -> Beside
         requires { (p : ℕ) → Contains places.now p → at self.now p ≢ Edge }
         ensures black { IsTrue result.black ↔ HasAnyBeside self.now places.now Black }
@@ -193,7 +193,7 @@ impl Board {
         Beside { black, white }
     }
 
-    /// Of which colours stones are beside a point.
+    /// Which colours have stones beside a point.
     #[inline]
     fn beside(&self, place: usize) -> Beside
         requires { IsOn most_size place }

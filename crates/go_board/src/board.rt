@@ -1,4 +1,4 @@
-//! A board as an array of places with edge round the points.
+//! A board as an array of places, with edge places around the points.
 ghost use Rattle.std.specs.Prelude.{◌≡◌, ◌≢◌, ℕ, ◌<◌, ◌≤◌, ◌↔◌, ◌⊎◌, if◌then◌else◌, IsTrue, All, ◌+◌, ◌*◌, Contains};
 ghost use Rattle.go_base.specs.Point.{IsOn};
 ghost use Rattle.go_base.specs.Size.{most_size, IsSize};
@@ -13,10 +13,10 @@ use crate::taken_stack::TakenStone;
 use go_base::{Colour, Point, Size, Vertex, handicap};
 use std::marker::Model;
 
-/// How many places a row has: its points and its edge.
+/// How many places a row has: its points and its edge place.
 pub const ROW: usize = 26;
 
-/// How many rows a board has: those of its points and the edge below and above.
+/// How many rows a board has: those with points, and the edge rows below and above.
 pub const ROWS: usize = 27;
 
 /// How many places a board has.
@@ -26,7 +26,7 @@ pub const PLACES: usize = ROWS * ROW;
 #[derive(Clone, Copy, PartialEq, Eq, Debug)]
 #[repr(u8)]
 pub enum Cell {
-    /// The place is no point of the board.
+    /// The place is not a point of the board.
     Edge,
     /// The point has no stone.
     Empty,
@@ -78,7 +78,7 @@ pub fn place_of(point: Point) -> usize
     ROW * point.row() as usize + point.column() as usize
 }
 
-/// The point of a place that is one.
+/// The point at a place, which must be one.
 #[inline]
 pub fn point_at(place: usize) -> Point
     requires { IsOn most_size place }
@@ -90,7 +90,7 @@ pub fn point_at(place: usize) -> Point
     }
 }
 
-/// The point of a row and a column that have one.
+/// The point in a row and a column, which must have one.
 #[inline]
 pub fn point_in(row: usize, column: usize) -> Point
     requires point { IsOn most_size (26 * row + column) }
@@ -103,8 +103,8 @@ pub fn point_in(row: usize, column: usize) -> Point
     }
 }
 
-/// What a place of an empty board holds: nothing where it is one of the points of `lines` lines each way, and edge
-/// elsewhere.
+/// What a place of an empty board holds: nothing if it is a point of a board of `lines` lines in each direction, and
+/// edge otherwise.
 #[inline]
 fn empty_cell(lines: u32, place: usize) -> Cell
     ensures { result ≡ (if is_point lines place then Cell.Empty else Cell.Edge) }
@@ -154,7 +154,7 @@ impl Board {
     ghost use Rattle.go_board.specs.private.TakenStack.{ArePoints, AreTakenBy, IsVacant, cleared, later_than};
     ghost use Rattle.go_board.specs.declared.board.Cell.TheVariants.{Edge};
 
-    /// The board of this size without a stone.
+    /// An empty board of this size.
     pub fn empty(size: Size) -> Self
         ensures board { result ≡ empty_board size }
         ensures size { HasSize size result }
@@ -168,7 +168,7 @@ impl Board {
         Board { cells }
     }
 
-    /// The board before the first move: Black's stones on the handicap's points, where there is a handicap.
+    /// The board before the first move: empty except for Black's stones on the points of the handicap, if there is one.
     pub fn start(size: Size, stones: u32) -> Self
         requires { (stones ≡ 0) ⊎ AllowsHandicap size stones }
         ensures board { result ≡ start size stones }
@@ -193,14 +193,14 @@ impl Board {
         }
     }
 
-    /// Whether a stone is on the board.
+    /// Whether there is any stone on the board.
     pub fn has_stone(&self) -> bool
         ensures { IsTrue result ↔ HasStone self.now }
     {
         self.cells.iter().any(|cell| cell.is_stone())
     }
 
-    /// A look: what isn't edge is a point of the largest board.
+    /// A look: a place that isn't edge is a point of the largest board.
     #[inline]
     pub fn look(&self)
         ensures { IsFramed self.now }
@@ -217,13 +217,13 @@ impl Board {
         self.cells[place]
     }
 
-    /// The columns of a row where it has empty points.
+    /// The columns at which a row has empty points.
     #[inline]
     pub fn empty_in_row(&self, row: usize) -> Columns
         requires { row < 27 }
         ensures { AreEmptyIn self.now row result }
     {
-        // A byte for each place, so that the compiler can make a vector of them.
+        // One byte for each place, so that the compiler can vectorize the loop.
         let mut lanes = [0; 32];
         for column in 0..ROW {
             lanes[column] = (self.cells[ROW * row + column] == Cell::Empty) as u8;
@@ -241,7 +241,7 @@ impl Board {
         self.cells[place] = cell;
     }
 
-    /// The sum of the keys of this size and of the stones, in 64 bits.
+    /// A hash: the sum of the keys of this size and of all stones, modulo 2^64.
     pub fn hash(&self, size: Size) -> u64
         ensures { result ≡ hash_of size self.now }
     {
@@ -252,7 +252,7 @@ impl Board {
         sum
     }
 
-    /// Whether all places hold the same on another board. A place that may well differ is looked at first.
+    /// Whether another board is equal. The given place, at which they are likely to differ, is compared first.
     #[inline]
     pub fn equals(&self, other: &Board, place: usize) -> bool
         requires { place < place_count }
@@ -261,8 +261,8 @@ impl Board {
         self.cells[place] == other.cells[place] && self.cells == other.cells
     }
 
-    /// Clears the points of the stones at the front that the move with this number took. Returns the stones that later
-    /// moves took.
+    /// Clears the points of the leading stones in the list, those that the move with this number captured. Returns the
+    /// rest, which later moves captured.
     pub fn clear_taken<'a>(&mut self, number: usize, stones: &'a [TakenStone]) -> &'a [TakenStone]
         requires { ArePoints self.old stones.now }
         ensures board { self.new ≡ cleared self.old number stones.now }
@@ -280,8 +280,7 @@ impl Board {
         left
     }
 
-    /// Makes a move again, where these stones were taken by it and by later moves. Returns the stones that later moves
-    /// took.
+    /// Replays a move. `stones` lists those that it and later moves captured. Returns those that later moves captured.
     #[inline]
     pub fn make<'a>(
         &mut self,
@@ -316,7 +315,7 @@ impl Board {
             || self.cells[place - ROW] == wanted
     }
 
-    /// 1 where a place is empty.
+    /// 1 if a place is empty, and 0 if not.
     #[inline]
     fn empty_at(&self, place: usize) -> u32
         requires { place < place_count }
@@ -339,7 +338,7 @@ impl Board {
             + self.empty_at(place - ROW)
     }
 
-    /// Finds the places of the chain or region of a point, instead of those that were there.
+    /// Finds the places of a point's chain or region, and replaces the contents of `found` by them.
     pub fn chain_into(&self, place: usize, found: &mut Places)
         requires place { place < place_count }
         requires point { at self.now place ≢ Edge }
@@ -356,12 +355,12 @@ impl Board {
         }
     }
 
-    /// The empty points beside these places.
+    /// The empty points that are beside these places.
     pub fn empty_beside_all(&self, places: &Places) -> Places
         requires { (p : ℕ) → Contains places.now p → at self.now p ≢ Edge }
         ensures { AreEmptyBeside self.now places.now result }
     {
-        // A look: what isn't edge is a point of the largest board.
+        // A look: a place that isn't edge is a point of the largest board.
         let _ = &self.cells;
         let mut found = Places::new();
         for index in 0..places.len() {
@@ -370,7 +369,7 @@ impl Board {
         found
     }
 
-    /// Inserts those of a point's four neighbours that hold what is sought.
+    /// Inserts those of a point's four neighbours that hold what is wanted.
     #[inline]
     pub fn spread_round(&self, sought: Cell, place: usize, found: &mut Places)
         requires low { ROW < place }
@@ -383,7 +382,7 @@ impl Board {
         self.spread(sought, place - ROW, found);
     }
 
-    /// Inserts a place, if it holds what is sought.
+    /// Inserts a place if it holds what is wanted.
     #[inline]
     fn spread(&self, sought: Cell, place: usize, found: &mut Places)
         requires { place < place_count }

@@ -1,4 +1,4 @@
-//! The id of each place of a board.
+//! The chain id of each place of a board.
 ghost use Rattle.std.specs.Prelude.{◌≡◌, ◌<◌, ◌≤◌, ◌↔◌, IsTrue};
 ghost use Rattle.go_base.specs.Size.{most_size};
 ghost use Rattle.go_board.specs.Board.{place_count};
@@ -8,7 +8,7 @@ use crate::board::{Board, PLACES, ROW};
 use crate::places::Places;
 use std::marker::Model;
 
-/// An id for each place of a board. An id is a place too.
+/// An id for each place of a board. An id is itself the number of a place.
 #[derive(Clone, Copy)]
 pub struct ChainIds {
     ids: [u16; PLACES],
@@ -35,7 +35,7 @@ impl ChainIds {
     ghost use Rattle.go_board.specs.private.Frame.{IsFramed};
     ghost use Rattle.go_board.specs.private.PlayoutBoard.{AreInRows, AreNamed};
 
-    /// Each place has id 0, which is no stone's.
+    /// Gives each place id 0, which no stone has.
     pub fn none() -> Self
         ensures { result ≡ replicate place_count 0 }
     {
@@ -77,7 +77,7 @@ impl ChainIds {
         }
     }
 
-    /// The ids of the chains of a board, made anew: each chain's is its first place.
+    /// Finds the chains of a board and gives them ids from scratch: the id of a chain is its first place.
     pub fn from_board(board: &Board) -> ChainIds
         requires { IsFramed board.now }
         ensures { AreChainIds board.now result }
@@ -93,7 +93,7 @@ impl ChainIds {
         ids
     }
 
-    /// Whether a place of a row has an id.
+    /// Whether a place in a row has this id.
     #[inline]
     pub fn has_in_row(&self, row: usize, id: usize) -> bool
         requires row { row < 27 }
@@ -110,7 +110,7 @@ impl ChainIds {
         has
     }
 
-    /// Turns three ids into one, in one pass.
+    /// Renames three ids to one, in one pass.
     pub fn join(&mut self, to: usize, a: usize, b: usize, c: usize)
         requires to { to < place_count }
         requires a { a < place_count }
@@ -124,7 +124,7 @@ impl ChainIds {
         }
     }
 
-    /// Turns three ids into one, in one pass over the rows of `lines` lines. All other places have id 0.
+    /// Renames three ids to one, in one pass over the rows of a board of `lines` lines. All other places have id 0.
     pub fn join_rows(&mut self, to: usize, a: usize, b: usize, c: usize, lines: usize)
         requires to { to < place_count }
         requires named { AreNamed a b c }
@@ -139,7 +139,7 @@ impl ChainIds {
     }
 }
 
-/// What an id becomes where one id turns into another.
+/// The new id when one id is renamed to another.
 #[inline]
 fn rename(to: u16, from: u16, id: u16) -> u16
     ensures { result ≡ rename to from id }

@@ -1,14 +1,14 @@
-//! Sets of columns of a row of places.
+//! Sets of columns in a row of places.
 ghost use Rattle.std.specs.Prelude.{◌≡◌, ◌≢◌, ℕ, ◌<◌, ◌↔◌, ◌⊎◌, IsTrue};
 ghost use Rattle.go_board.specs.private.Columns.{Has};
 
 use std::marker::Model;
 use std::simd::prelude::*;
 
-/// Columns of a row of places. A search of all points looks at a whole row at once in this way.
+/// Columns in a row of places. With them a search of all points handles a whole row at once.
 #[derive(Clone, Copy)]
 pub struct Columns {
-    /// A bit for each column, the first in the lowest.
+    /// A bit for each column; the lowest bit is the first column.
     bits: u32,
 }
 
@@ -29,7 +29,7 @@ impl Columns {
     ghost use Rattle.std.specs.Prelude.{get_or};
     ghost use Rattle.go_board.specs.private.Columns.{AreLanes, IsFirst, IsBesideAny};
 
-    /// No column.
+    /// The empty set.
     #[inline]
     pub fn none() -> Self
         ensures { (k : ℕ) → ¬ Has result k }
@@ -49,7 +49,7 @@ impl Columns {
         }
     }
 
-    /// Adds a column where it is wanted.
+    /// Adds a column if the flag is set.
     #[inline]
     pub fn add_if(&mut self, wanted: bool, column: usize)
         requires { column < 26 }
@@ -58,7 +58,7 @@ impl Columns {
         self.bits |= (wanted as u32) << column;
     }
 
-    /// Removes the first column, and returns it: `None` where there is none.
+    /// Removes the first column and returns it. Returns `None` if there is none.
     #[inline]
     pub fn pop_first(&mut self) -> Option<usize>
         ensures { IsFirst self.old self.new result }
@@ -71,7 +71,7 @@ impl Columns {
         Some(first)
     }
 
-    /// Those columns that aren't among others.
+    /// The columns that aren't in `others`.
     #[inline]
     pub fn without(self, others: Columns) -> Self
         ensures { (k : ℕ) → Has result k ↔ (Has self k × ¬ Has others k) }
@@ -81,7 +81,7 @@ impl Columns {
         }
     }
 
-    /// Those columns that have another of them beside them, or that are also in the row below or above.
+    /// The columns that are next to another one of the set, or are also in the row below or above.
     #[inline]
     pub fn beside_any(self, below: Columns, above: Columns) -> Self
         ensures { (k : ℕ) → Has result k ↔ (Has self k × IsBesideAny self below above k) }

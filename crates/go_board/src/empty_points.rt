@@ -1,4 +1,4 @@
-//! The order of the empty points, from which a playout draws.
+//! The list of the empty points, from which a playout draws.
 ghost use Rattle.std.specs.Prelude.{◌≡◌, ◌<◌, ◌≤◌, ◌+◌, [], ◌∷◌, ◌++◌, length, slice_get, Some};
 ghost use Rattle.std.specs.List.{swap, swap_remove};
 ghost use Rattle.go_board.specs.Board.{place_count};
@@ -8,7 +8,7 @@ use crate::places::Places;
 use arrayvec::ArrayVec;
 use std::marker::Model;
 
-/// Places of a board in some order.
+/// Places of a board in some order, each at an index.
 #[derive(Drop)]
 pub struct EmptyPoints {
     places: ArrayVec<u16, PLACES>,
@@ -25,7 +25,7 @@ impl Model for EmptyPoints {
 impl EmptyPoints {
     ghost use Rattle.go_board.specs.private.EmptyPoints.{InsertsFrom, AreInserted};
 
-    /// No place.
+    /// An empty list.
     pub fn new() -> Self
         ensures { result ≡ [] }
     {
@@ -43,7 +43,7 @@ impl EmptyPoints {
         self.places.len()
     }
 
-    /// The place that `index` others stand before.
+    /// The place at `index`, counted from 0.
     #[inline]
     pub fn get(&self, index: usize) -> usize
         requires { index < length self.now }
@@ -52,7 +52,7 @@ impl EmptyPoints {
         usize::from(self.places[index])
     }
 
-    /// Exchanges the places on two indices.
+    /// Exchanges the places at two indices.
     #[inline]
     pub fn exchange(&mut self, first: usize, second: usize)
         requires first { first < length self.old }
@@ -62,7 +62,7 @@ impl EmptyPoints {
         self.places.swap(first, second);
     }
 
-    /// Removes the place on an index, and returns it. The last one takes its index.
+    /// Removes the place at an index and returns it. The last place moves to that index.
     #[inline]
     pub fn remove(&mut self, index: usize) -> usize
         requires { index < length self.old }
@@ -72,7 +72,7 @@ impl EmptyPoints {
         usize::from(self.places.swap_remove(index))
     }
 
-    /// Adds a place behind the others.
+    /// Appends a place.
     #[inline]
     pub fn push(&mut self, place: usize)
         requires place { place < place_count }
@@ -82,7 +82,7 @@ impl EmptyPoints {
         self.places.push(place as u16);
     }
 
-    /// Inserts a place into those after the first `start`, which rise, so that they still do.
+    /// Inserts a place among those after the first `start`, which are in rising order, so that they stay in that order.
     #[inline]
     pub fn insert_from(&mut self, start: usize, place: usize)
         requires place { place < place_count }
@@ -97,7 +97,7 @@ impl EmptyPoints {
         self.places.insert(index, place as u16);
     }
 
-    /// Adds all of these places, in rising order.
+    /// Appends all these places in rising order.
     #[inline]
     pub fn add_rising(&mut self, places: &Places)
         requires { length self.old + length places.now ≤ place_count }

@@ -1,4 +1,4 @@
-//! A game: the record of its moves, and the board that the record makes.
+//! A game: the record of its moves, and the board that results from it.
 ghost use Rattle.std.specs.Prelude.{◌≡◌, ◌<◌, ◌≤◌, ◌↔◌, ◌⊎◌, ◌+◌, ◌-◌, [], ◌∷◌, ◌++◌, if◌then◌else◌, IsTrue, IsErr};
 ghost use Rattle.std.specs.Prelude.{IfOk, OnOk, OnErr, MatchOption, MatchResult};
 ghost use Rattle.go_base.specs.Decide.{holds};
@@ -33,12 +33,12 @@ pub(crate) use playouts::draw;
 pub use searching::{Chain, MOST_POINTS};
 use std::marker::Model;
 
-/// How many moves a record has room for.
+/// The capacity of a record, in moves.
 pub const MOST_MOVES: usize = 2000;
 
 /// A game of Go: its size, komi and handicap, and the moves made so far.
 ///
-/// Each move of the record was legal when it was made. The two colours may move in any order.
+/// Each move of the record was legal when it was made. Either colour may move at any time.
 #[derive(Drop)]
 pub struct Game {
     size: Size,
@@ -83,7 +83,7 @@ impl Game {
     ghost use Rattle.go_board.specs.Refusals.{RefusesPoint, RefusesVertex, Refuses, IsTouched, RefusesHandicap};
     ghost use Rattle.go_base.specs.declared.vertices.Vertex.TheVariants.{At};
 
-    /// A game under simple ko, without handicap and moves.
+    /// Makes a game under simple ko, with no handicap and no moves.
     pub fn new(size: Size, komi: Komi) -> Self
         ensures { result
             ≡ record { size = size; komi = komi; rule = Simple; handicap = 0; moves = [] } }
@@ -91,7 +91,7 @@ impl Game {
         Game::with_rule(size, komi, KoRule::Simple)
     }
 
-    /// A game under a ko rule, without handicap and moves. No call changes the rule.
+    /// Makes a game under this ko rule, with no handicap and no moves. No call changes the rule.
     pub fn with_rule(size: Size, komi: Komi, rule: KoRule) -> Self
         ensures { result
             ≡ record { size = size; komi = komi; rule = rule; handicap = 0; moves = [] } }
@@ -99,7 +99,7 @@ impl Game {
         Game::opening(size, komi, rule, 0)
     }
 
-    /// The game of an engine with this ko rule that was given nothing: size 19, komi 0, no handicap and no moves.
+    /// The game of an engine that was given nothing yet, with this ko rule: size 19, komi 0, no handicap and no moves.
     pub fn fresh(rule: KoRule) -> Self
         ensures { result ≡ fresh_game_under rule }
     {
@@ -109,7 +109,7 @@ impl Game {
         }
     }
 
-    /// A game under a ko rule with `stones` handicap stones, or none, and without moves.
+    /// A game under this ko rule, with `stones` handicap stones (0 for none) and no moves.
     fn opening(size: Size, komi: Komi, rule: KoRule, stones: u32) -> Self
         requires { (stones ≡ 0) ⊎ AllowsHandicap size stones }
         ensures { result
@@ -143,7 +143,7 @@ impl Game {
         *self = Game::opening(size, self.komi, self.rule, 0);
     }
 
-    /// Sets komi. All else stays.
+    /// Sets komi. Everything else stays.
     pub fn set_komi(&mut self, komi: Komi)
         ensures { self.new ≡ record self.old { komi = komi } }
     {
@@ -159,18 +159,18 @@ impl Game {
         *self = Game::opening(self.size, self.komi, self.rule, 0);
     }
 
-    /// Places `stones` of Black's handicap stones on the board, and returns their points in the order of the table.
+    /// Places `stones` handicap stones for Black, and returns their points in the order of the handicap table.
     ///
     /// # Errors
     ///
-    /// In this order, and the game stays as it was: `NotEmpty` where a stone is on the board or a move is in the
-    /// record; `BadNumber` where the size doesn't allow that number.
+    /// The game stays as it was, and the first of these that applies is returned: `NotEmpty` if there is a stone on the
+    /// board or a move in the record; `BadNumber` if the size doesn't allow that number.
     pub fn place_handicap(&mut self, stones: u32) -> Result<ArrayVec<Point, 9>, HandicapFault>
         ensures ok { IfOk result (λ points. points.items ≡ handicap_points self.old.size stones) }
         ensures placed { OnOk result (self.new ≡ record self.old { handicap = stones }) }
         ensures unchanged { OnErr result (self.new ≡ self.old) }
 
-        // `RefusesHandicap` says which cause comes first.
+        // `RefusesHandicap` defines which error comes first.
         ensures answer { MatchResult result
             (λ _. (¬ IsTouched self.old) × AllowsHandicap self.old.size stones)
             (RefusesHandicap self.old stones) }
@@ -185,10 +185,10 @@ impl Game {
         Ok(points)
     }
 
-    /// Whether a colour may make a move next: a pass always; a point of the board that is empty, where the new stone's
-    /// chain then has a liberty and the board isn't one that the ko rule forbids. Simple ko forbids the board before
-    /// the previous move, and positional ko each board after any number of the record's first moves, from none to all.
-    /// The number of moves in the record doesn't count.
+    /// Whether a colour may make a move next. A pass is always legal. A play is legal if its point is an empty point of
+    /// the board, the new stone's chain then has a liberty, and the ko rule doesn't forbid the resulting board. Simple
+    /// ko forbids the board before the previous move. Positional ko forbids each board after any number of the record's
+    /// first moves, from none to all. A full record isn't taken into account.
     pub fn legal(&self, colour: Colour, vertex: Vertex) -> bool
         ensures legal { IsTrue result ↔ IsLegal self.now colour vertex }
         ensures game { IsGame self.now }
@@ -196,8 +196,8 @@ impl Game {
         self.test(colour, vertex).is_ok()
     }
 
-    /// Why a colour may not make a move next: the first cause that `play` would return for it, a full record
-    /// aside. `None` where the move is legal, as a pass always is.
+    /// Returns why a colour may not make a move next: the first error that `play` would return for it, leaving aside a
+    /// full record. Returns `None` if the move is legal, as a pass always is.
     pub fn refusal(&self, colour: Colour, vertex: Vertex) -> Option<PlayFault>
         ensures { MatchOption result
             (IsLegal self.now colour vertex)
@@ -213,14 +213,15 @@ impl Game {
     ///
     /// # Errors
     ///
-    /// In this order, and the game stays as it was: `Full` where the record has 2,000 moves, `OffBoard` where the board
-    /// doesn't have the point, `Occupied` where a stone is on it, `Suicide` where the new stone's chain would have no
-    /// liberty, `Ko` where the board would be one that the ko rule forbids. A pass is refused by `Full` alone.
+    /// The game stays as it was, and the first of these that applies is returned: `Full` if the record has 2,000 moves;
+    /// `OffBoard` if the board doesn't have the point; `Occupied` if there is a stone on it; `Suicide` if the new
+    /// stone's chain would have no liberty; `Ko` if the ko rule forbids the resulting board. A pass is rejected only
+    /// with `Full`.
     pub fn play(&mut self, colour: Colour, vertex: Vertex) -> Result<(), PlayFault>
         ensures played { OnOk result (self.new ≡ with_move self.old colour vertex) }
         ensures unchanged { OnErr result (self.new ≡ self.old) }
 
-        // `Refuses` says which cause comes first.
+        // `Refuses` defines which error comes first.
         ensures answer { MatchResult result
             (λ _. IsLegal self.old colour vertex × HasRoom self.old)
             (Refuses self.old colour vertex) }
@@ -244,7 +245,7 @@ impl Game {
         Ok(())
     }
 
-    /// Whether a move may be made, where the record has room, or why it is refused.
+    /// Whether a move may be made, leaving aside a full record, or why it is rejected.
     fn test(&self, colour: Colour, vertex: Vertex) -> Result<(), PlayFault>
         ensures legal { MatchResult result
             (λ _. IsLegal self.now colour vertex)
@@ -259,7 +260,7 @@ impl Game {
         }
     }
 
-    /// Whether a play on a point may be made, or why it is refused.
+    /// Whether a play on a point may be made, or why it is rejected.
     fn test_at(&self, colour: Colour, point: Point) -> Result<(), PlayFault>
         ensures { MatchResult result
             (λ _. IsLegal self.now colour (At point))
@@ -305,11 +306,11 @@ impl Game {
         place == ko.point && self.chains.takes_only(colour, place, place_of(ko.stone))
     }
 
-    /// Undoes the last move of the record with its captures. Handicap stones always stay.
+    /// Undoes the last move of the record, with its captures, and returns it. Handicap stones always stay.
     ///
     /// # Errors
     ///
-    /// `NothingToUndo` where the record has no move. The game stays as it was.
+    /// `NothingToUndo` if the record has no move. The game stays as it was.
     pub fn undo(&mut self) -> Result<Move, NothingToUndo>
         ensures last { IfOk result (λ last. self.old.moves ≡ self.new.moves ++ last ∷ []) }
         ensures shorter { OnOk result (self.new ≡ without_last self.old) }
@@ -339,7 +340,7 @@ impl Game {
         self.size
     }
 
-    /// What White gets for playing second, as it was set last. The score is less by it.
+    /// The komi that was set last: the points that White gets for playing second. It is subtracted from the score.
     pub fn komi(&self) -> Komi
         ensures { result ≡ self.now.komi }
     {
@@ -353,7 +354,7 @@ impl Game {
         self.rule
     }
 
-    /// The number of handicap stones, 0 where there is no handicap.
+    /// The number of handicap stones, or 0 without a handicap.
     pub fn handicap(&self) -> u32
         ensures { result ≡ self.now.handicap }
     {
@@ -368,7 +369,7 @@ impl Game {
         &self.moves
     }
 
-    /// The stone on a point: none where the point is empty or off the board.
+    /// The stone on a point. Returns `None` if the point is empty or off the board.
     pub fn at(&self, point: Point) -> Option<Colour>
         ensures { result ≡ stone_at (board_of self.now) point }
     {
@@ -379,7 +380,7 @@ impl Game {
         }
     }
 
-    /// How many stones this colour's moves in the record have taken.
+    /// How many stones this colour's moves in the record have captured.
     pub fn captured(&self, colour: Colour) -> u32
         ensures { result ≡ taken self.now colour }
     {
@@ -389,11 +390,11 @@ impl Game {
         }
     }
 
-    /// The score in half points, positive where Black leads: twice the difference of Black's area and White's, less
+    /// The score in half points, positive if Black leads: twice the difference of Black's and White's areas, minus
     /// komi.
     ///
-    /// A point counts for the colour of its stone, and an empty one where the stones beside its region are of one
-    /// colour alone, for that colour.
+    /// A point with a stone counts for the stone's colour. An empty point counts for a colour if the stones beside its
+    /// region are all of that colour, and there is one.
     pub fn score(&self) -> i32
         ensures { result ≡ score self.now }
     {
@@ -402,9 +403,9 @@ impl Game {
         self.score_of(self.chains.board(), black_stones, white_stones)
     }
 
-    /// The score with a board on which the colours have so many stones.
-    // The proof opens the definition of the score by name. Proofs that don't name it see one number, so none of them
-    // grows with the number of points.
+    /// The score of a board on which the colours have this many stones.
+    // The proof unfolds the definition of the score explicitly. Elsewhere the score stays an opaque number, so that no
+    // other proof grows with the number of points.
     #[tactic(auto, unfolding(crate::specs::Area::score))]
     fn score_of(&self, board: &Board, black_stones: u32, white_stones: u32) -> i32
         requires black { black_stones ≡ stones_on board.now Black }
@@ -432,7 +433,7 @@ impl Game {
     }
 }
 
-/// What a colour has taken after a move of `mover` that took `taken` stones.
+/// How many stones a colour has captured after a move of `mover` that captured `taken` stones.
 #[inline]
 fn with_taken(had: u32, taken: u32, mover: Colour, colour: Colour) -> u32
     requires had { had ≤ most_taken }
@@ -442,7 +443,7 @@ fn with_taken(had: u32, taken: u32, mover: Colour, colour: Colour) -> u32
     if mover == colour { had + taken } else { had }
 }
 
-/// What a colour had taken before a move of `mover` that took `taken` stones.
+/// How many stones a colour had captured before a move of `mover` that captured `taken` stones.
 #[inline]
 fn without_taken(has: u32, taken: u32, mover: Colour, colour: Colour) -> u32
     requires { (if same_colour mover colour then taken else 0) ≤ has }

@@ -1,4 +1,4 @@
-//! A game with a hash of its board that is kept from move to move.
+//! A game with a hash of its board that is updated from move to move.
 ghost use Rattle.std.specs.Prelude.{◌≡◌, [], ◌∷◌, ◌++◌, ◌↔◌, IsErr, IfOk, OnOk, OnErr, MatchResult};
 
 use crate::faults::{NothingToUndo, PlayFault};
@@ -6,11 +6,11 @@ use crate::game::Game;
 use go_base::{Colour, Move, Vertex};
 use std::marker::Model;
 
-/// A game that keeps a hash of its board: for a search that looks up whether it has met a board before.
+/// A game with a hash of its board, for a search that looks up whether it has met a board before.
 ///
-/// It is seen as its game. Equal boards of one size have equal hashes, as `Game::board_hash` says, and boards that
-/// differ may have one hash. A move and an `undo` change the hash by the keys of the stones that come and go alone, and
-/// `hash` reads it, where `Game::board_hash` passes over the board.
+/// Contracts see it as its game. Equal boards of one size have equal hashes, as `Game::board_hash` says, and different
+/// boards may have the same hash. A move or an `undo` updates the hash by the keys of the stones that it adds and
+/// removes. So `hash` only reads it, while `Game::board_hash` makes a pass over the board.
 #[derive(Drop)]
 pub struct HashedGame {
     game: Game,
@@ -35,7 +35,7 @@ impl HashedGame {
     ghost use Rattle.go_board.specs.PositionHash.{IsPositionHash};
     ghost use Rattle.go_board.specs.Refusals.{Refuses};
 
-    /// This game, with the hash of its board, which is computed once.
+    /// Takes a game, and computes the hash of its board once.
     pub fn new(game: Game) -> HashedGame
         ensures { result ≡ game }
     {
@@ -64,16 +64,16 @@ impl HashedGame {
         self.hash
     }
 
-    /// A hash of the position with a colour to move: what `Game::position_hash` returns for the game, by the hash that
-    /// is kept.
+    /// A hash of the position with this colour to move: what `Game::position_hash` returns for the game, computed from
+    /// the stored hash.
     pub fn position_hash(&self, to_move: Colour) -> u64
         ensures { IsPositionHash self.now to_move result }
     {
         self.game.hash_with_mover(self.hash, to_move)
     }
 
-    /// Makes a move, as `Game::play` does. The hash changes by the key of the move's stone and those of the stones that
-    /// it takes; a pass leaves it.
+    /// Makes a move, as `Game::play` does. The key of its stone is added to the hash and those of the stones that it
+    /// captures are subtracted. A pass leaves the hash as it was.
     ///
     /// # Errors
     ///
@@ -82,7 +82,7 @@ impl HashedGame {
         ensures played { OnOk result (self.new ≡ with_move self.old colour vertex) }
         ensures unchanged { OnErr result (self.new ≡ self.old) }
 
-        // `Refuses` says which cause comes first.
+        // `Refuses` defines which error comes first.
         ensures answer { MatchResult result
             (λ _. IsLegal self.old colour vertex × HasRoom self.old)
             (Refuses self.old colour vertex) }
@@ -92,12 +92,12 @@ impl HashedGame {
         Ok(())
     }
 
-    /// Undoes the last move of the record with its captures, as `Game::undo` does. The hash is that of the board before
-    /// the move again, by the same keys.
+    /// Undoes the last move of the record, with its captures, as `Game::undo` does, and returns it. The same keys
+    /// restore the hash of the board before the move.
     ///
     /// # Errors
     ///
-    /// `NothingToUndo` where the record has no move. The game and the hash stay as they were.
+    /// `NothingToUndo` if the record has no move. The game and the hash stay as they were.
     pub fn undo(&mut self) -> Result<Move, NothingToUndo>
         ensures last { IfOk result (λ last. self.old.moves ≡ self.new.moves ++ last ∷ []) }
         ensures shorter { OnOk result (self.new ≡ without_last self.old) }
@@ -110,7 +110,7 @@ impl HashedGame {
         Ok(last)
     }
 
-    /// The same game once more, with its hash, to play on without this one. A copy takes as much memory as a game.
+    /// Returns an independent copy of the game and its hash, which takes as much memory as the game.
     pub fn copied(&self) -> HashedGame
         ensures { result ≡ self.now }
     {
@@ -120,7 +120,7 @@ impl HashedGame {
         }
     }
 
-    /// Becomes a copy of another game, whatever this one was, as `Game::copy_from` does.
+    /// Makes this game a copy of another, whatever it was before, as `Game::copy_from` does.
     pub fn copy_from(&mut self, other: &HashedGame)
         ensures { self.new ≡ other.now }
     {

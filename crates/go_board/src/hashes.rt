@@ -1,4 +1,4 @@
-//! Hashes of boards and positions, by the keys of what they have.
+//! Hashes of boards and positions, which are sums of keys.
 ghost use Rattle.std.specs.Prelude.{◌≡◌, ◌<◌};
 ghost use Rattle.go_board.specs.Board.{place_count};
 ghost use Rattle.go_board.specs.Hash.{mixed, key, stone_key, key_of, size_key};
@@ -8,17 +8,18 @@ ghost use Rattle.go_board.specs.PositionHash.{mover_key, ko_key};
 use crate::board::{Cell, PLACES, place_of};
 use go_base::{Colour, Point, Size};
 
-/// What numbers are multiplied by before they are mixed, odd and near 2^64 over the golden ratio.
+/// The factor by which numbers are multiplied before they are mixed: odd, and close to 2^64 divided by the golden
+/// ratio.
 const STEP: u64 = 0x9e37_79b9_7f4a_7c15;
 
-/// The first number of the keys of the colours to move, which come after those of the sizes.
+/// The number of the first key of the colours to move, which come after those of the sizes.
 const MOVERS: usize = 1430;
 
-/// The first number of the keys of ko points.
+/// The number of the first key of the ko points.
 const KO_POINTS: usize = 1432;
 
-/// The key of a stone of this colour on a point, which is what it adds to `Game::board_hash`. So a play adds the key of
-/// its stone to the hash, and takes away those of the stones that it takes, in 64 bits.
+/// The key of a stone of this colour on a point: what the stone adds to `Game::board_hash`. So a play adds the key of
+/// its stone to the hash and subtracts those of the stones that it captures, modulo 2^64.
 pub fn stone_key(colour: Colour, point: Point) -> u64
     ensures key { result ≡ stone_key colour point }
     ensures kept { HashesFollowPlays }
@@ -39,7 +40,7 @@ pub(crate) fn key_at(colour: Colour, place: usize) -> u64
     }
 }
 
-/// What a place that holds this adds to the hash of its board.
+/// What a place with this content adds to the hash of its board.
 #[inline]
 pub(crate) fn key_of(cell: Cell, place: usize) -> u64
     requires { place < place_count }
@@ -79,7 +80,7 @@ pub(crate) fn ko_key(point: Point) -> u64
     key(KO_POINTS + place_of(point))
 }
 
-/// The key of a number.
+/// The key with this number.
 #[inline]
 #[tactic(auto, unfolding(crate::specs::Hash::key))]
 fn key(number: usize) -> u64
@@ -88,7 +89,7 @@ fn key(number: usize) -> u64
     mixed((number as u64).wrapping_mul(STEP))
 }
 
-/// The bits of a number, mixed.
+/// Mixes the bits of a number.
 #[inline]
 #[tactic(auto, unfolding(crate::specs::Hash::mixed))]
 fn mixed(a: u64) -> u64

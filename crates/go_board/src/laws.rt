@@ -1,6 +1,6 @@
-//! Laws of the game: which board a move leaves, what it takes, and what counts for whom.
+//! Laws of the game: which board a move leaves, what it captures, and what counts for whom.
 //!
-//! Each function does nothing: that it is proved is the law in its contract.
+//! The body of each function is empty: the law is its contract, and it is proved.
 ghost use Rattle.go_board.specs.Laws.{FirstBoardsAreJustThese, BoardsLeftAreJustThese, StonesAreOnTheBoard};
 ghost use Rattle.go_board.specs.Laws.{PositionalIsStricter, NewBoardsAreAllowed, NoBoardComesBack};
 ghost use Rattle.go_board.specs.Laws.{NoBoardComesBackAtOnce, OtherPlaysAreLegal, LegalStonesAreFree};
@@ -15,26 +15,27 @@ ghost use Rattle.go_board.specs.Index.{IndexesAreOfOnePoint, IndexesAreThose};
 
 pub mod playouts;
 
-/// A game without moves has just one board: Black's stones on the handicap's points, the other points empty, and edge
-/// round them.
+/// A game without moves has exactly one board: Black's stones on the points of the handicap, all other points empty,
+/// and edge around them.
 pub fn first_boards()
     ensures { FirstBoardsAreJustThese }
 {}
 
-/// A legal move leaves just one board. After a play its stone is on the point, the stones that it took are gone, and
-/// all else is as it was; a pass changes nothing.
+/// A legal move leaves exactly one board. After a play its stone is on the point, the captured stones are gone, and
+/// everything else is as it was. A pass changes nothing.
 pub fn boards_left()
     ensures { BoardsLeftAreJustThese }
 {}
 
-/// Stones are on the points of the game's size and nowhere else: for any other point `Game::at` returns `None`.
+/// There are stones only on the points of the game's size: for any other point `Game::at` returns `None`.
 pub fn stones_on_the_board()
     ensures { StonesAreOnTheBoard }
 {}
 
-/// Positional ko, also called positional superko, allows no move that simple ko forbids. It allows each that simple ko
-/// allows where the board is new. Under it no play brings back a board of the game. Under simple ko none leaves the
-/// board before the previous move, and each other play on an empty point is legal where its stone is free then.
+/// Positional ko, also called positional superko, allows no move that simple ko forbids, and allows every move that
+/// simple ko allows if the resulting board is new. Under it no play brings back a board of the game. Under simple ko no
+/// play leaves the board before the previous move, and every other play on an empty point is legal if its stone's chain
+/// then has a liberty.
 pub fn ko_rules()
     ensures stricter { PositionalIsStricter }
     ensures new { NewBoardsAreAllowed }
@@ -43,71 +44,72 @@ pub fn ko_rules()
     ensures others { OtherPlaysAreLegal }
 {}
 
-/// No play is suicide: the stone of a legal one is free on the board that the play leaves.
+/// No play is suicide: after a legal play, the chain of its stone has a liberty.
 pub fn legal_stones()
     ensures { LegalStonesAreFree }
 {}
 
-/// The chain or region of a point is the smallest set that has it and, with each of its points, each neighbour that
-/// holds the same. It touches nothing of a kind exactly where some such set has none of it beside its points, and so a
-/// stone is captured exactly where some such set has no point beside an empty one.
+/// The chain or region of a point is the smallest set that contains the point and, with each of its points, every
+/// neighbour with the same content. It touches nothing of a kind exactly if some such set has none of that kind beside
+/// its points. So a stone is captured exactly if some such set has no empty point beside it.
 pub fn chains_as_sets()
     ensures smallest { JoinedPointsAreTheSmallestSet }
     ensures touches { UntouchedIsAway }
     ensures captured { CapturedStonesAreShutIn }
 {}
 
-/// A move adds to what its colour has taken as many stones as it takes: those of the other colour whose chains have no
-/// liberty once the new stone is on the board, each counted once. Before the first move none is taken.
+/// A move adds to its colour's captures the number of stones that it captures: those of the other colour whose chains
+/// have no liberty once the new stone is on the board, each counted once. Before the first move there are no captures.
 pub fn taken_stones()
     ensures first { NoneIsTakenFirst }
     ensures more { MovesAddWhatTheyTake }
 {}
 
-/// A point counts for the colour of its stone, and an empty one where there is a stone beside its region and all stones
-/// beside it are of one colour, for that colour. None counts for both.
+/// A point with a stone counts for the stone's colour. An empty point counts for a colour if there is a stone beside
+/// its region and all such stones are of that colour. No point counts for both.
 pub fn counted_points()
     ensures counts { WhatBelongsCounts }
     ensures one { PointsBelongToOne }
 {}
 
-/// The score is twice the number of Black's points less White's, each counted once, less komi.
+/// The score is twice the number of Black's points minus White's, each counted once, minus komi.
 pub fn scores()
     ensures { ScoresAreThese }
 {}
 
-/// A play on a point is refused for the first cause that is one: a full record, a point off the board, one that isn't
-/// empty, suicide, ko.
+/// A play on a point is rejected with the first of these that applies: a full record, a point off the board, a point
+/// that isn't empty, suicide, ko.
 pub fn first_causes()
     ensures { RefusalsAreFirstCauses }
 {}
 
-/// A game is finished exactly where its record has two moves or more and the last two are passes, whoever made them.
+/// A game is finished exactly if its record has at least two moves and the last two are passes, by whichever colour.
 pub fn games_end_by_two_passes()
     ensures { GamesEndByTwoPasses }
 {}
 
-/// A game is untouched exactly where its record has no move and each point of its board is empty.
+/// A game is untouched exactly if its record has no move and every point of its board is empty.
 pub fn untouched_boards()
     ensures { UntouchedGamesAreBlank }
 {}
 
-/// Games of equal size and with equal boards have one hash, and positions that have the ko point and the colour to move
-/// in common too. So different hashes show a difference, and equal ones show nothing. The size is in the hash: the
-/// boards without a stone of two sizes have two hashes.
+/// Games of equal size and with equal boards have the same hash, and so do positions that also agree in the ko point
+/// and the colour to move. So different hashes show a difference, and equal hashes show nothing. The hash depends on
+/// the size: empty boards of two sizes have different hashes.
 pub fn equal_hashes()
     ensures boards { EqualBoardsHaveOneHash }
     ensures positions { EqualPositionsHaveOneHash }
     ensures sizes { EmptyBoardsHaveTheirOwnHash }
 {}
 
-/// Of as many words in a row as a colour has candidates, each candidate is chosen by just one. So of all words of 64 bits
-/// `Game::random_move` has each candidate chosen by as many, or by one more than another.
+/// Of as many consecutive words as a colour has candidates, exactly one chooses each candidate. So over all words of 64
+/// bits, `Game::random_move` chooses any two candidates equally often, or one of them once more than the other.
 pub fn random_moves()
     ensures { CandidatesAreChosenEvenly }
 {}
 
-/// The numbers from 0 below the number of a board's points are those of its points, and each is of just one.
+/// The indexes from 0 up to the number of a board's points, exclusive, are those of its points, and each is the index
+/// of exactly one.
 pub fn numbers_of_points()
     ensures one { IndexesAreOfOnePoint }
     ensures those { IndexesAreThose }

@@ -1,4 +1,4 @@
-//! The hashes of a game's boards, by which positional ko finds a board that comes back.
+//! The hashes of a game's boards, by which positional ko finds a board that would come back.
 ghost use Rattle.std.specs.Prelude.{◌≡◌, ◌<◌, ◌-◌, ◌==◌, [], length, slice_index, take, IfSome};
 ghost use Rattle.std.specs.List.{list_any};
 ghost use Rattle.go_board.specs.Hash.{hash_of};
@@ -10,10 +10,10 @@ use arrayvec::ArrayVec;
 use go_base::Size;
 use std::marker::Model;
 
-/// How many boards a game has at most: the first, and that after each move of a full record.
+/// The most boards that a game has: the first, and one after each move of a full record.
 const MOST_BOARDS: usize = 2001;
 
-/// The hashes of a game's boards under positional ko, the latest last. Simple ko asks for none, so there are none.
+/// The hashes of a game's boards under positional ko, the latest last. Simple ko needs none, so the list is then empty.
 #[derive(Drop)]
 pub struct PastHashes {
     hashes: ArrayVec<u64, MOST_BOARDS>,
@@ -28,7 +28,7 @@ impl Model for PastHashes {
 }
 
 impl PastHashes {
-    /// Those of a game that begins with this board.
+    /// The hashes of a game that begins with this board.
     pub fn of_start(rule: KoRule, size: Size, board: &Board) -> Self
         ensures { result ≡ added rule [] (hash_of size board.now) }
     {
@@ -39,7 +39,7 @@ impl PastHashes {
         begun
     }
 
-    /// Adds the hash of a board, where the rule asks for it. It is computed where it isn't known.
+    /// Adds the hash of a board, if the rule needs it. The hash is computed if it isn't known.
     #[inline]
     pub fn add(&mut self, rule: KoRule, size: Size, board: &Board, known: Option<u64>)
         requires room { length self.old < most_boards }
@@ -53,7 +53,7 @@ impl PastHashes {
         }
     }
 
-    /// Takes away the last hash, where there is one.
+    /// Removes the last hash, if there is one.
     #[inline]
     pub fn drop_last(&mut self)
         ensures { self.new ≡ take (length self.old - 1) self.old }
@@ -70,28 +70,28 @@ impl PastHashes {
         self.hashes[self.hashes.len() - 1]
     }
 
-    /// Whether one of them is this.
+    /// Whether this hash is among them.
     pub fn has(&self, hash: u64) -> bool
         ensures { result ≡ list_any (λ kept. kept == hash) self.now }
     {
         self.hashes.contains(&hash)
     }
 
-    /// A copy.
+    /// Returns a copy.
     pub fn copy(&self) -> Self
         ensures { result ≡ self.now }
     {
         let mut hashes = ArrayVec::new();
-        // There is room: both have the same.
+        // The capacity suffices: both have the same.
         let _ = hashes.try_extend_from_slice(&self.hashes);
         PastHashes { hashes }
     }
 
-    /// Becomes a copy of others, in place.
+    /// Makes this a copy of others, in place.
     pub fn copy_from(&mut self, other: &PastHashes)
         ensures { self.new ≡ other.now }
     {
-        // Under simple ko there are none.
+        // Under simple ko there are no hashes.
         if other.hashes.is_empty() {
             self.hashes.clear();
             return;
@@ -99,7 +99,7 @@ impl PastHashes {
         self.hashes.truncate(other.hashes.len());
         let (front, rest) = other.hashes.split_at(self.hashes.len());
         self.hashes.as_mut_slice().copy_from_slice(front);
-        // There is room: both have the same.
+        // The capacity suffices: both have the same.
         let _ = self.hashes.try_extend_from_slice(rest);
     }
 }

@@ -1,4 +1,4 @@
-//! A set of places that remembers the order in which they were inserted.
+//! A set of places that remembers the order of insertion.
 ghost use Rattle.std.specs.Prelude.{◌≡◌, ◌≢◌, ℕ, ◌<◌, ◌≤◌, ◌↔◌, ◌⊎◌, [], ◌∷◌, ◌++◌, Contains, IsTrue, length};
 ghost use Rattle.std.specs.Prelude.{slice_index};
 ghost use Rattle.std.specs.List.{AllPairs};
@@ -8,7 +8,7 @@ use crate::board::PLACES;
 use arrayvec::ArrayVec;
 use std::marker::Model;
 
-/// Places of a board, each once, in the order in which they were inserted.
+/// Places of a board, each once, in the order of insertion.
 #[derive(Drop)]
 pub struct Places {
     marked: [bool; PLACES],
@@ -28,7 +28,7 @@ impl Model for Places {
 }
 
 impl Places {
-    /// No place.
+    /// The empty set.
     #[inline]
     pub fn new() -> Self
         ensures { result ≡ [] }
@@ -49,7 +49,7 @@ impl Places {
         self.order.len()
     }
 
-    /// Whether a place is there.
+    /// Whether a place is in the set.
     #[inline]
     pub fn contains(&self, place: usize) -> bool
         requires { place < place_count }
@@ -68,7 +68,7 @@ impl Places {
         usize::from(self.order[index])
     }
 
-    /// Inserts a place, unless it is there.
+    /// Inserts a place, unless it is in the set already.
     #[inline]
     pub fn insert(&mut self, place: usize)
         requires { place < place_count }
@@ -81,7 +81,7 @@ impl Places {
         }
     }
 
-    /// Leaves no place, in as many steps as there are places.
+    /// Removes all places, in as many steps as there are places.
     pub fn clear(&mut self)
         ensures { self.new ≡ [] }
     {

@@ -13,11 +13,12 @@ use crate::playout_stones::PlayoutStones;
 use go_base::Colour;
 use std::marker::Model;
 
-/// A board with its chains, on which a playout makes its plays: what `Chains` is for a game, without taking a play back.
+/// A board with its chains, on which a playout makes its plays. It is to a playout what `Chains` is to a game, but
+/// can't undo a play.
 #[derive(Drop)]
 pub struct PlayoutBoard {
     stones: PlayoutStones,
-    /// Room for the stones that a play takes.
+    /// A buffer for the stones that a play captures.
     taken: Places,
 }
 
@@ -46,7 +47,7 @@ impl PlayoutBoard {
     ghost use Rattle.go_board.specs.private.TakenStack.{captured_places};
     ghost use Rattle.go_board.specs.private.PlayoutBoard.{AreCapturedBeside};
 
-    /// A board of `lines` lines, with the chains that it has.
+    /// A board of `lines` lines, with the chains that it has there.
     pub fn from_chains(chains: &Chains, lines: usize) -> Self
         requires size { HasSize lines chains.now }
         requires lines { lines ≤ most_size }
@@ -75,15 +76,15 @@ impl PlayoutBoard {
         self.stones.at(place)
     }
 
-    /// Places a stone on an empty point, and joins the chains of its colour beside it. No stone is taken.
+    /// Places a stone on an empty point, and joins the chains of its colour beside it. Nothing is captured.
     #[inline]
     fn place_stone(&mut self, colour: Colour, place: usize)
         requires point { IsOn most_size place }
         requires empty { at self.old place ≡ Empty }
         ensures { self.new ≡ slice_set self.old place (stone colour) }
     {
-        // The stone takes the id of a neighbour of its colour: the right one's, else the left, the upper or the lower
-        // one's. Where there is none, its id is its own place. So the right neighbour's id needs no joining below.
+        // The stone takes the id of a neighbour of its colour: the right one, or else the left, the upper or the lower
+        // one. If there is none, its id is its own place. So the right neighbour's id never needs to be joined below.
         let stone = Cell::stone(colour);
         let under = self.stones.id_or(stone, place - ROW, place);
         let above = self.stones.id_or(stone, place + ROW, under);
@@ -96,8 +97,8 @@ impl PlayoutBoard {
         self.stones.join(id, a, b, c);
     }
 
-    /// Makes a play on an empty point: places the stone, and then removes the other colour's stones that have no
-    /// liberty. Their points are added to `points`, in the board's order. Returns how many there are.
+    /// Plays on an empty point: places the stone, then removes the other colour's stones without liberties. Their
+    /// points are added to `points`, in the board's order. Returns how many there are.
     #[inline]
     pub fn play(&mut self, colour: Colour, place: usize, points: &mut EmptyPoints) -> usize
         requires point { IsOn most_size place }
@@ -117,8 +118,8 @@ impl PlayoutBoard {
         self.take(theirs, place, points)
     }
 
-    /// Removes the stones of this colour that have no liberty, where one of each of their chains is beside the point.
-    /// Their points are added to `points`, in the board's order. Returns how many there are.
+    /// Removes the stones of this colour without liberties; each of their chains has a stone beside the point. Their
+    /// points are added to `points`, in the board's order. Returns how many there are.
     fn take(&mut self, colour: Colour, place: usize, points: &mut EmptyPoints) -> usize
         requires point { IsOn most_size place }
         requires beside { AreCapturedBeside self.old colour place }
@@ -134,7 +135,7 @@ impl PlayoutBoard {
         count
     }
 
-    /// Whether a new stone's chain would have a liberty, once the other colour's stones without one are removed.
+    /// Whether a new stone's chain would have a liberty once the other colour's stones without liberties are removed.
     #[inline]
     pub fn would_be_free(&self, colour: Colour, point: usize) -> bool
         requires point { IsOn most_size point }
@@ -148,7 +149,7 @@ impl PlayoutBoard {
         self.stones.frees_any(colour, point)
     }
 
-    /// Whether a place holds a stone of this colour whose chain has no liberty besides this empty point.
+    /// Whether a place holds a stone of this colour whose only liberty is this empty point.
     #[inline]
     fn is_in_atari(&self, colour: Colour, place: usize, point: usize) -> bool
         requires place { place < place_count }
@@ -159,8 +160,7 @@ impl PlayoutBoard {
         self.at(place) == Cell::stone(colour) && !self.stones.has_other_liberty(place, point)
     }
 
-    /// Whether a place is a given one, or holds no stone of this colour whose chain has no liberty besides this empty
-    /// point.
+    /// Whether a place is `stone`, or doesn't hold a stone of this colour whose only liberty is this empty point.
     #[inline]
     fn takes_no_other_at(&self, colour: Colour, place: usize, point: usize, stone: usize) -> bool
         requires place { place < place_count }
@@ -171,8 +171,8 @@ impl PlayoutBoard {
         place == stone || !self.is_in_atari(colour, place, point)
     }
 
-    /// Whether no neighbour of an empty point, but a given one, holds a stone of this colour whose chain has no liberty
-    /// besides.
+    /// Whether no neighbour of an empty point, except `stone`, holds a stone of this colour whose only liberty is the
+    /// point.
     #[inline]
     fn takes_no_other(&self, colour: Colour, point: usize, stone: usize) -> bool
         requires point { IsOn most_size point }
@@ -191,7 +191,7 @@ impl PlayoutBoard {
         self.takes_no_other_at(colour, point - ROW, point, stone)
     }
 
-    /// Whether a play on an empty point would take just one stone, the one on a place.
+    /// Whether a play on an empty point would capture exactly one stone, the one at `stone`.
     pub fn takes_only(&self, colour: Colour, point: usize, stone: usize) -> bool
         requires point { IsOn most_size point }
         requires stone { IsOn most_size stone }

@@ -1,4 +1,4 @@
-//! A board with its ids and pseudo-liberties, as a playout keeps them.
+//! A board with its chain ids and pseudo-liberties, as a playout keeps them.
 ghost use Rattle.std.specs.Prelude.{◌≡◌, ◌≢◌, ◌<◌, ◌≤◌, ◌↔◌, ℕ, IsTrue, length, map, slice_set, Contains};
 ghost use Rattle.go_base.specs.Colour.{other};
 ghost use Rattle.go_base.specs.Point.{IsOn};
@@ -13,9 +13,9 @@ use crate::pseudo_liberties::PseudoLiberties;
 use go_base::Colour;
 use std::marker::Model;
 
-/// A board with an id for each stone and the pseudo-liberties of each id, as `Stones` has them, and faster to change: a
-/// place without a stone has id 0, so that what is beside a point needs no test, and a pass is over the board's rows
-/// only.
+/// A board with an id for each stone and the pseudo-liberties of each id. It keeps what `Stones` keeps, but is faster
+/// to change: a place without a stone has id 0, so updates beside a point need no test, and a pass covers only the
+/// board's rows.
 #[derive(Drop)]
 pub struct PlayoutStones {
     board: Board,
@@ -86,7 +86,7 @@ impl PlayoutStones {
         self.board.at(place)
     }
 
-    /// The id of a stone like this on a place, or `or` where there is none.
+    /// The id of such a stone on a place, or `or` if there is none.
     #[inline]
     pub fn id_or(&self, stone: Cell, place: usize, or: usize) -> usize
         requires place { place < place_count }
@@ -97,12 +97,12 @@ impl PlayoutStones {
         ensures below { result < place_count }
         ensures named { result ≢ 0 }
     {
-        // It is looked up first, so that the choice needs no jump.
+        // The id is looked up first, so that the choice needs no jump.
         let id = self.ids.at(place);
         if self.at(place) == stone { id } else { or }
     }
 
-    /// Places a stone with an id on an empty point. No stone is taken.
+    /// Places a stone with an id on an empty point. Nothing is captured.
     #[inline]
     pub fn place_stone(&mut self, colour: Colour, place: usize, id: usize)
         requires point { IsOn most_size place }
@@ -137,7 +137,8 @@ impl PlayoutStones {
         self.counts.raise_all_beside(&self.ids, place);
     }
 
-    /// Turns three ids into one, and adds up their pseudo-liberties. No pass over the board is made where they are one.
+    /// Renames three ids to one, and adds up their pseudo-liberties. If they are one already, no pass over the board is
+    /// made.
     #[inline]
     pub fn join(&mut self, to: usize, a: usize, b: usize, c: usize)
         requires to { to < place_count }
@@ -153,7 +154,7 @@ impl PlayoutStones {
         self.join_three(to, a, b, c);
     }
 
-    /// Turns three ids into one in one pass, whether or not they are one already.
+    /// Renames three ids to one in one pass, whether or not they are one already.
     fn join_three(&mut self, to: usize, a: usize, b: usize, c: usize)
         requires to { to < place_count }
         requires named { to ≢ 0 }
@@ -168,7 +169,7 @@ impl PlayoutStones {
         self.ids.join_rows(to, a, b, c, self.lines);
     }
 
-    /// 1 where a place has this id.
+    /// 1 if a place has this id, and 0 if not.
     #[inline]
     fn named_at(&self, place: usize, id: usize) -> u32
         requires { place < place_count }
@@ -190,7 +191,7 @@ impl PlayoutStones {
             + self.named_at(place - ROW, id)
     }
 
-    /// Whether the chain of the stone on a place, if one is there, has a liberty besides this empty point.
+    /// Whether the chain of the stone on a place, if there is one, has a liberty other than this empty point.
     #[inline]
     pub fn has_other_liberty(&self, place: usize, point: usize) -> bool
         requires place { place < place_count }
@@ -204,8 +205,8 @@ impl PlayoutStones {
         self.named_beside(point, id) < self.counts.at(id)
     }
 
-    /// Whether the stone on a place, if one is there, makes a play of this colour on an empty point legal: the other
-    /// colour's in atari, or one of its own whose chain has a liberty besides.
+    /// Whether a place holds a stone that makes a play of this colour on an empty point legal: one of the other colour
+    /// in atari, or one of its own whose chain has another liberty.
     #[inline]
     fn frees_play(&self, colour: Colour, place: usize, point: usize) -> bool
         requires place { place < place_count }
@@ -223,7 +224,7 @@ impl PlayoutStones {
         }
     }
 
-    /// Whether a stone beside an empty point makes a play of this colour there legal.
+    /// Whether some stone beside an empty point makes a play of this colour there legal.
     #[inline]
     pub fn frees_any(&self, colour: Colour, point: usize) -> bool
         requires point { IsOn most_size point }
@@ -231,7 +232,7 @@ impl PlayoutStones {
         requires chains { AreChains self.now.board self.now.ids }
         ensures { IsTrue result ↔ FreesAny self.now.board colour point }
     {
-        // All four are looked at first, so that there is one jump.
+        // All four are looked at first, so that there is only one jump.
         let right = self.frees_play(colour, point + 1, point);
         let left = self.frees_play(colour, point - 1, point);
         let above = self.frees_play(colour, point + ROW, point);
@@ -246,19 +247,19 @@ impl PlayoutStones {
         requires chains { AreChains self.now.board self.now.ids }
         ensures { IsTrue result ↔ IsCaptured self.now.board colour place }
     {
-        // A place without a stone may be asked about too: then the cell differs.
+        // A place without a stone may be asked about too: its content then differs.
         let count = self.counts.at(self.ids.at(place));
         self.at(place) == Cell::stone(colour) && count == 0
     }
 
-    /// Whether a neighbour of a point holds such a stone.
+    /// Whether a neighbour of a point holds a stone of this colour whose chain has no liberty.
     #[inline]
     pub fn has_captured_beside(&self, colour: Colour, place: usize) -> bool
         requires point { IsOn most_size place }
         requires chains { AreChains self.now.board self.now.ids }
         ensures { IsTrue result ↔ TouchesCaptured self.now.board colour place }
     {
-        // All four are looked at first, so that there is one jump.
+        // All four are looked at first, so that there is only one jump.
         let right = self.is_captured(colour, place + 1);
         let left = self.is_captured(colour, place - 1);
         let above = self.is_captured(colour, place + ROW);
@@ -266,7 +267,7 @@ impl PlayoutStones {
         right || left || above || under
     }
 
-    /// Inserts a place, where it holds a stone of this colour whose chain has no liberty.
+    /// Inserts a place if it holds a stone of this colour whose chain has no liberty.
     #[inline]
     fn seed(&self, colour: Colour, place: usize, found: &mut Places)
         requires place { place < place_count }
@@ -278,8 +279,8 @@ impl PlayoutStones {
         }
     }
 
-    /// Finds the stones of this colour without a liberty, where one of each of their chains is beside the point. They
-    /// come instead of those that were found.
+    /// Finds the stones of this colour without liberties, and replaces the contents of `found` by them. Each of their
+    /// chains has a stone beside the point.
     pub fn captured_into(&self, colour: Colour, place: usize, found: &mut Places)
         requires point { IsOn most_size place }
         requires chains { AreChains self.now.board self.now.ids }

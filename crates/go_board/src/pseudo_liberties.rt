@@ -1,4 +1,4 @@
-//! The pseudo-liberties of each chain: the empty neighbours of its stones, added up.
+//! The pseudo-liberties of each chain: the empty neighbours of its stones, counted per stone.
 ghost use Rattle.std.specs.Prelude.{◌≡◌, ◌+◌, ◌-◌, ◌%◌, ◌<◌, ◌≤◌};
 ghost use Rattle.go_base.specs.Point.{IsOn};
 ghost use Rattle.go_base.specs.Size.{most_size};
@@ -37,7 +37,7 @@ impl PseudoLiberties {
     ghost use Rattle.go_board.specs.private.Steps.{IsMoved};
     ghost use Rattle.go_board.specs.private.PlayoutBoard.{AreAllLowered, AreAllRaised};
 
-    /// No chain has a pseudo-liberty.
+    /// No chain has any pseudo-liberties.
     pub fn zero() -> Self
         ensures { result ≡ replicate place_count 0 }
     {
@@ -46,7 +46,7 @@ impl PseudoLiberties {
         }
     }
 
-    /// The pseudo-liberties of a board whose chains have these ids, counted stone by stone.
+    /// Counts, stone by stone, the pseudo-liberties of a board whose chains have these ids.
     pub fn new(board: &Board, ids: &ChainIds) -> Self
         requires { IsFramed board.now }
         ensures { ArePseudoLiberties board.now ids.now result }
@@ -70,7 +70,7 @@ impl PseudoLiberties {
         u32::from(self.counts[id])
     }
 
-    /// An id gets `more` pseudo-liberties more.
+    /// Adds `more` pseudo-liberties to an id.
     #[inline]
     pub fn add(&mut self, id: usize, more: u32)
         requires id { id < place_count }
@@ -80,7 +80,7 @@ impl PseudoLiberties {
         self.counts[id] += more as u16;
     }
 
-    /// An id loses `less` pseudo-liberties, or all where it has fewer.
+    /// Subtracts `less` pseudo-liberties from an id, but not below 0.
     #[inline]
     pub fn lessen(&mut self, id: usize, less: u32)
         requires id { id < place_count }
@@ -90,7 +90,7 @@ impl PseudoLiberties {
         self.counts[id] = self.counts[id].saturating_sub(less as u16);
     }
 
-    /// The pseudo-liberties of an id go over to another id, unless they are one.
+    /// Moves the pseudo-liberties of one id to another, unless they are the same id.
     #[inline]
     pub fn merge(&mut self, to: usize, from: usize)
         requires to { to < place_count }
@@ -104,7 +104,7 @@ impl PseudoLiberties {
         }
     }
 
-    /// The chain of the stone on a place, if one is there, loses one.
+    /// Subtracts one from the chain of the stone on a place, if there is one.
     #[inline]
     fn lower(&mut self, board: &Board, ids: &ChainIds, place: usize)
         requires { place < place_count }
@@ -115,7 +115,7 @@ impl PseudoLiberties {
         }
     }
 
-    /// The chain of each stone beside a point loses one, once for each of its stones there.
+    /// Subtracts one for each stone beside a point, from that stone's chain.
     #[inline]
     pub fn lower_beside(&mut self, board: &Board, ids: &ChainIds, place: usize)
         requires { IsOn most_size place }
@@ -127,7 +127,7 @@ impl PseudoLiberties {
         self.lower(board, ids, place - ROW);
     }
 
-    /// The chain of the stone on a place, if one is there, gets one more. Three such calls may have come before.
+    /// Adds one to the chain of the stone on a place, if there is one. Up to three such calls may have come before.
     #[inline]
     fn raise(&mut self, board: &Board, ids: &ChainIds, place: usize)
         requires place { place < place_count }
@@ -141,7 +141,7 @@ impl PseudoLiberties {
         }
     }
 
-    /// The chain of each stone beside a point gets one more, once for each of its stones there.
+    /// Adds one for each stone beside a point, to that stone's chain.
     #[inline]
     pub fn raise_beside(&mut self, board: &Board, ids: &ChainIds, place: usize)
         requires point { IsOn most_size place }
@@ -154,7 +154,7 @@ impl PseudoLiberties {
         self.raise(board, ids, place - ROW);
     }
 
-    /// The id of each place beside a point loses one, or stays 0, once for each such place.
+    /// Subtracts one for each place beside a point, from the id of that place, but not below 0.
     #[inline]
     pub fn lower_all_beside(&mut self, ids: &ChainIds, place: usize)
         requires { IsOn most_size place }
@@ -168,7 +168,7 @@ impl PseudoLiberties {
         self.lessen(ids.at(place - ROW), 1);
     }
 
-    /// An id gets one more. 65,535 becomes 0.
+    /// Adds one to an id. 65,535 becomes 0.
     #[inline]
     fn raise_id(&mut self, id: usize)
         requires { id < place_count }
@@ -177,8 +177,8 @@ impl PseudoLiberties {
         self.counts[id] = self.counts[id].wrapping_add(1);
     }
 
-    /// The id of each place beside a point gets one more, once for each such place. No number is looked at: an id that
-    /// no stone has may have any.
+    /// Adds one for each place beside a point, to the id of that place. The numbers aren't checked: for an id that no
+    /// stone has, any number will do.
     #[inline]
     pub fn raise_all_beside(&mut self, ids: &ChainIds, place: usize)
         requires { IsOn most_size place }

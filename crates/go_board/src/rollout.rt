@@ -1,4 +1,4 @@
-//! Rollouts under simple ko: a playout on a board of its own, without a record and without a way back.
+//! Rollouts under simple ko: a playout on its own board, with no record and no undo.
 ghost use Rattle.std.specs.Prelude.{◌≡◌, ◌+◌, ◌<◌, ◌↔◌, ℕ, List, IsTrue, Some, None, true};
 ghost use Rattle.go_base.specs.Point.{IsOn};
 ghost use Rattle.go_base.specs.Size.{most_size};
@@ -10,14 +10,15 @@ use crate::playout_board::PlayoutBoard;
 use crate::words::Words;
 use go_base::Colour;
 
-/// What a rollout keeps in place of a game.
+/// What a rollout keeps instead of a game.
 #[derive(Drop)]
 pub struct Rollout {
     /// The board with its chains.
     pub board: PlayoutBoard,
-    /// The order of the empty points.
+    /// The list of the empty points.
     pub order: EmptyPoints,
-    /// The place where a play of the colour to move would bring back the board before the last move.
+    /// The place on which a play of the colour to move would bring back the board before the last move, if there is
+    /// one.
     pub ko: Option<usize>,
     /// Whether the last move is a pass.
     pub passed: bool,
@@ -38,7 +39,7 @@ impl Rollout {
     ghost use Rattle.go_board.specs.private.Rollouts.{IsRolloutOf, IsDrawnIn, IsPlayedIn, IsTurnIn, IsPlayedOnIn};
     ghost use Rattle.go_board.specs.private.Rollouts.{EndsIn, IsKoOf};
 
-    /// Takes turns until the playout ends, at most `limit` of them. The colours take turns, and this one begins.
+    /// Takes turns until the playout ends, at most `limit` of them. The colours take turns, beginning with this one.
     pub fn play_on<W: Words>(&mut self, colour: Colour, words: &mut W, limit: u32)
         requires { (game : GameRecord) × IsRolloutOf game colour self.old }
         ensures { (game : GameRecord) → IsRolloutOf game colour self.old
@@ -54,7 +55,7 @@ impl Rollout {
         }
     }
 
-    /// Whether a playout that may make `left` moves more ends here.
+    /// Whether a playout that may still make `left` moves ends here.
     #[inline]
     fn ends(&self, left: u32) -> bool
         ensures { (game : GameRecord) (c : Colour) → IsRolloutOf game c self.now
@@ -70,7 +71,7 @@ impl Rollout {
         self.finished
     }
 
-    /// Takes a turn of a colour: plays the first candidate that words draw, or passes.
+    /// Takes a turn of a colour: plays the first candidate that the words draw, or passes.
     fn take_turn<W: Words>(&mut self, colour: Colour, words: &mut W)
         requires { (game : GameRecord) × IsRolloutOf game colour self.old × HasRoom game }
         ensures { (game : GameRecord) → IsRolloutOf game colour self.old → HasRoom game
@@ -118,7 +119,7 @@ impl Rollout {
         }
     }
 
-    /// Plays the point on an index of the order, which is a candidate.
+    /// Plays the point at an index of the list, which must be a candidate.
     #[inline]
     fn play(&mut self, colour: Colour, index: usize)
         requires { IsDrawnIn self.old colour index }
@@ -132,8 +133,8 @@ impl Rollout {
         self.moves += 1;
     }
 
-    /// The ko point after a play of a colour on a place that took so many stones, where the order ends with their
-    /// points.
+    /// The ko point after a play of a colour on a place that captured this many stones, whose points are at the end of
+    /// the list.
     #[inline]
     fn ko_after(&self, colour: Colour, place: usize, taken: usize) -> Option<usize>
         requires framed { IsFramed self.now.board }

@@ -5,6 +5,7 @@
 pub enum KoRule {
     /// Simple ko: the board before the previous move.
     Simple,
-    /// Positional superko: the board after any number of the record's first moves, from none to all.
+    /// Positional ko, also called positional superko: the board after any number of the record's first moves, from none
+    /// to all.
     Positional,
 }

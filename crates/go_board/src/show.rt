@@ -11,8 +11,8 @@ use crate::game::Game;
 use arrayvec::ArrayVec;
 use go_base::{Colour, Point, write_int};
 
-/// The room for the text of a board: 2,000 bytes, as many as the text of a reply has at most. A board's text has at
-/// most 1,409: 25 rows of 52 and a newline, 49 of letters and a newline, and 34 of captures.
+/// The capacity for the text of a board: 2,000 bytes, the most that the text of a reply may have. A board's text has at
+/// most 1,409: 25 rows of 52 bytes and a newline, 49 bytes of letters and a newline, and 34 bytes of captures.
 const TEXT_ROOM: usize = 2000;
 
 /// The most bytes of the points of a row: two for each of 25.
@@ -27,7 +27,7 @@ const MOST_LETTER_BYTES: usize = 49;
 /// The most bytes of the captures: 14 of words and spaces, and two numbers of ten digits.
 const MOST_CAPTURE_BYTES: usize = 34;
 
-/// The text of a board, as far as it is written.
+/// The text of a board, as far as it has been written.
 type BoardText = ArrayVec<u8, TEXT_ROOM>;
 
 impl Game {
@@ -35,11 +35,12 @@ impl Game {
     ghost use Rattle.go_board.specs.Game.{board_of};
     ghost use Rattle.go_board.specs.Show.{shown_points, shown_row, shown_captures, board_text};
 
-    /// The board as text: one line for each row, from the highest down to row 1, then the letters of the columns, then
-    /// how many stones each colour has taken, as `captures B 0 W 2`. No newline follows the last line.
+    /// Writes the board as text: one line for each row, from the top row down to row 1, then the letters of the
+    /// columns, then how many stones each colour has captured, such as `captures B 0 W 2`. The last line has no
+    /// newline.
     ///
-    /// A row has `X` for a black stone, `O` for a white one and `.` for an empty point, from column A on and each
-    /// followed by a space, and then its number.
+    /// A row shows its points from column A on, each followed by a space, and then its number. A black stone is `X`, a
+    /// white one is `O`, and an empty point is `.`.
     pub fn show(&self) -> ArrayVec<u8, TEXT_ROOM>
         ensures { result.items ≡ board_text self.now }
     {
@@ -64,7 +65,7 @@ impl Game {
         ensures few { array_vec_len text.new ≤ array_vec_len text.old + MOST_ROW_BYTES }
     {
         self.push_points(text, row);
-        // There is room, so nothing is refused.
+        // The capacity suffices, so nothing is rejected.
         let _ = text.try_extend_from_slice(&write_int(row));
     }
 
@@ -92,12 +93,12 @@ impl Game {
         self.at(point)
     }
 
-    /// Appends how many stones each colour has taken.
+    /// Appends how many stones each colour has captured.
     fn push_captures(&self, text: &mut BoardText)
         requires { array_vec_len text.old + MOST_CAPTURE_BYTES ≤ TEXT_ROOM }
         ensures { text.new.items ≡ text.old.items ++ shown_captures self.now }
     {
-        // There is room, so nothing is refused.
+        // The capacity suffices, so nothing is rejected.
         let _ = text.try_extend_from_slice(b"captures B ");
         let _ = text.try_extend_from_slice(&write_int(self.captured(Colour::Black)));
         let _ = text.try_extend_from_slice(b" W ");
@@ -105,7 +106,7 @@ impl Game {
     }
 }
 
-/// What is shown of a point: `X` for a black stone, `O` for a white one, `.` for none.
+/// How a point is shown: `X` for a black stone, `O` for a white one, `.` for none.
 fn mark(stone: Option<Colour>) -> u8
     ensures { result ∷ space ∷ [] ≡ shown_point stone }
 {

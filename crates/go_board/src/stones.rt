@@ -1,4 +1,4 @@
-//! A board with the id of each place's chain, and the pseudo-liberties of each chain.
+//! A board with the chain id of each place, and the pseudo-liberties of each chain.
 ghost use Rattle.std.specs.Prelude.{◌≡◌, ◌<◌, ◌≤◌, ◌+◌, ◌++◌, ◌↔◌, ℕ, IsTrue, IfSome, IfNone, length, map, slice_set};
 ghost use Rattle.std.specs.Prelude.{Contains};
 ghost use Rattle.go_base.specs.Point.{IsOn};
@@ -14,8 +14,8 @@ use crate::taken_stack::TakenStack;
 use go_base::Colour;
 use std::marker::Model;
 
-/// A board with an id for each of its places, the pseudo-liberties of each id, which are the empty neighbours of its
-/// stones, added up, and the number of each colour's stones. All but the ids follow from the board and the ids.
+/// A board with an id for each place, the pseudo-liberties of each id (the empty neighbours of its stones, counted per
+/// stone), and the number of stones of each colour. Everything except the ids follows from the board and the ids.
 #[derive(Drop)]
 pub struct Stones {
     board: Board,
@@ -68,7 +68,7 @@ impl Stones {
         }
     }
 
-    /// A copy.
+    /// Returns a copy.
     pub fn copy(&self) -> Self
         ensures { result ≡ self.now }
     {
@@ -81,7 +81,7 @@ impl Stones {
         }
     }
 
-    /// Becomes a copy of other stones, in place.
+    /// Makes this a copy of other stones, in place.
     pub fn copy_from(&mut self, other: &Stones)
         ensures { self.new ≡ other.now }
     {
@@ -148,7 +148,7 @@ impl Stones {
         self.counts.at(id)
     }
 
-    /// 1 where a place holds a stone with this id.
+    /// 1 if a place holds a stone with this id, and 0 if not.
     #[inline]
     fn ids_at(&self, place: usize, id: usize) -> u32
         requires { place < place_count }
@@ -174,7 +174,7 @@ impl Stones {
             + self.ids_at(place - ROW, id)
     }
 
-    /// The id of a stone like this on a place, or `or` where there is none.
+    /// The id of such a stone on a place, or `or` if there is none.
     #[inline]
     pub fn id_or(&self, stone: Cell, place: usize, or: usize) -> usize
         requires place { place < place_count }
@@ -189,7 +189,7 @@ impl Stones {
         }
     }
 
-    /// Places a stone with an id on an empty point. No stone is taken.
+    /// Places a stone with an id on an empty point. Nothing is captured.
     pub fn place_stone(&mut self, colour: Colour, place: usize, id: usize)
         requires point { IsOn most_size place }
         requires empty { at self.old.board place ≡ Empty }
@@ -223,8 +223,8 @@ impl Stones {
         self.counts.raise_beside(&self.board, &self.ids, place);
     }
 
-    /// Turns three ids into one, in one pass over the board, and adds up their pseudo-liberties. No pass is made where
-    /// they are one.
+    /// Renames three ids to one, in one pass over the board, and adds up their pseudo-liberties. If they are one
+    /// already, no pass is made.
     #[inline]
     pub fn join(&mut self, to: usize, a: usize, b: usize, c: usize)
         requires to { to < place_count }
@@ -241,7 +241,7 @@ impl Stones {
         self.join_three(to, a, b, c);
     }
 
-    /// Turns three ids into one in one pass, whether or not they are one already.
+    /// Renames three ids to one in one pass, whether or not they are one already.
     fn join_three(&mut self, to: usize, a: usize, b: usize, c: usize)
         requires to { to < place_count }
         requires a { a < place_count }
@@ -269,7 +269,7 @@ impl Stones {
         self.ids.set(place, id);
     }
 
-    /// Changes the id of all stones of a chain.
+    /// Changes the id of all stones in a chain.
     fn change_ids(&mut self, chain: &Places, id: usize)
         requires stones { (p : ℕ) → Contains chain.now p → IsStone (at self.old.board p) }
         requires id { id < place_count }
@@ -282,7 +282,7 @@ impl Stones {
         }
     }
 
-    /// Where a place holds a stone with id 0, its chain gets the place as its id.
+    /// If a place holds a stone with id 0, makes that place the id of its chain.
     fn set_fragment_id(&mut self, place: usize, chain: &mut Places)
         requires { place < place_count }
         ensures { SetsFragmentId self.old self.new place }
@@ -293,7 +293,7 @@ impl Stones {
         }
     }
 
-    /// Gives an id to each chain into which the chain with an id fell when its stone on a place was removed.
+    /// Gives an id to each chain into which the chain with this id broke up when its stone on a place was removed.
     pub fn split(&mut self, place: usize, id: usize)
         requires point { IsOn most_size place }
         requires id { id < place_count }
@@ -319,7 +319,7 @@ impl Stones {
         self.at(place) == Cell::stone(colour) && self.pseudo_liberties(self.id(place)) == 0
     }
 
-    /// The id of such a stone on a place, or `or` where there is none.
+    /// The id of a stone of this colour on a place whose chain has no liberty, or `or` if there is none.
     #[inline]
     pub fn captured_id_or(&self, colour: Colour, place: usize, or: usize) -> usize
         requires place { place < place_count }
@@ -335,7 +335,7 @@ impl Stones {
         }
     }
 
-    /// A neighbour of a point with a stone of this colour whose chain has no liberty: the right one, if it has one.
+    /// Returns a neighbour of a point with a stone of this colour whose chain has no liberty, preferring the right one.
     #[inline]
     pub fn captured_beside(&self, colour: Colour, place: usize) -> Option<usize>
         requires point { IsOn most_size place }
@@ -358,8 +358,8 @@ impl Stones {
         None
     }
 
-    /// Removes the stones of this colour that have no liberty, where they are those with one id. Returns how many
-    /// there were.
+    /// Removes the stones of this colour without liberties, which must be those with this id. Returns how many there
+    /// were.
     pub fn remove_captured(
         &mut self,
         colour: Colour,
@@ -378,7 +378,7 @@ impl Stones {
         ensures count { result ≡ captured_count self.old.board colour }
         ensures few { result ≤ place_count }
     {
-        // A look: the board has as many places as it should.
+        // A look: the board has the right number of places.
         let _ = &self.board;
         let stone = Cell::stone(colour);
         let mut count = 0;

@@ -1,4 +1,4 @@
-//! The stones that moves have taken.
+//! The stones that moves have captured.
 ghost use Rattle.std.specs.Prelude.{◌≡◌, ◌<◌, ◌≤◌, ◌++◌, ◌↔◌, [], ◌∷◌, length, IsTrue};
 ghost use Rattle.go_board.specs.Board.{place_count};
 ghost use Rattle.go_board.specs.private.TakenStack.{most_taken};
@@ -6,15 +6,15 @@ ghost use Rattle.go_board.specs.private.TakenStack.{most_taken};
 use arrayvec::ArrayVec;
 use std::marker::Model;
 
-/// How many stones there is room for: each was placed by one of 2,000 moves, or is one of 9 of a handicap.
+/// The capacity, in stones: each was placed by one of 2,000 moves, or is one of the 9 of a handicap.
 pub const MOST_TAKEN: usize = 2009;
 
-/// A stone that a move took.
+/// A stone that a move captured.
 #[derive(Clone, Copy, Debug, PartialEq, Eq)]
 pub struct TakenStone {
-    /// The place on which it stood.
+    /// The place where it was.
     pub place: u16,
-    /// How many moves came before the move that took it.
+    /// How many moves came before the move that captured it.
     pub number: u16,
 }
 
@@ -32,7 +32,7 @@ impl Default for TakenStone {
     }
 }
 
-/// The stones that moves have taken, the latest last.
+/// The stones that moves have captured, the latest last.
 #[derive(Drop)]
 pub struct TakenStack {
     stones: ArrayVec<TakenStone, MOST_TAKEN>,
@@ -51,7 +51,7 @@ impl TakenStack {
     ghost use Rattle.std.specs.Prelude.{IfSome, IfNone, ℕ};
     ghost use Rattle.go_board.specs.private.TakenStack.{IsNotLast, IsOnlyTaken, AreLastOf};
 
-    /// No stone.
+    /// An empty stack.
     pub fn new() -> Self
         ensures { result ≡ [] }
     {
@@ -60,24 +60,24 @@ impl TakenStack {
         }
     }
 
-    /// A copy.
+    /// Returns a copy.
     pub fn copy(&self) -> Self
         ensures { result ≡ self.now }
     {
         let mut stones = ArrayVec::new();
-        // There is room: both have the same.
+        // The capacity suffices: both have the same.
         let _ = stones.try_extend_from_slice(&self.stones);
         TakenStack { stones }
     }
 
-    /// Becomes a copy of another stack, in place.
+    /// Makes this a copy of another stack, in place.
     pub fn copy_from(&mut self, other: &TakenStack)
         ensures { self.new ≡ other.now }
     {
         copy_stones(&mut self.stones, &other.stones);
     }
 
-    /// Adds a stone.
+    /// Pushes a stone.
     #[inline]
     pub fn push(&mut self, place: usize, number: usize)
         requires place { place < place_count }
@@ -91,7 +91,7 @@ impl TakenStack {
         });
     }
 
-    /// Pops the last stone, if the move with this number took it, and returns its place.
+    /// Pops the last stone and returns its place, if the move with this number captured it.
     pub fn pop_taken_by(&mut self, number: usize) -> Option<usize>
         ensures some { IfSome result
             (λ place. self.old ≡ self.new ++ record { place = place; number = number } ∷ []) }
@@ -104,7 +104,7 @@ impl TakenStack {
         if usize::from(last.number) != number {
             return None;
         }
-        // It is the one that was looked at.
+        // This is the stone that was looked at.
         let _ = self.stones.pop();
         Some(usize::from(last.place))
     }
@@ -117,7 +117,7 @@ impl TakenStack {
         &self.stones
     }
 
-    /// The stones that the move with this number took, where no later one took any.
+    /// The stones that the move with this number captured, if no later move captured any.
     pub fn taken_by(&self, number: usize) -> &[TakenStone]
         ensures { AreLastOf self.now number result.now }
     {
@@ -129,7 +129,7 @@ impl TakenStack {
         &stones[first..]
     }
 
-    /// The place of the last stone, if it is the only one that the move with this number took.
+    /// The place of the last stone, if it is the only one that the move with this number captured.
     pub fn only_taken_by(&self, number: usize) -> Option<usize>
         ensures some { IfSome result (IsOnlyTaken self.now number) }
         ensures none { IfNone result ((place : ℕ) → ¬ IsOnlyTaken self.now number place) }
@@ -147,8 +147,8 @@ impl TakenStack {
     }
 }
 
-/// Makes stones a copy of others, in place. Each stone is read before its place is written, and none is cleared that the
-/// copy has.
+/// Makes `stones` a copy of `others`, in place. Each stone is read before its place is written, and no stone that the
+/// copy has is cleared.
 fn copy_stones(
     stones: &mut ArrayVec<TakenStone, MOST_TAKEN>,
     others: &ArrayVec<TakenStone, MOST_TAKEN>,
@@ -158,6 +158,6 @@ fn copy_stones(
     stones.truncate(others.len());
     let (front, rest) = others.split_at(stones.len());
     stones.as_mut_slice().copy_from_slice(front);
-    // There is room: both have the same.
+    // The capacity suffices: both have the same.
     let _ = stones.try_extend_from_slice(rest);
 }

@@ -1,9 +1,9 @@
-//! Where a playout takes its words from.
+//! The source of a playout's random words.
 ghost use Rattle.std.specs.Prelude.{ℕ};
 
-/// A source of words, as a generator of random numbers is one.
+/// A source of random words, such as a random number generator.
 pub trait Words {
-    // In the first state the source may give this word next, and is then in the second state.
+    // Whether the source may give this word in the first state, and is then in the second state.
     ghost gives: { Self → ℕ → Self → Type 0 };
 
     /// The next word: 64 bits.

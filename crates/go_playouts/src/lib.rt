@@ -1,6 +1,6 @@
-//! Playouts by a seed: the words are those of the generator `Pcg64`.
+//! Seeded playouts: their random words come from the generator `Pcg64`.
 //!
-//! What a playout is stands in `go_board`. The same game, colour, seed and limit give the same playout.
+//! `go_board` defines what a playout is. The same game, colour, seed and limit give the same playout.
 #![tactic(auto)]
 
 pub mod laws;

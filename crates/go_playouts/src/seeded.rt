@@ -1,4 +1,4 @@
-//! Words from a seed, and the playouts that they draw.
+//! Random words from a seed, and the playouts that they decide.
 ghost use Rattle.std.specs.Prelude.{◌≡◌};
 ghost use Rattle.go_playouts.specs.Seeded.{generator_of, IsSeededPlayout, IsSeededRollout};
 
@@ -9,7 +9,7 @@ use rand_core::utils::NextWord;
 use rand_pcg::Pcg64;
 use std::marker::Model;
 
-/// The words of the generator that `Pcg64::seed_from_u64` makes of a seed.
+/// The random words of `Pcg64::seed_from_u64` for a seed.
 #[derive(Drop)]
 pub struct SeededWords {
     generator: Pcg64,
@@ -24,7 +24,7 @@ impl Model for SeededWords {
 }
 
 impl SeededWords {
-    /// The words of a seed, from the first on.
+    /// The words of a seed, from the first one.
     pub fn new(seed: u64) -> Self
         ensures { result ≡ generator_of seed }
     {
@@ -44,8 +44,8 @@ impl Words for SeededWords {
     }
 }
 
-/// Plays on by the words of a seed until the game is finished, `limit` moves are made or the record is full. The
-/// colours take turns, and this one begins. `Game::playout` says how a word draws a move.
+/// Plays on with the random words of a seed until the game is finished, `limit` moves are made or the record is full.
+/// The colours take turns, beginning with this one. `Game::playout` says how a word chooses a move.
 pub fn playout(game: &mut Game, colour: Colour, seed: u64, limit: u32)
     ensures { IsSeededPlayout game.old colour seed limit game.new }
 {
@@ -53,8 +53,8 @@ pub fn playout(game: &mut Game, colour: Colour, seed: u64, limit: u32)
     game.playout(colour, &mut words, limit);
 }
 
-/// The score, in half points, of the game that `playout` would leave: positive where Black leads. The game stays as it
-/// was. With limit 0 that is the score now.
+/// Returns the score, in half points, of the game that `playout` would leave: positive if Black leads. The game isn't
+/// changed. With limit 0 it is the score of the game as it is.
 pub fn rollout(game: &Game, colour: Colour, seed: u64, limit: u32) -> i32
     ensures { IsSeededRollout game.now colour seed limit result }
 {

@@ -11,17 +11,17 @@ use gtp_process::SystemStarter;
 use std::io::IsTerminal;
 use std::process::ExitCode;
 
-/// Holds the standard streams that are closed, checks, and ends with the status.
+/// Keeps the closed standard streams from being reused, runs the check, and exits with its status.
 fn main(rt: HostRuntime) -> ExitCode {
     let status = match hold_closed(&rt, rt.stdin(), rt.stdout(), rt.stderr()) {
-        // They are held until all is asked and written.
+        // They stay in use until the check is over.
         Ok(_held) => check_by(&rt),
         Err(_) => Failure::NoNullDevice.report(NAME, &mut rt.stderr()),
     };
     ExitCode::from(status)
 }
 
-/// Checks as the arguments say, and returns the status.
+/// Runs the check that the arguments ask for, and returns the status.
 fn check_by(rt: &HostRuntime) -> u8 {
     match arguments(rt) {
         Ok(words) => run(

@@ -1,4 +1,4 @@
-//! A check: the course of questions is asked of an engine, and what is found is written.
+//! A check: it sends an engine the commands of the course, and writes what is wrong with the replies.
 ghost use Rattle.std.specs.Prelude.{◌≡◌, ◌+◌, ◌<◌, ◌≤◌, ◌⊎◌, true, false, None, IfOk, IfErr, IfSome, IsSome};
 ghost use Rattle.std.specs.Prelude.{length, OnOk};
 ghost use Rattle.arrayvec.specs.ArrayVec.{array_vec_len};
@@ -33,54 +33,54 @@ use gtp_check_talks::notes::Notes;
 use gtp_process::{Process, StartFault, Starter, Unstarted};
 use std::alloc::{AllocError, Global};
 
-/// How many turns a check has at most. No check within the limits has this number.
+/// How many turns a check has at most. No check within the limits takes so many.
 const MOST_TURNS: u64 = 1_000_000_000_000;
 
-/// How many steps of the course are taken in one turn at most.
+/// How many steps of the course one turn takes at most.
 const MOST_STEPS: u32 = 64;
 
-/// How often engines are started at most: more often than by the course, after each of a thousand findings, and for a
-/// thousand trials of each.
+/// How often engines are started at most. That is more often than for the course, after each of a thousand findings,
+/// and for a thousand trials of each.
 const MOST_STARTS: u32 = 2_000_000;
 
-/// After so many starts in a row without a right answer the check is over.
+/// The check is over after this many starts in a row without a correct reply.
 const MOST_FRUITLESS: u32 = 3;
 
-/// A check that goes on. It is not `Drop`: its process has to be ended.
+/// A running check. It is not `Drop`: its process has to be ended.
 pub struct Check<S: Starter> {
-    /// What hands out memory.
+    /// The allocator.
     pub alloc: Global,
-    /// What is due to each command, and what was started.
+    /// The examiner, which knows the correct replies and counts the starts.
     pub examiner: Examiner,
-    /// What comes next.
+    /// The course, which knows what comes next.
     pub course: Course,
-    /// The engine, if there is one.
+    /// The engine, if one is running.
     pub engine: Option<Engine<S::Process>>,
-    /// What is noted of right answers.
+    /// What is noted of correct replies.
     pub notes: Notes,
     /// What was found.
     pub tally: Tally,
-    /// The room for what is read.
+    /// The buffers for what is read.
     pub room: Room,
 }
 
 /// What comes next in a turn.
 #[derive(Clone, Copy, Debug, PartialEq, Eq)]
 enum Next {
-    /// An engine is started.
+    /// Start an engine.
     Start,
-    /// The engine is sent `quit` and ended, and a new one is started.
+    /// Send `quit` to the engine, end it, and start a new one.
     Restart,
-    /// The engine is ended at once, and a new one is started.
+    /// End the engine at once, and start a new one.
     Kill,
-    /// What was asked is sent, and the engine is heard.
+    /// Send the commands that wait, and read the engine.
     Exchange,
-    /// Each lesson was asked.
+    /// Nothing: each lesson was asked.
     Over,
 }
 
 impl<S: Starter> Check<S> {
-    /// Before the first start.
+    /// The check of a plan, before the first start.
     pub fn new(alloc: Global, plan: &Plan<'_>) -> Self
         ensures first { state_of result ≡ before_all plan.now }
         ensures down { result.examiner.exam.up ≡ false }
@@ -105,7 +105,7 @@ impl<S: Starter> Check<S> {
     ///
     /// # Errors
     ///
-    /// Where memory is refused, or what was found can't be written.
+    /// If memory can't be allocated, the output can't be written, or the check takes too many turns.
     pub fn take_turns<O: WriteOnce, E: WriteOnce>(
         &mut self,
         plan: &Plan<'_>,
@@ -130,7 +130,7 @@ impl<S: Starter> Check<S> {
         Err(Failure::TooManyTurns)
     }
 
-    /// Takes the next steps of the course, up to an answer that has to come first.
+    /// Takes the next steps of the course, up to a reply that has to come first.
     fn take_turn<O: WriteOnce, E: WriteOnce>(
         &mut self,
         plan: &Plan<'_>,
@@ -168,7 +168,7 @@ impl<S: Starter> Check<S> {
         }
     }
 
-    /// The engine is asked what comes next, as much as may be asked before it answers.
+    /// Asks the engine what comes next, as much as may be asked before it replies.
     fn gather(&mut self, singly: bool) -> Result<Next, AllocError>
         requires paired { IsPaired (state_of self.old) }
         ensures gathers { IfOk result (λ next.
@@ -200,7 +200,7 @@ impl<S: Starter> Check<S> {
         Ok(Next::Exchange)
     }
 
-    /// Whether another command may be asked before the engine is heard.
+    /// Returns whether another command may be asked before the engine is read.
     fn has_room(&self, singly: bool) -> bool
         ensures room { result ≡ true → IfSome self.now.engine (λ engine.
             array_vec_len engine.waiting + 64 ≤ LINES_ROOM) }
@@ -220,7 +220,7 @@ impl<S: Starter> Check<S> {
         }
     }
 
-    /// Whether an answer of an engine that is up is waited for.
+    /// Returns whether a running engine owes a reply.
     fn is_owed(&self) -> bool
         ensures owed { result ≡ true → self.now.examiner.exam.up ≡ true }
         ensures some { result ≡ true → 0 < length self.now.examiner.exam.unanswered }
@@ -230,14 +230,14 @@ impl<S: Starter> Check<S> {
         self.examiner.is_up() && self.examiner.unanswered() > 0
     }
 
-    /// What the next command is asked for.
+    /// The lesson and part that the next command is asked for.
     pub fn purpose(&self) -> Purpose
         ensures { result ≡ purpose_in self.now.course }
     {
         purpose_in(&self.course)
     }
 
-    /// The engine is asked a command.
+    /// Asks the engine a command.
     fn ask(&mut self, command: CheckCommand, purpose: Purpose) -> Result<(), AllocError>
         requires may { HasRoomFor self.old.examiner.exam command }
         requires there { IsSome self.old.engine }
@@ -256,7 +256,7 @@ impl<S: Starter> Check<S> {
         }
     }
 
-    /// What was asked is sent, and the engine is heard.
+    /// Sends the commands that wait, and reads the engine.
     fn exchange(&mut self) -> Option<Fault>
         requires { IsSome self.old.engine }
         ensures heard { IsHeardOut S.Process.Process (state_of self.old) result (state_of self.new) }
@@ -268,7 +268,7 @@ impl<S: Starter> Check<S> {
         }
     }
 
-    /// Whether the engine may be started once more.
+    /// Returns whether the engine may be started again.
     fn may_start(&self) -> bool
         ensures yes { result ≡ true → MayStart self.now.examiner self.now.tally }
         ensures no { result ≡ false → MayStart self.now.examiner self.now.tally → ⊥ }
@@ -276,8 +276,8 @@ impl<S: Starter> Check<S> {
         self.examiner.may_start() && self.tally.may_start()
     }
 
-    /// What is due after an exchange is written: the first line, and what is wrong. A suicide that isn't judged is
-    /// passed over.
+    /// Writes what an exchange gave: the first line, if it is due, and what is wrong. A suicide that isn't judged is
+    /// only counted.
     fn settle<O: WriteOnce, E: WriteOnce>(
         &mut self,
         fault: Option<Fault>,
@@ -308,7 +308,7 @@ impl<S: Starter> Check<S> {
         self.complain(fault, plan, streams, starter)
     }
 
-    /// An engine is started, where one may be.
+    /// Starts an engine, if one may be started.
     #[inline(never)]
     fn start(&mut self, plan: &Plan<'_>, starter: &mut S) -> Result<Option<Over>, Failure>
         ensures begins { IfOk result (λ over. Begins S.Process.Process plan.now
@@ -341,7 +341,7 @@ impl<S: Starter> Check<S> {
         }
     }
 
-    /// The engine, which owes nothing, is sent `quit` and ended.
+    /// Sends `quit` to the engine, which owes nothing, and ends it.
     #[inline(never)]
     fn restart(&mut self)
         ensures quits { QuitsIfAny S.Process.Process (process_of self.old.engine) }
@@ -351,7 +351,7 @@ impl<S: Starter> Check<S> {
         quit(self.engine.take(), &mut self.room);
     }
 
-    /// The engine, which owes nothing, is ended without `quit`.
+    /// Ends the engine, which owes nothing, without `quit`.
     #[inline(never)]
     fn kill(&mut self)
         ensures ends { IsEnded S.Process.Process (process_of self.old.engine) }
@@ -361,14 +361,14 @@ impl<S: Starter> Check<S> {
         end_now(self.engine.take());
     }
 
-    /// Whether the first line is due: once the version is known, or something is wrong.
+    /// Returns whether the first line is due: once the version is known, or something is wrong.
     fn is_first_due(&self, is_wrong: bool) -> bool
         ensures { result ≡ is_first_due self.now.tally self.now.notes is_wrong }
     {
         !self.tally.has_first_line && (is_wrong || self.notes.version.is_some())
     }
 
-    /// The first line is written once the version is known, or something is wrong.
+    /// Writes the first line once the version is known, or something is wrong.
     #[inline(never)]
     fn write_first<O: WriteOnce, E: WriteOnce>(
         &mut self,
@@ -394,7 +394,7 @@ impl<S: Starter> Check<S> {
         Ok(())
     }
 
-    /// The status, where the check is over.
+    /// Returns the status of a check that is over.
     pub fn status(&self, plan: &Plan<'_>) -> u8
         ensures { result ≡ status_in plan.now (state_of self.now) }
     {
@@ -403,14 +403,14 @@ impl<S: Starter> Check<S> {
         status_of(self.tally.complaints, is_earned)
     }
 
-    /// How many engines were started.
+    /// Returns how often engines were started.
     pub fn starts(&self) -> u32
         ensures { result ≡ self.now.examiner.starts }
     {
         self.examiner.starts()
     }
 
-    /// The engine is ended at once.
+    /// Ends the engine at once.
     pub fn end_at_once(self)
         ensures { IsEnded S.Process.Process (process_of self.engine) }
     {
@@ -426,7 +426,8 @@ impl<S: Starter> Check<S> {
         end_now(engine);
     }
 
-    /// The engine is ended: one that owes nothing after it was sent `quit`, and any other at once.
+    /// Ends the engine, and returns the last lines. An engine that owes nothing is sent `quit` first, any other is
+    /// ended at once.
     pub fn end(self, plan: &Plan<'_>, over: &Over) -> Result<Vec<u8>, AllocError>
         ensures closed { IsClosed S.Process.Process (state_of self) }
         ensures text { IfOk result (λ text.
@@ -446,7 +447,7 @@ impl<S: Starter> Check<S> {
         lines
     }
 
-    /// What the last lines say, where the check is over for this reason.
+    /// What the last lines report, if the check is over for this reason.
     fn ending<'c>(&'c self, plan: &'c Plan<'_>, over: &'c Over) -> Ending<'c>
         ensures { IsEnding plan.now (state_of self.now) over.now result }
     {
@@ -461,7 +462,7 @@ impl<S: Starter> Check<S> {
     }
 }
 
-/// The lessons that were to be asked and were not, or not to their end, where the course is in this one.
+/// Returns the lessons that should have been asked and weren't, or not to their end, when the course is in this one.
 fn missed_from<'c>(plan: &'c Plan<'_>, lesson: usize) -> &'c [Lesson]
     ensures { result.now ≡ missed_from plan.now lesson }
 {
@@ -469,7 +470,7 @@ fn missed_from<'c>(plan: &'c Plan<'_>, lesson: usize) -> &'c [Lesson]
     &plan.lessons[done..]
 }
 
-/// What the course asks for next.
+/// The lesson and part that the course asks next.
 pub fn purpose_in(course: &Course) -> Purpose
     ensures { result ≡ purpose_in course.now }
 {
@@ -479,7 +480,7 @@ pub fn purpose_in(course: &Course) -> Purpose
     }
 }
 
-/// The same lessons.
+/// Copies lessons.
 fn copied(lessons: &Lessons) -> Lessons
     ensures { result.items ≡ lessons.now.items }
 {

@@ -1,4 +1,4 @@
-//! How an engine is ended: it is sent `quit` first, or not.
+//! How an engine is ended: after a `quit`, or at once.
 ghost use Rattle.gtp_process.specs.Endings.{IsEnded};
 ghost use Rattle.gtp_process.specs.Quitting.{QuitsIfAny};
 ghost use Rattle.gtp_check_app.specs.Checks.{IsClosedWhere};
@@ -7,7 +7,7 @@ ghost use Rattle.gtp_check_app.specs.Turns.{process_of};
 use gtp_check_talks::engine::{Engine, Room};
 use gtp_process::{Process, quit_and_end};
 
-/// An engine, if there is one, is sent `quit` and ended.
+/// Sends `quit` to an engine, if there is one, and ends it.
 pub fn quit<P: Process>(engine: Option<Engine<P>>, room: &mut Room)
     ensures { QuitsIfAny P.Process (process_of engine) }
 {
@@ -24,7 +24,7 @@ pub fn quit<P: Process>(engine: Option<Engine<P>>, room: &mut Room)
     }
 }
 
-/// An engine, if there is one, is ended: one that is idle is sent `quit`.
+/// Ends an engine, if there is one. An idle one is sent `quit` first.
 pub fn close<P: Process>(engine: Option<Engine<P>>, is_idle: bool, room: &mut Room)
     ensures { IsClosedWhere P.Process is_idle (process_of engine) }
 {
@@ -35,7 +35,7 @@ pub fn close<P: Process>(engine: Option<Engine<P>>, is_idle: bool, room: &mut Ro
     }
 }
 
-/// An engine, if there is one, is ended at once.
+/// Ends an engine at once, if there is one.
 pub fn end_now<P: Process>(engine: Option<Engine<P>>)
     ensures { IsEnded P.Process (process_of engine) }
 {

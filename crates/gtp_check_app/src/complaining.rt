@@ -1,4 +1,4 @@
-//! Something is wrong with the engine: it is ended, and a complaint is written.
+//! What happens once something is wrong with the engine: it is ended, and a complaint is written.
 ghost use Rattle.std.specs.Prelude.{◌≡◌, ◌⊎◌, [], ◌∷◌, true, None, Some, IfErr, IfOk, IfSome, IsSome, OnOk};
 ghost use Rattle.std.specs.Prelude.{◌<◌, ◌^◌, count_by, length, option_map, unwrap_or};
 ghost use Rattle.byte_streams.specs.Writing.{BreaksAt, GoesOut};
@@ -46,30 +46,29 @@ use gtp_check_texts::last_game::Shown;
 use gtp_process::{Process, Starter};
 use std::alloc::{AllocError, Global};
 
-/// A conversation of so many commands isn't shortened.
+/// A conversation of at most this many commands isn't shortened.
 const FEW_COMMANDS: usize = 12;
 
-/// So many commands may be asked in trials of a conversation, however short its lesson was.
+/// How many commands the trials of a conversation may send, however short its lesson was.
 const LEAST_TRIED: usize = 20_000;
 
-/// A conversation of at most so many commands is shown whole, also where nothing shorter was found.
+/// A conversation of at most this many commands is shown whole, even if no shorter one was found.
 const MOST_WHOLE: usize = 40;
 
-/// What a complaint says of a conversation: the number of the complaint, the lesson in which it was found, and how much
-/// of the conversation is shown.
+/// What a complaint says about a conversation.
 #[derive(Clone, Copy)]
 pub struct Caption {
-    /// The number, counted from 1.
+    /// The number of the complaint, counted from 1.
     pub number: u32,
-    /// The lesson.
+    /// The lesson in which the fault was found.
     pub lesson: Lesson,
-    /// How much is shown.
+    /// How much of the conversation is shown.
     pub shown: Shown,
 }
 
 impl<S: Starter> Check<S> {
-    /// Something is wrong with the engine, which is ended. The complaint is written, unless its like was shown often
-    /// enough, and the part of the lesson is left.
+    /// Ends the engine, with which something is wrong, and leaves the part of the lesson. Writes the complaint, unless
+    /// the lesson has shown three of its kind.
     #[inline(never)]
     pub fn complain<O: WriteOnce, E: WriteOnce>(
         &mut self,
@@ -110,7 +109,7 @@ impl<S: Starter> Check<S> {
         }
     }
 
-    /// What the next complaint says of a conversation.
+    /// The caption of the next complaint.
     fn caption_of(&self, lesson: Lesson, shown: Shown) -> Caption
         ensures { result ≡ caption_of self.now.tally.complaints lesson shown }
     {
@@ -121,7 +120,7 @@ impl<S: Starter> Check<S> {
         }
     }
 
-    /// The engine, in which this is wrong, is ended, and the part in which it is wrong is left.
+    /// Ends the engine, with which this is wrong, and leaves the part in which it was found.
     fn close(&mut self, fault: Fault) -> Option<Tried>
         requires { IsSome self.old.engine }
         ensures found { IsSome result }
@@ -141,7 +140,7 @@ impl<S: Starter> Check<S> {
         Some(found)
     }
 
-    /// The complaint is written, on an empty line.
+    /// Clears the progress line, and writes the complaint.
     fn write<O: WriteOnce, E: WriteOnce>(
         &mut self,
         found: &Tried,
@@ -172,8 +171,8 @@ impl<S: Starter> Check<S> {
         Ok(())
     }
 
-    /// A shorter conversation with the same end, if one is found: the last games of this one, and then what is left of
-    /// that where parts are left out.
+    /// Looks for a shorter conversation with the same end: first the last games of this one, and then those with parts
+    /// left out.
     fn shorter(
         &mut self,
         found: &Tried,
@@ -195,7 +194,7 @@ impl<S: Starter> Check<S> {
         }
     }
 
-    /// The last games of a conversation: they are tried one after the other, up to the first that has the same end.
+    /// Tries the last games of a conversation, one shortening after the other, up to the first that has the same end.
     fn last_games(
         &mut self,
         found: &Tried,
@@ -231,9 +230,9 @@ impl<S: Starter> Check<S> {
         })
     }
 
-    /// What is left of a conversation where parts are left out, and that has the same end as the one that was found: the
-    /// shortest that was tried, if any has. It begins with the last games that ended so, or with all. Each `name` that is
-    /// asked besides isn't among the commands of which parts are left out.
+    /// Leaves out parts of a conversation, and returns the shortest that was tried and has the same end, if there is
+    /// any. It begins with the last games that ended so, or with the whole conversation. An extra `name` isn't among
+    /// the commands of which parts are left out.
     fn reduced(
         &mut self,
         found: &Tried,
@@ -271,8 +270,8 @@ impl<S: Starter> Check<S> {
         Ok(best)
     }
 
-    /// These commands are asked of a new engine, where a start is left, with `name` between them where an answer may have
-    /// run on. What is wrong then is returned where it is the same as what was found.
+    /// Asks these commands of a new engine, if a start is left, with `name` between them if a reply may have run on.
+    /// Returns what came of it if it ends like the conversation that was found.
     fn try_one(
         &mut self,
         found: &Tried,
@@ -325,11 +324,11 @@ struct LastGames {
     ended: Option<Tried>,
     /// How many were tried.
     tried: u32,
-    /// The commands of the conversation that are left then, without the `name` that were asked besides.
+    /// The commands of the conversation that are left then, without the extra `name`.
     left: Vec<CheckCommand>,
 }
 
-/// How much is shown of a conversation for which nothing shorter was found, where so many trials are made at most.
+/// How much to show of a conversation for which nothing shorter was found, when at most this many trials are made.
 fn shown_unshortened(trials: u32, found: &Tried) -> Shown
     ensures { result ≡ shown_of trials None (wrong_of found.now) }
 {
@@ -340,7 +339,7 @@ fn shown_unshortened(trials: u32, found: &Tried) -> Shown
     }
 }
 
-/// The shortenings that are tried of a conversation, so many at most.
+/// The shortenings to try for a conversation, at most this many.
 fn shortenings_of(alloc: Global, talk: &[Said], trials: u32) -> Result<Vec<Shortening>, AllocError>
     ensures those { IfOk result (λ all. all.items ≡ shortenings_of trials talk.now) }
     ensures few { IfOk result (λ all. length all.items < 2 ^ 32) }
@@ -355,8 +354,8 @@ fn shortenings_of(alloc: Global, talk: &[Said], trials: u32) -> Result<Vec<Short
     Ok(tried)
 }
 
-/// Whether a conversation is shortened so: it has more commands than are few, more games than this is for, and some in
-/// the last games before those that are kept; and what is left of it has fewer commands.
+/// Returns whether a conversation is shortened so: it has more commands than a short one, more games than the
+/// shortening is for, and in the last games some before those that are kept; and the shortening leaves fewer commands.
 fn is_for(alloc: Global, talk: &[Said], shortening: Shortening) -> Result<bool, AllocError>
     ensures { IfOk result (λ may. may ≡ is_for talk.now shortening) }
 {
@@ -370,8 +369,8 @@ fn is_for(alloc: Global, talk: &[Said], shortening: Shortening) -> Result<bool, 
     Ok(commands.len() < talk.len())
 }
 
-/// How much may be tried, where the conversation that was found is this one, so many shorter ones were tried before,
-/// and parts of the last of them are left out now.
+/// How much may be tried while parts of `longer` are left out, after this many trials for the conversation that was
+/// found.
 fn limits_of(plan: &Plan<'_>, found: &Tried, longer: &Tried, tried: u32) -> Limits
     ensures { result ≡ limits_of plan.now (wrong_of found.now) (wrong_of longer.now) tried }
 {
@@ -396,14 +395,15 @@ fn lesson_commands(talk: &[Said], purpose: Purpose) -> usize
         .count()
 }
 
-/// What was done in a conversation up to the command that was answered wrongly, and the game of a right engine before it.
+/// What was done in a conversation up to the command that was answered wrongly, and the game of a correct engine before
+/// it.
 #[derive(Drop)]
 struct Done {
     talk: Vec<Said>,
     game: Option<Game>,
 }
 
-/// What was done in a conversation, under this ko rule.
+/// Returns what was done in a conversation, under this ko rule.
 fn done_in(alloc: Global, found: &Tried, rule: KoRule) -> Result<Done, AllocError>
     ensures talk { IfOk result (λ done. done.talk.items ≡ played (wrong_talk (wrong_of found.now))) }
     ensures game { IfOk result (λ done. done.game ≡ game_before rule done.talk.items) }
@@ -413,8 +413,8 @@ fn done_in(alloc: Global, found: &Tried, rule: KoRule) -> Result<Done, AllocErro
     Ok(Done { talk, game })
 }
 
-/// The complaint with this caption about a conversation that ended with something wrong. Only where a right engine is
-/// under simple ko positional ko can explain a refusal.
+/// The complaint with this caption about a conversation that ended with something wrong. Positional ko can explain a
+/// refusal only if a correct engine plays by simple ko.
 fn complaint_of<'t>(
     caption: Caption,
     found: &'t Tried,
@@ -443,8 +443,8 @@ fn complaint_of<'t>(
     }
 }
 
-/// Something was found in what was asked for this purpose: that part is left, if the course is in it. Where it is
-/// another part of the lesson, it counts in that all the same.
+/// Notes a finding in what was asked for this purpose: the course leaves that part, if it is in it. If it is in another
+/// part of the lesson, the finding counts there.
 fn note_finding(course: &mut Course, purpose: Purpose, is_loss: bool)
     ensures { HasNoted purpose is_loss course.old course.new }
 {
@@ -456,7 +456,7 @@ fn note_finding(course: &mut Course, purpose: Purpose, is_loss: bool)
     }
 }
 
-/// Whether the engine was lost: it was cut off while it owed an answer.
+/// Returns whether the engine was lost: it was cut off while it owed a reply.
 fn is_loss(fault: Fault) -> bool
     ensures { result ≡ is_loss fault }
 {

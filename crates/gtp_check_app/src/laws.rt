@@ -13,39 +13,41 @@ use gtp_check_talks::laws::{
 };
 use gtp_process::Process;
 
-/// Where suicide isn't asked, no complaint is about a suicide that a `genmove` chose: it is counted, and nothing else.
+/// If suicide isn't asked, no complaint is about a suicide that a `genmove` chose: it is counted, and nothing else
+/// happens.
 pub fn no_chosen_suicide_is_blamed<P: Process>()
     ensures { NoChosenSuicideIsBlamed P.Process }
 {}
 
-/// For one complaint no more engines are started than the plan has trials: those for its last games are among them.
+/// For one complaint no more engines are started than the plan has trials. The trials of the last games are among them.
 pub fn trials_are_few<P: Process>()
     ensures { TrialsAreFew P.Process }
 {}
 
-/// Where parts of a conversation are left out, the trials together ask no more of its commands than the one that was found
-/// had in its lesson, or 20,000. Each `name` that is asked besides, since an answer may run on, isn't counted.
+/// The trials that leave out parts of a conversation send together no more of its commands than the conversation that
+/// was found had in its lesson, or 20,000. The extra `name` commands, which are sent because a reply may run on, aren't
+/// counted.
 pub fn trials_ask_few<P: Process>()
     ensures { TrialsAskFew P.Process }
 {}
 
-/// Of what a trial asks, the first so many commands are the first of the shorter conversation, as many as are counted as its
-/// own, with any `name` besides. So parts are left out of the conversation alone.
+/// The commands that a trial counts as its own are the first commands of the shorter conversation, with any extra
+/// `name` between them. So parts are left out of the conversation alone.
 pub fn own_commands_are_counted()
     ensures { OwnCommandsAreCounted }
 {}
 
-/// The status of a check that is over is 1 exactly where something was found, and 0 exactly where nothing was, each
-/// lesson was asked to its end, and each is noted. A lesson is noted just where a `play` or a `genmove` was answered
-/// rightly in it.
+/// The status of a check that is over is 1 exactly if something was found. It is 0 exactly if nothing was found, each
+/// lesson was completed, and each is noted. A lesson is noted exactly if a `play` or a `genmove` was answered correctly
+/// in it.
 pub fn a_pass_is_earned<P: Process>()
     ensures { APassIsEarned P.Process }
 {
     moves_are_noted_once_answered::<P>();
 }
 
-/// Where nothing was found so far, nothing that is judged was wrong in any turn. And at each point of a check, each answer that was
-/// heard of its engine is a right one.
+/// As long as nothing is found, nothing that is judged was wrong in any turn. At each point of a check, each reply of
+/// its engine that was heard is a correct one.
 pub fn silent_checks_are_right<P: Process, O: WriteOnce, E: WriteOnce>()
     ensures { SilentChecksAreRight (known_of P.Process O.WriteOnce E.WriteOnce) }
 {
@@ -56,7 +58,7 @@ pub fn silent_checks_are_right<P: Process, O: WriteOnce, E: WriteOnce>()
     right_answers_end_starts_in_vain::<P>();
 }
 
-/// Each complaint is of a conversation that ended with a wrong answer, or in which the engine was lost.
+/// Each complaint is about a conversation that ended with a wrong reply, or in which the engine was lost.
 pub fn each_complaint_is_just<P: Process, O: WriteOnce, E: WriteOnce>()
     ensures { EachComplaintIsJust (known_of P.Process O.WriteOnce E.WriteOnce) }
 {
@@ -67,7 +69,7 @@ pub fn each_complaint_is_just<P: Process, O: WriteOnce, E: WriteOnce>()
     right_answers_end_starts_in_vain::<P>();
 }
 
-/// `quit` goes only to an engine that owes no answer.
+/// `quit` is sent only to an engine that owes no reply.
 pub fn quit_goes_to_who_owes_nothing<P: Process, O: WriteOnce, E: WriteOnce>()
     ensures { QuitGoesToWhoOwesNothing (known_of P.Process O.WriteOnce E.WriteOnce) }
 {
@@ -78,7 +80,7 @@ pub fn quit_goes_to_who_owes_nothing<P: Process, O: WriteOnce, E: WriteOnce>()
     right_answers_end_starts_in_vain::<P>();
 }
 
-/// Three starts in a row without a right answer end the check, and no engine is started a fourth time.
+/// Three starts in a row without a correct reply end the check: no engine is started a fourth time.
 pub fn three_starts_in_vain_end_it<P: Process, O: WriteOnce, E: WriteOnce>()
     ensures { ThreeStartsInVainEndIt (known_of P.Process O.WriteOnce E.WriteOnce) }
 {
@@ -89,9 +91,9 @@ pub fn three_starts_in_vain_end_it<P: Process, O: WriteOnce, E: WriteOnce>()
     right_answers_end_starts_in_vain::<P>();
 }
 
-/// A run whose status is 1 wrote a complaint; one whose status is 0 passed the engine, or was asked for a text alone;
-/// and in one whose status is 4 nothing that is judged was wrong, and the engine hasn't passed. To pass is to be asked
-/// each lesson to its end, and to answer a `play` or a `genmove` of each rightly.
+/// A run with status 1 wrote a complaint. One with status 0 passed the engine, or was only asked for a text. In one
+/// with status 4 nothing that is judged was wrong, and the engine hasn't passed. To pass, an engine has to be asked
+/// each lesson to its end, and to answer a `play` or a `genmove` of each correctly.
 pub fn statuses_say<P: Process, O: WriteOnce, E: WriteOnce>()
     ensures { StatusesSay (known_of P.Process O.WriteOnce E.WriteOnce) }
 {

@@ -1,8 +1,9 @@
-//! What the program `gtp_check` does: a check of one engine that speaks the Go Text Protocol, version 2. Here are its
-//! turns and its progress; `gtp_check_plan` reads the options, `gtp_check_questions` asks, and `gtp_check_judge` judges.
+//! What the program `gtp_check` does: it checks one engine that speaks the Go Text Protocol, version 2. This crate has
+//! the turns of a check and its progress line; `gtp_check_plan` reads the options, `gtp_check_questions` chooses the
+//! commands, and `gtp_check_judge` judges the replies.
 //!
-//! [`run::run`] is the whole check. The program calls it with the arguments, the standard streams and the
-//! system's processes.
+//! [`run::run`] is the whole check. The program calls it with the arguments, the standard streams and the system's
+//! processes.
 #![tactic(auto)]
 
 mod check;

@@ -1,4 +1,4 @@
-//! What is written of a check's progress on a terminal, in place of the line before.
+//! The progress line on a terminal, which each new one replaces.
 ghost use Rattle.std.specs.Prelude.{◌≡◌, ◌++◌, [], ◌∷◌, take};
 ghost use Rattle.gtp_check_talks.specs.Dialogues.{dialogue};
 ghost use Rattle.gtp_check_talks.specs.Notes.{nothing_noted};
@@ -24,20 +24,20 @@ use gtp_process::{Process, Starter};
 /// How many columns of a line are written at most.
 const MOST_COLUMNS: usize = 79;
 
-/// A text of a line.
+/// The text of a line.
 type Text = ArrayVec<u8, MOST_COLUMNS>;
 
-/// A text, and what puts it in place of the line before.
+/// A text, and the bytes that put it in place of the line before.
 type Line = ArrayVec<u8, 83>;
 
-/// The line is cleared.
+/// Clears the progress line, if `shows_progress` says that there is one.
 pub fn clear<E: WriteOnce>(shows_progress: bool, errors: &mut E)
     ensures { IsShown E.WriteOnce shows_progress (cleared ∷ []) errors.old errors.new }
 {
     show(shows_progress, b"", errors);
 }
 
-/// A line before shorter conversations are tried.
+/// Shows that shorter conversations are tried.
 pub fn show_looking<E: WriteOnce>(shows_progress: bool, errors: &mut E)
     ensures { IsShown E.WriteOnce shows_progress (looking_line ∷ []) errors.old errors.new }
 {
@@ -48,7 +48,7 @@ pub fn show_looking<E: WriteOnce>(shows_progress: bool, errors: &mut E)
     );
 }
 
-/// A text takes the place of the line, where that is asked for.
+/// Shows a text in place of the line, if there is one.
 fn show<E: WriteOnce>(shows_progress: bool, text: &[u8], errors: &mut E)
     ensures { IsShown E.WriteOnce shows_progress (in_place text.now ∷ []) errors.old errors.new }
 {
@@ -57,7 +57,7 @@ fn show<E: WriteOnce>(shows_progress: bool, text: &[u8], errors: &mut E)
     }
 }
 
-/// A text, and what puts it in place of the line.
+/// Returns a text, with the bytes that put it in place of the line.
 pub fn in_place(text: &[u8]) -> Line
     ensures { result.items ≡ in_place text.now }
 {
@@ -69,7 +69,7 @@ pub fn in_place(text: &[u8]) -> Line
 }
 
 impl<S: Starter> Check<S> {
-    /// Before the engine is read: what is waited for.
+    /// Shows what the check waits for, before the engine is read.
     pub fn show_waiting<E: WriteOnce>(&self, plan: &Plan<'_>, errors: &mut E)
         ensures { IsShown E.WriteOnce plan.now.shows_progress (waiting plan.now (state_of self.now))
             errors.old errors.new }
@@ -104,14 +104,14 @@ impl<S: Starter> Check<S> {
     }
 }
 
-/// Whether the engine is read next: it owes an answer, and nothing that it wrote is held.
+/// Returns whether the engine is read next: it owes a reply, and none of its output is held.
 fn is_read_next<P: Process>(engine: &Engine<P>, examiner: &Examiner) -> bool
     ensures { result ≡ is_read_next (dialogue engine.now examiner.now.exam nothing_noted) }
 {
     examiner.unanswered() > 0 && engine.held.is_empty()
 }
 
-/// The line of the command with this number, counted from 0, in all that was sent, without its newline.
+/// Returns the line of the command with this number, counted from 0, in all that was asked, without its newline.
 pub fn line_at<'s>(sent: &'s [u8], talk: &[Said], number: usize, said: &Said) -> &'s [u8]
     ensures { result.now ≡ line_at sent.entry.now talk.now number said.now }
 {
@@ -120,7 +120,7 @@ pub fn line_at<'s>(sent: &'s [u8], talk: &[Said], number: usize, said: &Said) ->
     without_newline(&lines[start.min(lines.len())..])
 }
 
-/// Where the line of the command with this number begins.
+/// Returns where the line of the command with this number begins.
 fn line_start(talk: &[Said], number: usize) -> usize
     ensures { result ≡ line_start talk.now number }
 {
@@ -133,7 +133,8 @@ fn line_start(talk: &[Said], number: usize) -> usize
     }
 }
 
-/// What is waited for: the command with this line, for this lesson, after so many commands and starts.
+/// Returns what the check waits for: the reply to the command with this line, in this lesson, after this many commands
+/// and starts.
 pub fn waiting_text(
     lessons: &Lessons,
     line: &[u8],
@@ -166,7 +167,7 @@ pub fn waiting_text(
     )
 }
 
-/// The number of a lesson among these, counted from 1.
+/// Returns the number of a lesson among these, counted from 1.
 fn place_among(lessons: &Lessons, lesson: Lesson) -> u32
     ensures { result ≡ place_among lessons.now.items lesson }
 {
@@ -176,7 +177,7 @@ fn place_among(lessons: &Lessons, lesson: Lesson) -> u32
         .count() as u32
 }
 
-/// The beginning of these texts, one after the other: as much as fits into a line.
+/// Joins these texts, as far as they fit into a line.
 fn cut(before: &[u8], line: &[u8], parts: &[&[u8]]) -> Text
     ensures { result.items ≡ take most_columns ((before.now ++ line.now) ++ joined parts.now) }
 {

@@ -1,4 +1,4 @@
-//! The program, over any writers and any means to start processes.
+//! The program, over any streams and any means to start processes.
 ghost use Rattle.std.specs.Prelude.{◌≡◌, IfNone, IfSome, codes, map};
 ghost use Rattle.gtp_process.specs.declared.causes.Unstarted.{Unstarted};
 ghost use Rattle.clap.specs.declared.error.kind.ErrorKind.TheVariants.{UnknownArgument};
@@ -29,19 +29,20 @@ use gtp_process::{Starter, Unstarted, push_unstarted};
 use std::alloc::{AllocError, Global};
 use std::convert::AsStr;
 
-/// Does what the words of the command line ask for, the first of which is the program's name. Checks the engine that
-/// they name, and writes what is wrong with it to the output. Returns the status that the program ends with:
+/// Does what the arguments ask for; the first one is the program's name. It checks the engine that they name, and
+/// writes the complaints to the output. It returns the exit status:
 ///
-/// - 0 where nothing was found, each lesson was asked to its end, and in each a move was answered rightly; and where the words ask
-///   for help, the version or the list of lessons, which goes to the output;
-/// - 1 where something was found;
-/// - 2 where the words have a mistake or leave no lesson, or the engine wasn't started at the first try;
-/// - 3 where the output can't be written, memory was refused, or a check had too many turns;
-/// - 4 where nothing was found, and a lesson wasn't asked to its end, or no move was answered rightly in it.
+/// - 0 if nothing was found, each lesson was completed, and in each a `play` or a `genmove` was answered correctly; and
+///   if the arguments ask for the help, the version or the list of lessons, which is written to the output;
+/// - 1 if something was found;
+/// - 2 for a usage error, if no lesson is left, or if the engine couldn't be started at the first try;
+/// - 3 if the output can't be written, memory can't be allocated, or a check took too many turns;
+/// - 4 if nothing was found, but some lesson wasn't completed, or had no `play` or `genmove` that was answered
+///   correctly.
 ///
-/// What a status of 2 or 3 means is written to standard error, and whether that can be written changes nothing. Where
-/// `shows_progress` is asked for, that is a terminal: what is waited for is written to it, each time in place of its
-/// line, which is cleared before anything else is written.
+/// It writes the reason of a status of 2 or 3 to standard error; whether that can be written changes nothing. With
+/// `shows_progress`, standard error is a terminal: it also shows there what it waits for. Each progress line replaces
+/// the one before, and is cleared before anything else is written.
 pub fn run<A: AsStr, O: WriteOnce, E: WriteOnce, S: Starter>(
     alloc: Global,
     words: &[A],
@@ -71,11 +72,11 @@ pub fn run<A: AsStr, O: WriteOnce, E: WriteOnce, S: Starter>(
     }
 }
 
-/// What follows on a word or an option that there isn't.
+/// The hint after an unknown argument or option.
 const HINT: &[u8] = b"An engine's command is one argument: put it in quotes\n";
 
-/// Answers what `clap` returns in place of options, and returns the status. A hint follows on a word or an option
-/// that there isn't, since most of these belong to the engine's command.
+/// Handles an error that `clap` returns instead of options, and returns the status. After an unknown argument or option
+/// comes a hint, since most of these belong to the engine's command.
 fn answer<O: WriteOnce, E: WriteOnce>(
     kind: ErrorKind,
     text: Result<String, AllocError>,
@@ -91,7 +92,7 @@ fn answer<O: WriteOnce, E: WriteOnce>(
     status
 }
 
-/// Writes the hint where there is such a word.
+/// Writes the hint, if there was such an argument.
 fn hint<E: WriteOnce>(kind: ErrorKind, errors: &mut E)
     ensures hint { kind ≡ UnknownArgument → IsWritten E.WriteOnce hint_line errors.old errors.new }
     ensures no_hint { (kind ≡ UnknownArgument → ⊥) → errors.new ≡ errors.old }
@@ -117,7 +118,7 @@ fn list<O: WriteOnce, E: WriteOnce>(alloc: Global, streams: &mut Streams<O, E>) 
     )
 }
 
-/// Checks an engine by a plan, and returns the status.
+/// Checks an engine as a plan says, and returns the status.
 fn check<O: WriteOnce, E: WriteOnce, S: Starter>(
     alloc: Global,
     plan: &Plan<'_>,
@@ -150,7 +151,7 @@ fn check<O: WriteOnce, E: WriteOnce, S: Starter>(
     }
 }
 
-/// Why the engine wasn't started at the first try, where a check is over for that after so many starts.
+/// Why the engine couldn't be started at the first try, if that is why the check is over after this many starts.
 fn first_failure(over: &Over, starts: u32) -> Option<&Unstarted>
     ensures failed { IfSome result (λ start. IsFirstFailure over.now starts start.now) }
     ensures none { IfNone result ((start : Unstarted) → IsFirstFailure over.now starts start → ⊥) }
@@ -161,7 +162,7 @@ fn first_failure(over: &Over, starts: u32) -> Option<&Unstarted>
     }
 }
 
-/// The engine wasn't started at the first try.
+/// Reports that the engine couldn't be started at the first try.
 fn report_unstarted<E: WriteOnce>(unstarted: &Unstarted, errors: &mut E)
     ensures { IsWritten E.WriteOnce
         (error_line (codes "gtp_check") (unstarted_text unstarted.now)) errors.old errors.new }

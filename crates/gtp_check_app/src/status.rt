@@ -7,8 +7,8 @@ ghost use Rattle.gtp_check_app.specs.Status.{is_earned, status_of};
 use gtp_check_questions::Lesson;
 use gtp_check_talks::among::is_among;
 
-/// The status of a check with so many complaints: 1 where there are any. Else 0 where a pass is earned, and 4 where it
-/// isn't.
+/// Returns the status of a check with this many complaints: 1 if there are any, else 0 if the engine has passed, and 4
+/// if it hasn't.
 pub fn status_of(complaints: u32, is_earned: bool) -> u8
     ensures { result ≡ status_of complaints is_earned }
 {
@@ -21,14 +21,15 @@ pub fn status_of(complaints: u32, is_earned: bool) -> u8
     }
 }
 
-/// Whether a pass is earned: none of these lessons is missed, and in each a move was answered rightly.
+/// Returns whether an engine has passed: none of these lessons was missed, and each had a move that was answered
+/// correctly.
 pub fn is_earned(lessons: &[Lesson], missed: &[Lesson], answered: &[Lesson]) -> bool
     ensures { result ≡ is_earned lessons.now missed.now answered.now }
 {
     missed.is_empty() && are_among(lessons, answered)
 }
 
-/// Whether each of these lessons is among those.
+/// Returns whether each of these lessons is among those.
 fn are_among(lessons: &[Lesson], those: &[Lesson]) -> bool
     ensures { result ≡ list_all (is_among those.now) lessons.now }
 {

@@ -1,10 +1,10 @@
-//! What a check writes to.
+//! The streams that a check writes to.
 
-/// An output, and a standard error.
+/// An output and a standard error.
 #[derive(Drop)]
 pub struct Streams<O, E> {
-    /// To this goes what is found.
+    /// Where complaints are written.
     pub output: O,
-    /// To this go mistakes, failures and the progress.
+    /// Where usage errors, failures and the progress are written.
     pub errors: E,
 }

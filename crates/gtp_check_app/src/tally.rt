@@ -7,13 +7,13 @@ use arrayvec::ArrayVec;
 use gtp_check_questions::Lesson;
 use gtp_check_reasons::fault::Fault;
 
-/// Of one kind in one lesson so many complaints are shown.
+/// How many complaints of one kind a lesson shows.
 const MOST_SHOWN_ALIKE: usize = 3;
 
 /// How many lessons there are.
 const ALL: usize = 13;
 
-/// How many faults of one lesson are known at most. A lesson is over before.
+/// How many faults of one lesson are known at most. A lesson is over before it has so many.
 const MOST_KNOWN: usize = 32;
 
 /// The complaints so far.
@@ -27,18 +27,18 @@ pub struct Tally {
     pub faults: ArrayVec<Fault, MOST_KNOWN>,
     /// How many of each lesson aren't shown, in the order of all lessons.
     pub hidden: [u32; ALL],
-    /// How many starts are left after something was found.
+    /// How many restarts after complaints are left.
     pub starts_left: u32,
-    /// Whether the next start comes after something was found.
+    /// Whether the next start comes after a complaint.
     pub is_after_fault: bool,
-    /// Whether the first line is written.
+    /// Whether the first line has been written.
     pub has_first_line: bool,
     /// How many suicides by `genmove` weren't judged.
     pub suicides: u32,
 }
 
 impl Tally {
-    /// Before the first start.
+    /// The tally before the first start, with this many restarts after complaints.
     pub fn new(starts_left: u32) -> Tally
         ensures { result ≡ nothing_found starts_left }
     {
@@ -54,7 +54,7 @@ impl Tally {
         }
     }
 
-    /// Something was found in a lesson. Returns whether it is shown: of a kind three are in a lesson.
+    /// Counts a fault of a lesson. Returns whether its complaint is shown: a lesson shows three of each kind.
     pub fn find(&mut self, lesson: Lesson, fault: Fault) -> bool
         ensures shown { result ≡ is_shown self.old lesson fault }
         ensures found { self.new ≡ found self.old lesson fault }
@@ -70,7 +70,7 @@ impl Tally {
         is_shown
     }
 
-    /// What was wrong in another lesson is forgotten.
+    /// Forgets what was wrong in another lesson.
     fn turn_to(&mut self, lesson: Lesson)
         ensures { self.new ≡ in_lesson self.old lesson }
     {
@@ -88,7 +88,7 @@ impl Tally {
         self.faults.iter().filter(|known| **known == fault).count()
     }
 
-    /// A complaint of a lesson isn't shown.
+    /// Counts a complaint of a lesson that isn't shown.
     fn hide(&mut self, lesson: Lesson)
         ensures { self.new ≡ with_hidden self.old lesson }
     {
@@ -96,21 +96,21 @@ impl Tally {
         self.hidden[index] = self.hidden[index].saturating_add(1);
     }
 
-    /// A `genmove` was answered with a suicide, which isn't judged.
+    /// Counts a suicide that a `genmove` chose, which isn't judged.
     pub fn count_suicide(&mut self)
         ensures { self.new ≡ with_suicide self.old }
     {
         self.suicides = self.suicides.saturating_add(1);
     }
 
-    /// Whether the engine may be started: after something was found only where a start is left.
+    /// Returns whether the engine may be started: after a complaint only if a restart is left.
     pub fn may_start(&self) -> bool
         ensures { result ≡ not self.now.is_after_fault || nat_lt 0 self.now.starts_left }
     {
         !self.is_after_fault || self.starts_left > 0
     }
 
-    /// The engine was started. After something was found that takes one of the starts that are left.
+    /// Notes a start of the engine. After a complaint it takes one of the restarts that are left.
     pub fn start(&mut self)
         ensures { self.new ≡ started_again self.old }
     {

@@ -1,4 +1,5 @@
-//! What a shorter conversation is asked, where an answer may have run on into the next one.
+//! The commands of a trial, if a reply may have run on into the next one: with extra `name` commands, so that the fault
+//! is read.
 ghost use Rattle.std.specs.Prelude.{◌≡◌, ◌++◌, length, IfOk, OnOk};
 ghost use Rattle.gtp_check_talks.specs.Dialogues.{wrong_of};
 ghost use Rattle.gtp_check_app.specs.Trials.{asked_for, left_after, may_wait, most_between, needs_names};
@@ -10,11 +11,11 @@ use gtp_check_talks::trial::Tried;
 use gtp_wire::Command;
 use std::alloc::{AllocError, Global};
 
-/// So many commands are asked at most between two `name` and the next two: with these they are eight.
+/// How many commands are asked at most between two `name` and the next two: with these they are eight.
 const MOST_BETWEEN: usize = 6;
 
-/// What is asked where these commands are tried in place of the conversation that was found: they alone, but with `name`
-/// wherever answers may be waited for, where an answer may have run on.
+/// Returns what to ask when these commands are tried instead of the conversation that was found: just them, or, if a
+/// reply may have run on, also `name` wherever replies may be waited for.
 pub(crate) fn asked_for(
     alloc: Global,
     found: &Tried,
@@ -30,8 +31,8 @@ pub(crate) fn asked_for(
     Ok(asked)
 }
 
-/// What is left of these commands, where a trial of them ended like the conversation that was found: those that were
-/// answered rightly, and the last one.
+/// Returns what is left of these commands after a trial of them that ended like the conversation that was found: those
+/// that were answered correctly, and the last one.
 pub(crate) fn left_by(
     alloc: Global,
     found: &Tried,
@@ -49,8 +50,7 @@ pub(crate) fn left_by(
     Ok(left)
 }
 
-/// How many of the first so many commands that were asked are these themselves, where they were tried in place of the
-/// conversation that was found: all but each `name` that is asked between them.
+/// How many of the first `count` commands that a trial asked are these commands, and not an extra `name`.
 pub(crate) fn own_of(found: &Tried, commands: &[CheckCommand], count: usize) -> usize
     ensures { result ≡ own_of (wrong_of found.now) commands.now count }
 {
@@ -61,7 +61,7 @@ pub(crate) fn own_of(found: &Tried, commands: &[CheckCommand], count: usize) -> 
     }
 }
 
-/// The same where two `name` are asked between them.
+/// The same for a trial with two `name` between them.
 fn own_spaced(commands: &[CheckCommand], count: usize) -> usize
     ensures { result ≡ own_spaced most_between commands.now count }
 {
@@ -79,14 +79,14 @@ fn own_spaced(commands: &[CheckCommand], count: usize) -> usize
     commands.len()
 }
 
-/// How many commands are asked with this one: it alone, or two `name` before it.
+/// How many commands are asked with this one: just it, or two `name` before it.
 fn asked_with(command: &CheckCommand, left: usize) -> usize
     ensures { result ≡ length (with_names_before command.now left) }
 {
     if needs_names(command, left) { 3 } else { 1 }
 }
 
-/// Whether an answer may have run on into the next one, where a conversation ended so.
+/// Returns whether a reply may have run on into the next one, when a conversation ended so.
 fn ran_on(found: &Tried) -> bool
     ensures { result ≡ ran_on (wrong_of found.now) }
 {
@@ -99,7 +99,7 @@ fn ran_on(found: &Tried) -> bool
     )
 }
 
-/// Commands with two `name` wherever answers may be waited for.
+/// Returns the commands with two `name` wherever replies may be waited for.
 fn with_names(alloc: Global, commands: &[CheckCommand]) -> Result<Vec<CheckCommand>, AllocError>
     ensures { IfOk result (λ all. all.items ≡ with_names commands.now) }
 {
@@ -109,7 +109,7 @@ fn with_names(alloc: Global, commands: &[CheckCommand]) -> Result<Vec<CheckComma
     Ok(all)
 }
 
-/// These commands are added, with two `name` between them wherever answers may be waited for.
+/// Adds these commands, with two `name` between them wherever replies may be waited for.
 fn add_spaced(all: &mut Vec<CheckCommand>, commands: &[CheckCommand]) -> Result<(), AllocError>
     ensures { OnOk result (all.new.items ≡ all.old.items ++ spaced most_between commands.now) }
 {
@@ -121,7 +121,7 @@ fn add_spaced(all: &mut Vec<CheckCommand>, commands: &[CheckCommand]) -> Result<
     Ok(())
 }
 
-/// A command is added, after two `name` where it needs them.
+/// Adds a command, after two `name` if it needs them.
 fn add_with_names(
     all: &mut Vec<CheckCommand>,
     command: &CheckCommand,
@@ -135,7 +135,7 @@ fn add_with_names(
     all.extend_from_slice(&[*command])
 }
 
-/// Whether two `name` are asked before a command.
+/// Returns whether two `name` go before a command.
 fn needs_names(command: &CheckCommand, left: usize) -> bool
     ensures { result ≡ needs_names command.now left }
 {
@@ -153,7 +153,7 @@ fn left_after(command: &CheckCommand, left: usize) -> usize
     }
 }
 
-/// Whether a command may be one that is asked only where no answer is waited for.
+/// Returns whether a command may be one that is asked only when no reply is waited for.
 fn may_wait(command: &CheckCommand) -> bool
     ensures { result ≡ may_wait command.now }
 {

@@ -1,4 +1,4 @@
-//! A suicide that a `genmove` chose, where that isn't judged.
+//! A suicide that a `genmove` chose, if that isn't judged.
 ghost use Rattle.std.specs.Prelude.{◌≡◌, None, IsSome};
 ghost use Rattle.gtp_check_shortening.specs.Purposes.{is_same_purpose};
 ghost use Rattle.gtp_check_app.specs.Turns.{PassesOver, purpose_in, state_of};
@@ -12,7 +12,7 @@ use gtp_check_reasons::fault::Fault;
 use gtp_check_shortening::talk::Purpose;
 use gtp_process::{Process, Starter};
 
-/// Whether something is wrong that is judged.
+/// Returns whether something is wrong that is judged.
 pub fn is_blamed(suicide: Suicide, fault: Option<Fault>) -> bool
     ensures { result ≡ is_blamed suicide fault }
 {
@@ -22,7 +22,7 @@ pub fn is_blamed(suicide: Suicide, fault: Option<Fault>) -> bool
     }
 }
 
-/// Whether a `genmove` was answered with a suicide, where that isn't judged.
+/// Returns whether a `genmove` was answered with a suicide that isn't judged.
 fn is_unjudged(suicide: Suicide, fault: Fault) -> bool
     ensures { result ≡ is_unjudged suicide fault }
 {
@@ -36,7 +36,7 @@ fn is_unjudged(suicide: Suicide, fault: Fault) -> bool
 }
 
 impl<S: Starter> Check<S> {
-    /// The engine, which chose a suicide that isn't judged, is ended. That is counted, and the part of the lesson is left.
+    /// Ends the engine, which chose a suicide that isn't judged. Counts that, and leaves the part of the lesson.
     pub fn pass_over(&mut self)
         requires { IsSome self.old.engine }
         ensures passes { PassesOver S.Process.Process (state_of self.old) (state_of self.new) }
@@ -53,7 +53,7 @@ impl<S: Starter> Check<S> {
     }
 }
 
-/// The part for which this was asked is left, if the course is in it.
+/// Leaves the part for which this was asked, if the course is in it.
 fn leave_part(course: &mut Course, purpose: Purpose)
     ensures { HasPassedOver (is_same_purpose purpose (purpose_in course.old))
         course.old course.new }

@@ -144,7 +144,7 @@ RefusalsAreReported = (rule : KoRule) (sent came : List ℕ) (said : List Exchan
 -- ---- lists of commands
 
 -- The commands that the standard requires of every engine: its administrative commands, `boardsize`, `clear_board` and
--- `komi` of its setup commands, and its core play commands but for `undo`.
+-- `komi` of its setup commands, and its core play commands except for `undo`.
 pub data IsRequired : List ℕ → Type 0 where
   protocol_version : IsRequired (codes "protocol_version")
   name : IsRequired (codes "name")

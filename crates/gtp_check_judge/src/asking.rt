@@ -1,4 +1,4 @@
-//! The commands that a check asks.
+//! The commands of a check.
 ghost use Rattle.std.specs.Prelude.{◌≡◌, ◌≤◌, ◌∷◌, ◌++◌, [], length, codes};
 ghost use Rattle.std.specs.List.{join_with_byte};
 ghost use Rattle.go_base.specs.Bytes.{newline, space};
@@ -10,7 +10,7 @@ use arrayvec::ArrayVec;
 use go_base::{Colour, Move, push, write_int};
 use gtp_wire::{Command, CommandText, write_command};
 
-/// A command that an engine may be without.
+/// A command that an engine may lack.
 #[derive(Clone, Copy, Debug, PartialEq, Eq)]
 pub enum Known {
     /// `fixed_handicap`.
@@ -21,28 +21,28 @@ pub enum Known {
     FinalScore,
 }
 
-/// A command that a check asks.
+/// A command of a check.
 #[derive(Clone, Copy, Debug, PartialEq, Eq)]
 pub enum CheckCommand {
     /// A command of a match.
     Match(Command),
-    /// Asks for the score.
+    /// `final_score`.
     FinalScore,
-    /// Asks for the engine's name.
+    /// `name`.
     Name,
-    /// Asks for the engine's version.
+    /// `version`.
     Version,
-    /// Asks whether the engine knows this command.
+    /// `known_command` with this command.
     KnownCommand(Known),
-    /// Asks which commands the engine knows.
+    /// `list_commands`.
     ListCommands,
-    /// A `play` of a match whose colour is written in full, as `black` or `white`.
+    /// A `play` whose colour is written in full, as `black` or `white`.
     PlayInFull(Move),
-    /// A `genmove` of a match whose colour is written in full.
+    /// A `genmove` whose colour is written in full.
     GenmoveInFull(Colour),
 }
 
-/// Writes a command as a line with this id.
+/// Returns the line of a command, with this id.
 pub(crate) fn write_check(id: u32, command: &CheckCommand) -> CommandText
     requires id_fits { id ≤ most_int }
     requires handicap_fits { IsCheckWritable command.now }
@@ -60,7 +60,7 @@ pub(crate) fn write_check(id: u32, command: &CheckCommand) -> CommandText
     }
 }
 
-/// The words that ask for a command.
+/// The text that asks whether the engine knows a command.
 fn known_text(known: Known) -> &'static [u8]
     ensures text { result.now
         ≡ join_with_byte space (codes "known_command" ∷ known_name known ∷ []) }
@@ -73,7 +73,7 @@ fn known_text(known: Known) -> &'static [u8]
     }
 }
 
-/// The words of a `genmove` whose colour is written in full.
+/// The text of a `genmove` whose colour is written in full.
 fn genmove_text(colour: Colour) -> &'static [u8]
     ensures text { result.now
         ≡ join_with_byte space (codes "genmove" ∷ colour_in_full colour ∷ []) }
@@ -85,7 +85,7 @@ fn genmove_text(colour: Colour) -> &'static [u8]
     }
 }
 
-/// The words of a `play` whose colour is written in full.
+/// The text of a `play` whose colour is written in full.
 fn play_text(made: Move) -> ArrayVec<u8, 40>
     ensures text { result.items ≡ join_with_byte space
         (codes "play" ∷ colour_in_full made.colour ∷ written_vertex made.vertex ∷ []) }
@@ -96,7 +96,7 @@ fn play_text(made: Move) -> ArrayVec<u8, 40>
     text
 }
 
-/// What is before the vertex.
+/// The text before the vertex.
 fn play_start(colour: Colour) -> &'static [u8]
     ensures text { result.now ≡ codes "play" ++ space ∷ (colour_in_full colour ++ space ∷ []) }
     ensures few { length result.now ≤ 30 }
@@ -107,13 +107,13 @@ fn play_start(colour: Colour) -> &'static [u8]
     }
 }
 
-/// A line of an id and this text.
+/// Returns the line with an id and this text.
 fn write_line(id: u32, text: &[u8]) -> CommandText
     requires { length text.now ≤ 40 }
     ensures { result.items ≡ (written_int id ++ space ∷ text.now) ++ newline ∷ [] }
 {
     let mut out = ArrayVec::new();
-    // There is room for the ten digits of an id, a space, the text and a newline.
+    // The buffer has space for the ten digits of an id, a space, the text and a newline.
     let _ = out.try_extend_from_slice(&write_int(id));
     let _ = out.try_extend_from_slice(b" ");
     let _ = out.try_extend_from_slice(text);

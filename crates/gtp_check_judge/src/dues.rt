@@ -1,4 +1,4 @@
-//! What is due to a command: what every right engine answers to it.
+//! What is due to a command: what every correct engine answers to it.
 ghost use Rattle.std.specs.Prelude.{◌≡◌, true};
 ghost use Rattle.go_board.specs.Game.{HasRoom};
 ghost use Rattle.gtp_wire.specs.declared.commands.Command.TheVariants as command;
@@ -14,45 +14,45 @@ use go_base::{Colour, Komi, Move, Size, Vertex};
 use go_board::{Game, HandicapFault, MOST_MOVES, PlayFault};
 use gtp_wire::Command;
 
-/// Why a right engine refuses a command.
+/// Why a correct engine refuses a command.
 #[derive(Clone, Copy, Debug, PartialEq, Eq)]
 pub enum Cause {
     /// The move isn't legal.
     BadMove(PlayFault),
     /// The handicap may not be placed.
     BadHandicap(HandicapFault),
-    /// There is no move to take back.
+    /// There is no move to undo.
     NoMoves,
 }
 
-/// What is due to a command.
+/// What is due to a command: the replies that are correct.
 #[derive(Clone, Copy, Debug, PartialEq, Eq)]
 pub enum Due {
     /// A success.
     Succeeds,
     /// A failure, for this cause.
     Fails(Cause),
-    /// A success that names the points of this number of handicap stones on a board of this size.
+    /// A success that lists the points of this many handicap stones on a board of this size.
     Places(Size, u32),
-    /// A success, by which the board has this size; or a failure, by which nothing changes.
+    /// A success, after which the board has this size; or a failure, which changes nothing.
     Resizes(Size),
-    /// A success that is a score of an empty board of this size with this komi, or a failure. It agrees with what the
-    /// engine said three times.
+    /// A success with a score of an empty board of this size with this komi, or a failure. The score has to agree with
+    /// one that the engine gave three times in a row.
     Scores(Size, Komi),
-    /// A success or a failure, of any text.
+    /// A success or a failure, with any text.
     AnyReply,
-    /// A success that is `resign`, or a vertex that is legal for this colour.
+    /// A success with `resign`, or with a vertex that is legal for this colour.
     Chooses(Colour),
-    /// A success, by which the last move is taken back; or a failure, by which nothing changes.
+    /// A success, which undoes the last move; or a failure, which changes nothing.
     MayUndo,
-    /// A success that lists commands. Each that the standard requires of every engine is among them.
+    /// A success with a list of commands that includes each one that the standard requires of every engine.
     Lists,
 }
 
-/// The greatest int of the protocol.
+/// The greatest integer of the protocol.
 const MOST_STONES: u32 = 2_147_483_647;
 
-/// Whether a command may be asked in this game.
+/// Returns whether a command may be asked in this game.
 pub(crate) fn may_be_asked(game: &Game, command: &CheckCommand) -> bool
     ensures may { result ≡ true → MayBeAsked game.now command.now }
     ensures only { MayBeAsked game.now command.now → result ≡ true }
@@ -69,7 +69,7 @@ pub(crate) fn may_be_asked(game: &Game, command: &CheckCommand) -> bool
     }
 }
 
-/// Whether a command of a match may be asked in this game.
+/// Returns whether a command of a match may be asked in this game.
 fn may_be_said(game: &Game, command: &Command) -> bool
     ensures may { result ≡ true → MayBeSaid game.now command.now }
     ensures only { MayBeSaid game.now command.now → result ≡ true }
@@ -83,7 +83,7 @@ fn may_be_said(game: &Game, command: &Command) -> bool
     }
 }
 
-/// Whether a handicap may be asked: no move was made, or a stone was put on the board.
+/// Returns whether a handicap may be asked: no move was made, or a stone was put on the board.
 fn may_place(game: &Game) -> bool
     ensures { result ≡ may_place game.now }
 {
@@ -93,14 +93,14 @@ fn may_place(game: &Game) -> bool
     }
 }
 
-/// Whether one of the moves is a play on a point, and no pass.
+/// Returns whether one of the moves is on a point, and no pass.
 fn has_play(moves: &[Move]) -> bool
     ensures { result ≡ has_play moves.now }
 {
     moves.iter().any(|made| is_point(made.vertex))
 }
 
-/// Whether a vertex is a point.
+/// Returns whether a vertex is a point.
 fn is_point(vertex: Vertex) -> bool
     ensures { result ≡ is_point vertex }
 {
@@ -110,7 +110,7 @@ fn is_point(vertex: Vertex) -> bool
     }
 }
 
-/// Whether what a right engine does where this is due isn't known before its answer.
+/// Returns whether what a correct engine does isn't known before its reply.
 pub(crate) fn is_open(due: &Due) -> bool
     ensures { result ≡ is_open due.now }
 {
@@ -120,9 +120,9 @@ pub(crate) fn is_open(due: &Due) -> bool
     }
 }
 
-/// Whether the answer to a command has to be awaited: that to a `genmove`, a `boardsize`, an `undo` that may fail, or a
-/// `final_score`. The game, whether an `undo` has succeeded since the last move, and the opinion are a right engine's.
-/// The opinion is for the contract alone.
+/// Returns whether nothing may be asked before the reply to a command: a `genmove`, a `boardsize`, an `undo` that may
+/// fail, or a `final_score`. The game is a correct engine's, and `undone` says whether an `undo` of it has succeeded
+/// since the last move. The opinion is only for the contract.
 pub(crate) fn is_awaited(
     game: &Game,
     undone: bool,
@@ -144,7 +144,7 @@ pub(crate) fn is_awaited(
     }
 }
 
-/// The same of a command of a match.
+/// The same for a command of a match.
 fn leaves_open(game: &Game, undone: bool, _opinion: &Opinion, command: &Command) -> bool
     ensures { result ≡ leaves_open
         (record { game = game.now; undone = undone; opinion = _opinion.now }) command.now }
@@ -160,7 +160,7 @@ fn leaves_open(game: &Game, undone: bool, _opinion: &Opinion, command: &Command)
     }
 }
 
-/// Whether an `undo` may fail after these moves: one has succeeded since the last of them.
+/// Returns whether an `undo` may fail after these moves: one has succeeded since the last of them.
 fn undo_may_fail(moves: &[Move], undone: bool) -> bool
     ensures { result ≡ undo_may_fail undone moves.now }
 {
@@ -170,8 +170,8 @@ fn undo_may_fail(moves: &[Move], undone: bool) -> bool
     }
 }
 
-/// What is due to a command in this game, which becomes the one that a right engine has then, where an `undo` has
-/// succeeded since the last move or hasn't. The opinion is for the contract alone.
+/// Returns what is due to a command in this game, and changes the game to the one that a correct engine has then.
+/// `undone` says whether an `undo` has succeeded since the last move. The opinion is only for the contract.
 pub(crate) fn due_to(
     game: &mut Game,
     undone: bool,
@@ -186,7 +186,7 @@ pub(crate) fn due_to(
     match command {
         CheckCommand::Match(command) => command_due(game, undone, opinion, command),
         CheckCommand::FinalScore => {
-            // Its contract says that komi is in its limits.
+            // Its contract says that the komi is within its limits.
             let _ = game.komi().half_points();
             Due::Scores(game.size(), game.komi())
         }
@@ -197,7 +197,7 @@ pub(crate) fn due_to(
     }
 }
 
-/// Whether an `undo` has succeeded since the last move, once a right engine has answered what is due to a command.
+/// Returns whether an `undo` has succeeded since the last move, once a correct engine has answered a command.
 pub(crate) fn undone_due(undone: bool, command: &CheckCommand, due: &Due) -> bool
     ensures { result ≡ undone_due undone command.now due.now }
 {
@@ -214,7 +214,7 @@ pub(crate) fn undone_due(undone: bool, command: &CheckCommand, due: &Due) -> boo
     }
 }
 
-/// The same of a command that succeeded.
+/// The same for a command that succeeded.
 fn undone_once(undone: bool, command: &CheckCommand) -> bool
     ensures { result ≡ undone_once undone command.now }
 {
@@ -225,7 +225,7 @@ fn undone_once(undone: bool, command: &CheckCommand) -> bool
     }
 }
 
-/// What is due to a command of a match.
+/// Returns what is due to a command of a match.
 fn command_due(game: &mut Game, undone: bool, opinion: &Opinion, command: &Command) -> Due
     requires { MayBeSaid game.old command.now }
     ensures due { IsDueTo
@@ -234,12 +234,12 @@ fn command_due(game: &mut Game, undone: bool, opinion: &Opinion, command: &Comma
 {
     match command {
         Command::Boardsize(size) => {
-            // Its contract says that the size is in its limits.
+            // Its contract says that the size is within its limits.
             let _ = size.get();
             Due::Resizes(*size)
         }
         Command::Komi(komi) => {
-            // Its contract says that komi is in its limits.
+            // Its contract says that the komi is within its limits.
             let _ = komi.half_points();
             game.set_komi(*komi);
             komi_due(*komi)
@@ -256,7 +256,7 @@ fn command_due(game: &mut Game, undone: bool, opinion: &Opinion, command: &Comma
     }
 }
 
-/// What is due to a `komi`: a success where every engine has to take it, and else any reply.
+/// Returns what is due to a `komi`: a success if every engine has to accept it, else any reply.
 fn komi_due(komi: Komi) -> Due
     ensures { result ≡ komi_due komi }
 {
@@ -267,7 +267,7 @@ fn komi_due(komi: Komi) -> Due
     }
 }
 
-/// What is due to a `fixed_handicap`.
+/// Returns what is due to a `fixed_handicap`.
 fn handicap_due(game: &mut Game, stones: u32) -> Due
     ensures due { HandicapDue game.old stones result }
     ensures game { game.new ≡ after_due game.old (Match (command.FixedHandicap stones)) result }
@@ -279,7 +279,7 @@ fn handicap_due(game: &mut Game, stones: u32) -> Due
     }
 }
 
-/// What is due to a `play`.
+/// Returns what is due to a `play`.
 fn play_due(game: &mut Game, made: Move) -> Due
     requires { HasRoom game.old }
     ensures due { PlayDue game.old made result }
@@ -291,7 +291,7 @@ fn play_due(game: &mut Game, made: Move) -> Due
     }
 }
 
-/// What is due to an `undo`.
+/// Returns what is due to an `undo`.
 fn undo_due(game: &mut Game, undone: bool, _opinion: &Opinion) -> Due
     ensures due { UndoDue
         (record { game = game.old; undone = undone; opinion = _opinion.now }) result }

@@ -1,4 +1,4 @@
-//! What the examiner keeps of an engine, and its steps.
+//! The exam of one engine: what the examiner keeps of it, and how that changes.
 ghost use Rattle.std.specs.Prelude.{◌≡◌, ◌<◌, ◌≤◌, true, false, [], ◌∷◌, ◌++◌, length, drop, option_map, Some};
 ghost use Rattle.std.specs.Prelude.{None};
 ghost use Rattle.go_base.specs.Int.{most_int};
@@ -28,70 +28,70 @@ use go_base::Vertex;
 use go_board::{Game, KoRule};
 use gtp_wire::{Command, CommandText, Reply, ReplyFault, ReplyRead, ReplyReader};
 
-/// The greatest id: the greatest int of the protocol.
+/// The greatest id, which is the greatest integer of the protocol.
 const MOST_ID: u32 = 2_147_483_647;
 
-/// The first wrong answer of an engine since it was started.
+/// The first wrong reply of an engine since it was started.
 #[derive(Clone, Copy, Debug, PartialEq, Eq)]
 pub struct Finding {
-    /// The command that was to be answered, if any.
+    /// The command that should have been answered, if any.
     pub asked: Option<Asked>,
     /// What is wrong.
     pub kind: Kind,
 }
 
-/// A command that is asked.
+/// A command to send.
 #[derive(Drop)]
 pub struct Asking {
-    /// The bytes of its line.
+    /// Its line.
     pub text: CommandText,
     /// What is due to it.
     pub due: Due,
 }
 
-/// What was heard in bytes of an engine.
+/// What the examiner found in output of an engine.
 #[derive(Clone, Copy, Debug, PartialEq, Eq)]
 pub struct Heard {
     /// How many of the bytes were used.
     pub used: usize,
-    /// `Ok` where the last of these bytes ended a reply, which was written, or the fault that it showed, if any.
+    /// `Ok` if the last of these bytes ended a reply, which was written, or the fault that the bytes showed, if any.
     pub read: Option<Result<(), ReplyFault>>,
     /// What is wrong, if anything.
     pub finding: Option<Finding>,
-    /// The command to which this was a right answer, if any.
+    /// The command to which this was a correct reply, if any.
     pub answered: Option<Asked>,
-    /// What the engine refused, if anything: a right answer, by which nothing changed.
+    /// What the engine refused, if anything. That was a correct reply, and nothing changed.
     pub refused: Option<Refusal>,
 }
 
-/// The game of a right engine, what it thinks of an empty board, whether the engine is up, how many commands it was
-/// asked since it was started, those that it hasn't answered, and the reader of its replies.
+/// What is known of an engine since it was started: the game of a correct engine, the commands that aren't answered,
+/// and what it said of itself.
 #[derive(Drop)]
 pub struct Exam {
-    /// The game of a right engine that has answered all that was asked.
+    /// The game of a correct engine that has answered all that was asked.
     pub game: Game,
-    /// Whether an `undo` of that engine has succeeded since its last move: the next one may fail.
+    /// Whether an `undo` of that engine has succeeded since its last move: then the next one may fail.
     pub undone: bool,
-    /// What that engine thinks of an empty board, as its scores said.
+    /// The engine's opinion of an empty board, by its scores.
     pub opinion: Opinion,
-    /// Whether the engine was started, and neither lost since nor found wrong.
+    /// Whether the engine was started, and has been neither lost nor found wrong since.
     pub up: bool,
     /// How many commands it was asked since. The last of them has this number as its id.
     pub sent: u32,
-    /// Those that it hasn't answered.
+    /// The commands that it hasn't answered.
     pub unanswered: Unanswered,
-    /// What it wrote since its last whole reply.
+    /// The reader of its replies, with what it wrote since the last complete one.
     pub reader: ReplyReader,
     /// What is known of its board.
     pub board: Board,
-    /// Whether a komi was asked since it was started, and the last of them is one that every engine has to take.
+    /// Whether a komi was asked since it was started, and the last one was one that every engine has to accept.
     pub komi_set: bool,
-    /// What it said of the commands that it may be without.
+    /// What it said of the commands that it may lack.
     pub skills: Skills,
 }
 
 impl Exam {
-    /// An engine with this ko rule that is up or not, and was asked nothing.
+    /// An engine with this ko rule, running or not, that was asked nothing.
     pub fn new(rule: KoRule, up: bool) -> Exam
         ensures { result ≡ begun rule up }
     {
@@ -109,7 +109,7 @@ impl Exam {
         }
     }
 
-    /// Whether the engine may be asked this command now.
+    /// Returns whether the engine may be asked this command now.
     pub fn has_room(&self, command: &CheckCommand) -> bool
         ensures may { result ≡ true → HasRoomFor self.now command.now }
         ensures only { HasRoomFor self.now command.now → result ≡ true }
@@ -122,7 +122,7 @@ impl Exam {
             && has_needed(&self.skills, command)
     }
 
-    /// Whether the board and komi are known on which what is due to the command hangs.
+    /// Returns whether the board and komi that the reply to the command depends on are known.
     fn has_setup(&self, command: &CheckCommand) -> bool
         ensures board { result ≡ true → needs_board command.now ≡ true → self.now.board ≡ Cleared }
         ensures komi { result ≡ true → is_final_score command.now ≡ true
@@ -135,7 +135,7 @@ impl Exam {
             && (!is_final_score(command) || self.komi_set)
     }
 
-    /// Whether the command may be unanswered beside those that are.
+    /// Returns whether the command may be unanswered together with those that are.
     fn has_place(&self, command: &CheckCommand) -> bool
         ensures few { result ≡ true → length self.now.unanswered < most_unanswered }
         ensures none_awaits { result ≡ true → awaits self.now.unanswered ≡ false }
@@ -154,7 +154,7 @@ impl Exam {
             && !self.unanswered.awaits()
     }
 
-    /// The engine is asked a command. Returns the bytes of its line, and what is due to it.
+    /// Notes that the engine is asked a command. Returns its line, and what is due to it.
     pub fn ask(&mut self, command: CheckCommand) -> Asking
         requires may { MayBeAsked self.old.game command }
         requires few { self.old.sent < most_int }
@@ -178,7 +178,7 @@ impl Exam {
         }
     }
 
-    /// Bytes of the engine, which is up, are heard. A whole reply is written in place of the one handed in.
+    /// Takes output of the engine, which is up. It writes a complete reply to `reply`.
     pub fn hear(&mut self, bytes: &[u8], reply: &mut Reply) -> Heard
         requires { MayReply self.old }
         ensures within { result.used ≤ length bytes.now }
@@ -205,7 +205,7 @@ impl Exam {
         }
     }
 
-    /// The reader showed a fault.
+    /// Notes a fault that the reader found.
     fn fault(&mut self, fault: ReplyFault) -> Finding
         ensures finding { result
             ≡ record { asked = oldest self.old.unanswered; kind = kind_of fault } }
@@ -218,7 +218,7 @@ impl Exam {
         }
     }
 
-    /// The engine gave this reply.
+    /// Notes a reply of the engine.
     fn take(&mut self, reply: &Reply) -> Option<Finding>
         requires { MayReply self.old }
         ensures { ReplyLeaves self.old (oldest self.old.unanswered) reply.now result self.new }
@@ -241,7 +241,7 @@ impl Exam {
         self.apply(asked, reply, judged)
     }
 
-    /// The reply to its oldest command was judged.
+    /// Notes how the reply to its oldest command was judged.
     fn apply(&mut self, asked: Asked, reply: &Reply, judged: Judgement) -> Option<Finding>
         requires { MayApply self.old.game judged }
         ensures finding { result ≡ finding_of asked judged }
@@ -252,7 +252,7 @@ impl Exam {
         match judged {
             Judgement::Right => self.taken_off(),
             Judgement::Plays(colour, vertex) => {
-                // It is legal, and the record has room.
+                // It is legal, and the record has space for it.
                 let _ = self.game.play(colour, vertex);
                 self.undone = false;
                 self.taken_off()
@@ -282,7 +282,7 @@ impl Exam {
         }
     }
 
-    /// The oldest command was answered rightly.
+    /// Notes that the oldest command was answered correctly.
     fn taken_off(&mut self) -> Option<Finding>
         ensures nothing { result ≡ None }
         ensures off { self.new
@@ -293,7 +293,7 @@ impl Exam {
     }
 }
 
-/// The command to which what was read is a right answer, where this is the oldest command.
+/// Returns the command to which what was read is a correct reply, if this is the oldest command.
 fn answered_by(
     asked: &Option<Asked>,
     read: Option<Result<(), ReplyFault>>,
@@ -308,7 +308,7 @@ fn answered_by(
     }
 }
 
-/// What is refused by what was read, where this is the oldest command.
+/// Returns what was refused by what was read, if this is the oldest command.
 fn refused_what(
     asked: &Option<Asked>,
     read: Option<Result<(), ReplyFault>>,
@@ -323,8 +323,8 @@ fn refused_what(
     }
 }
 
-/// Does nothing, and is for the proof alone: a command that may be asked can be written, and its values are in their
-/// limits.
+/// Does nothing: it is only for the proof that a command that may be asked can be written, and that its values are
+/// within their limits.
 fn in_limits(game: &Game, command: &CheckCommand)
     requires { MayBeAsked game.now command.now }
     ensures writable { IsCheckWritable command.now }
@@ -373,7 +373,7 @@ fn vertex_in_limits(vertex: Vertex)
     }
 }
 
-/// What a fault of the reader is.
+/// Returns what kind of finding a fault of the reader is.
 fn kind_of(fault: ReplyFault) -> Kind
     ensures { result ≡ kind_of fault }
 {

@@ -12,10 +12,10 @@ use go_board::{Game, KoRule};
 use gtp_wire::Reply;
 use std::marker::Model;
 
-/// The examiner of one engine: what a right engine has to answer to what was asked since the engine was started, and
-/// how often it was started.
+/// Judges one engine: it knows what a correct engine would have answered to the commands since the start, and counts
+/// the starts.
 ///
-/// It is seen as the exam of the engine that was started last, the number of starts, and how many there may be.
+/// Its model is the exam of the engine that was started last, the number of starts, and how many there may be.
 #[derive(Drop)]
 pub struct Examiner {
     exam: Exam,
@@ -40,7 +40,8 @@ impl Examiner {
     ghost use Rattle.gtp_check_judge.specs.Exam.{answered_by, refused_what};
     ghost use Rattle.gtp_check_judge.specs.Judging.{oldest};
 
-    /// An examiner of engines with this ko rule, before the first was started, which may be started so often.
+    /// Returns an examiner for engines with this ko rule, which may be started at most `most_starts` times. None has
+    /// been started yet.
     pub fn new(rule: KoRule, most_starts: u32) -> Examiner
         ensures { result ≡ opening rule most_starts }
     {
@@ -51,7 +52,7 @@ impl Examiner {
         }
     }
 
-    /// Whether the engine may be started once more.
+    /// Returns whether the engine may be started once more.
     pub fn may_start(&self) -> bool
         ensures may { result ≡ true → self.now.starts < self.now.most_starts }
         ensures only { self.now.starts < self.now.most_starts → result ≡ true }
@@ -59,7 +60,7 @@ impl Examiner {
         self.starts < self.most_starts
     }
 
-    /// An engine was started. What was asked of the one before it, and what that wrote, is over.
+    /// Notes that an engine was started. It forgets what the previous one was asked and wrote.
     pub fn started(&mut self)
         requires { self.old.starts < self.old.most_starts }
         ensures { self.new ≡ started self.old }
@@ -68,15 +69,17 @@ impl Examiner {
         self.starts += 1;
     }
 
-    /// Whether the engine may be asked this command now.
+    /// Returns whether the engine may be asked this command now.
     ///
-    /// It may where it is up, fewer than eight commands are unanswered and none of them is a `genmove`, a `boardsize`,
-    /// an `undo` that may fail or a `final_score`; one of these only where none is; a `play` or a `genmove` only where
-    /// the record has room, and no `genmove` after two passes; a `final_score` only where no move was made and no
-    /// handicap placed; no `quit`. What hangs on the board is asked only once a size was taken and a `clear_board`
-    /// asked after it, and a score only where the last `komi` that was asked is at most 16,777,216 half points either
-    /// way. `fixed_handicap`, `undo` and `final_score` are asked only once the engine has answered whether it knows
-    /// them, and not where it said `false`.
+    /// The engine has to be up, with fewer than eight commands unanswered and none of these a `genmove`, a `boardsize`,
+    /// an `undo` that may fail or a `final_score`. Such a command itself may be asked only if nothing is unanswered. A
+    /// `play` or a `genmove` may be asked only if the record has space, and no `genmove` after two passes. A
+    /// `final_score` may be asked only if no move was made and no handicap placed. A `quit` never may.
+    ///
+    /// A command that depends on the board may be asked only once the engine accepted a size and was sent a
+    /// `clear_board` after that. A score may be asked only if the last `komi` was at most 16,777,216 half points either
+    /// way. `fixed_handicap`, `undo` and `final_score` may be asked only once the engine has answered whether it knows
+    /// them, and not if it said `false`.
     pub fn has_room(&self, command: &CheckCommand) -> bool
         ensures may { result ≡ true → HasRoomFor self.now.exam command.now }
         ensures only { HasRoomFor self.now.exam command.now → result ≡ true }
@@ -84,8 +87,8 @@ impl Examiner {
         self.exam.has_room(command)
     }
 
-    /// The engine is asked a command. Returns the bytes of its line, with the next id, and what is due to it: what
-    /// every right engine answers then.
+    /// Notes that the engine is asked a command. Returns its line, with the next id, for the caller to send, and what
+    /// is due to it: what every correct engine answers then.
     pub fn ask(&mut self, command: CheckCommand) -> Asking
         requires { HasRoomFor self.old.exam command }
         ensures asks { Asks self.old.exam command self.new.exam }
@@ -98,16 +101,16 @@ impl Examiner {
         self.exam.ask(command)
     }
 
-    /// The engine wrote these bytes. They are used up to the end of one reply or the byte that shows a fault, or all of
-    /// them; what is left is for the next call. A whole reply is written in place of the one handed in.
+    /// Takes output of the engine. It uses the bytes up to the end of one reply, or up to the byte that shows a fault,
+    /// or all of them; pass what is left to the next call. It writes a complete reply to `reply`.
     ///
-    /// After a finding the engine counts as down. Of one that is down all bytes are used and nothing changes.
+    /// After a finding the engine counts as down. Then all bytes are used and nothing changes.
     ///
-    /// A reply is judged by what is due to the oldest unanswered command. A score is an opinion: it is compared, as a
-    /// number, only with one of the same size that the engine said three times in a row.
+    /// It judges a reply by what is due to the oldest unanswered command. A score is an opinion: it is compared, as a
+    /// number, only with one of the same size that the engine gave three times in a row.
     pub fn heard(&mut self, bytes: &[u8], reply: &mut Reply) -> Heard
         ensures within { result.used ≤ length bytes.now }
-        // of a piece that isn't empty one byte at least is used
+        // of a chunk that isn't empty one byte at least is used
         ensures progress { 0 < length bytes.now → 0 < result.used }
         ensures up { self.old.exam.up ≡ true → Hears self.old.exam bytes.now (hearing result.used
             (option_map (with_reply reply.new) result.read) result.finding) self.new.exam }
@@ -136,14 +139,14 @@ impl Examiner {
         self.exam.hear(bytes, reply)
     }
 
-    /// The engine's stream ended, or a read or a write failed: it is down.
+    /// Notes that the engine's output ended, or that a read or a write failed. The engine is down then.
     pub fn lost(&mut self)
         ensures { self.new ≡ after_loss self.old }
     {
         self.exam.up = false;
     }
 
-    /// The game that a right engine has once it has answered all that was asked.
+    /// Returns the game of a correct engine that has answered all that was asked.
     pub fn game(&self) -> &Game
         ensures game { result.now ≡ self.now.exam.game }
         ensures orderly { IsOrderly self.now.exam }
@@ -151,50 +154,50 @@ impl Examiner {
         &self.exam.game
     }
 
-    /// Whether an `undo` of a right engine has succeeded since its last move, once it has answered all that was asked:
-    /// the next one may fail.
+    /// Returns whether an `undo` of a correct engine has succeeded since its last move, once it has answered all that
+    /// was asked. Then the next `undo` may fail.
     pub fn undone(&self) -> bool
         ensures { result ≡ self.now.exam.undone }
     {
         self.exam.undone
     }
 
-    /// What the engine thinks of an empty board, as its scores said.
+    /// Returns the engine's opinion of an empty board, by its scores.
     pub fn opinion(&self) -> Opinion
         ensures { result ≡ self.now.exam.opinion }
     {
         self.exam.opinion
     }
 
-    /// Whether an engine was started, and was neither lost since nor found wrong.
+    /// Returns whether an engine was started, and has been neither lost nor found wrong since.
     pub fn is_up(&self) -> bool
         ensures { result ≡ self.now.exam.up }
     {
         self.exam.up
     }
 
-    /// What is known of the engine's board.
+    /// Returns what is known of the engine's board.
     pub fn board(&self) -> Board
         ensures { result ≡ self.now.exam.board }
     {
         self.exam.board
     }
 
-    /// How many commands are unanswered.
+    /// Returns how many commands are unanswered.
     pub fn unanswered(&self) -> usize
         ensures { result ≡ length self.now.exam.unanswered }
     {
         self.exam.unanswered.len()
     }
 
-    /// What the engine said of the commands that it may be without.
+    /// Returns what the engine said of the commands that it may lack.
     pub fn skills(&self) -> Skills
         ensures { result ≡ self.now.exam.skills }
     {
         self.exam.skills
     }
 
-    /// How often an engine was started.
+    /// Returns how often an engine was started.
     pub fn starts(&self) -> u32
         ensures starts { result ≡ self.now.starts }
         ensures few { result ≤ self.now.most_starts }

@@ -1,4 +1,4 @@
-//! Whether a reply is what is due.
+//! Whether a reply is correct.
 ghost use Rattle.std.specs.Prelude.{◌≡◌};
 ghost use Rattle.go_base.specs.Handicap.{AllowsHandicap, handicap_points};
 ghost use Rattle.gtp_wire.specs.Words.{reply_words};
@@ -18,65 +18,65 @@ use go_base::{Choice, Colour, Komi, Size, Vertex, handicap};
 use go_board::{Game, PlayFault};
 use gtp_wire::{Reply, names_points, read_choice};
 
-/// What is wrong with what an engine wrote.
+/// What is wrong with the output of an engine.
 #[derive(Clone, Copy, Debug, PartialEq, Eq)]
 pub enum Kind {
-    /// It refused what a right engine does.
+    /// It refused a command that a correct engine carries out.
     Refused,
-    /// It did what a right engine refuses for this cause.
+    /// It carried out a command that a correct engine refuses for this cause.
     Took(Cause),
-    /// It named other points than those of the handicap.
+    /// It listed other points than those of the handicap.
     OtherPoints,
-    /// It failed to answer a `genmove`.
+    /// It failed at a `genmove`.
     NoMove,
-    /// It answered a `genmove` by neither a vertex nor `resign`.
+    /// It answered a `genmove` with neither a vertex nor `resign`.
     NoVertex,
-    /// It answered a `genmove` by a move that isn't legal, for this cause.
+    /// It answered a `genmove` with a move that isn't legal, for this cause.
     Unlawful(PlayFault),
-    /// It answered a `list_commands` by a list that lacks a command that the standard requires of every engine.
+    /// Its reply to `list_commands` lacks a command that the standard requires of every engine.
     Unlisted,
-    /// It answered a `final_score` by a success that is no score.
+    /// It answered a `final_score` with a success that is no score.
     NoScore,
-    /// It answered a `final_score` by a score that differs from one that it said three times by more than the
-    /// komis do.
+    /// It answered a `final_score` with a score that differs by more than the komis do from one that it gave three
+    /// times in a row.
     OtherScore,
-    /// Its reply has no id, or not that of the oldest unanswered command.
+    /// Its reply has no id, or another one than the oldest unanswered command.
     WrongId,
-    /// It wrote a reply where nothing was unanswered.
+    /// It wrote a reply when no command was unanswered.
     Unasked,
-    /// It wrote what begins no reply.
+    /// It wrote something that doesn't begin as a reply.
     NoStatus,
     /// It wrote more bytes than a reply may have.
     Overlong,
 }
 
-/// What a right engine may refuse, and refused. Nothing changed by it.
+/// What the engine refused and may refuse. It changed nothing.
 #[derive(Clone, Copy, Debug, PartialEq, Eq)]
 pub enum Refusal {
     /// A board of this size.
     Size(Size),
-    /// To take back a move, after one that it took back.
+    /// To undo another move, after one that it undid.
     Undo,
 }
 
-/// What a reply is.
+/// How a reply is judged.
 #[derive(Clone, Copy, Debug, PartialEq, Eq)]
 pub enum Judgement {
-    /// A right answer.
+    /// It is correct.
     Right,
-    /// A right answer to a `genmove`, by which this colour plays this vertex.
+    /// It is a correct reply to a `genmove`: this colour plays this vertex.
     Plays(Colour, Vertex),
-    /// A right answer to a `boardsize`, by which the board has this size.
+    /// It is a correct reply to a `boardsize`: the board has this size now.
     Resized(Size),
-    /// A right answer to an `undo`, by which the last move is taken back.
+    /// It is a correct reply to an `undo`: the last move is undone.
     Undone,
-    /// A right answer to a `final_score`, by which the engine thinks this of an empty board.
+    /// It is a correct reply to a `final_score`: this is the engine's opinion of an empty board now.
     Opines(Opinion),
-    /// A wrong one.
+    /// It is wrong.
     Wrong(Kind),
 }
 
-/// Whether the reply's id is there, and is this one.
+/// Returns whether the reply has this id.
 pub(crate) fn has_id(id: Option<u32>, wanted: u32) -> bool
     ensures { result ≡ has_id id wanted }
 {
@@ -86,7 +86,7 @@ pub(crate) fn has_id(id: Option<u32>, wanted: u32) -> bool
     }
 }
 
-/// What a reply is to a command to which this is due. The game and the opinion are a right engine's.
+/// Judges a reply to a command by what is due to it. The game and the opinion are a correct engine's.
 pub(crate) fn judge(game: &Game, opinion: &Opinion, due: Due, reply: &Reply) -> Judgement
     requires { MayBeJudged due }
     ensures { Judged game.now opinion.now due reply.now result }
@@ -107,7 +107,7 @@ pub(crate) fn judge(game: &Game, opinion: &Opinion, due: Due, reply: &Reply) -> 
     }
 }
 
-/// A reply where a board of this size is due, or a failure.
+/// Judges a reply to a `boardsize`.
 fn size_judged(size: Size, ok: bool) -> Judgement
     ensures { result ≡ size_judged size ok }
 {
@@ -118,7 +118,7 @@ fn size_judged(size: Size, ok: bool) -> Judgement
     }
 }
 
-/// A reply to an `undo` that may fail.
+/// Judges a reply to an `undo` that may fail.
 fn undo_judged(ok: bool) -> Judgement
     ensures { result ≡ undo_judged ok }
 {
@@ -129,7 +129,7 @@ fn undo_judged(ok: bool) -> Judgement
     }
 }
 
-/// What was asked for and is refused by a reply of this status, if anything.
+/// Returns what the engine refused with a reply of this status, if anything that it may refuse.
 pub(crate) fn refused_by(due: Due, ok: bool) -> Option<Refusal>
     ensures { result ≡ refused_by due ok }
 {
@@ -146,7 +146,7 @@ pub(crate) fn refused_by(due: Due, ok: bool) -> Option<Refusal>
     }
 }
 
-/// A reply where a success is due.
+/// Judges a reply that should be a success.
 fn success_judged(ok: bool) -> Judgement
     ensures { result ≡ success_judged ok }
 {
@@ -157,7 +157,7 @@ fn success_judged(ok: bool) -> Judgement
     }
 }
 
-/// A reply where a failure is due.
+/// Judges a reply that should be a failure.
 fn failure_judged(cause: Cause, ok: bool) -> Judgement
     ensures { result ≡ failure_judged cause ok }
 {
@@ -168,7 +168,7 @@ fn failure_judged(cause: Cause, ok: bool) -> Judgement
     }
 }
 
-/// A reply where the points of a handicap are due.
+/// Judges a reply that should list the points of a handicap.
 fn points_judged(named: bool, ok: bool) -> Judgement
     ensures { result ≡ points_judged named ok }
 {
@@ -182,7 +182,7 @@ fn points_judged(named: bool, ok: bool) -> Judgement
     }
 }
 
-/// Whether the words of a reply are the points of a handicap.
+/// Returns whether the text of a reply lists the points of a handicap.
 fn are_points(size: Size, stones: u32, reply: &Reply) -> bool
     requires { AllowsHandicap size stones }
     ensures { result
@@ -194,7 +194,7 @@ fn are_points(size: Size, stones: u32, reply: &Reply) -> bool
     }
 }
 
-/// A reply to a `list_commands`.
+/// Judges a reply to `list_commands`.
 fn list_judged(reply: &Reply) -> Judgement
     ensures { result
         ≡ list_judged (lists_required (rows reply.now.text.items)) reply.now.ok }
@@ -209,7 +209,7 @@ fn list_judged(reply: &Reply) -> Judgement
     }
 }
 
-/// A reply to a `final_score` on a board of this size with this komi.
+/// Judges a reply to `final_score` on a board of this size with this komi.
 fn score_judged(opinion: &Opinion, size: Size, komi: Komi, reply: &Reply) -> Judgement
     ensures { result
         ≡ score_judged opinion.now size komi reply.now.ok (score_of_text reply.now.text.items) }
@@ -223,7 +223,7 @@ fn score_judged(opinion: &Opinion, size: Size, komi: Komi, reply: &Reply) -> Jud
     }
 }
 
-/// What was said of a board, where it is compared at all.
+/// Judges a score by the opinion so far, if it is compared at all.
 fn view_judged(opinion: &Opinion, new: &Option<View>) -> Judgement
     ensures { result ≡ view_judged opinion.now new.now }
 {
@@ -239,7 +239,7 @@ fn view_judged(opinion: &Opinion, new: &Option<View>) -> Judgement
     }
 }
 
-/// A reply to a `genmove` of this colour.
+/// Judges a reply to a `genmove` of this colour.
 fn choice_judged(game: &Game, colour: Colour, reply: &Reply) -> Judgement
     ensures { ChoiceJudged game.now colour reply.now.ok
         (choice_of_text reply.now.text.items) result }
@@ -250,7 +250,7 @@ fn choice_judged(game: &Game, colour: Colour, reply: &Reply) -> Judgement
     said_judged(game, colour, read_choice(&reply.text))
 }
 
-/// What was said by a `genmove` that succeeded.
+/// Judges a `genmove` that succeeded.
 fn said_judged(game: &Game, colour: Colour, said: Option<Choice>) -> Judgement
     ensures { SaidJudged game.now colour said result }
 {
@@ -261,7 +261,7 @@ fn said_judged(game: &Game, colour: Colour, said: Option<Choice>) -> Judgement
     }
 }
 
-/// A vertex that was said.
+/// Judges the vertex of a `genmove`.
 fn vertex_judged(game: &Game, colour: Colour, vertex: Vertex) -> Judgement
     ensures { VertexJudged game.now colour vertex result }
 {

@@ -1,10 +1,10 @@
-//! The examiner of one engine: what a right engine has to answer to each command that is asked, and what it answered
-//! instead.
+//! The examiner of one engine: it knows what a correct engine has to answer to each command, and compares what the
+//! engine answers.
 //!
-//! An [`Examiner`] starts no process and reads no pipe. Its caller starts an engine and calls `started`. It asks what
-//! `has_room` allows, and writes the line that `ask` returns to the engine. What the engine writes goes to `heard`,
-//! piece by piece, until the piece is used up. `lost` says that the engine's stream ended. What is returned is the
-//! first answer that isn't a right one.
+//! An [`Examiner`] starts no process and reads no pipe. Its caller starts an engine and calls `started`. It then calls
+//! `ask` with commands that `has_room` allows, and sends the engine the lines that this returns. It passes the engine's
+//! output to `heard`, chunk by chunk, until all of a chunk is used, and calls `lost` when the output ends. What the
+//! examiner finds is the first reply that isn't correct.
 #![tactic(auto)]
 
 mod asking;

@@ -1,18 +1,18 @@
-//! What is answered to `list_commands`.
+//! The reply to `list_commands`.
 ghost use Rattle.std.specs.Prelude.{◌≡◌};
 ghost use Rattle.gtp_check_judge.specs.Listings.{administrative_commands, are_listed, is_listed, is_row_of};
 ghost use Rattle.gtp_check_judge.specs.Listings.{lists_required, play_commands, rows};
 
 use gtp_wire::first_word;
 
-/// Whether each command that the standard requires of every engine has a row of a text.
+/// Returns whether a text has a row for each command that the standard requires of every engine.
 pub(crate) fn lists_required(text: &[u8]) -> bool
     ensures { result ≡ lists_required (rows text.now) }
 {
     lists_administrative(text) && lists_play(text)
 }
 
-/// The same of the administrative commands.
+/// The same for the administrative commands.
 fn lists_administrative(text: &[u8]) -> bool
     ensures { result ≡ are_listed (rows text.now) administrative_commands }
 {
@@ -24,7 +24,7 @@ fn lists_administrative(text: &[u8]) -> bool
         && is_listed(text, b"quit")
 }
 
-/// The same of the commands of setup and of play.
+/// The same for the commands of setup and of play.
 fn lists_play(text: &[u8]) -> bool
     ensures { result ≡ are_listed (rows text.now) play_commands }
 {
@@ -35,7 +35,7 @@ fn lists_play(text: &[u8]) -> bool
         && is_listed(text, b"genmove")
 }
 
-/// Whether one of the rows of a text is that of a name.
+/// Returns whether one of the rows of a text is a name.
 fn is_listed(text: &[u8], name: &[u8]) -> bool
     ensures { result ≡ is_listed (rows text.now) name.now }
 {
@@ -47,7 +47,7 @@ fn is_listed(text: &[u8], name: &[u8]) -> bool
     false
 }
 
-/// Whether a row has this word, and no other.
+/// Returns whether a row has just this word.
 fn is_row_of(name: &[u8], row: &[u8]) -> bool
     ensures { result ≡ is_row_of name.now row.now }
 {

@@ -1,4 +1,4 @@
-//! What an engine thinks of an empty board.
+//! An engine's opinion of an empty board, by its scores.
 ghost use Rattle.std.specs.Prelude.{◌≡◌};
 ghost use Rattle.gtp_check_judge.specs.Komis.{is_near_komi};
 ghost use Rattle.gtp_check_judge.specs.Opinions.{view_of, distance, is_same, differ_as_komis, agrees, opinion_with};
@@ -7,40 +7,40 @@ ghost use Rattle.gtp_check_judge.specs.Scores.{IsInReach};
 use crate::scores::SaidScore;
 use go_base::{Komi, Size};
 
-/// The greatest komi at which scores are compared, in half points, either way: a thousand points.
+/// The greatest komi at which scores are compared, in half points either way: a thousand points.
 const MOST_NEAR: u32 = 2_000;
 
-/// By so many millionths of a point two scores may be apart, however many digits are written, since engines may compute
-/// in floats of 32 bits. (The standard's topic float.)
+/// How many millionths of a point two scores may differ, however many digits they have, since engines may compute in
+/// floats of 32 bits. (The standard's topic float.)
 const LEAST_ALLOWED: u64 = 10_000;
 
-/// A score that an engine said of an empty board, komi left out.
+/// A score that an engine gave for an empty board, without komi.
 #[derive(Clone, Copy, Debug, PartialEq, Eq)]
 pub struct View {
     /// The size of the board.
     pub size: Size,
-    /// The komi with which it was said.
+    /// The komi with which it was given.
     pub komi: Komi,
-    /// By how many millionths of a point Black leads on the board alone: the score and komi.
+    /// How many millionths of a point Black leads by on the board alone: the score plus komi.
     pub lead: i64,
-    /// What one of the last digit that was written is, in millionths of a point.
+    /// One unit of the last digit that was written, in millionths of a point.
     pub unit: u64,
 }
 
-/// What an engine thinks of an empty board, as its scores say.
+/// An engine's opinion of an empty board.
 #[derive(Clone, Copy, Debug, PartialEq, Eq)]
 pub enum Opinion {
-    /// Nothing: it said no score that is compared.
+    /// None: it gave no score that is compared.
     Unheard,
-    /// This, which it said last, and not twice in a row.
+    /// The score that it gave last, and not twice in a row.
     Once(View),
-    /// This, which it said twice in a row at last, and not three times.
+    /// The score that it gave twice in a row last, and not three times.
     Twice(View),
-    /// This, which it said three times in a row. Scores of this size are compared with it.
+    /// The score that it gave three times in a row. Scores of this size are compared with it.
     Thrice(View),
 }
 
-/// What a score of a board of this size, with this komi, says of the board alone, where it is compared at all.
+/// Returns what a score says of a board of this size with this komi, without komi, if it is compared at all.
 pub(crate) fn view_of(size: Size, komi: Komi, said: SaidScore) -> Option<View>
     requires { IsInReach said }
     ensures { result ≡ view_of size komi said }
@@ -61,14 +61,14 @@ pub(crate) fn view_of(size: Size, komi: Komi, said: SaidScore) -> Option<View>
     }
 }
 
-/// Whether scores are compared at this komi: at most a thousand points, either way.
+/// Returns whether scores are compared at this komi: at most a thousand points either way.
 fn is_near_komi(komi: Komi) -> bool
     ensures { result ≡ is_near_komi komi }
 {
     komi.half_points().unsigned_abs() <= MOST_NEAR
 }
 
-/// Whether two scores are of one size, with one komi, and the same number.
+/// Returns whether two scores are the same number, at one size and komi.
 fn is_same(old: &View, new: &View) -> bool
     ensures { result ≡ is_same old.now new.now }
 {
@@ -77,14 +77,15 @@ fn is_same(old: &View, new: &View) -> bool
         && old.lead.abs_diff(new.lead) == 0
 }
 
-/// Whether two scores differ as their komis do, within one of the last digit that is written or a hundredth of a point.
+/// Returns whether two scores differ as their komis do, within one unit of the last digit that is written or a
+/// hundredth of a point.
 fn differ_as_komis(old: &View, new: &View) -> bool
     ensures { result ≡ differ_as_komis old.now new.now }
 {
     old.lead.abs_diff(new.lead) <= old.unit.max(new.unit).max(LEAST_ALLOWED)
 }
 
-/// Whether a score is right by the opinion so far.
+/// Returns whether a score is correct by the opinion so far.
 pub(crate) fn agrees(opinion: &Opinion, new: &View) -> bool
     ensures { result ≡ agrees opinion.now new.now }
 {
@@ -94,7 +95,7 @@ pub(crate) fn agrees(opinion: &Opinion, new: &View) -> bool
     }
 }
 
-/// The opinion after a score that is right.
+/// Returns the opinion after a correct score.
 pub(crate) fn opinion_with(opinion: &Opinion, new: &View) -> Opinion
     ensures { result ≡ opinion_with opinion.now new.now }
 {

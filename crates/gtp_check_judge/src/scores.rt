@@ -1,4 +1,4 @@
-//! What is answered to a `final_score`.
+//! The reply to `final_score`.
 ghost use Rattle.std.specs.Prelude.{◌≡◌, ◌≤◌, IfSome, IsTrue, length};
 ghost use Rattle.std.specs.Char.{is_ascii_digit};
 ghost use Rattle.std.specs.List.{list_all, prefix_len};
@@ -14,32 +14,32 @@ ghost use Rattle.gtp_check_judge.specs.Scores.{plain_points_of, with_exponent};
 use go_base::{read_int, split_digits};
 use gtp_wire::first_word;
 
-/// The most digits before the point of a score that is compared.
+/// The most digits before the decimal point of a score that is compared.
 const MOST_BEFORE: usize = 9;
 
-/// The most digits after the point of a score that is compared.
+/// The most digits after the decimal point of a score that is compared.
 const MOST_AFTER: usize = 6;
 
 /// A score.
 #[derive(Clone, Copy, Debug, PartialEq, Eq)]
 pub struct Score {
-    /// It in millionths of a point, positive where Black leads.
+    /// The score in millionths of a point, positive if Black leads.
     pub millionths: i64,
-    /// What one of the last digit that was written is, in millionths of a point.
+    /// One unit of the last digit that was written, in millionths of a point.
     pub unit: u64,
 }
 
-/// What a text that is a score says.
+/// What was read from a text that is a score.
 #[derive(Clone, Copy, Debug, PartialEq, Eq)]
 pub enum SaidScore {
     /// This number.
     Number(Score),
-    /// A number that is compared with nothing: it has more than nine digits before the point, more than six after it, or
-    /// an exponent, whose value isn't read.
+    /// A number that is never compared: it has more than nine digits before the decimal point, more than six after it,
+    /// or an exponent, whose value isn't read.
     Long,
 }
 
-/// The score that the text is: one word, `B+` or `W+` and points, or a zero.
+/// Returns the score that a text is: one word, `B+` or `W+` and points, or a zero.
 pub(crate) fn read_score(text: &[u8]) -> Option<SaidScore>
     ensures value { result ≡ score_of_text text.now }
     ensures limits { IfSome result IsInReach }
@@ -51,7 +51,7 @@ pub(crate) fn read_score(text: &[u8]) -> Option<SaidScore>
     read_word(word)
 }
 
-/// The score that a word is.
+/// Returns the score that a word is.
 fn read_word(word: &[u8]) -> Option<SaidScore>
     ensures value { result ≡ score_of_word word.now }
     ensures limits { IfSome result IsInReach }
@@ -64,7 +64,7 @@ fn read_word(word: &[u8]) -> Option<SaidScore>
     }
 }
 
-/// The points after a letter and a plus.
+/// Reads the points after a letter and a plus.
 fn read_lead(rest: &[u8]) -> Option<SaidScore>
     ensures value { result ≡ lead_of rest.now }
     ensures limits { IfSome result IsInReach }
@@ -75,7 +75,7 @@ fn read_lead(rest: &[u8]) -> Option<SaidScore>
     }
 }
 
-/// White leads by these points.
+/// Returns the score with White in the lead by these points.
 fn negated(lead: Option<SaidScore>) -> Option<SaidScore>
     requires { IfSome lead IsInReach }
     ensures value { result ≡ negated lead }
@@ -87,7 +87,7 @@ fn negated(lead: Option<SaidScore>) -> Option<SaidScore>
     }
 }
 
-/// The same of a score.
+/// The same for a score that is there.
 fn negative(said: SaidScore) -> SaidScore
     requires { IsInReach said }
     ensures value { result ≡ negative said }
@@ -102,7 +102,7 @@ fn negative(said: SaidScore) -> SaidScore
     }
 }
 
-/// Without a letter only a zero is named.
+/// Reads a score without a letter, which has to be zero.
 fn read_zero(text: &[u8]) -> Option<SaidScore>
     ensures value { result ≡ zero_of text.now }
     ensures limits { IfSome result IsInReach }
@@ -115,14 +115,14 @@ fn read_zero(text: &[u8]) -> Option<SaidScore>
     }
 }
 
-/// Whether a text has no digit but zeros.
+/// Returns whether all digits of a text are zeros.
 fn are_only_zeros(text: &[u8]) -> bool
     ensures { result ≡ are_only_zeros text.now }
 {
     text.iter().all(|byte| *byte == b'0' || *byte == b'.')
 }
 
-/// The score of a text that has no sign before it: digits, a point and digits or none, and an exponent or none.
+/// Reads a score without a sign: digits, an optional decimal point and digits, and an optional exponent.
 fn read_points(text: &[u8]) -> Option<SaidScore>
     ensures value { result ≡ points_of text.now }
     ensures limits { IfSome result IsInReach }
@@ -132,7 +132,7 @@ fn read_points(text: &[u8]) -> Option<SaidScore>
     with_exponent(said, exponent)
 }
 
-/// What is before the first letter of an exponent, `e` or `E`, and the rest from there on.
+/// Splits a text before the first letter of an exponent, `e` or `E`.
 fn split_exponent(text: &[u8]) -> (&[u8], &[u8])
     ensures number { result.0.now ≡ before_exponent text.now }
     ensures exponent { result.1.now ≡ skip_while is_before_exponent text.now }
@@ -140,7 +140,7 @@ fn split_exponent(text: &[u8]) -> (&[u8], &[u8])
     text.split_at(before_exponent_len(text))
 }
 
-/// The score of a number, with what follows it. It is compared with nothing where that is an exponent.
+/// Returns the score of a number and what follows it. It is never compared if that is an exponent.
 fn with_exponent(said: SaidScore, exponent: &[u8]) -> Option<SaidScore>
     requires { IsInReach said }
     ensures value { result ≡ with_exponent said exponent.now }
@@ -153,7 +153,7 @@ fn with_exponent(said: SaidScore, exponent: &[u8]) -> Option<SaidScore>
     }
 }
 
-/// What follows the sign of an exponent, which may have none.
+/// Returns what follows the sign of an exponent, which may have none.
 fn after_sign(exponent: &[u8]) -> &[u8]
     ensures { result.now ≡ after_sign exponent.entry.now }
 {
@@ -163,14 +163,14 @@ fn after_sign(exponent: &[u8]) -> &[u8]
     }
 }
 
-/// Whether a text is digits, one at least.
+/// Returns whether a text is one digit or more.
 fn are_some_digits(text: &[u8]) -> bool
     ensures { result ≡ are_some_digits text.now }
 {
     are_digits(text) && !text.is_empty()
 }
 
-/// The score of a text that has no sign and no exponent: digits, and then nothing, or a point and digits.
+/// Reads a score without sign and exponent: digits, and an optional decimal point and digits.
 fn read_plain_points(text: &[u8]) -> Option<SaidScore>
     ensures value { result ≡ plain_points_of text.now }
     ensures limits { IfSome result IsInReach }
@@ -183,7 +183,7 @@ fn read_plain_points(text: &[u8]) -> Option<SaidScore>
     Some(score_of_digits(whole, decimals))
 }
 
-/// What follows the point.
+/// Returns what follows the decimal point.
 fn read_decimals(rest: &[u8]) -> Option<&[u8]>
     ensures { option_copied result ≡ decimals_of rest.now }
 {
@@ -194,14 +194,14 @@ fn read_decimals(rest: &[u8]) -> Option<&[u8]>
     }
 }
 
-/// Whether each byte of a text is a digit.
+/// Returns whether each byte of a text is a digit.
 fn are_digits(text: &[u8]) -> bool
     ensures { result ≡ list_all is_ascii_digit text.now }
 {
     text.iter().all(|byte| byte.is_ascii_digit())
 }
 
-/// The score of the digits before the point and those after it.
+/// Returns the score with these digits before the decimal point and after it.
 fn score_of_digits(whole: &[u8], decimals: &[u8]) -> SaidScore
     requires before { AllDigits 10 whole.now }
     requires after { AllDigits 10 decimals.now }
@@ -219,7 +219,7 @@ fn score_of_digits(whole: &[u8], decimals: &[u8]) -> SaidScore
     })
 }
 
-/// The number of at most nine digits, which may be none.
+/// Returns the number with at most nine digits, which may be none.
 fn number_of(digits: &[u8]) -> u64
     requires digits { AllDigits 10 digits.now }
     requires few { length digits.now ≤ 9 }
@@ -229,7 +229,7 @@ fn number_of(digits: &[u8]) -> u64
     u64::from(read_int(digits).unwrap_or(0))
 }
 
-/// How many bytes are before the letter of an exponent.
+/// Returns how many bytes come before the letter of an exponent.
 fn before_exponent_len(text: &[u8]) -> usize
     ensures value { result ≡ prefix_len is_before_exponent text.now }
     ensures within { result ≤ length text.now }
@@ -239,7 +239,7 @@ fn before_exponent_len(text: &[u8]) -> usize
         .count()
 }
 
-/// What one of the last of so many digits after the point is, in millionths of a point.
+/// Returns one unit of the last of this many digits after the decimal point, in millionths of a point.
 fn unit_of(digits: usize) -> u64
     ensures value { result ≡ unit_of digits }
     ensures few { result ≤ 1000000 }

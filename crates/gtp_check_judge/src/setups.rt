@@ -11,15 +11,15 @@ use gtp_wire::Command;
 /// What is known of the engine's board.
 #[derive(Clone, Copy, Debug, PartialEq, Eq)]
 pub enum Board {
-    /// Nothing: the engine took no size since it was started.
+    /// Nothing: the engine has accepted no size since it was started.
     Unknown,
-    /// Its size alone, which the engine took.
+    /// Only its size, which the engine accepted.
     Sized,
     /// All: it was cleared since.
     Cleared,
 }
 
-/// Whether a command is a `clear_board`.
+/// Returns whether a command is a `clear_board`.
 pub(crate) fn is_clear_board(command: &CheckCommand) -> bool
     ensures { result ≡ is_clear_board command.now }
 {
@@ -29,8 +29,8 @@ pub(crate) fn is_clear_board(command: &CheckCommand) -> bool
     }
 }
 
-/// Whether the last komi that was asked is one that every engine has to take, once this command was asked, where it
-/// was so before or wasn't.
+/// Returns whether the last komi that was asked is one that every engine has to accept, after this command. `is_set`
+/// says whether it was so before.
 pub(crate) fn komi_after(is_set: bool, command: &CheckCommand) -> bool
     ensures { result ≡ komi_after is_set command.now }
 {
@@ -40,7 +40,7 @@ pub(crate) fn komi_after(is_set: bool, command: &CheckCommand) -> bool
     }
 }
 
-/// Whether a command is a `final_score`.
+/// Returns whether a command is a `final_score`.
 pub(crate) fn is_final_score(command: &CheckCommand) -> bool
     ensures { result ≡ is_final_score command.now }
 {
@@ -50,7 +50,7 @@ pub(crate) fn is_final_score(command: &CheckCommand) -> bool
     }
 }
 
-/// Whether what is due to a command hangs on the board.
+/// Returns whether what is due to a command depends on the board.
 pub(crate) fn needs_board(command: &CheckCommand) -> bool
     ensures { result ≡ needs_board command.now }
 {
@@ -65,7 +65,7 @@ pub(crate) fn needs_board(command: &CheckCommand) -> bool
     }
 }
 
-/// The same of a command of a match.
+/// The same for a command of a match.
 fn is_board_of(command: &Command) -> bool
     ensures { result ≡ is_board_of command.now }
 {
@@ -75,7 +75,7 @@ fn is_board_of(command: &Command) -> bool
     }
 }
 
-/// Whether the board is known.
+/// Returns whether the board is known.
 pub(crate) fn is_cleared(board: Board) -> bool
     ensures may { result ≡ true → board ≡ Cleared }
     ensures only { board ≡ Cleared → result ≡ true }
@@ -86,7 +86,7 @@ pub(crate) fn is_cleared(board: Board) -> bool
     }
 }
 
-/// What is known of the board once a command was asked that clears it or doesn't.
+/// Returns what is known of the board after a command that clears it or doesn't.
 pub(crate) fn board_after(board: Board, clears: bool) -> Board
     ensures { result ≡ board_after board clears }
 {

@@ -1,4 +1,4 @@
-//! Which of the commands that an engine may be without it has.
+//! Which of the commands that it may lack an engine has.
 ghost use Rattle.std.specs.Prelude.{◌≡◌, true, IfSome};
 ghost use Rattle.gtp_wire.specs.Words.{reply_words};
 ghost use Rattle.gtp_check_judge.specs.declared.skills.Skill.TheVariants.{Has};
@@ -8,7 +8,7 @@ ghost use Rattle.gtp_check_judge.specs.Skills.{said_skill, learned};
 use crate::asking::{CheckCommand, Known};
 use gtp_wire::{Command, Reply, first_word};
 
-/// Whether an engine has a command that it may be without.
+/// Whether an engine has a command that it may lack.
 #[derive(Clone, Copy, Debug, PartialEq, Eq)]
 pub enum Skill {
     /// It wasn't asked, or hasn't answered.
@@ -19,7 +19,7 @@ pub enum Skill {
     Lacks,
 }
 
-/// What an engine said of the commands that it may be without.
+/// What an engine said of the commands that it may lack.
 #[derive(Clone, Copy, Debug, PartialEq, Eq)]
 pub struct Skills {
     /// Of `fixed_handicap`.
@@ -41,7 +41,7 @@ pub(crate) fn none_asked() -> Skills
     }
 }
 
-/// Whether the engine has what a command needs.
+/// Returns whether the engine has what a command needs.
 pub(crate) fn has_needed(skills: &Skills, command: &CheckCommand) -> bool
     ensures may { result ≡ true
         → IfSome (needed_skill command.now) (λ known. said_of skills.now known ≡ Has) }
@@ -54,7 +54,7 @@ pub(crate) fn has_needed(skills: &Skills, command: &CheckCommand) -> bool
     }
 }
 
-/// Whether the engine has it.
+/// Returns whether the engine has it.
 fn is_had(skill: Skill) -> bool
     ensures may { result ≡ true → skill ≡ Has }
     ensures only { skill ≡ Has → result ≡ true }
@@ -65,7 +65,7 @@ fn is_had(skill: Skill) -> bool
     }
 }
 
-/// The command that an engine may be without and that this is, if any.
+/// Returns which of the commands that an engine may lack this is, if any.
 fn needed_skill(command: &CheckCommand) -> Option<Known>
     ensures { result ≡ needed_skill command.now }
 {
@@ -81,7 +81,7 @@ fn needed_skill(command: &CheckCommand) -> Option<Known>
     }
 }
 
-/// The same of a command of a match.
+/// The same for a command of a match.
 fn skill_of(command: &Command) -> Option<Known>
     ensures { result ≡ skill_of command.now }
 {
@@ -97,7 +97,7 @@ fn skill_of(command: &Command) -> Option<Known>
     }
 }
 
-/// What the engine said of a command.
+/// Returns what the engine said of a command.
 fn said_of(skills: &Skills, known: Known) -> Skill
     ensures { result ≡ said_of skills.now known }
 {
@@ -108,7 +108,7 @@ fn said_of(skills: &Skills, known: Known) -> Skill
     }
 }
 
-/// What is known of an engine once it has answered a command so.
+/// Returns what is known of the engine after this reply to a command.
 pub(crate) fn learned(skills: &Skills, command: &CheckCommand, reply: &Reply) -> Skills
     ensures { result ≡ learned skills.now command.now reply.now }
 {
@@ -126,7 +126,7 @@ pub(crate) fn learned(skills: &Skills, command: &CheckCommand, reply: &Reply) ->
     }
 }
 
-/// The same skills, but for this one.
+/// Returns the same skills with this one changed.
 fn with_skill(skills: &Skills, known: Known, now: Skill) -> Skills
     ensures { result ≡ with_skill skills.now known now }
 {
@@ -154,7 +154,7 @@ fn with_skill(skills: &Skills, known: Known, now: Skill) -> Skills
     }
 }
 
-/// What a reply to `known_command` says.
+/// Returns what a reply to `known_command` says.
 fn said_skill(ok: bool, text: &[u8]) -> Skill
     ensures { result ≡ said_skill ok text.now }
 {
@@ -165,7 +165,7 @@ fn said_skill(ok: bool, text: &[u8]) -> Skill
     }
 }
 
-/// Whether the one word of a text is `false`.
+/// Returns whether a text is the one word `false`.
 fn is_false(text: &[u8]) -> bool
     ensures { result ≡ are_false (reply_words text.now) }
 {

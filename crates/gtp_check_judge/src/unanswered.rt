@@ -1,4 +1,4 @@
-//! The commands that were asked and aren't answered.
+//! The commands that were asked and aren't answered yet.
 ghost use Rattle.std.specs.Prelude.{◌≡◌, ◌<◌, ◌≤◌, [], ◌∷◌, ◌++◌, length, drop};
 ghost use Rattle.gtp_check_judge.specs.Judging.{most_unanswered, oldest, awaits};
 
@@ -38,11 +38,11 @@ impl Default for Asked {
     }
 }
 
-/// Commands that are unanswered, the oldest first.
+/// The unanswered commands, the oldest first.
 #[derive(Drop)]
 pub struct Unanswered {
     list: ArrayVec<Asked, MOST_UNANSWERED>,
-    /// Whether one whose answer has to be awaited is among them, which is asked for each command.
+    /// Whether one of them has to be answered before another is asked.
     has_awaited: bool,
 }
 
@@ -59,7 +59,7 @@ impl Model for Unanswered {
 }
 
 impl Unanswered {
-    /// No commands.
+    /// Returns a list without commands.
     pub fn new() -> Unanswered
         ensures { result ≡ [] }
     {
@@ -69,7 +69,7 @@ impl Unanswered {
         }
     }
 
-    /// How many there are.
+    /// Returns how many there are.
     pub fn len(&self) -> usize
         ensures len { result ≡ length self.now }
         ensures few { result ≤ most_unanswered }
@@ -77,14 +77,14 @@ impl Unanswered {
         self.list.len()
     }
 
-    /// The oldest, if any.
+    /// Returns the oldest, if any.
     pub fn oldest(&self) -> Option<Asked>
         ensures { result ≡ oldest self.now }
     {
         self.list.first().copied()
     }
 
-    /// Adds a command after the others.
+    /// Adds a command at the end.
     pub fn push(&mut self, id: u32, command: CheckCommand, due: Due)
         requires { length self.old < most_unanswered }
         ensures { self.new ≡ self.old ++ record { id = id; command = command; due = due } ∷ [] }
@@ -93,7 +93,7 @@ impl Unanswered {
         self.list.push(Asked { id, command, due });
     }
 
-    /// Takes the oldest off, if any.
+    /// Removes the oldest, if any.
     pub fn drop_oldest(&mut self)
         ensures { self.new ≡ drop 1 self.old }
     {
@@ -103,8 +103,8 @@ impl Unanswered {
         }
     }
 
-    /// Whether one whose answer has to be awaited is among them: a `genmove`, a `boardsize`, an `undo` that may fail,
-    /// or a `final_score`.
+    /// Returns whether one of them has to be answered before another is asked: a `genmove`, a `boardsize`, an `undo`
+    /// that may fail, or a `final_score`.
     pub fn awaits(&self) -> bool
         ensures { result ≡ awaits self.now }
     {
@@ -112,7 +112,7 @@ impl Unanswered {
     }
 }
 
-/// Whether one whose answer has to be awaited is among these commands.
+/// Returns whether one of these commands has to be answered before another is asked.
 fn any_awaited(list: &[Asked]) -> bool
     ensures { result ≡ awaits list.now }
 {

@@ -20,7 +20,7 @@ use Rattle.gtp_check_talks.specs.Among.{is_among}
 use Rattle.gtp_check_plan.specs.declared.options.Options.{Options}
 use Rattle.gtp_check_plan.specs.declared.plan.Plan.{Plan}
 
--- the command of an engine: the words of its text, which is cut at spaces
+-- the command of an engine: the words of its text, which is split at spaces
 abbrev pub IsCommand : Text → List (Bor Text) → Type 0
 IsCommand text command = map (λ word. word.now) command ≡ words text
 

@@ -1,4 +1,4 @@
-//! The mistakes in the words that the program reports itself, and its name in the lines of mistakes and failures.
+//! The usage errors that the program reports itself, and its name, which begins the lines of usage errors and failures.
 ghost use Rattle.gtp_check_plan.specs.Mistakes.{mistake_text};
 
 use cli::failure::MistakeText;
@@ -6,12 +6,12 @@ use cli::failure::MistakeText;
 /// The program's name.
 pub const NAME: &[u8] = b"gtp_check";
 
-/// A mistake in the words of the command line, where `clap` has no text for it.
+/// A usage error for which `clap` has no text.
 #[derive(Clone, Copy, Debug, PartialEq, Eq, Drop)]
 pub enum Mistake {
-    /// There is no command, or it has no word.
+    /// The engine's command is missing, or has only spaces.
     NoCommand,
-    /// `--only`, `--skip` and `--quick` leave no lesson to ask.
+    /// `--only`, `--skip` and `--quick` leave no lesson to run.
     NoLesson,
 }
 

@@ -1,4 +1,4 @@
-//! What a check by `gtp_check` is asked to do: the options of its command line, and the plan that they come to.
+//! The options of `gtp_check`, and the plan that is made of them.
 #![tactic(auto)]
 
 pub mod failure;

@@ -19,53 +19,53 @@ use gtp_check_questions::{LESSONS, Lesson, Lessons, Suicide};
 use std::alloc::{AllocError, Global};
 use std::convert::AsStr;
 
-/// What the help says below the options: what is written, the statuses, and an example.
+/// The end of the help: what the output looks like, the statuses, and an example.
 const AFTER_OPTIONS: &str = "\
-Each complaint is a block of lines: the conversation since the engine was
-started, as it was sent, or a part of it, and what was wrong. The other lines
-begin with #, a comment, so a block can be pasted into the engine as it is.
+Each complaint is a block of lines: what was wrong, and the commands that led
+to it, often fewer than were sent. Lines that begin with # are comments, so
+you can paste a block into the engine as it is.
 The last line is: check: N commands, M starts, K complaints
-An engine that doesn't answer is waited for. With patience before its command
-it is ended where an answer takes too long.
+There is no timeout: gtp_check waits for an engine that hangs. With
+patience before its command, the engine is ended when a reply takes too long.
 
 Status:
-  0  nothing was found, and in each lesson a move was answered rightly
-  1  something was found
-  2  the arguments have a mistake, or the engine could not be started
-  3  the program could not go on: write fault, out of memory, too many turns
-  4  nothing was found, but in some lesson no move was answered rightly
+  0  no complaint: each lesson was completed, with a move answered correctly
+  1  at least one complaint
+  2  usage error, or the engine could not be started
+  3  gtp_check failed: write fault, out of memory, too many turns
+  4  no complaint, but a lesson was cut short, or had no move answered correctly
 
 Example:
   gtp_check 'gnugo --mode gtp --chinese-rules'
 
 More: man gtp_check";
 
-/// What the command line asks for.
+/// The options as the arguments give them.
 #[derive(Drop)]
 pub struct Options<'a> {
-    /// The command of the engine, which is not split yet; empty where the words don't say.
+    /// The engine's command, not yet split; empty if it isn't given.
     pub command: &'a str,
-    /// The size of the boards of scenes, 5 to 25; 0 where the words don't say.
+    /// The board size for scenes, 5 to 25; 0 if it isn't given.
     pub size: u32,
-    /// The ko rule; `simple` where the words don't say.
+    /// The ko rule; simple by default.
     pub rule: KoRule,
-    /// Whether suicide is asked and judged; it is where the words don't say.
+    /// The suicide rule; forbidden by default.
     pub suicide: Suicide,
-    /// The seed of what is drawn; 1 where the words don't say.
+    /// The random seed; 1 by default.
     pub seed: u32,
-    /// Whether only the lessons up to the scenes are asked.
+    /// Whether only the first six lessons are run.
     pub quick: bool,
-    /// The lessons that are asked alone; none where the words don't say.
+    /// The only lessons to run; if there are none, all are run.
     pub only: Lessons,
-    /// The lessons that are left out.
+    /// The lessons to skip.
     pub skip: Lessons,
-    /// Whether the lessons are listed, and nothing is asked.
+    /// Whether to print the lessons and exit.
     pub list: bool,
-    /// Whether each command is asked only once the one before is answered.
+    /// Whether to wait for each reply before the next command.
     pub singly: bool,
-    /// How often the engine is started after something was found, 0 to 1,000.
+    /// How often the engine may be restarted after complaints, 0 to 1,000.
     pub restarts: u32,
-    /// How many shorter conversations are tried in place of a long one, 0 to 1,000.
+    /// How many shorter conversations may be tried for a complaint, 0 to 1,000.
     pub trials: u32,
 }
 
@@ -74,29 +74,29 @@ static OPTIONS: [OptionRow<'static>; 11] = [
     OptionRow {
         name: "size",
         takes: Takes::MaybeNumber("N", 5, 25),
-        help: "Size of the boards of scenes, 5 to 25 [default: the\n\
-            smallest from 5 that the engine takes]",
+        help: "Board size for set-up positions, 5 to 25 [default: the\n\
+            smallest from 5 that the engine accepts]",
     },
     OptionRow {
         name: "ko",
         takes: Takes::Name("RULE", &["simple", "positional"], "simple"),
-        help: "Rule of ko: simple or positional",
+        help: "Ko rule: simple or positional",
     },
     OptionRow {
         name: "suicide",
         takes: Takes::Name("RULE", &["forbidden", "unasked"], "forbidden"),
-        help: "Rule of suicide: forbidden, or unasked: play asks none,\n\
-            and genmove's isn't judged",
+        help: "Suicide rule: forbidden, or unasked (never sent as play,\n\
+            and not judged if genmove plays it)",
     },
     OptionRow {
         name: "seed",
         takes: Takes::Number("N", 0, 4294967295, "1"),
-        help: "Seed of what is drawn, 0 to 4294967295",
+        help: "Random seed, 0 to 4294967295",
     },
     OptionRow {
         name: "quick",
         takes: Takes::Nothing,
-        help: "End after the scenes, the first six lessons",
+        help: "Run only the first six lessons",
     },
     OptionRow {
         name: "only",
@@ -118,8 +118,7 @@ static OPTIONS: [OptionRow<'static>; 11] = [
                 "restarts",
             ],
         ),
-        help: "Ask this lesson, and no others but those that are\n\
-            named so too",
+        help: "Run only this lesson (repeatable)",
     },
     OptionRow {
         name: "skip",
@@ -141,34 +140,37 @@ static OPTIONS: [OptionRow<'static>; 11] = [
                 "restarts",
             ],
         ),
-        help: "Leave this lesson out",
+        help: "Skip this lesson (repeatable)",
     },
     OptionRow {
         name: "list",
         takes: Takes::Nothing,
-        help: "Print the lessons, and ask nothing",
+        help: "Print the lessons and exit",
     },
     OptionRow {
         name: "singly",
         takes: Takes::Nothing,
-        help: "Ask each command once the one before is answered",
+        help: "Wait for each reply before the next command",
     },
     OptionRow {
         name: "restarts",
         takes: Takes::Number("N", 0, 1000, "200"),
-        help: "Starts after something was found,\n\
-            0 to 1000",
+        help: "Restarts after complaints, 0 to 1000",
     },
     OptionRow {
         name: "trials",
         takes: Takes::Number("N", 0, 1000, "60"),
-        help: "Shorter conversations tried in place of a long one,\n\
-            0 to 1000; with 0 each is shown whole",
+        help: "Shorter conversations to try per complaint, 0 to 1000;\n\
+            with 0 each is shown whole",
     },
 ];
 
-/// Reads the words of a command line, of which the first is the program's name. The error is a mistake in the words, a
-/// request for help or the version, or want of memory; its `Display` is the text for the user.
+/// Reads the options from the arguments, of which the first is the program's name.
+///
+/// # Errors
+///
+/// A usage error, a request for the help or the version, or a lack of memory. `Display` of the error is the text for
+/// the user.
 pub fn read_options<'a, S: AsStr>(alloc: Global, words: &'a [S]) -> Result<Options<'a>, Error>
     ensures asked { IfOk result (AsksFor (map S.text words.entry.now)) }
     ensures fault { IfErr result (λ error. (kind_of error ≡ OutOfMemory)
@@ -178,7 +180,7 @@ pub fn read_options<'a, S: AsStr>(alloc: Global, words: &'a [S]) -> Result<Optio
     Ok(options_of(&matches))
 }
 
-/// The options of a command line. The defaults here aren't met, since the command line has its own.
+/// The options that `clap` found. The defaults here never apply, since `clap` has its own.
 fn options_of<'a>(matches: &ArgMatches<'a>) -> Options<'a>
     ensures { Ask (rows_of (found_of matches.now)) result }
 {
@@ -198,7 +200,7 @@ fn options_of<'a>(matches: &ArgMatches<'a>) -> Options<'a>
     }
 }
 
-/// The ko rule of this name.
+/// Returns the ko rule of this name.
 fn ko_rule_named(name: &str) -> KoRule
     ensures { result ≡ ko_rule_named name.now }
 {
@@ -208,7 +210,7 @@ fn ko_rule_named(name: &str) -> KoRule
     }
 }
 
-/// What this name says of suicide.
+/// Returns the suicide rule of this name.
 fn suicide_named(name: &str) -> Suicide
     ensures { result ≡ suicide_named name.now }
 {
@@ -218,7 +220,7 @@ fn suicide_named(name: &str) -> Suicide
     }
 }
 
-/// The lessons that an option names, in the order of a course.
+/// Returns the lessons that an option names, in the order of a course.
 fn lessons_at(matches: &ArgMatches<'_>, name: &str) -> Lessons
     ensures { result.items
         ≡ lessons_named (option_texts name.now (rows_of (found_of matches.now))) }
@@ -229,7 +231,7 @@ fn lessons_at(matches: &ArgMatches<'_>, name: &str) -> Lessons
     }
 }
 
-/// The lessons of these names.
+/// Returns the lessons of these names, in the order of a course.
 fn lessons_named(names: &[&str]) -> Lessons
     ensures { result.items ≡ lessons_named (map (λ name. name.now) names.now) }
 {
@@ -240,21 +242,21 @@ fn lessons_named(names: &[&str]) -> Lessons
     lessons
 }
 
-/// Whether a lesson is named.
+/// Returns whether a lesson is named.
 fn is_named(names: &[&str], lesson: Lesson) -> bool
     ensures { result ≡ is_named (map (λ name. name.now) names.now) lesson }
 {
     contains(names, lesson.name())
 }
 
-/// Whether a text is among these.
+/// Returns whether a text is among these.
 fn contains(texts: &[&str], wanted: &str) -> bool
     ensures { result ≡ list_any (λ text. bytes_eq text.now wanted.now) texts.now }
 {
     texts.iter().any(|text| *text == wanted)
 }
 
-/// Appends a lesson where this is so.
+/// Appends a lesson if `is_so`.
 pub fn add_if(lessons: &mut Lessons, lesson: Lesson, is_so: bool)
     requires { array_vec_len lessons.old < 13 }
     ensures items { lessons.new.items
@@ -273,24 +275,24 @@ fn command<'a>(alloc: Global) -> Result<Command<'a>, AllocError>
     with_options(alloc, program(alloc)?, OPTIONS.as_slice())
 }
 
-/// The command line with the word of the engine's command, and no option yet.
+/// The command line with the argument for the engine's command, and without options.
 fn program<'a>(alloc: Global) -> Result<Command<'a>, AllocError>
     ensures { IfOk result (λ command. app_of command ≡ program) }
 {
     Command::new(alloc, "gtp_check")
         .version(VERSION)
-        .about("Checks an engine of the Go Text Protocol, version 2, beside the rules of play")
+        .about("Checks a Go engine against the Go Text Protocol, version 2, and the rules of Go")
         .after_help(AFTER_OPTIONS)
         .bin_name("gtp_check")?
         .arg(engine_word(alloc))
 }
 
-/// The word for the engine's command.
+/// The argument for the engine's command.
 fn engine_word<'a>(alloc: Global) -> Arg<'a>
     ensures rule { rule_of result ≡ word_rule (codes "CMD") }
     ensures local { result.global ≡ false }
 {
     Arg::new(alloc, "CMD")
         .value_name("CMD")
-        .help("Command of the engine, split at spaces")
+        .help("Engine's command, split at spaces: no quoting, no shell")
 }

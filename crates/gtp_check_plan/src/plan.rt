@@ -1,4 +1,4 @@
-//! From the options of a run to what is checked.
+//! From the options to the plan of a check.
 ghost use Rattle.std.specs.Prelude.{◌≡◌, IfOk, IfErr, filter, not};
 ghost use Rattle.gtp_check_questions.specs.Lessons.{all_lessons};
 ghost use Rattle.gtp_check_talks.specs.Among.{is_among};
@@ -13,38 +13,38 @@ use gtp_check_questions::{LESSONS, Lesson, Lessons, Suicide};
 use gtp_check_talks::among::is_among;
 use std::alloc::{AllocError, Global};
 
-/// What is checked, and how.
+/// What a check does.
 #[derive(Drop)]
 pub struct Plan<'a> {
-    /// The engine's command: the program and its arguments.
+    /// The engine's program and its arguments.
     pub words: Vec<&'a str>,
-    /// The size of the boards of scenes, if it is given.
+    /// The board size for scenes, if it is given.
     pub scene_size: Option<Size>,
-    /// The ko rule of a right engine.
+    /// The ko rule of a correct engine.
     pub rule: KoRule,
-    /// Whether suicide is asked and judged.
+    /// The suicide rule.
     pub suicide: Suicide,
-    /// The seed of what is drawn.
+    /// The random seed.
     pub seed: u32,
-    /// The lessons that are asked, in their order.
+    /// The lessons to run, in their order.
     pub lessons: Lessons,
-    /// The others.
+    /// The lessons that are left out.
     pub left_out: Lessons,
-    /// Whether each command is asked only once the one before is answered.
+    /// Whether to wait for each reply before the next command.
     pub singly: bool,
-    /// How often the engine is started after something was found.
+    /// How often the engine may be restarted after complaints.
     pub restarts: u32,
-    /// How many trials may make a conversation shorter.
+    /// How many trials may be made to shorten a conversation.
     pub trials: u32,
-    /// Whether what is waited for is written to standard error, which is a terminal.
+    /// Whether to show progress on standard error, which is a terminal then.
     pub shows_progress: bool,
 }
 
-/// The plan of the options, which says whether progress is shown.
+/// Returns the plan that the options ask for. `shows_progress` goes into it as it is.
 ///
 /// # Errors
 ///
-/// `OutOfMemory`, or a mistake: that the command has no word, or else that no lesson is left.
+/// If memory can't be allocated, or for a usage error: the command has only spaces, or else no lesson is left.
 pub fn plan_of<'a>(
     alloc: Global,
     options: &Options<'a>,
@@ -76,7 +76,7 @@ pub fn plan_of<'a>(
     })
 }
 
-/// The size of the boards of scenes, where the number is one.
+/// The board size for scenes, if the number is one.
 fn scene_size_of(number: u32) -> Option<Size>
     ensures { IsSceneSize number result }
 {
@@ -94,7 +94,7 @@ fn chosen(options: &Options<'_>) -> Lessons
     lessons
 }
 
-/// The others.
+/// The lessons that are left out.
 fn left_out(options: &Options<'_>) -> Lessons
     ensures { result.items ≡ filter (λ lesson. not (is_chosen options.now lesson)) all_lessons }
 {
@@ -114,7 +114,7 @@ fn is_chosen(options: &Options<'_>, lesson: Lesson) -> bool
         && (!options.quick || is_quick(lesson))
 }
 
-/// Whether a lesson is one of those of `--quick`: all up to the scenes.
+/// Whether `--quick` keeps a lesson: one of the first six.
 fn is_quick(lesson: Lesson) -> bool
     ensures { result ≡ is_quick lesson }
 {
@@ -135,7 +135,7 @@ fn is_quick(lesson: Lesson) -> bool
     }
 }
 
-/// The words of a command, which is split at runs of spaces.
+/// Splits a command at runs of spaces, into the program and its arguments.
 fn words_of<'a>(alloc: Global, command: &'a str) -> Result<Vec<&'a str>, AllocError>
     ensures { IfOk result (λ found. IsCommand command.entry.now found.items) }
 {

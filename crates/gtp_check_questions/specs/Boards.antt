@@ -78,7 +78,7 @@ stones_of Genmoves part = 2 + part % 3
 stones_of Games part = 2 + part % 3
 stones_of Restarts part = 2 + part % 3
 
--- In which of the ways a part is turned. Those of the start are not: so what they ask in pieces, or with colours in
+-- In which of the ways a part is turned. Those of the start are not: so what they ask in chunks, or with colours in
 -- full, was asked before in the usual form.
 abbrev pub turning_of : Lesson → ℕ → ℕ
 turning_of Start part = 0

@@ -250,10 +250,10 @@ EachKoIsAnswered = (part : ℕ) (board : Board) (act : Colour × ℕ × ℕ) →
     → 1 ≤ board.size → board.size ≤ most_size → last_of board.scene.now ≡ Some act
     → AsksForAnswer lesson.Ko part board act
 
--- ---- commands in pieces
+-- ---- commands in chunks
 
--- The lines of one part of the lesson of the start are sent in pieces, and of no other part of a lesson. In it the
--- engine is started anew. Then come a `boardsize` and a look whether that was taken, a `komi` and a `clear_board`, the
+-- The lines of one part of the lesson of the start are sent in chunks, and of no other part of a lesson. In it the
+-- engine is restarted. Then come a `boardsize` and a look whether that was taken, a `komi` and a `clear_board`, the
 -- moves of the scene in their order, and an `undo`: one right after the other.
 pub record PiecesAreSent : Type 0 where
   pub part : ℕ
@@ -347,7 +347,7 @@ pub record HasNoFloat (half_points : ℤ) : Type 0 where
   pub odd : magnitude half_points % 2 ≡ 1
   pub beyond : 2 ^ 24 < magnitude half_points
 
--- A float of 32 bits represents each komi that is asked, but for those of the stretch that asks for others: it
+-- A float of 32 bits represents each komi that is asked, except for those of the stretch that asks for others: it
 -- represents none of these.
 pub record EachKomiIsExact : Type 0 where
   pub exact : (number : ℕ) → HasExactFloat (komi_of number)

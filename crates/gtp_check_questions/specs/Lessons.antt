@@ -1,5 +1,5 @@
 -- What the lessons of a course ask: how many parts each has, the stretches of each part, and whether its lines are sent
--- in pieces. How a user names them.
+-- in chunks. How a user names them.
 use Rattle.std.specs.Prelude.{ℕ, ◌==◌, Bool, false, if◌then◌else◌, List, [], ◌∷◌, codes}
 use Rattle.go_base.specs.declared.colours.Colour.TheVariants.{Black, White}
 use Rattle.gtp_check_questions.specs.declared.lessons.Lesson.{Lesson}
@@ -48,7 +48,7 @@ number_of Genmoves = 10
 number_of Games = 11
 number_of Restarts = 12
 
--- the parts: four of the start, the second in pieces; each size; each scene in its sixteen ways; each size with each
+-- the parts: four of the start, the second in chunks; each size; each scene in its sixteen ways; each size with each
 -- number of handicap stones up to 11; and so on
 abbrev pub parts_of : Lesson → ℕ
 parts_of Start = 4
@@ -179,7 +179,7 @@ restarts_stretches =
     stretch.Clear ∷ stretch.Score ∷ stretch.OtherKomi ∷ stretch.Score ∷ stretch.Komi ∷ stretch.Clear ∷ stretch.Score ∷
     []
 
--- The part of the start whose lines are sent in pieces. The engine is started anew, so all that it is asked comes so.
+-- The part of the start whose lines are sent in chunks. The engine is restarted, so all that it is asked comes so.
 abbrev pub pieces_stretches : List Stretch
 pieces_stretches =
     stretch.Seek ∷ stretch.Restart ∷ stretch.Size ∷ stretch.Taken ∷ stretch.Komi ∷ stretch.Clear ∷ stretch.Moves ∷
@@ -218,7 +218,7 @@ stretches_of Genmoves part = genmoves_stretches
 stretches_of Games part = games_stretches
 stretches_of Restarts part = restarts_stretches
 
--- Whether the lines of a part are sent in pieces: the line of each of its commands comes in two. (The standard's topic
+-- Whether the lines of a part are sent in chunks: the line of each of its commands comes in two. (The standard's topic
 -- command structure: a command ends with a newline. So a right engine waits for that, however the bytes come.)
 abbrev pub is_in_pieces : Lesson → ℕ → Bool
 is_in_pieces Start part = part == 1

@@ -120,7 +120,7 @@ AfterAsked turn asked.Restart = ⊥
 AfterAsked turn asked.Kill = ⊥
 
 -- What comes after a turn of this question, by what was done. While the engine is waited for the course stays. Where
--- the engine is ended, to be started anew, the next step comes.
+-- the engine is ended, to be restarted, the next step comes.
 abbrev pub After : Turn → Question → Action → Type 0
 After turn question Wait = Stays turn
 After turn question (Ask command) = AfterAsked turn question

@@ -1,6 +1,6 @@
 -- What parts two scores of one part. (An engine may draw an estimate by chance, and keep it until komi or the board
--- changes. Later scores are compared with three that come out the same, so one that was kept has to be drawn anew between
--- them.)
+-- changes. Later scores are compared with three that come out the same, so one that was kept has to be made again
+-- between them.)
 use Rattle.std.specs.Prelude.{◌≡◌, ◌≢◌, ◌⊎◌, ℕ, zero, suc, ◌<◌, ◌≤◌, ℤ, Bool, true, false}
 use Rattle.std.specs.Prelude.{List, [], ◌∷◌, ◌++◌, slice_get, Option, None, Some}
 use Rattle.go_base.specs.Point.{IsOn}
@@ -51,7 +51,7 @@ pub record AsksForStone (now : Stretch) (board : Board) : Type 0 where
       → (move : Move) × (question ≡ asks (command.Play move))
       × (2 ≤ board.size → board.size ≤ most_size → IsOfStone board game move)
 
--- The stretch parts a score with this komi from later ones: the engine is started anew; or it is asked for a `play` of
+-- The stretch parts a score with this komi from later ones: the engine is restarted; or it is asked for a `play` of
 -- a stone; or it is asked to take another komi.
 pub data Parts (board : Board) (komi : Option ℤ) : Stretch → Type 0 where
   restarts : Parts board komi stretch.Restart

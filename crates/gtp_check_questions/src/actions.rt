@@ -3,39 +3,39 @@
 use go_base::{Move, Size};
 use gtp_check_judge::CheckCommand;
 
-/// What is to be done next.
+/// What the caller does next.
 #[derive(Clone, Copy, Debug, PartialEq, Eq)]
 pub enum Action {
-    /// The engine is started: none is up.
+    /// Start an engine: none is up.
     Start,
-    /// The engine is sent `quit` and ended. The next call is for a new one.
+    /// Send `quit` to the engine and end it. The next call is for a new one.
     Restart,
-    /// The engine is ended without `quit`. The next call is for a new one.
+    /// End the engine without `quit`. The next call is for a new one.
     Kill,
-    /// The engine is asked this.
+    /// Ask the engine this command.
     Ask(CheckCommand),
-    /// The engine has to answer first.
+    /// Wait: the engine has to answer first.
     Wait,
-    /// This step asks nothing. The next call is for the step after it.
+    /// Nothing: this step asks nothing. The next call is for the step after it.
     Skip,
-    /// The course is over.
+    /// Stop: the course is over.
     Done,
 }
 
-/// What a step of a lesson is.
+/// What a step of a lesson does.
 #[derive(Clone, Copy, Debug, PartialEq, Eq)]
 pub enum Question {
-    /// A command, where it may be asked.
+    /// Asks a command, if it may be asked.
     Ask(CheckCommand),
-    /// A move on any point. Where it is legal it is taken back.
+    /// Tries a move on any point, and undoes it if it is legal.
     Probe(Move),
-    /// Whether the engine has taken the size that it was asked to take. Where it hasn't, the part is left.
+    /// Looks whether the engine accepted the size that it was asked for, and leaves the part if it didn't.
     Size(Size),
-    /// Whether the engine has taken this size. Where it has, that is the size of scenes.
+    /// Looks whether the engine accepted this size, which becomes the size of scenes if it did.
     Found(Size),
-    /// A new start of the engine, after its `quit`.
+    /// Restarts the engine after a `quit`.
     Restart,
-    /// A new start of the engine, without its `quit`.
+    /// Restarts the engine without a `quit`.
     Kill,
     /// Nothing.
     Nothing,

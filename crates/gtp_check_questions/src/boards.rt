@@ -1,4 +1,4 @@
-//! What each part of a lesson is asked on.
+//! The boards, komis and scenes on which each part of a lesson is asked.
 ghost use Rattle.std.specs.Prelude.{◌≡◌, ◌+◌, ◌<◌, slice_index_or};
 ghost use Rattle.go_base.specs.Komi.{IsKomi};
 ghost use Rattle.gtp_check_questions.specs.Places.{most_parts};
@@ -10,8 +10,8 @@ use crate::lessons::Lesson;
 use crate::scenes::{Gaps, KO_GAPS, Scene, WAYS, Way};
 use go_base::{Komi, Size};
 
-/// The sizes of the drawn games, of those with moves of the engine's own, of the long records, and of the games in one
-/// process. After them comes the size of scenes, which the engine takes.
+/// The board sizes of the random games, of the games with moves of the engine's own, of the long records, and of the
+/// games in one process. After them comes the size of scenes, which the engine accepts.
 const DRAWN: [u32; 10] = [9, 5, 3, 13, 19, 7, 25, 2, 4, 1];
 
 const GENMOVES: [u32; 8] = [5, 9, 1, 2, 3, 7, 13, 19];
@@ -20,33 +20,33 @@ const RECORD: [u32; 2] = [9, 19];
 
 const GAMES: [u32; 4] = [9, 5, 13, 19];
 
-/// What a part is asked on.
+/// What a part of a lesson is asked on.
 #[derive(Clone, Copy, Debug, PartialEq, Eq)]
 pub struct Board {
-    /// The size of the board.
+    /// The board size.
     pub size: Size,
-    /// That of a later game.
+    /// The board size of a later game.
     pub other_size: Size,
-    /// Whether no size of scenes is known.
+    /// Whether the size of scenes isn't known yet.
     pub is_sought: bool,
-    /// Komi.
+    /// The komi.
     pub komi: Komi,
-    /// That of a later game.
+    /// The komi of a later game.
     pub other_komi: Komi,
-    /// One that no float of 32 bits represents.
+    /// A komi that no float of 32 bits represents.
     pub inexact_komi: Komi,
-    /// How many handicap stones.
+    /// The number of handicap stones.
     pub stones: u32,
     /// The scene.
     pub scene: Scene,
-    /// What stays empty beside it, where it is a ko.
+    /// The points that stay empty beside it, if it is a ko.
     pub gaps: Gaps,
-    /// How it is turned.
+    /// How the scene is turned.
     pub way: Way,
 }
 
-/// What a part of a lesson is asked on, where scenes are on boards of this size, if one is known. Else they are on the
-/// smallest.
+/// Returns what a part of a lesson is asked on, with scenes on boards of this size, or of the smallest size if none is
+/// known.
 pub fn board_of(lesson: Lesson, part: u32, known: Option<Size>) -> Board
     requires { part < most_parts }
     ensures { IsBoard lesson part known result }
@@ -66,8 +66,8 @@ pub fn board_of(lesson: Lesson, part: u32, known: Option<Size>) -> Board
     }
 }
 
-/// In which of the ways a part is turned. Those of the start are not, so what they ask in pieces, or with colours in full,
-/// was asked before in the usual form.
+/// The number of the way in which a part is turned. The parts of `start` are not turned, so what they ask in chunks, or
+/// with colours in full, was asked in the usual form before.
 fn turning_of(lesson: Lesson, part: u32) -> u32
     ensures { result ≡ turning_of lesson part }
 {
@@ -88,7 +88,7 @@ fn turning_of(lesson: Lesson, part: u32) -> u32
     }
 }
 
-/// The size of the boards of scenes.
+/// Returns the size of the boards of scenes.
 fn size_or_least(known: Option<Size>) -> Size
     ensures { result ≡ scene_size_or_least known }
 {
@@ -108,7 +108,7 @@ fn least_size() -> Size
     }
 }
 
-/// The size that a part asks for.
+/// Returns the size that a part asks for.
 fn lines_of(lesson: Lesson, part: u32, scene_size: Size) -> u32
     requires { part < most_parts }
     ensures { result ≡ lines_of lesson part scene_size }
@@ -129,7 +129,7 @@ fn lines_of(lesson: Lesson, part: u32, scene_size: Size) -> u32
     }
 }
 
-/// The entry of this number, and after the last one this size.
+/// Returns the entry of this number, or this size after the last entry.
 fn entry_or(entries: &[u32], number: u32, size: Size) -> u32
     ensures { result ≡ slice_index_or entries.now number size }
 {
@@ -139,7 +139,7 @@ fn entry_or(entries: &[u32], number: u32, size: Size) -> u32
     }
 }
 
-/// This size, or the other where it is none.
+/// Returns the size of this number, or the other if there is none.
 fn size_or(lines: u32, other: Size) -> Size
     ensures { result ≡ size_or lines other }
 {
@@ -149,7 +149,7 @@ fn size_or(lines: u32, other: Size) -> Size
     }
 }
 
-/// Komi of this number.
+/// Returns the komi of this number.
 fn komi_of(number: u32) -> Komi
     ensures { result ≡ komi_of number }
 {
@@ -159,8 +159,9 @@ fn komi_of(number: u32) -> Komi
     }
 }
 
-/// The half points of the komi of this number. A float of 32 bits represents each of these komis. The first ten are from
-/// -1000 to 1000 points: by these scores are compared. The others are there to be taken, and read in scores.
+/// Returns the half points of the komi of this number. A float of 32 bits represents each of these komis. The first ten
+/// are from -1000 to 1000 points: scores are compared with these. The others test that the engine accepts them, and
+/// that its scores can be read.
 fn half_points_of(number: u32) -> i32
     ensures exact { result ≡ komi_of number }
     ensures komi { IsKomi result }
@@ -185,7 +186,7 @@ fn half_points_of(number: u32) -> i32
     }
 }
 
-/// A komi that no float of 32 bits represents.
+/// Returns a komi that no float of 32 bits represents.
 fn inexact_komi_of(part: u32) -> Komi
     ensures { result ≡ inexact_komi_of part }
 {
@@ -201,7 +202,7 @@ fn inexact_komi_of(part: u32) -> Komi
     }
 }
 
-/// How many handicap stones a part asks for.
+/// Returns how many handicap stones a part asks for.
 fn stones_of(lesson: Lesson, part: u32) -> u32
     ensures { result ≡ stones_of lesson part }
 {
@@ -211,7 +212,7 @@ fn stones_of(lesson: Lesson, part: u32) -> u32
     }
 }
 
-/// The scene of a part.
+/// Returns the scene of a part.
 fn scene_of(lesson: Lesson, part: u32) -> Scene
     ensures { result.now ≡ scene_of lesson part }
 {
@@ -221,7 +222,7 @@ fn scene_of(lesson: Lesson, part: u32) -> Scene
     }
 }
 
-/// What stays empty beside the ko of a part.
+/// Returns what stays empty beside the ko of a part.
 fn gaps_of(part: u32) -> Gaps
     ensures { result ≡ gaps_of part }
 {

@@ -19,19 +19,19 @@ use gtp_check_judge::{Board as Known, CheckCommand, Examiner, Skill};
 use gtp_wire::Command;
 use std::marker::Model;
 
-/// After so many findings in one lesson the next one begins.
+/// After this many findings in one lesson the next one begins.
 const MOST_FINDINGS: u32 = 10;
 
-/// So it does after so many losses of the engine.
+/// After this many losses of the engine in one lesson the next one begins.
 const MOST_LOSSES: u32 = 3;
 
-/// Takes the last move back.
+/// Undoes the last move.
 const UNDO: CheckCommand = CheckCommand::Match(Command::Undo);
 
-/// A course of questions, which are asked of one engine after each other.
+/// The commands that one engine is asked, one after the other.
 ///
-/// Which question comes next hangs on the lesson, the place in it, the size of scenes, the game, the seed and whether
-/// suicide is asked alone.
+/// Which command comes next depends only on the lesson, the place in it, the size of scenes, the game, the seed and the
+/// suicide rule.
 #[derive(Drop)]
 pub struct Course {
     lessons: Lessons,
@@ -76,9 +76,9 @@ impl Course {
     ghost use Rattle.gtp_check_questions.specs.Course.{begun, GoesTo, GoesOn, IsOver, IsRunning, Leaves};
     ghost use Rattle.gtp_check_questions.specs.Course.{step_over, part_over, with_finding};
 
-    /// A course of these lessons, with this seed for what is drawn. Where a size is given, which is 5 at least, scenes
-    /// are asked on boards of that size. Else it is the smallest from 5 that the engine takes, which the first lesson
-    /// with scenes finds. No `play` that would be suicide is asked where that is `Unasked`.
+    /// Returns a course of these lessons, with this random seed. Scenes are asked on boards of the given size, which is
+    /// at least 5. Without one they are asked on the smallest size from 5 that the engine accepts, which the first
+    /// lesson with scenes finds. If suicide is `Unasked`, no `play` that would be suicide is asked.
     pub fn new(lessons: Lessons, scene_size: Option<Size>, seed: u32, suicide: Suicide) -> Course
         ensures { result ≡ begun lessons.items scene_size seed suicide }
     {
@@ -94,19 +94,19 @@ impl Course {
         }
     }
 
-    /// What is to be done next. Where that is to ask a command, the next call comes after the `ask`.
+    /// Returns what to do next. If that is to ask a command, call `ask` of the examiner before the next call.
     ///
-    /// After each start it asks the name, the version, and whether the engine has `fixed_handicap`, `undo` and
-    /// `final_score`, in this order. Then it asks what its step is, by the tables of the lesson. What is drawn is a
-    /// move on a legal point, a pass where there is none, or a probe of a point of the board, by words that the seed
-    /// and the step alone determine. A probe that is legal is asked only where the engine has `undo`, which is asked
-    /// next. So each command may be asked of the examiner then.
+    /// After each start the course asks the name, the version, and whether the engine has `fixed_handicap`, `undo` and
+    /// `final_score`, in this order. Then it asks what the tables of the lesson say for its step. A random choice is a
+    /// move on a legal point, a pass if there is none, or a probe of a point of the board; only the seed and the step
+    /// decide it. A probe that is legal is asked only if the engine has `undo`, which is asked next. So the examiner
+    /// allows each command that is asked.
     ///
-    /// A step is passed over only where it asks nothing, or where its command may not be asked although nothing
-    /// is unanswered, or is suicide, where that isn't asked; so is a legal probe of an engine without `undo`. A
-    /// part is left where its size was refused. The engine is ended and started again where a step says so, or
-    /// where no more ids are left, and only once it owes no answer. After ten findings in a lesson, or three
-    /// losses of the engine, the next one begins.
+    /// A step is passed over only if it asks nothing, if its command may not be asked although nothing is unanswered,
+    /// if it is a suicide that isn't asked, or if it is a legal probe and the engine lacks `undo`. The course leaves a
+    /// part whose size the engine refused. The engine is ended and started again if a step says so, or if no more ids
+    /// are left, and only once it owes no reply. After ten findings in a lesson, or three losses of the engine, the
+    /// next lesson begins.
     pub fn next(&mut self, examiner: &Examiner) -> Action
         ensures goes { GoesTo self.old examiner.now.exam result self.new }
         ensures over { IsOver self.old → result ≡ Done }
@@ -145,7 +145,7 @@ impl Course {
         }
     }
 
-    /// The rest of the part is left: something was found in it, which may be a loss of the engine.
+    /// Leaves the rest of the part, because something was found in it, which may be a loss of the engine.
     pub fn leave(&mut self, is_loss: bool)
         ensures leaves { Leaves self.old self.new }
         ensures found { IfSome (lesson_of self.old) (λ lesson. self.new
@@ -157,7 +157,7 @@ impl Course {
         }
     }
 
-    /// The rest of the part is left, and nothing was found in it.
+    /// Leaves the rest of the part, in which nothing was found.
     pub fn pass_on(&mut self)
         ensures leaves { Leaves self.old self.new }
         ensures next { IfSome (lesson_of self.old) (λ lesson. self.new ≡ part_over lesson self.old) }
@@ -167,8 +167,8 @@ impl Course {
         }
     }
 
-    /// Something was found in an earlier part of the lesson, which may be a loss of the engine. It counts as one that is
-    /// found in this part.
+    /// Notes that something was found in an earlier part of the lesson, which may be a loss of the engine. It counts
+    /// like a finding in this part.
     pub fn note_finding(&mut self, is_loss: bool)
         ensures { self.new ≡ with_finding is_loss self.old }
     {
@@ -178,7 +178,7 @@ impl Course {
         }
     }
 
-    /// The lesson in which the course is, if it isn't over.
+    /// Returns the lesson that the course is in, if it isn't over.
     pub fn lesson(&self) -> Option<Lesson>
         ensures lesson { result ≡ slice_get self.now.lessons self.now.place.lesson }
         ensures running { IsSome result ↔ IsRunning self.now }
@@ -186,14 +186,14 @@ impl Course {
         self.lessons.get(self.place.lesson).copied()
     }
 
-    /// Where the course is.
+    /// Returns where the course is.
     pub fn place(&self) -> Place
         ensures { result ≡ self.now.place }
     {
         self.place
     }
 
-    /// What this step is.
+    /// Returns what this step does.
     fn question(&self, lesson: Lesson, game: &Game) -> Question
         ensures { IsStep lesson self.now game.now result }
     {
@@ -206,7 +206,7 @@ impl Course {
         }
     }
 
-    /// The stretch in which the course is.
+    /// Returns the stretch that the course is in.
     fn stretch(&self, lesson: Lesson) -> Option<Stretch>
         ensures { result
             ≡ slice_get (stretches_of lesson self.now.place.part) self.now.place.stretch }
@@ -215,7 +215,7 @@ impl Course {
         stretches.get(self.place.stretch).copied()
     }
 
-    /// How many steps that has.
+    /// Returns how many steps that has.
     fn steps(&self, lesson: Lesson) -> u32
         ensures steps { result ≡ steps_if
             (slice_get (stretches_of lesson self.now.place.part) self.now.place.stretch) }
@@ -227,14 +227,14 @@ impl Course {
         }
     }
 
-    /// What this part is asked on.
+    /// Returns what this part is asked on.
     fn board(&self, lesson: Lesson) -> Board
         ensures { IsBoard lesson self.now.place.part self.now.scene_size result }
     {
         board_of(lesson, self.place.part, self.scene_size)
     }
 
-    /// What this step draws: words of its own, by its number among all lessons.
+    /// Returns the random choices of this step, which has a generator of its own, by its number among all lessons.
     fn draws(&self, lesson: Lesson) -> Draws
         ensures { result ≡ draws_of lesson self.now }
     {
@@ -248,7 +248,7 @@ impl Course {
         }
     }
 
-    /// The engine is asked a command of the opening.
+    /// Asks a command of the opening.
     fn ask_opening(
         &mut self,
         command: CheckCommand,
@@ -269,7 +269,7 @@ impl Course {
         Action::Ask(command)
     }
 
-    /// Whether a command is suicide, which isn't asked.
+    /// Returns whether a command is a suicide that isn't asked.
     fn leaves_out(&self, command: CheckCommand, examiner: &Examiner) -> bool
         ensures is { result ≡ true → IsLeftOut self.now.suicide examiner.now.exam.game command }
         ensures only { IsLeftOut self.now.suicide examiner.now.exam.game command → result ≡ true }
@@ -277,8 +277,8 @@ impl Course {
         self.suicide.leaves_out(examiner.game(), command)
     }
 
-    /// The engine is asked this, where it may be. Where it may not be in this game, or is left out, the step is passed
-    /// over.
+    /// Asks the engine a command, if it may be asked. The step is passed over if the command may not be asked in this
+    /// game, or is left out.
     fn ask(&mut self, command: CheckCommand, lesson: Lesson, examiner: &Examiner) -> Action
         requires { IsRunning self.old }
         ensures goes { GoesTo self.old examiner.now.exam result self.new }
@@ -297,7 +297,7 @@ impl Course {
         self.skip(lesson)
     }
 
-    /// The engine is asked a move on any point. Where that is legal, it is taken back next, if the engine can.
+    /// Asks a move on any point. If that is legal, it is undone next, as long as the engine has `undo`.
     fn probe(&mut self, made: Move, lesson: Lesson, examiner: &Examiner) -> Action
         requires running { IsRunning self.old }
         requires fresh { self.old.place.undoing ≡ false }
@@ -311,7 +311,7 @@ impl Course {
         }
     }
 
-    /// The engine is asked a legal move, which is taken back next, if the engine can.
+    /// Asks a legal move, which is undone next, as long as the engine has `undo`.
     fn try_move(&mut self, made: Move, lesson: Lesson, examiner: &Examiner) -> Action
         requires running { IsRunning self.old }
         requires fresh { self.old.place.undoing ≡ false }
@@ -330,7 +330,7 @@ impl Course {
         self.skip(lesson)
     }
 
-    /// Whether the engine took a size is seen. Where it didn't, the part is left.
+    /// Looks whether the engine accepted a size, and leaves the part if it didn't.
     fn note_size(&mut self, size: Size, lesson: Lesson, examiner: &Examiner) -> Action
         requires { IsRunning self.old }
         ensures skips { result ≡ Skip }
@@ -344,7 +344,7 @@ impl Course {
         self.skip(lesson)
     }
 
-    /// Whether the engine took a size is seen. Where it did, that is the size of scenes.
+    /// Looks whether the engine accepted a size, which becomes the size of scenes if it did.
     fn note_found(&mut self, size: Size, lesson: Lesson, examiner: &Examiner) -> Action
         requires { IsRunning self.old }
         ensures skips { result ≡ Skip }
@@ -357,7 +357,7 @@ impl Course {
         self.skip(lesson)
     }
 
-    /// The engine is ended and started anew, once it owes no answer.
+    /// Restarts the engine after a `quit`, once it owes no reply.
     fn renew(&mut self, lesson: Lesson, examiner: &Examiner) -> Action
         requires { IsRunning self.old }
         ensures goes { GoesTo self.old examiner.now.exam result self.new }
@@ -370,7 +370,7 @@ impl Course {
         Action::Restart
     }
 
-    /// The engine is ended without `quit`, once it owes no answer, and started anew.
+    /// Restarts the engine without a `quit`, once it owes no reply.
     fn kill(&mut self, lesson: Lesson, examiner: &Examiner) -> Action
         requires { IsRunning self.old }
         ensures goes { GoesTo self.old examiner.now.exam result self.new }
@@ -383,7 +383,7 @@ impl Course {
         Action::Kill
     }
 
-    /// The step asks nothing.
+    /// Passes over a step that asks nothing.
     fn skip(&mut self, lesson: Lesson) -> Action
         requires { IsRunning self.old }
         ensures skips { result ≡ Skip }
@@ -394,7 +394,7 @@ impl Course {
         Action::Skip
     }
 
-    /// The next step.
+    /// Goes on with the next step.
     fn go_on(&mut self, lesson: Lesson)
         requires { IsRunning self.old }
         ensures exact { self.new ≡ step_over lesson self.old }
@@ -409,7 +409,7 @@ impl Course {
         }
     }
 
-    /// The next part, or the next lesson: after the last part, and after too many findings or losses.
+    /// Goes on with the next part, or with the next lesson: after the last part, and after too many findings or losses.
     fn end_part(&mut self, lesson: Lesson)
         requires { IsRunning self.old }
         ensures exact { self.new ≡ part_over lesson self.old }
@@ -426,7 +426,7 @@ impl Course {
     }
 }
 
-/// Whether the engine has taken this size.
+/// Returns whether the engine has accepted this size.
 fn has_taken(size: Size, examiner: &Examiner) -> bool
     ensures is { result ≡ true → HasTaken examiner.now.exam size }
     ensures only { HasTaken examiner.now.exam size → result ≡ true }

@@ -1,4 +1,4 @@
-//! What a step draws: words, and moves and points by them.
+//! The random choices of a step: words of a generator, and moves and points made from them.
 ghost use Rattle.std.specs.Prelude.{◌≡◌, ◌≢◌, ◌*◌, ◌<◌, ◌≤◌, ◌%◌, ℕ};
 ghost use Rattle.go_base.specs.Point.{IsOn};
 ghost use Rattle.go_base.specs.declared.vertices.Vertex.TheVariants.{Pass, At};
@@ -17,23 +17,23 @@ use rand_core::SeedableRng;
 use rand_core::utils::NextWord;
 use rand_pcg::Pcg64;
 
-/// How many words a step may draw.
+/// How many words a step may use.
 const WORDS: u128 = 128;
 
-/// How often a point is drawn before the first legal one is taken.
+/// How many random points are tried before the first legal one is taken.
 const TRIES: u32 = 30;
 
-/// The words that a step draws. Each step has words of its own, whatever other lessons the course has.
+/// The random choices of a step. Each step has words of its own, whatever other lessons the course has.
 #[derive(Clone, Copy, Debug, PartialEq, Eq)]
 pub struct Draws {
-    /// The seed of the course.
+    /// The random seed of the course.
     pub seed: u32,
     /// The number of the step's place among all lessons.
     pub number: u32,
 }
 
 impl Draws {
-    /// The generator of the words. To make it takes longer than most questions do, and most draw nothing.
+    /// Returns the generator of the words. Making it takes longer than most questions do, and most use no random words.
     pub fn generator(self) -> Pcg64
         ensures { result ≡ generator_of_step self }
     {
@@ -43,7 +43,7 @@ impl Draws {
     }
 }
 
-/// A drawn move, or a probe of a drawn point. The first word draws its colour, and the words after that its point.
+/// A random move, or a probe of a random point. The first word chooses the colour, and those after it the point.
 pub(crate) fn probed(step: u32, game: &Game, draws: &mut Pcg64) -> Question
     ensures moves { step % 3 ≡ 0 → IsDrawnMove game.now draws.old result }
     ensures probes { step % 3 ≢ 0 → IsProbe game.now draws.old result }
@@ -55,7 +55,7 @@ pub(crate) fn probed(step: u32, game: &Game, draws: &mut Pcg64) -> Question
     probe(colour, drawn_point(game.size().get(), draws))
 }
 
-/// A legal move that is drawn, or a pass where the colour has no legal point. The first word draws its colour.
+/// A random legal move, or a pass if the colour has no legal point. The first word chooses the colour.
 pub(crate) fn drawn_move(game: &Game, draws: &mut Pcg64) -> Question
     ensures { IsDrawnMove game.now draws.old result }
 {
@@ -63,8 +63,8 @@ pub(crate) fn drawn_move(game: &Game, draws: &mut Pcg64) -> Question
     play(colour, legal_vertex(game, colour, draws))
 }
 
-/// The first of thirty drawn points that is legal for the colour. Where none is, it is the first point of the board
-/// that is, and a pass where the board has none.
+/// Returns the first of thirty random points that is legal for the colour. If none is, it returns the first point of
+/// the board that is, or a pass if there is none.
 fn legal_vertex(game: &Game, colour: Colour, draws: &mut Pcg64) -> Vertex
     ensures { IsDrawn game.now colour draws.old result }
 {
@@ -79,7 +79,8 @@ fn legal_vertex(game: &Game, colour: Colour, draws: &mut Pcg64) -> Vertex
     first_legal(game, colour)
 }
 
-/// The first point of the board that is legal for the colour, row by row from the lowest. A pass where there is none.
+/// Returns the first point of the board that is legal for the colour, row by row from the lowest, or a pass if there is
+/// none.
 fn first_legal(game: &Game, colour: Colour) -> Vertex
     ensures first { IsFirstLegal game.now colour (point_or_pass game.now.size) result }
     ensures passes_last { result ≡ Pass
@@ -94,7 +95,7 @@ fn first_legal(game: &Game, colour: Colour) -> Vertex
     Vertex::Pass
 }
 
-/// A drawn point of a board of this size: the next word draws its column, and the one after it its row.
+/// Returns a random point of a board of this size: the next word chooses its column, and the one after it its row.
 fn drawn_point(size: u32, draws: &mut Pcg64) -> Vertex
     requires least { 0 < size }
     requires most { size ≤ 25 }
@@ -107,7 +108,7 @@ fn drawn_point(size: u32, draws: &mut Pcg64) -> Vertex
     crossing(column, row)
 }
 
-/// A drawn number below this limit: what is left of the next word.
+/// Returns a random number below this limit: the remainder of the next word.
 fn draw(draws: &mut Pcg64, limit: u32) -> u32
     requires least { 0 < limit }
     requires most { limit ≤ 25 }

@@ -1,9 +1,8 @@
-//! What is asked in each part of the lessons of long records, of moves of the engine's own, of games in one process, and
-//! of new starts.
+//! What the lessons `record`, `genmoves`, `games` and `restarts` ask in each part.
 use crate::stretches::Stretch;
 use go_base::Colour;
 
-/// A long record, whose 1,024th move is taken back at once; a ko late in a record of passes; and a ko that stays open
+/// A long record, whose 1,024th move is undone at once; a ko late in a record of passes; and a ko that stays open for
 /// long.
 pub(crate) static RECORD: [Stretch; 38] = [
     Stretch::Seek,
@@ -46,8 +45,8 @@ pub(crate) static RECORD: [Stretch; 38] = [
     Stretch::Score,
 ];
 
-/// Moves of the engine's own: in a game of them, on boards where hardly one is legal, and after a handicap. Then drawn
-/// points are probed, which shows whether its board has what it chose.
+/// Moves of the engine's own: in a game of them, on boards where hardly one is legal, and after a handicap. Then random
+/// points are probed, which shows whether its board has the moves that it chose.
 pub(crate) static GENMOVES: [Stretch; 33] = [
     Stretch::Seek,
     Stretch::Size,
@@ -84,10 +83,10 @@ pub(crate) static GENMOVES: [Stretch; 33] = [
     Stretch::Clear,
 ];
 
-/// Games in one process. In the middle of one a handicap is asked for, which has to be refused, and then another
-/// size. After each the points of the scene are asked: what was refused leaves the board. (The standard's topics
-/// fixed_handicap and boardsize. A match asks for neither in a game, so a mistake there is against the standard
-/// alone.)
+/// Games in one process. In the middle of one the engine is asked for a handicap, which it has to refuse, and then for
+/// another size. After each the points of the scene are asked: what was refused leaves the board as it is. (The
+/// standard's topics fixed_handicap and boardsize. A match asks for neither during a game, so a bug there is against
+/// the standard alone.)
 pub(crate) static GAMES: [Stretch; 54] = [
     Stretch::Seek,
     Stretch::Size,
@@ -145,8 +144,8 @@ pub(crate) static GAMES: [Stretch; 54] = [
     Stretch::Clear,
 ];
 
-/// The same again after a `quit`, and after an end without it. The scores of the last start are compared with one another:
-/// what an engine keeps of the two starts before shows there.
+/// The same again after a `quit`, and after an end without it. The scores of the last start are compared with one
+/// another: what an engine keeps of the two starts before shows there.
 pub(crate) static RESTARTS: [Stretch; 52] = [
     Stretch::Seek,
     Stretch::Size,

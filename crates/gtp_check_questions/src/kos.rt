@@ -18,7 +18,7 @@ pub(crate) fn actor_pass(act: Option<(Colour, u32, u32)>, board: &Board) -> Ques
     }
 }
 
-/// A move of the engine's own, of the colour that didn't act.
+/// A move of the engine's own, for the colour that didn't act.
 pub(crate) fn answer(act: Option<(Colour, u32, u32)>, board: &Board) -> Question
     ensures { result ≡ answer_asked board.now act }
 {
@@ -47,7 +47,7 @@ pub(crate) fn sealed(step: u32, act: Option<(Colour, u32, u32)>, board: &Board) 
     play_act(Some((act.0, column, row + 1)), board)
 }
 
-/// Whether a point is left empty beside a ko: that of the act, a gap, or the far corner.
+/// Returns whether a point is left empty beside a ko: that of the act, a gap, or the far corner.
 fn is_left_empty(column: u32, row: u32, act: (Colour, u32, u32), board: &Board) -> bool
     ensures { result ≡ is_left_empty board.now act column row }
 {

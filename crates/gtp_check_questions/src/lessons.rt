@@ -16,19 +16,20 @@ const ALL: usize = 13;
 /// The lessons of a course, in their order.
 pub type Lessons = ArrayVec<Lesson, ALL>;
 
-/// A lesson: what is asked about.
+/// A lesson: a subject on which the engine is asked.
 #[derive(Clone, Copy, Debug, PartialEq, Eq)]
 pub enum Lesson {
-    /// Some moves of the engine's own on the smallest board from 5x5 on that it takes, and that board after a new
-    /// start. Then a few commands whose lines come in two pieces each, some moves whose colours are written in full, and
+    /// Some moves of the engine's own on the smallest board from 5x5 that it accepts, and that board after a restart.
+    /// Then a few commands whose lines come in two chunks each, some moves whose colours are written in full, and
     /// `list_commands`.
     Start,
-    /// Each size from 1 to 25: whether it is taken, each of its points, and two that it doesn't have. Then the capture
-    /// of all stones of a full board, which is taken back with the moves before it, on some sizes with all of them.
+    /// Each size from 1 to 25: whether the engine accepts it, each of its points, and two points that it doesn't have.
+    /// Then the capture of all stones of a full board, which is undone with the moves before it, on some sizes with all
+    /// of them.
     Sizes,
     /// Kos, and what looks like one: who may retake, and when.
     Ko,
-    /// Captures, of one stone and of several, of one chain and of several.
+    /// Captures of one stone and of several, of one chain and of several.
     Captures,
     /// Moves that leave their own chain without a liberty.
     Suicide,
@@ -36,19 +37,19 @@ pub enum Lesson {
     Joining,
     /// Each number of handicap stones on each size.
     Handicaps,
-    /// Komis, and the score of an empty board, also where captures were taken back.
+    /// Komis, and the score of an empty board, also after captures were undone.
     Komi,
-    /// Drawn games on several sizes, with probes.
+    /// Random games on several sizes, with probes.
     Drawn,
-    /// Records of nearly 2,000 moves, and a ko after 1,010 passes, which is taken back with some of them. Then a ko and
-    /// 300 passes after it.
+    /// Records of nearly 2,000 moves, and a ko after 1,010 passes, which is undone with some of them. Then a ko and 300
+    /// passes after it.
     Record,
-    /// Moves of the engine's own, on small boards up to a full one, with `undo` between. Then those on a board where
+    /// Moves of the engine's own, on small boards up to a full one, with `undo` between. Then some on a board where
     /// White has no legal point, and the capture of all stones.
     Genmoves,
     /// Games in one process.
     Games,
-    /// Games after a new start, after a `quit` and without it.
+    /// Games after a restart, with a `quit` and without.
     Restarts,
 }
 
@@ -81,7 +82,7 @@ pub const LESSONS: [Lesson; ALL] = [
 ];
 
 impl Lesson {
-    /// The name, by which a user names it.
+    /// Returns the name, as a user writes it.
     pub fn name(self) -> &'static str
         ensures { result.now ≡ name_of self }
     {
@@ -102,7 +103,7 @@ impl Lesson {
         }
     }
 
-    /// Its number among all lessons, counted from 0.
+    /// Returns its number among all lessons, counted from 0.
     pub fn number(self) -> usize
         ensures number { result ≡ number_of self }
         ensures few { result ≤ 12 }
@@ -124,7 +125,7 @@ impl Lesson {
         }
     }
 
-    /// How many parts it has.
+    /// Returns how many parts it has.
     pub fn parts(self) -> u32
         ensures parts { result ≡ parts_of self }
         ensures few { result ≤ most_parts }
@@ -145,8 +146,8 @@ impl Lesson {
         }
     }
 
-    /// Whether the line of each command of this part, counted from 0, is sent in two pieces. A right engine waits for
-    /// its newline.
+    /// Returns whether the line of each command of this part, counted from 0, is sent in two chunks. A correct engine
+    /// waits for the newline.
     pub fn is_in_pieces(self, part: u32) -> bool
         ensures { result ≡ is_in_pieces self part }
     {
@@ -156,7 +157,7 @@ impl Lesson {
         }
     }
 
-    /// What is asked in this part of it, counted from 0.
+    /// Returns what this part of it, counted from 0, asks.
     pub(crate) fn stretches(self, part: u32) -> &'static [Stretch]
         ensures stretches { result.now ≡ stretches_of self part }
         ensures few { length result.now ≤ most_stretches }
@@ -177,7 +178,7 @@ impl Lesson {
         }
     }
 
-    /// Its scenes. A lesson without scenes of its own has those of kos.
+    /// Returns its scenes. A lesson without scenes of its own has those of kos.
     pub(crate) fn scenes(self) -> &'static [Scene]
         ensures { map (λ scene. scene.now) result.now ≡ scenes_of self }
     {
@@ -190,7 +191,7 @@ impl Lesson {
     }
 }
 
-/// What is asked in this part of the first lesson.
+/// Returns what this part of the first lesson asks.
 fn start_parts(part: u32) -> &'static [Stretch]
     ensures stretches { result.now ≡ start_parts part }
     ensures few { length result.now ≤ most_stretches }

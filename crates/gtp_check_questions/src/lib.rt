@@ -1,8 +1,8 @@
-//! The course of a check: which command one engine is asked next.
+//! The course of a check: it chooses the commands that one engine is asked.
 //!
-//! A [`Course`] goes through its lessons. Its caller asks what `next` returns of an
-//! [`Examiner`](gtp_check_judge::Examiner), starts and ends the engine where that is returned, and calls `leave` where
-//! something was found or the engine was lost.
+//! A [`Course`] goes through its lessons. Its caller does what `next` returns: it asks commands of an
+//! [`Examiner`](gtp_check_judge::Examiner), and starts and ends the engine. It calls `leave` when something was found
+//! or the engine was lost.
 #![tactic(auto)]
 
 pub mod actions;

@@ -6,7 +6,7 @@ ghost use Rattle.gtp_check_questions.specs.Openings.{opened, opening_next};
 
 use gtp_check_judge::{CheckCommand, Known};
 
-/// What of the opening is asked next.
+/// What the opening asks next.
 #[derive(Clone, Copy, Debug, PartialEq, Eq)]
 pub enum Opening {
     /// `name`.
@@ -24,7 +24,7 @@ pub enum Opening {
 }
 
 impl Opening {
-    /// The command that is asked next, and what comes after it.
+    /// Returns the command that is asked next, and what comes after it.
     pub(crate) fn next(self) -> Option<(CheckCommand, Opening)>
         ensures next { result ≡ opening_next self }
         ensures further { IfSome result (λ next. opened self < opened next.1) }

@@ -4,7 +4,7 @@ ghost use Rattle.gtp_check_questions.specs.Places.{IsPlace, number, most_parts, 
 ghost use Rattle.gtp_check_questions.specs.Places.{first_place};
 ghost use Rattle.gtp_check_questions.specs.Places.{undo_place, next_step, next_stretch, next_part, next_lesson};
 
-/// A step of a course: the number of the lesson, and of the part, the stretch and the step in each other. Each is
+/// A step of a course: the numbers of the lesson, of its part, of the stretch in that and of the step in that. Each is
 /// counted from 0.
 #[derive(Clone, Copy, Debug, PartialEq, Eq)]
 pub struct Place {
@@ -16,7 +16,7 @@ pub struct Place {
     pub stretch: usize,
     /// The step of the stretch.
     pub step: u32,
-    /// Whether the move of the step was asked, and is to be taken back.
+    /// Whether the move of the step was asked, and has to be undone.
     pub undoing: bool,
 }
 
@@ -34,7 +34,7 @@ impl Place {
         }
     }
 
-    /// The number of the place in the order of the course.
+    /// Returns the number of the place in the order of the course.
     pub fn number(self) -> u32
         requires place { IsPlace self }
         requires lesson { self.lesson ≤ 13 }
@@ -47,7 +47,7 @@ impl Place {
             + u32::from(self.undoing)
     }
 
-    /// The same step, with its move to be taken back.
+    /// Returns the same step, with its move to be undone.
     pub fn undo(self) -> Place
         requires place { IsPlace self }
         requires fresh { self.undoing ≡ false }
@@ -61,7 +61,7 @@ impl Place {
         }
     }
 
-    /// The next step of the stretch.
+    /// Returns the next step of the stretch.
     pub fn next_step(self) -> Place
         requires place { IsPlace self }
         requires room { self.step + 1 < most_steps }
@@ -76,7 +76,7 @@ impl Place {
         }
     }
 
-    /// The first step of the next stretch.
+    /// Returns the first step of the next stretch.
     pub fn next_stretch(self) -> Place
         requires place { IsPlace self }
         requires room { self.stretch + 1 < most_stretches }
@@ -92,7 +92,7 @@ impl Place {
         }
     }
 
-    /// The first step of the next part.
+    /// Returns the first step of the next part.
     pub fn next_part(self) -> Place
         requires place { IsPlace self }
         requires room { self.part + 1 < most_parts }
@@ -109,7 +109,7 @@ impl Place {
         }
     }
 
-    /// The first step of the next lesson.
+    /// Returns the first step of the next lesson.
     pub fn next_lesson(self) -> Place
         requires place { IsPlace self }
         requires room { self.lesson + 1 ≤ 13 }

@@ -1,4 +1,4 @@
-//! Scenes on a corner of five lines each way.
+//! Scenes: moves that set up a position in a corner of five lines each way, the last of which is the act to be tested.
 ghost use Rattle.std.specs.Prelude.{◌≡◌};
 ghost use Rattle.gtp_check_questions.specs.Scenes.{crossing, is_first, mirrored, way_of, turned, turned_colour};
 ghost use Rattle.gtp_check_questions.specs.Scenes.{turned_act};
@@ -6,14 +6,14 @@ ghost use Rattle.gtp_check_questions.specs.Scenes.{turned_act};
 use go_base::Colour::{self, Black, White};
 use go_base::{Move, Point, Size, Vertex};
 
-/// The ways in which a scene is asked: the eight in which a board can be turned and mirrored, in both colours.
+/// The ways in which a scene is asked: the eight symmetries of a board, in both colours.
 pub const WAYS: u32 = 16;
 
 /// The moves of a scene: the colour, the column and the row of each. The last is the act.
 pub type Scene = &'static [(Colour, u32, u32)];
 
-/// Kos in the corner, whose stones are taken beside it and there, at the edge and in the middle. Then two stones that
-/// one takes, and one that a chain takes: the stone that took may be retaken at once.
+/// Kos in the corner, whose stones are captured beside it and in it, at the edge and in the middle. Then two stones
+/// that one captures, and one that a chain captures: there the capturing stone may be recaptured at once.
 pub static KO: [Scene; 6] = [
     &[
         (Black, 1, 2),
@@ -69,7 +69,7 @@ pub static KO: [Scene; 6] = [
     ],
 ];
 
-/// Two crossings beside a ko, which may be one.
+/// Two crossings beside a ko, which may be the same.
 #[derive(Clone, Copy, Debug, PartialEq, Eq)]
 pub struct Gaps {
     /// The column and the row of one.
@@ -78,8 +78,8 @@ pub struct Gaps {
     pub second: (u32, u32),
 }
 
-/// What stays empty beside each of the kos, where the colour that acts has all other points: on these the chains of the
-/// other colour have a liberty, and a move of theirs would be suicide.
+/// What stays empty beside each of the kos when the colour that acts has all other points: there the chains of the
+/// other colour have a liberty, and a move of that colour would be suicide.
 pub static KO_GAPS: [Gaps; 6] = [
     Gaps {
         first: (1, 3),
@@ -251,7 +251,7 @@ pub struct Way {
 }
 
 impl Way {
-    /// The way of this number, of [`WAYS`].
+    /// Returns the way of this number, of [`WAYS`].
     pub fn of(number: u32) -> Way
         ensures { result ≡ way_of number }
     {
@@ -263,14 +263,15 @@ impl Way {
         }
     }
 
-    /// Whether it is the first: nothing is turned.
+    /// Returns whether it is the first, in which nothing is turned.
     pub fn is_first(self) -> bool
         ensures { result ≡ is_first self }
     {
         !self.sideways && !self.upside_down && !self.across && !self.swapped
     }
 
-    /// The vertex of a crossing that is turned so on a board of this size; a pass where the board has no such crossing.
+    /// Returns the vertex of a crossing that is turned so on a board of this size, or a pass if the board has no such
+    /// crossing.
     pub fn turn(self, column: u32, row: u32, size: Size) -> Vertex
         ensures { result ≡ turned self column row size }
     {
@@ -283,14 +284,14 @@ impl Way {
         }
     }
 
-    /// The colour that plays a colour's moves.
+    /// Returns the colour that plays a colour's moves.
     pub fn colour(self, colour: Colour) -> Colour
         ensures { result ≡ turned_colour self colour }
     {
         if self.swapped { colour.other() } else { colour }
     }
 
-    /// A move of a scene that is turned so.
+    /// Returns a move of a scene that is turned so.
     pub fn act(self, act: (Colour, u32, u32), size: Size) -> Move
         ensures { result ≡ turned_act self act size }
     {
@@ -302,7 +303,7 @@ impl Way {
     }
 }
 
-/// The line itself, or the one that it changes places with.
+/// Returns the line itself, or the one that it changes places with.
 fn mirrored(line: u32, size: Size, is_mirrored: bool) -> u32
     ensures { result ≡ mirrored line size is_mirrored }
 {
@@ -313,7 +314,7 @@ fn mirrored(line: u32, size: Size, is_mirrored: bool) -> u32
     }
 }
 
-/// The vertex where a column and a row cross; a pass where there is none.
+/// Returns the vertex where a column and a row cross, or a pass if there is none.
 pub fn crossing(column: u32, row: u32) -> Vertex
     ensures { result ≡ crossing column row }
 {

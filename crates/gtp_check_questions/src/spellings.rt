@@ -7,7 +7,7 @@ use crate::boards::Board;
 use go_base::Colour;
 use gtp_check_judge::CheckCommand;
 
-/// A move of the scene, if there is one, its colour written in full.
+/// A move of the scene, if there is one, with its colour written in full.
 pub(crate) fn play_in_full(act: Option<(Colour, u32, u32)>, board: &Board) -> Question
     ensures { result ≡ act_in_full board.now act }
 {
@@ -17,7 +17,7 @@ pub(crate) fn play_in_full(act: Option<(Colour, u32, u32)>, board: &Board) -> Qu
     }
 }
 
-/// A move of the engine's own, of the colour that plays this one's moves, written in full.
+/// A move of the engine's own, for the colour that plays this one's moves, written in full.
 pub(crate) fn choose_in_full(colour: Colour, board: &Board) -> Question
     ensures { result ≡ choice_in_full board.now colour }
 {

@@ -1,4 +1,4 @@
-//! Stretches of a lesson: what is asked in a step.
+//! Stretches of a lesson, and what each step of them asks.
 ghost use Rattle.std.specs.Prelude.{◌≡◌, ◌≢◌, ◌<◌, ◌≤◌, ◌/◌, ◌%◌, ◌==◌, length, slice_get, if◌then◌else◌};
 ghost use Rattle.gtp_wire.specs.declared.commands.Command.TheVariants as command;
 ghost use Rattle.gtp_check_questions.specs.Questions.{asks, plays, probes, colour_of, act_asked, last_of, pass_asked};
@@ -22,7 +22,7 @@ use go_board::Game;
 use gtp_check_judge::CheckCommand;
 use gtp_wire::Command;
 
-/// The number of the move whose stone is taken in the first scene of kos.
+/// The number of the move whose stone is captured in the first scene of kos.
 const RETAKEN: usize = 2;
 
 /// The smallest size of a scene's board, and how many sizes there are from it on.
@@ -38,30 +38,29 @@ const LINES: u32 = 6;
 /// Steps of one kind, one after the other.
 #[derive(Clone, Copy, Debug, PartialEq, Eq)]
 pub enum Stretch {
-    /// While no size of scenes is known, `boardsize` with each from 5 on, until one is taken.
+    /// As long as no size of scenes is known, `boardsize` with each size from 5, until one is accepted.
     Seek,
     /// `boardsize`, with the part's size.
     Size,
-    /// The part is left where the size was refused.
+    /// Leaves the part if the size was refused.
     Taken,
     /// `boardsize`, with the other size.
     OtherSize,
-    /// The part is left where the other size was refused.
+    /// Leaves the part if the other size was refused.
     OtherTaken,
-    /// `komi`, with the part's.
+    /// `komi`, with the part's komi.
     Komi,
     /// `komi`, with the other one.
     OtherKomi,
-    /// `komi`, with one that no float of 32 bits represents: the engine may take, round or refuse it. The game
-    /// stays. (The standard's topics float and komi. A match has such a komi only where its organiser asks for
-    /// it.)
+    /// `komi`, with one that no float of 32 bits represents: the engine may accept, round or refuse it. The game stays
+    /// as it is. (The standard's topics float and komi. A match has such a komi only if its organiser asks for it.)
     Inexact,
     /// `clear_board`.
     Clear,
     /// The moves of the scene.
     Moves,
-    /// The moves of the scene, their colours written in full. (The standard's topic color: it is one of white, w, black
-    /// and b. The tournament writes one letter, so a mistake can't spoil a match of it.)
+    /// The moves of the scene, with their colours written in full. (The standard's topic color: it is one of white, w,
+    /// black and b. The tournament writes one letter, so a bug can't spoil a match of it.)
     MovesInFull,
     /// Probes of the points of the scene's moves, in both colours.
     Own,
@@ -69,10 +68,10 @@ pub enum Stretch {
     Corner,
     /// A pass of the colour that didn't act.
     Pass,
-    /// A pass of the colour that acted. After a ko was taken it ends the ko by itself. (The rules of play, topic ko. A
-    /// mistake spoils a match.)
+    /// A pass of the colour that acted. After the capture of a ko it ends the ko by itself. (The rules of play, topic
+    /// ko. A bug spoils a match.)
     ActorPass,
-    /// The last move of the scene.
+    /// The act, which is the last move of the scene.
     Act,
     /// A move of the colour that didn't act, in the far corner.
     Elsewhere,
@@ -82,60 +81,61 @@ pub enum Stretch {
     Edges,
     /// `fixed_handicap`.
     Handicap,
-    /// `fixed_handicap`, with so many stones.
+    /// `fixed_handicap`, with this many stones.
     Stones(u32),
     /// Probes of the points of handicaps, in both colours.
     Stars,
     /// `final_score`.
     Score,
-    /// White's moves around the first point of a handicap, by which a stone there is captured.
+    /// White's moves around the first point of a handicap, which capture a stone there.
     Surround,
     /// A move on each point of the board, a probe of that point by the other colour, and an `undo`.
     Points,
-    /// So many passes, of Black and of White in turn.
+    /// This many passes, by Black and White in turn.
     Passes(u32),
-    /// So many steps: passes, and after each a probe of the point where the first of all kos may be retaken.
+    /// This many steps: passes, and after each a probe of the point where the first of all kos may be retaken.
     Waits(u32),
-    /// So many drawn moves.
+    /// This many random moves.
     Drawn(u32),
-    /// So many steps, of which each third is a drawn move, and the others are probes of drawn points.
+    /// This many steps, of which each third is a random move, and the others are probes of random points.
     Probed(u32),
-    /// So often `undo`.
+    /// This many times `undo`.
     Back(u32),
-    /// So many steps, each an `undo` while the game has moves.
+    /// This many steps, each an `undo` as long as the game has moves.
     Emptied(u32),
-    /// The same in the first of the sixteen ways alone, and nothing in the others. (An engine may keep a part of the
-    /// history alone. So the answer to an `undo` after one that succeeded is waited for, which takes long.)
+    /// The same in the first of the sixteen ways alone, and nothing in the others. (An engine may keep only a part of
+    /// the history. So the reply to an `undo` after one that succeeded has to be awaited, which takes long.)
     AllBack(u32),
-    /// So many steps, of which each fifth is an `undo`, and the others are moves of the engine's own. Of four, three
-    /// are of the colour whose turn it is.
+    /// This many steps, of which each fifth is an `undo`, and the others are moves of the engine's own. Of four of
+    /// these, three are for the colour whose turn it is.
     Genmoves(u32),
-    /// A stone of White in the corner, and Black's on all points but three.
+    /// A stone of White in the corner, and Black's on all points except three.
     Filled,
     /// Black's moves on those three points.
     Gaps,
-    /// Moves after which White takes all stones of Black by one.
+    /// Moves after which White captures all stones of Black with one.
     Swept,
-    /// A move of the engine's own, of the colour that plays this one's moves.
+    /// A move of the engine's own, for the colour that plays this one's moves.
     Chosen(Colour),
     /// The same, with the colour written in full.
     ChosenInFull(Colour),
     /// `list_commands`. (The standard's topic list_commands: it lists all known commands, one a row, and each engine
-    /// has eleven of them. The tournament doesn't ask it, so a mistake can't spoil a match.)
+    /// has eleven of them. The tournament doesn't ask it, so a bug can't spoil a match.)
     List,
-    /// The colour that acts fills the board beside a ko, so that hardly a point is legal for the other colour.
+    /// Moves of the colour that acts, which fill the board beside a ko, so that hardly a point is legal for the other
+    /// colour.
     Sealed,
-    /// A move of the engine's own, of the colour that didn't act: it may not retake a ko. (The standard's topic
-    /// genmove, and the rules of play, topic ko. A mistake spoils a match.)
+    /// A move of the engine's own, for the colour that didn't act: it may not retake a ko. (The standard's topic
+    /// genmove, and the rules of play, topic ko. A bug spoils a match.)
     Answer,
-    /// A new start, after a `quit`.
+    /// A restart after a `quit`.
     Restart,
-    /// A new start, without a `quit`.
+    /// A restart without a `quit`.
     Kill,
 }
 
 impl Stretch {
-    /// How many steps it has.
+    /// Returns how many steps it has.
     pub fn steps(self) -> u32
         ensures steps { result ≡ steps_of self }
         ensures few { result ≤ most_steps }
@@ -184,7 +184,7 @@ impl Stretch {
         }
     }
 
-    /// What is asked in its step of this number, where the game is this one.
+    /// Returns what its step of this number asks in this game.
     pub fn question(self, step: u32, board: &Board, game: &Game, draws: Draws) -> Question
         ensures { IsQuestion self (record { number = step; draws = draws })
             board.now game.now result }
@@ -236,7 +236,7 @@ impl Stretch {
     }
 }
 
-/// While a size of scenes is sought, in two steps for each: whether it is taken.
+/// Asks for a size of scenes, in two steps for each: `boardsize`, and then whether it was accepted.
 fn seek(step: u32, is_sought: bool) -> Question
     ensures { result ≡ seek_asked step is_sought }
 {
@@ -252,14 +252,14 @@ fn seek(step: u32, is_sought: bool) -> Question
     }
 }
 
-/// The move of this number of the scene, if it has one.
+/// Returns the move of this number of the scene, if it has one.
 fn act_of(number: usize, board: &Board) -> Option<(Colour, u32, u32)>
     ensures { result ≡ slice_get board.now.scene.now number }
 {
     board.scene.get(number).copied()
 }
 
-/// The last move of the scene.
+/// Returns the last move of the scene.
 fn last_of(board: &Board) -> Option<(Colour, u32, u32)>
     ensures { result ≡ last_of board.now.scene.now }
 {
@@ -314,7 +314,7 @@ pub(crate) fn play(colour: Colour, vertex: Vertex) -> Question
     ask(Command::Play(Move { colour, vertex }))
 }
 
-/// A probe of a point, where there is one.
+/// A probe of a point, if there is one.
 pub(crate) fn probe(colour: Colour, vertex: Vertex) -> Question
     ensures { result ≡ probes colour vertex }
 {
@@ -335,7 +335,7 @@ pub(crate) fn colour_of(number: u32) -> Colour
     }
 }
 
-/// A probe of the point of a move of the scene, first in the one colour and then in the other.
+/// A probe of the point of a move of the scene, first in one colour and then in the other.
 fn own_point(step: u32, board: &Board) -> Question
     ensures { result
         ≡ own_asked board.now step (slice_get board.now.scene.now (step / 2)) }
@@ -349,7 +349,7 @@ fn own_point(step: u32, board: &Board) -> Question
     }
 }
 
-/// A probe of a point of the scene's corner, first in the one colour and then in the other.
+/// A probe of a point of the scene's corner, first in one colour and then in the other.
 fn corner_point(step: u32, board: &Board) -> Question
     ensures { result ≡ corner_asked board.now step }
 {
@@ -379,7 +379,7 @@ fn edge_point(step: u32, size: u32) -> Question
     probe(colour_of(step), vertex)
 }
 
-/// A probe of a point of a handicap of this size, first in the one colour and then in the other.
+/// A probe of a point of a handicap of this size, first in one colour and then in the other.
 fn star(step: u32, size: Size) -> Question
     ensures { result ≡ star_asked step (slice_get (star_points size) (step / 2)) }
 {
@@ -389,14 +389,14 @@ fn star(step: u32, size: Size) -> Question
     }
 }
 
-/// The point of this number among those of the most handicap stones that this size has.
+/// Returns the point of this number among those of the most handicap stones that this size allows.
 fn star_point(number: u32, size: Size) -> Option<Point>
     ensures { result ≡ slice_get (star_points size) number }
 {
     star_points(size).get(number as usize).copied()
 }
 
-/// The points of the most handicap stones that this size has.
+/// Returns the points of the most handicap stones that this size allows.
 fn star_points(size: Size) -> ArrayVec<Point, 9>
     ensures { result.items ≡ star_points size }
 {
@@ -410,7 +410,7 @@ fn star_points(size: Size) -> ArrayVec<Point, 9>
     most.unwrap_or_default()
 }
 
-/// White's move next to a point, if there is one: on its left, on its right, below it and above it.
+/// White's move next to a point, if there is one: on its left, on its right, below it or above it.
 fn surround(step: u32, point: Option<Point>) -> Question
     ensures { result ≡ surround_asked step point }
 {
@@ -439,7 +439,7 @@ fn genmove(step: u32, game: &Game) -> Question
     }
 }
 
-/// The move of this number on a board that is filled, if it has one.
+/// Returns the move of this number on a board that is filled, if it has one.
 fn filled_act(step: u32, size: u32) -> Option<(Colour, u32, u32)>
     requires { 0 < size }
     ensures { result ≡ filled_act step size }
@@ -456,7 +456,7 @@ fn filled_act(step: u32, size: u32) -> Option<(Colour, u32, u32)>
     }
 }
 
-/// Whether a point is left empty where the others are filled.
+/// Returns whether a point is left empty when the others are filled.
 fn is_gap(column: u32, row: u32, size: u32) -> bool
     ensures { result ≡ is_gap column row size }
 {
@@ -474,7 +474,7 @@ fn gap_act(step: u32, size: u32) -> (Colour, u32, u32)
     }
 }
 
-/// One of the moves after which White takes all stones of Black.
+/// One of the moves after which White captures all stones of Black.
 fn swept_act(step: u32, size: u32) -> (Colour, u32, u32)
     ensures { result ≡ swept_act step size }
 {

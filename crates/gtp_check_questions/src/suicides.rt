@@ -9,14 +9,14 @@ use gtp_wire::Command;
 /// Whether an engine is asked a `play` that would be suicide. Some rule sets forbid it, and others don't.
 #[derive(Clone, Copy, Debug, PartialEq, Eq)]
 pub enum Suicide {
-    /// It is asked, and has to be refused: by our rules no move may be one.
+    /// It is asked, and the engine has to refuse it: by our rules it isn't legal.
     Forbidden,
     /// It isn't asked: each such step is passed over.
     Unasked,
 }
 
 impl Suicide {
-    /// Whether a command is left out in this game: it is suicide, and that isn't asked.
+    /// Returns whether a command is left out in this game, because it is suicide and that isn't asked.
     pub fn leaves_out(self, game: &Game, command: CheckCommand) -> bool
         ensures is { result ≡ true → IsLeftOut self game.now command }
         ensures only { IsLeftOut self game.now command → result ≡ true }
@@ -25,7 +25,7 @@ impl Suicide {
     }
 }
 
-/// Whether a command is a `play` that the game's rules refuse as suicide.
+/// Returns whether a command is a `play` that the game's rules refuse as suicide.
 fn is_suicide(game: &Game, command: CheckCommand) -> bool
     ensures is { result ≡ true → IsSuicide game.now command }
     ensures only { IsSuicide game.now command → result ≡ true }

@@ -1,4 +1,4 @@
-//! Stretches that look at each point, wait long, or empty the board.
+//! Stretches that look at each point, wait for long, or empty the board.
 ghost use Rattle.std.specs.Prelude.{◌≡◌, ◌<◌, ◌/◌, length};
 ghost use Rattle.gtp_check_questions.specs.Questions.{crossing_of, emptied_asked, all_back_asked};
 ghost use Rattle.gtp_check_questions.specs.Questions.{points_asked, retake_asked, waits_asked};
@@ -11,7 +11,7 @@ use go_base::{Colour, Vertex};
 use go_board::Game;
 use gtp_wire::Command;
 
-/// The crossing of this number, row by row, on a board of this size.
+/// Returns the crossing of this number, row by row, on a board of this size.
 pub(crate) fn crossing_of(number: u32, size: u32) -> Vertex
     requires row { number / size < size }
     requires board { 0 < size }
@@ -60,7 +60,7 @@ pub(crate) fn waits(step: u32, act: Option<(Colour, u32, u32)>, board: &Board) -
     }
 }
 
-/// An `undo`, while the game has moves.
+/// An `undo`, as long as the game has moves.
 pub(crate) fn emptied(game: &Game) -> Question
     ensures { result ≡ emptied_asked (length game.now.moves) }
 {
@@ -71,7 +71,7 @@ pub(crate) fn emptied(game: &Game) -> Question
     }
 }
 
-/// An `undo` in the first of the ways, while the game has moves.
+/// An `undo` in the first of the ways, as long as the game has moves.
 pub(crate) fn all_back(way: Way, game: &Game) -> Question
     ensures { result ≡ all_back_asked way (length game.now.moves) }
 {

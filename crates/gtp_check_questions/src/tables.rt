@@ -1,22 +1,21 @@
-//! What is asked in each part of a lesson.
+//! What each part of a lesson asks.
 //!
-//! Scores are compared with one that came out the same three times in a row. An engine may draw an estimate by chance,
-//! and keep it until komi or the board changes. So between two scores of one size and komi stones are put on the board,
-//! or another komi is set: kept estimates are drawn again, and hardly come out the same three times.
+//! Scores are compared with one that came out the same three times in a row. An engine may estimate at random, and keep
+//! the estimate until komi or the board changes. So between two scores of one size and komi stones are put on the
+//! board, or another komi is set: then kept estimates are made again, and hardly come out the same three times.
 //!
-//! A part that compares scores begins with three of one size and komi, between which there are stones alone: an engine
-//! that adds up komis says the same three times, too. After these komis change, so that hardly another three come in a
-//! row.
+//! A part that compares scores begins with three of one size and komi, with only stones between them: an engine that
+//! adds up komis says the same three times, too. After these, komis change, so that hardly another three come in a row.
 use crate::stretches::Stretch;
 use go_base::Colour;
 
-/// What a lesson of scenes asks: the scene, and the points of its moves and of its corner. Then the points of its moves
-/// after a pass was taken back at once; after a pass, after that is taken back, after the act is, after the act again;
-/// after a move elsewhere was taken back at once; after such a move, after that is taken back and the act too. Then two
-/// moves are taken back, or all of them, and made again, and their points are asked on a board that was cleared.
+/// What a lesson of scenes asks. First come the scene, and the points of its moves and of its corner. Then the points
+/// of its moves are asked again: after a pass was undone at once; after a pass, after that is undone, after the act is
+/// undone, after the act again; after a move elsewhere was undone at once; after such a move, and after that and the
+/// act are undone. Then two moves are undone, or all of them, and made again, and their points are asked on a cleared
+/// board.
 ///
-/// A probe is taken back itself, and an `undo` after it may fail. So only a move that is taken back at once tests
-/// `undo`.
+/// A probe is undone itself, and an `undo` after it may fail. So only a move that is undone at once tests `undo`.
 pub(crate) static SCENE: [Stretch; 34] = [
     Stretch::Seek,
     Stretch::Size,
@@ -54,10 +53,10 @@ pub(crate) static SCENE: [Stretch; 34] = [
     Stretch::Own,
 ];
 
-/// What the lesson of kos asks: the same, and more of how a ko ends and comes back. A pass of the colour that took ends
-/// it, after a move elsewhere and by itself. It comes back by a second `undo`, where that succeeds. At last the engine
-/// has to choose a move of the colour that may not retake, where it has hardly another one. (The rules of play, topic
-/// ko; the standard's topics undo and genmove. A mistake in each of these can spoil a match.)
+/// What the lesson `ko` asks: the same, and more about how a ko ends and comes back. A pass of the colour that captured
+/// ends it, after a move elsewhere and by itself. It comes back with a second `undo`, if that succeeds. At last the
+/// engine has to choose a move of the colour that may not retake, when it has hardly another one. (The rules of play,
+/// topic ko; the standard's topics undo and genmove. A bug in each of these can spoil a match.)
 pub(crate) static KO: [Stretch; 48] = [
     Stretch::Seek,
     Stretch::Size,
@@ -109,7 +108,7 @@ pub(crate) static KO: [Stretch; 48] = [
     Stretch::Own,
 ];
 
-/// The same where the act is refused: it is no move, so one `undo` takes back what came after it.
+/// The same if the act is refused: it is no move, so one `undo` undoes what came after it.
 pub(crate) static REFUSED: [Stretch; 31] = [
     Stretch::Seek,
     Stretch::Size,
@@ -144,7 +143,7 @@ pub(crate) static REFUSED: [Stretch; 31] = [
     Stretch::Own,
 ];
 
-/// First moves of the engine's own, and the same board after a new start.
+/// First moves of the engine's own, and the same board after a restart.
 pub(crate) static START: [Stretch; 23] = [
     Stretch::Seek,
     Stretch::Size,
@@ -171,8 +170,8 @@ pub(crate) static START: [Stretch; 23] = [
     Stretch::Own,
 ];
 
-/// A few commands after a new start, whose lines are sent in pieces. (The standard's topic command structure: a command
-/// ends with a newline. A mistake can spoil a match: the system may hand on the bytes of a line in pieces.)
+/// A few commands after a restart, whose lines are sent in chunks. (The standard's topic command structure: a command
+/// ends with a newline. A bug can spoil a match: the system may deliver the bytes of a line in chunks.)
 pub(crate) static PIECES: [Stretch; 8] = [
     Stretch::Seek,
     Stretch::Restart,
@@ -184,7 +183,7 @@ pub(crate) static PIECES: [Stretch; 8] = [
     Stretch::Undo,
 ];
 
-/// Some moves whose colours are written in full, the points of them, and moves of the engine's own.
+/// Some moves whose colours are written in full, their points, and moves of the engine's own.
 pub(crate) static IN_FULL: [Stretch; 10] = [
     Stretch::Seek,
     Stretch::Size,
@@ -201,7 +200,7 @@ pub(crate) static IN_FULL: [Stretch; 10] = [
 /// The list of the engine's commands.
 pub(crate) static LIST: [Stretch; 2] = [Stretch::Seek, Stretch::List];
 
-/// Each point of a size. Then a full board, of which all is taken at once.
+/// Each point of a size. Then a full board, of which everything is captured at once.
 pub(crate) static SIZES: [Stretch; 18] = [
     Stretch::Size,
     Stretch::Taken,
@@ -223,8 +222,8 @@ pub(crate) static SIZES: [Stretch; 18] = [
     Stretch::Edges,
 ];
 
-/// A handicap after one that is refused, and with moves on its points. Nothing but moves is taken back. The score is one
-/// of each size. None comes out three times in a row here: of three hundred parts some would by chance.
+/// A handicap after one that is refused, and with moves on its points. Only moves are undone. There is one score of
+/// each size. None comes out three times in a row here: of three hundred parts some would by chance.
 pub(crate) static HANDICAPS: [Stretch; 25] = [
     Stretch::Size,
     Stretch::Taken,
@@ -254,8 +253,8 @@ pub(crate) static HANDICAPS: [Stretch; 25] = [
 ];
 
 /// Komis, by the scores of empty boards: the first score is asked for three times, with a stone in between, and the
-/// others have to differ from it as the komis do. In the middle of a game a komi is asked for that no float of 32 bits
-/// represents, and then the points of the scene.
+/// others have to differ from it as the komis do. In the middle of a game the engine is asked for a komi that no float
+/// of 32 bits represents, and then for the points of the scene.
 pub(crate) static KOMI: [Stretch; 43] = [
     Stretch::Seek,
     Stretch::Size,
@@ -302,7 +301,7 @@ pub(crate) static KOMI: [Stretch; 43] = [
     Stretch::Score,
 ];
 
-/// A drawn game, with probes. It ends on a cleared board: an engine may refuse the next part's size while a game is on.
+/// A random game, with probes. It ends on a cleared board: an engine may refuse the next part's size during a game.
 pub(crate) static DRAWN: [Stretch; 9] = [
     Stretch::Seek,
     Stretch::Size,

@@ -1,4 +1,4 @@
-//! What a right engine answers, where that hangs on what was asked before.
+//! What a correct engine answers, if that depends on what was asked before.
 ghost use Rattle.std.specs.Prelude.{◌≡◌};
 ghost use Rattle.gtp_check_reasons.specs.Answers.{points_of, right_answer, right_points, stones_on};
 
@@ -9,13 +9,13 @@ use gtp_check_judge::{CheckCommand, Kind};
 use gtp_check_shortening::talk::Said;
 use gtp_wire::Command;
 
-/// The room for an answer: the vertices of a handicap.
+/// The buffer size for an answer: the vertices of a handicap.
 pub const ANSWER_ROOM: usize = VERTICES_ROOM;
 
 /// An answer.
 type Answer = ArrayVec<u8, ANSWER_ROOM>;
 
-/// What a right engine answers to a command, where other points of a handicap were wrong.
+/// Returns what a correct engine answers to a command that was answered with wrong points of a handicap.
 pub fn right_answer(fault: Fault, said: Option<Said>) -> Answer
     ensures { result.items ≡ right_answer fault said }
 {
@@ -25,7 +25,7 @@ pub fn right_answer(fault: Fault, said: Option<Said>) -> Answer
     }
 }
 
-/// The points of the handicap that a command places on the board that it was asked on.
+/// Returns the points of the handicap that a command places on the board that it was asked on.
 fn right_points(said: Option<Said>) -> Answer
     ensures { result.items ≡ right_points said }
 {
@@ -35,7 +35,7 @@ fn right_points(said: Option<Said>) -> Answer
     }
 }
 
-/// The points of the handicap that a command places on a board of this size.
+/// Returns the points of the handicap that a command places on a board of this size.
 fn points_of(command: &CheckCommand, size: Size) -> Answer
     ensures { result.items ≡ points_of command.now size }
 {
@@ -45,7 +45,7 @@ fn points_of(command: &CheckCommand, size: Size) -> Answer
     }
 }
 
-/// The points of so many stones on a board of this size, if it allows them.
+/// Returns the points of this many stones on a board of this size, if it allows them.
 fn stones_on(stones: u32, size: Size) -> Answer
     ensures { result.items ≡ stones_on stones size }
 {

@@ -1,4 +1,4 @@
-//! Where it is the colour in full that decides.
+//! Whether the colour that is written in full made the difference.
 ghost use Rattle.std.specs.Prelude.{◌≡◌};
 ghost use Rattle.std.specs.List.{list_any};
 ghost use Rattle.go_board.specs.Taken.{same_colour};
@@ -9,8 +9,8 @@ use gtp_check_judge::CheckCommand;
 use gtp_check_shortening::talk::Said;
 use gtp_wire::Command;
 
-/// The command for which it is said what is right, where these were answered rightly before: with the colour's letter,
-/// if one of them shows that the engine reads the colour in full.
+/// Returns the command to explain, after these were answered correctly: the one that was asked, but with the colour's
+/// letter if one of these shows that the engine reads the colour in full.
 pub fn told_after(before: &[Said], command: CheckCommand) -> CheckCommand
     ensures { result ≡ told_after before.now command }
 {
@@ -21,21 +21,21 @@ pub fn told_after(before: &[Said], command: CheckCommand) -> CheckCommand
     }
 }
 
-/// Whether one of these shows that the engine reads the colour of the command as it is written.
+/// Returns whether one of these shows that the engine reads the colour of the command as it is written.
 fn is_read_before(before: &[Said], command: &CheckCommand) -> bool
     ensures { result ≡ list_any (shows_spelling command.now) before.now }
 {
     before.iter().any(|said| shows_spelling(command, said))
 }
 
-/// Whether this one shows it: it is spelled alike, and a right engine takes it.
+/// Returns whether this one shows it: its colour is written alike, and a correct engine accepts it.
 fn shows_spelling(command: &CheckCommand, said: &Said) -> bool
     ensures { result ≡ shows_spelling command.now said.now }
 {
     is_spelled_alike(command, &said.command) && !said.is_illegal
 }
 
-/// Whether both are a `play`, or both a `genmove`, with the same colour written in full.
+/// Returns whether both are a `play`, or both a `genmove`, with the same colour written in full.
 fn is_spelled_alike(one: &CheckCommand, other: &CheckCommand) -> bool
     ensures { result ≡ is_spelled_alike one.now other.now }
 {
@@ -50,14 +50,14 @@ fn is_spelled_alike(one: &CheckCommand, other: &CheckCommand) -> bool
     }
 }
 
-/// Whether it is the same colour.
+/// Returns whether two colours are the same.
 pub(crate) fn is_same(one: Colour, other: Colour) -> bool
     ensures { result ≡ same_colour one other }
 {
     one == other
 }
 
-/// The same command with the colour's letter, where the colour is written in full.
+/// Returns the same command with the colour's letter, if the colour is written in full.
 fn with_letter(command: CheckCommand) -> CheckCommand
     ensures { result ≡ with_letter command }
 {

@@ -7,9 +7,9 @@ use gtp_process::PipeCause;
 /// What is wrong with an engine.
 #[derive(Clone, Copy, Debug, PartialEq, Eq)]
 pub enum Fault {
-    /// What it wrote.
+    /// The output that it wrote.
     Wrote(Kind),
-    /// It was cut off while it owed an answer.
+    /// It was cut off while it owed a reply.
     CutOff(PipeCause),
 }
 
@@ -19,7 +19,7 @@ impl Default for Fault {
 
     ghost is_default = { λ fault. fault ≡ Fault.Wrote Kind.Refused };
 
-    /// A command was refused.
+    /// The default: a command was refused.
     fn default() -> Fault {
         Fault::Wrote(Kind::Refused)
     }

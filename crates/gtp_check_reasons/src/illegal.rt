@@ -42,7 +42,7 @@ fn add_size(text: &mut Vec<u8>, game: &Game) -> Result<(), AllocError>
     )
 }
 
-/// The stone where a move would put one.
+/// Returns the stone on the point of a move.
 fn stone_where(game: &Game, made: Option<Move>) -> Option<Colour>
     ensures { result ≡ stone_where game.now made }
 {
@@ -50,7 +50,7 @@ fn stone_where(game: &Game, made: Option<Move>) -> Option<Colour>
     stone_on(game, made.vertex)
 }
 
-/// The stone on a vertex, where it is a point with one.
+/// Returns the stone on a vertex, if it is a point with one.
 fn stone_on(game: &Game, vertex: Vertex) -> Option<Colour>
     ensures { result ≡ stone_on (board_of game.now) vertex }
 {
@@ -60,7 +60,7 @@ fn stone_on(game: &Game, vertex: Vertex) -> Option<Colour>
     }
 }
 
-/// That the point isn't empty.
+/// The text for a point that isn't empty.
 fn occupied_text(stone: Option<Colour>) -> &'static [u8]
     ensures { result.now ≡ occupied_text stone }
 {
@@ -71,7 +71,7 @@ fn occupied_text(stone: Option<Colour>) -> &'static [u8]
     }
 }
 
-/// How many stones the chain of a suicide would have, where that is known.
+/// Returns how many stones the chain of a suicide would have, if that is known.
 fn shut_in(game: &Game, made: Option<Move>) -> Option<u32>
     ensures { result ≡ shut_in game.now made }
 {
@@ -84,7 +84,7 @@ fn shut_in(game: &Game, made: Option<Move>) -> Option<u32>
     Some(taken.len() as u32 + 1)
 }
 
-/// Appends that a move is suicide, with its chain of so many stones.
+/// Appends that a move is suicide, with a chain of this many stones.
 fn add_suicide(text: &mut Vec<u8>, stones: Option<u32>) -> Result<(), AllocError>
     ensures { OnOk result (text.new.items ≡ text.old.items ++ suicide_text stones) }
 {
@@ -102,7 +102,7 @@ fn add_suicide(text: &mut Vec<u8>, stones: Option<u32>) -> Result<(), AllocError
     }
 }
 
-/// Appends that the ko rule forbids the board.
+/// Appends that the ko rule forbids the resulting board.
 fn add_ko(text: &mut Vec<u8>, game: &Game) -> Result<(), AllocError>
     ensures { OnOk result (text.new.items ≡ text.old.items ++ ko_text game.now game.now.rule) }
 {
@@ -124,7 +124,7 @@ fn add_simple_ko(text: &mut Vec<u8>, last: Option<Vertex>) -> Result<(), AllocEr
     }
 }
 
-/// Appends that the board would be as before the last move, by its vertex.
+/// Appends that the board would be as before the last move, and names its vertex.
 fn add_taker(text: &mut Vec<u8>, vertex: Vertex) -> Result<(), AllocError>
     ensures { OnOk result (text.new.items ≡ text.old.items ++ taker_text vertex) }
 {
@@ -141,14 +141,14 @@ fn add_taker(text: &mut Vec<u8>, vertex: Vertex) -> Result<(), AllocError>
     }
 }
 
-/// The vertex of the last move.
+/// Returns the vertex of the last move.
 fn last_vertex(game: &Game) -> Option<Vertex>
     ensures { result ≡ last_vertex game.now }
 {
     last_move(game).map(|made| made.vertex)
 }
 
-/// The last move.
+/// Returns the last move.
 pub(crate) fn last_move(game: &Game) -> Option<Move>
     ensures { result ≡ last_move game.now }
 {

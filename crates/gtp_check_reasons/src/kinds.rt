@@ -6,7 +6,7 @@ use crate::fault::Fault;
 use gtp_check_judge::Kind;
 use gtp_process::{PipeCause, pipe_text};
 
-/// What was wrong, after the command.
+/// Returns the text of what was wrong, which follows the command.
 pub fn fault_text(fault: Fault) -> &'static [u8]
     ensures { result.now ≡ fault_text fault }
 {
@@ -16,7 +16,7 @@ pub fn fault_text(fault: Fault) -> &'static [u8]
     }
 }
 
-/// What was wrong with what it wrote.
+/// Returns the text of what was wrong with its output.
 fn kind_text(kind: Kind) -> &'static [u8]
     ensures { result.now ≡ kind_text kind }
 {

@@ -1,4 +1,4 @@
-//! What is wrong with an engine, and what is right, in sentences; and what decides it on the board.
+//! Sentences that say what is wrong with an engine, what is right, and what on the board decides it.
 #![tactic(auto)]
 
 mod answers;

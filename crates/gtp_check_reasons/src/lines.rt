@@ -1,9 +1,9 @@
-//! Lines of texts.
+//! Lines of a text.
 ghost use Rattle.std.specs.Prelude.{◌≡◌, ◌<◌, ◌≤◌, [], ◌∷◌, length, MatchOption, IfSome};
 ghost use Rattle.std.specs.List.{position_or_len};
 ghost use Rattle.gtp_check_reasons.specs.Lines.{is_newline, lines_of};
 
-/// How many bytes are before the first newline.
+/// Returns how many bytes come before the first newline.
 pub fn line_len(text: &[u8]) -> usize
     ensures value { result ≡ position_or_len is_newline text.now }
     ensures within { result ≤ length text.now }
@@ -11,7 +11,7 @@ pub fn line_len(text: &[u8]) -> usize
     text.iter().take_while(|byte| **byte != b'\n').count()
 }
 
-/// The first line of a text without its newline, and what follows that. `None` where the text has no newline.
+/// Returns the first line of a text without its newline, and what follows it, or `None` if the text has no newline.
 pub fn ended_line(text: &[u8]) -> Option<(&[u8], &[u8])>
     ensures lines { MatchOption result
         (lines_of text.now ≡ text.now ∷ [])

@@ -1,4 +1,4 @@
-//! Why a move is legal: what it takes.
+//! Why a move is legal: what it captures.
 ghost use Rattle.std.specs.Prelude.{◌≡◌, ◌++◌, ◌≤◌, length, take, MatchOption, OnOk};
 ghost use Rattle.go_base.specs.Vertex.{written_vertices};
 ghost use Rattle.gtp_check_reasons.specs.Plays.{captures_text, colour_name, legal_text, more_mark, most_named};
@@ -11,16 +11,16 @@ use go_base::{Colour, Move, Point, VERTICES_ROOM, Vertex, write_int, write_verti
 use go_board::{Game, MOST_POINTS};
 use std::alloc::AllocError;
 
-/// Of so many stones the points are named.
+/// How many captured stones are named by their points.
 const MOST_NAMED: usize = 6;
 
-/// The points of the stones that a move takes, row by row from A1. `None` where the move may not be made.
+/// Returns the points of the stones that a move captures, row by row from A1, or `None` if the move isn't legal.
 pub(crate) fn taken_by(game: &Game, made: Move) -> Option<ArrayVec<Point, MOST_POINTS>>
     ensures { MatchOption result
         (taken_by game.now made ≡ None)
         (λ points. taken_by game.now made ≡ Some points.items) }
 {
-    // A look: this is a game.
+    // Only a look: this is a game.
     let _ = game.size();
     let mut next = game.copied();
     match next.play(made.colour, made.vertex) {
@@ -51,7 +51,7 @@ fn add_play(text: &mut Vec<u8>, game: &Game, made: Move) -> Result<(), AllocErro
     }
 }
 
-/// Appends why a play is legal that takes the stones of this colour on these points.
+/// Appends why a play is legal that captures the stones of this colour on these points.
 fn add_captures(text: &mut Vec<u8>, colour: Colour, points: &[Point]) -> Result<(), AllocError>
     requires { length points.now ≤ 625 }
     ensures { OnOk result (text.new.items ≡ text.old.items ++ captures_text colour points.now) }
@@ -76,7 +76,7 @@ fn add_captures(text: &mut Vec<u8>, colour: Colour, points: &[Point]) -> Result<
     )
 }
 
-/// What follows the number of stones.
+/// Returns what follows the number of stones.
 fn stones_word(many: usize) -> &'static [u8]
     ensures { result.now ≡ stones_word many }
 {
@@ -87,7 +87,7 @@ fn stones_word(many: usize) -> &'static [u8]
     }
 }
 
-/// The name of a colour.
+/// Returns the name of a colour.
 fn colour_name(colour: Colour) -> &'static [u8]
     ensures { result.now ≡ colour_name colour }
 {
@@ -97,17 +97,17 @@ fn colour_name(colour: Colour) -> &'static [u8]
     }
 }
 
-/// The vertices of the first points.
+/// Returns the vertices of the first points.
 fn first_vertices(points: &[Point]) -> ArrayVec<u8, VERTICES_ROOM>
     ensures { result.items ≡ written_vertices (take most_named points.now) }
 {
     let mut named = ArrayVec::new();
-    // There is room for six.
+    // There is space for six.
     let _ = named.try_extend_from_slice(&points[..points.len().min(MOST_NAMED)]);
     write_vertices(&named)
 }
 
-/// That more stones are taken than those that are named.
+/// Returns the mark that more stones are captured than those that are named.
 fn more_mark(many: usize) -> &'static [u8]
     ensures { result.now ≡ more_mark many }
 {

@@ -1,4 +1,4 @@
-//! What decides that an answer is wrong.
+//! Why a reply is wrong.
 ghost use Rattle.std.specs.Prelude.{◌≡◌, ◌∷◌, [], ◌++◌, OnOk};
 ghost use Rattle.gtp_check_reasons.specs.Reasons.{chosen_by, colour_letter, move_of, reason, refused_match, refused_text};
 ghost use Rattle.gtp_check_reasons.specs.Reasons.{are_of_one_colour, in_a_row_line, in_a_row_text, undo_text};
@@ -14,15 +14,15 @@ use gtp_check_judge::{Cause, CheckCommand, Kind};
 use gtp_wire::Command;
 use std::alloc::AllocError;
 
-/// Appends what decides that an answer is wrong, in one line without a newline.
+/// Appends why a reply is wrong, in one line without a newline.
 ///
-/// It names which stones a legal play takes, which move may be taken back, why a move isn't legal, or the rule. The
-/// game is that of a right engine before the command, and `chosen` the vertex that a `genmove` answered, where it is
+/// The line says which stones a legal play captures, which move may be undone, why a move isn't legal, or which rule
+/// holds. The game is that of a correct engine before the command, and `chosen` is the vertex of a `genmove`, if it is
 /// known.
 ///
 /// # Errors
 ///
-/// Where memory is refused.
+/// If memory can't be allocated.
 pub fn add_reason(
     text: &mut Vec<u8>,
     game: &Game,
@@ -44,7 +44,7 @@ pub fn add_reason(
     }
 }
 
-/// Appends why a right engine takes a command.
+/// Appends why a correct engine accepts a command.
 fn add_refused(text: &mut Vec<u8>, game: &Game, command: &CheckCommand) -> Result<(), AllocError>
     ensures { OnOk result (text.new.items ≡ text.old.items ++ refused_text game.now command.now) }
 {
@@ -54,7 +54,7 @@ fn add_refused(text: &mut Vec<u8>, game: &Game, command: &CheckCommand) -> Resul
     }
 }
 
-/// Appends why a right engine takes a command of a match.
+/// Appends why a correct engine accepts a command of a match.
 fn add_refused_match(text: &mut Vec<u8>, game: &Game, command: &Command) -> Result<(), AllocError>
     ensures { OnOk result (text.new.items ≡ text.old.items ++ refused_match game.now command.now) }
 {
@@ -65,7 +65,7 @@ fn add_refused_match(text: &mut Vec<u8>, game: &Game, command: &Command) -> Resu
     }
 }
 
-/// Appends that there is a move to take back: the last one.
+/// Appends that there is a move to undo: the last one.
 fn add_undo(text: &mut Vec<u8>, last: Option<Move>) -> Result<(), AllocError>
     ensures { OnOk result (text.new.items ≡ text.old.items ++ undo_text last) }
 {
@@ -83,7 +83,7 @@ fn add_undo(text: &mut Vec<u8>, last: Option<Move>) -> Result<(), AllocError>
     }
 }
 
-/// The capital letter of a colour.
+/// Returns the capital letter of a colour.
 fn colour_letter(colour: Colour) -> &'static [u8]
     ensures { result.now ≡ colour_letter colour }
 {
@@ -93,7 +93,7 @@ fn colour_letter(colour: Colour) -> &'static [u8]
     }
 }
 
-/// The move that a command makes; a `genmove` makes the one that was chosen.
+/// Returns the move that a command makes; a `genmove` makes the one that was chosen.
 fn move_of(command: &CheckCommand, chosen: Option<Vertex>) -> Option<Move>
     ensures { result ≡ move_of command.now chosen }
 {
@@ -106,7 +106,7 @@ fn move_of(command: &CheckCommand, chosen: Option<Vertex>) -> Option<Move>
     }
 }
 
-/// The move that this colour chose, where its vertex is known.
+/// Returns the move that this colour chose, if its vertex is known.
 fn chosen_by(colour: Colour, chosen: Option<Vertex>) -> Option<Move>
     ensures { result ≡ chosen_by colour chosen }
 {
@@ -114,7 +114,7 @@ fn chosen_by(colour: Colour, chosen: Option<Vertex>) -> Option<Move>
     Some(Move { colour, vertex })
 }
 
-/// That moves of one colour in a row are legal, where a move was refused and the last one had its colour.
+/// Returns the line that moves of one colour in a row are legal, if a move was refused and the last one had its colour.
 pub fn in_a_row_line(game: &Game, command: &CheckCommand, kind: Kind) -> &'static [u8]
     ensures { result.now ≡ in_a_row_line game.now command.now kind }
 {
@@ -124,7 +124,7 @@ pub fn in_a_row_line(game: &Game, command: &CheckCommand, kind: Kind) -> &'stati
     }
 }
 
-/// Whether both moves are known and of one colour.
+/// Returns whether both moves are known and of one colour.
 fn are_of_one_colour(last: Option<Move>, made: Option<Move>) -> bool
     ensures { result ≡ are_of_one_colour last made }
 {
@@ -134,7 +134,7 @@ fn are_of_one_colour(last: Option<Move>, made: Option<Move>) -> bool
     }
 }
 
-/// The line where they are.
+/// Returns that line if they are.
 fn in_a_row_text(are_of_one_colour: bool) -> &'static [u8]
     ensures { result.now ≡ in_a_row_text are_of_one_colour }
 {

@@ -1,4 +1,4 @@
-//! What is right, where the game isn't known, and where an answer was lost.
+//! What is right if the game isn't known, or if the engine was lost.
 ghost use Rattle.std.specs.Prelude.{◌≡◌};
 ghost use Rattle.gtp_check_reasons.specs.Rules.{lost_rule, no_move_rule, refused_rule, rule_text};
 
@@ -7,10 +7,10 @@ use crate::sentences::{command_sentence, kind_sentence, no_move_sentence, other_
 use gtp_check_judge::{CheckCommand, Kind};
 use gtp_process::Ending;
 
-/// The status by which a program with a limit of time ends an engine that is late: that of `timeout`, too.
+/// The status with which a program with a timeout ends a late engine; `timeout` has the same.
 const LATE: u32 = 124;
 
-/// What a right engine answers to the command, and the rule that says so, in whatever game.
+/// Returns what a correct engine answers to the command in any game, and the rule that says so.
 pub fn rule_text(fault: Fault, ending: Ending, command: Option<CheckCommand>) -> &'static [u8]
     ensures { result.now ≡ rule_text fault ending command }
 {
@@ -22,7 +22,7 @@ pub fn rule_text(fault: Fault, ending: Ending, command: Option<CheckCommand>) ->
     }
 }
 
-/// The rule where an answer was lost, and the process ended so.
+/// Returns the rule for an engine that was lost and whose process ended so.
 fn lost_rule(ending: Ending) -> &'static [u8]
     ensures { result.now ≡ lost_rule ending }
 {
@@ -34,7 +34,7 @@ fn lost_rule(ending: Ending) -> &'static [u8]
     }
 }
 
-/// Why a right engine answers a `genmove` by a success.
+/// Returns why a correct engine answers a `genmove` with a success.
 fn no_move_rule(command: Option<CheckCommand>) -> &'static [u8]
     ensures { result.now ≡ no_move_rule command }
 {
@@ -44,7 +44,7 @@ fn no_move_rule(command: Option<CheckCommand>) -> &'static [u8]
     }
 }
 
-/// Why a right engine takes a command.
+/// Returns why a correct engine accepts a command.
 fn refused_rule(command: Option<CheckCommand>) -> &'static [u8]
     ensures { result.now ≡ refused_rule command }
 {

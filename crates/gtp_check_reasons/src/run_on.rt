@@ -1,4 +1,4 @@
-//! An answer that runs on into the next one, where it doesn't end with an empty line.
+//! A reply that runs on into the next one, because it doesn't end with an empty line.
 ghost use Rattle.std.specs.Prelude.{◌≡◌};
 ghost use Rattle.gtp_check_reasons.specs.RunOn.{begins_id, begins_reply, has_later_id, has_later_reply};
 ghost use Rattle.gtp_check_reasons.specs.RunOn.{id_that_came, is_later, is_mark, run_on_line, runs_on};
@@ -8,17 +8,17 @@ use crate::lines::line_len;
 use go_base::{read_int, split_digits};
 use gtp_check_judge::Kind;
 
-/// Whether an answer may have run on, where after so many answers to so many commands this is wrong, and that was
-/// written.
+/// Returns whether a reply may have run on, after `answered` of `asked` commands were answered, with this fault and
+/// this output.
 ///
-/// The reply that came is one to a later command, or the second line of what was written begins as a reply does.
+/// Then the reply that came is for a later command, or the second line of the output begins as a reply does.
 pub fn runs_on(fault: Fault, answered: usize, asked: usize, wrote: &[u8]) -> bool
     ensures { result ≡ runs_on fault answered asked wrote.now }
 {
     has_later_id(fault, answered, asked, wrote) || has_later_reply(wrote)
 }
 
-/// Whether the reply that came is one to a later command.
+/// Returns whether the reply that came is for a later command.
 fn has_later_id(fault: Fault, answered: usize, asked: usize, wrote: &[u8]) -> bool
     ensures { result ≡ has_later_id fault answered asked wrote.now }
 {
@@ -28,7 +28,8 @@ fn has_later_id(fault: Fault, answered: usize, asked: usize, wrote: &[u8]) -> bo
     }
 }
 
-/// Whether it is the id of a later command than the one after so many answers, of so many that were asked.
+/// Returns whether this is the id of a command after the one that should have been answered, among those that were
+/// asked.
 fn is_later(answered: usize, asked: usize, id: Option<u32>) -> bool
     ensures { result ≡ is_later answered asked id }
 {
@@ -38,14 +39,14 @@ fn is_later(answered: usize, asked: usize, id: Option<u32>) -> bool
     }
 }
 
-/// The id of the reply with which a text begins, if it has one.
+/// Returns the id of the reply that a text begins with, if it has one.
 fn id_that_came(wrote: &[u8]) -> Option<u32>
     ensures { result ≡ id_that_came wrote.now }
 {
     read_int(split_digits(&wrote[1.min(wrote.len())..]).0)
 }
 
-/// Whether the line after the first one begins as a reply with an id does.
+/// Returns whether the line after the first one begins as a reply with an id does.
 fn has_later_reply(wrote: &[u8]) -> bool
     ensures { result ≡ has_later_reply wrote.now }
 {
@@ -53,7 +54,7 @@ fn has_later_reply(wrote: &[u8]) -> bool
     begins_reply(&wrote[next.min(wrote.len())..])
 }
 
-/// Whether a text begins as a reply with an id does: with = or ?, and a digit.
+/// Returns whether a text begins as a reply with an id does: with = or ?, and a digit.
 fn begins_reply(text: &[u8]) -> bool
     ensures { result ≡ begins_reply text.now }
 {
@@ -63,7 +64,7 @@ fn begins_reply(text: &[u8]) -> bool
     }
 }
 
-/// Whether a text begins with a digit.
+/// Returns whether a text begins with a digit.
 fn begins_id(text: &[u8]) -> bool
     ensures { result ≡ begins_id text.now }
 {
@@ -73,14 +74,14 @@ fn begins_id(text: &[u8]) -> bool
     }
 }
 
-/// Whether a byte begins a reply.
+/// Returns whether a byte begins a reply.
 fn is_mark(byte: u8) -> bool
     ensures { result ≡ is_mark byte }
 {
     byte == b'=' || byte == b'?'
 }
 
-/// That an answer may have run on, where it may.
+/// Returns the line that a reply may have run on, if one may.
 pub fn run_on_line(may_be: bool) -> &'static [u8]
     ensures { result.now ≡ run_on_line may_be }
 {

@@ -1,4 +1,4 @@
-//! What is right, in sentences that hang on neither board nor vertex.
+//! What is right, in sentences that depend on neither board nor vertex.
 ghost use Rattle.std.specs.Prelude.{◌≡◌};
 ghost use Rattle.gtp_check_reasons.specs.Sentences.{cause_sentence, command_sentence, kind_sentence, other_sentence};
 ghost use Rattle.gtp_check_reasons.specs.Sentences.{no_move_sentence};
@@ -7,7 +7,7 @@ use go_board::HandicapFault;
 use gtp_check_judge::{Cause, CheckCommand, Kind};
 use gtp_wire::Command;
 
-/// Why a right engine takes a command of a match.
+/// Returns why a correct engine accepts a command of a match.
 pub(crate) fn command_sentence(command: &Command) -> &'static [u8]
     ensures { result.now ≡ command_sentence command.now }
 {
@@ -25,7 +25,7 @@ pub(crate) fn command_sentence(command: &Command) -> &'static [u8]
     }
 }
 
-/// Why a right engine takes a command that isn't one of a match.
+/// Returns why a correct engine accepts a command that isn't one of a match.
 pub(crate) fn other_sentence(command: &CheckCommand) -> &'static [u8]
     ensures { result.now ≡ other_sentence command.now }
 {
@@ -38,7 +38,7 @@ pub(crate) fn other_sentence(command: &CheckCommand) -> &'static [u8]
     }
 }
 
-/// Why a right engine answers a `genmove` by a success.
+/// Returns why a correct engine answers a `genmove` with a success.
 pub(crate) fn no_move_sentence(command: &CheckCommand) -> &'static [u8]
     ensures { result.now ≡ no_move_sentence command.now }
 {
@@ -48,7 +48,7 @@ pub(crate) fn no_move_sentence(command: &CheckCommand) -> &'static [u8]
     }
 }
 
-/// Why a right engine refuses a command.
+/// Returns why a correct engine refuses a command.
 fn cause_sentence(cause: Cause) -> &'static [u8]
     ensures { result.now ≡ cause_sentence cause }
 {
@@ -64,7 +64,7 @@ fn cause_sentence(cause: Cause) -> &'static [u8]
     }
 }
 
-/// What a right engine writes in place of what was wrong.
+/// Returns what a correct engine writes instead of what was wrong.
 pub(crate) fn kind_sentence(kind: Kind) -> &'static [u8]
     ensures { result.now ≡ kind_sentence kind }
 {

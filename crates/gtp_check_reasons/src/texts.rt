@@ -8,7 +8,7 @@ use std::alloc::AllocError;
 ///
 /// # Errors
 ///
-/// Where memory is refused.
+/// If memory can't be allocated.
 pub fn add_all(text: &mut Vec<u8>, parts: &[&[u8]]) -> Result<(), AllocError>
     ensures { OnOk result (text.new.items ≡ text.old.items ++ joined parts.now) }
 {

@@ -125,7 +125,7 @@ flat [] = []
 flat (said ∷ later) =
     if stays (role_of said) (taken_back later) then said.command ∷ flat later else flat later
 
--- ---- a board that is set up anew
+-- ---- a board that is set up again
 
 -- whether a vertex is this point
 abbrev pub is_point : Vertex → ℕ → Bool

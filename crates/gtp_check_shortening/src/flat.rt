@@ -1,4 +1,4 @@
-//! Shorter conversations, which are tried in place of a long one.
+//! Shorter conversations, which are tried instead of a long one.
 ghost use Rattle.std.specs.Prelude.{◌≡◌, ◌≤◌, ◌+◌, ◌∷◌, ◌++◌, [], length, IfOk, OnOk};
 ghost use Rattle.std.specs.List.{list_any};
 ghost use Rattle.gtp_check_shortening.specs.Shortening.{command_role, commands_of, flat, games_as, games_in, last_such};
@@ -15,44 +15,46 @@ use gtp_check_judge::{CheckCommand, Known};
 use gtp_wire::Command;
 use std::alloc::{AllocError, Global};
 
-/// A conversation that is tried: commands, in their order.
+/// A conversation to try: commands, in their order.
 pub type Commands = Vec<CheckCommand>;
 
-/// How a conversation is shortened: to its last games.
+/// A way to shorten a conversation to its last games.
 #[derive(Clone, Copy, Debug, PartialEq, Eq)]
 pub struct Shortening {
-    /// How many games stay.
+    /// How many games are kept.
     pub games: usize,
     /// It is for conversations of more games than this.
     pub more_than: usize,
-    /// Whether all of these games stays, or the flat games do: without what was refused, taken back or asked.
+    /// Whether these games are kept whole. Else they are flat: without what was refused or undone, and without
+    /// questions.
     pub is_whole: bool,
     /// Whether each `genmove` becomes the `play` of what the engine chose.
     pub is_played: bool,
-    /// How many of the last commands stay, if not all: of the moves before them those stay whose stones still stand.
+    /// How many of the last commands are kept, if not all. Of the moves before them those are kept whose stones are
+    /// still on the board.
     pub kept: Option<usize>,
 }
 
-/// What a command is to a game.
+/// What a command does to a game.
 #[derive(Clone, Copy, Debug, PartialEq, Eq)]
 pub enum Role {
-    /// It sets the size, and ends a game.
+    /// Sets the size, and ends a game.
     Size,
-    /// It sets komi.
+    /// Sets komi.
     Komi,
-    /// It begins a game.
+    /// Begins a game.
     Clear,
-    /// It puts handicap stones.
+    /// Places handicap stones.
     Stones,
-    /// It makes a move.
+    /// Makes a move.
     Move,
-    /// It takes a move back.
+    /// Undoes a move.
     Undo,
-    /// It changes nothing.
+    /// Changes nothing.
     Nothing,
 }
 
-/// The shortenings that are tried, in this order.
+/// Returns the shortenings to try, in this order.
 pub fn shortenings() -> [Shortening; 16]
     ensures { result ≡ shortenings }
 {
@@ -76,7 +78,7 @@ pub fn shortenings() -> [Shortening; 16]
     ]
 }
 
-/// The shortening to the last games, as they were asked.
+/// Returns the shortening to the last games, with the moves as they were asked.
 pub fn last_games(games: usize, more_than: usize, is_whole: bool) -> Shortening
     ensures { result ≡ last_games games more_than is_whole }
 {
@@ -89,8 +91,8 @@ pub fn last_games(games: usize, more_than: usize, is_whole: bool) -> Shortening
     }
 }
 
-/// The shortening to the last so many commands, flat or whole, on the board as it stood before them: with the moves of
-/// the last game whose stones still stood then.
+/// Returns the shortening to the last `kept` commands, flat or whole, on the board as it stood before them: with the
+/// moves of the last game whose stones were still on the board then.
 pub fn standing_before(kept: usize, is_whole: bool) -> Shortening
     ensures { result ≡ standing_before kept is_whole }
 {
@@ -103,7 +105,7 @@ pub fn standing_before(kept: usize, is_whole: bool) -> Shortening
     }
 }
 
-/// The same with the moves that the engine chose in place of the questions for them.
+/// Returns the same shortening with each `genmove` replaced by the move that the engine chose.
 pub fn with_plays(shortening: Shortening) -> Shortening
     ensures { result ≡ with_plays shortening }
 {
@@ -113,13 +115,13 @@ pub fn with_plays(shortening: Shortening) -> Shortening
     }
 }
 
-/// The last games of a conversation, flat or whole, with what is in force before them. The last command is the one
-/// that was answered wrongly. Before them come the `known_command` that they need. Where only the last commands are
-/// kept, the board is set up for them by the moves whose stones still stand.
+/// Returns the last games of a conversation, flat or whole, with what is in force before them. The last command is the
+/// one that was answered wrongly. First come each `known_command` that they need. If only the last commands are kept,
+/// the moves whose stones are still on the board set it up for them.
 ///
 /// # Errors
 ///
-/// Where memory is refused.
+/// If memory can't be allocated.
 pub fn shortened(
     alloc: Global,
     talk: &[Said],
@@ -134,7 +136,7 @@ pub fn shortened(
     last_of(alloc, talk, shortening)
 }
 
-/// The last games of what was said.
+/// Returns the last games of a conversation.
 fn last_of(alloc: Global, talk: &[Said], shortening: Shortening) -> Result<Commands, AllocError>
     ensures { IfOk result (λ commands. commands.items
         ≡ games_of shortening talk.now) }
@@ -149,8 +151,8 @@ fn last_of(alloc: Global, talk: &[Said], shortening: Shortening) -> Result<Comma
     with_needed(alloc, commands.as_slice())
 }
 
-/// Where the games that stay as they are begin, the first of which begins at this place: there, or before the last
-/// commands that are kept.
+/// Returns where the part begins that is kept as it is: at the first of the games, which begins at `start`, or before
+/// the last commands that are kept.
 fn cut_of(kept: Option<usize>, start: usize, talk: &[Said]) -> usize
     requires { start ≤ length talk.now }
     ensures cut { result ≡ cut_of kept start talk.now }
@@ -163,7 +165,7 @@ fn cut_of(kept: Option<usize>, start: usize, talk: &[Said]) -> usize
     }
 }
 
-/// Whether there are commands in the last games before those that are kept.
+/// Returns whether there are commands in the last games before those that are kept.
 pub fn has_cut(shortening: Shortening, talk: &[Said]) -> bool
     ensures { result ≡ has_cut shortening talk.now }
 {
@@ -173,7 +175,7 @@ pub fn has_cut(shortening: Shortening, talk: &[Said]) -> bool
     }
 }
 
-/// The board is set up by the commands from this place on, if there are any.
+/// Returns the commands that set up the board as it stands after those from `start` on, if there are any.
 fn set_up_if(alloc: Global, start: usize, talk: &[Said]) -> Result<Commands, AllocError>
     requires { start ≤ length talk.now }
     ensures { IfOk result (λ commands. commands.items ≡ set_up_if start talk.now) }
@@ -184,14 +186,14 @@ fn set_up_if(alloc: Global, start: usize, talk: &[Said]) -> Result<Commands, All
     Ok(Vec::new(alloc))
 }
 
-/// How many games begin in a conversation.
+/// Returns how many games begin in a conversation.
 pub fn games_in(talk: &[Said]) -> usize
     ensures { result ≡ games_in talk.now }
 {
     talk.iter().filter(|said| is_clear(role_of(said))).count()
 }
 
-/// How many commands come before the last so many games.
+/// Returns how many commands come before the last `games` games.
 pub(crate) fn start_of(talk: &[Said], games: usize) -> usize
     ensures start { result ≡ start_of games talk.now }
     ensures within { result ≤ length talk.now }
@@ -208,7 +210,7 @@ pub(crate) fn start_of(talk: &[Said], games: usize) -> usize
     talk.len()
 }
 
-/// What is in force after these commands: the size and komi.
+/// Returns the commands that set what is in force after these: the size and komi.
 fn settings(alloc: Global, talk: &[Said]) -> Result<Commands, AllocError>
     ensures { IfOk result (λ commands. commands.items ≡ settings talk.now) }
 {
@@ -218,7 +220,7 @@ fn settings(alloc: Global, talk: &[Said]) -> Result<Commands, AllocError>
     Ok(commands)
 }
 
-/// The last command that sets the size.
+/// Returns the last command that sets the size.
 fn last_size(talk: &[Said]) -> Option<CheckCommand>
     ensures { result ≡ last_such is_size talk.now }
 {
@@ -231,7 +233,7 @@ fn last_size(talk: &[Said]) -> Option<CheckCommand>
     last
 }
 
-/// The last command that sets komi.
+/// Returns the last command that sets komi.
 pub fn last_komi(talk: &[Said]) -> Option<CheckCommand>
     ensures { result ≡ last_such is_komi talk.now }
 {
@@ -244,14 +246,14 @@ pub fn last_komi(talk: &[Said]) -> Option<CheckCommand>
     last
 }
 
-/// A command is added.
+/// Adds a command.
 fn add(commands: &mut Commands, command: CheckCommand) -> Result<(), AllocError>
     ensures { OnOk result (commands.new.items ≡ commands.old.items ++ command ∷ []) }
 {
     commands.extend_from_slice(&[command])
 }
 
-/// A command is added, if there is one.
+/// Adds a command, if there is one.
 pub(crate) fn add_if(
     commands: &mut Commands,
     command: Option<CheckCommand>,
@@ -264,7 +266,7 @@ pub(crate) fn add_if(
     }
 }
 
-/// Games whole or flat.
+/// Returns the commands of games, whole or flat.
 fn games_as(alloc: Global, is_whole: bool, games: &[Said]) -> Result<Commands, AllocError>
     ensures { IfOk result (λ commands. commands.items ≡ games_as is_whole games.now) }
 {
@@ -278,11 +280,11 @@ fn games_as(alloc: Global, is_whole: bool, games: &[Said]) -> Result<Commands, A
     Ok(commands)
 }
 
-/// The commands of a conversation.
+/// Returns the commands of a conversation.
 ///
 /// # Errors
 ///
-/// Where memory is refused.
+/// If memory can't be allocated.
 pub fn commands_of(alloc: Global, talk: &[Said]) -> Result<Commands, AllocError>
     ensures { IfOk result (λ commands. commands.items ≡ commands_of talk.now) }
 {
@@ -293,7 +295,7 @@ pub fn commands_of(alloc: Global, talk: &[Said]) -> Result<Commands, AllocError>
     Ok(commands)
 }
 
-/// The commands that stay in flat games.
+/// Returns the commands that stay in flat games.
 pub(crate) fn flat(alloc: Global, talk: &[Said]) -> Result<Commands, AllocError>
     ensures { IfOk result (λ commands. commands.items ≡ flat talk.now) }
 {
@@ -312,7 +314,7 @@ pub(crate) fn flat(alloc: Global, talk: &[Said]) -> Result<Commands, AllocError>
     Ok(commands)
 }
 
-/// Whether a command of this role stays, where those after it take so many moves back.
+/// Returns whether a command of this role stays, when those after it undo this many moves.
 pub(crate) fn stays(role: Role, after: usize) -> bool
     ensures { result ≡ stays role after }
 {
@@ -323,7 +325,7 @@ pub(crate) fn stays(role: Role, after: usize) -> bool
     }
 }
 
-/// How many moves are taken back that were made before it.
+/// Returns how many moves that were made before it are undone.
 pub(crate) fn taken_by(role: Role, after: usize) -> usize
     requires { after ≤ 9223372036854775807 }
     ensures taken { result ≡ taken_by role after }
@@ -337,7 +339,7 @@ pub(crate) fn taken_by(role: Role, after: usize) -> usize
     }
 }
 
-/// These commands after each `known_command` that they need.
+/// Returns these commands after each `known_command` that they need.
 fn with_needed(alloc: Global, commands: &[CheckCommand]) -> Result<Commands, AllocError>
     ensures { IfOk result (λ all. all.items ≡ with_needed commands.now) }
 {
@@ -349,7 +351,7 @@ fn with_needed(alloc: Global, commands: &[CheckCommand]) -> Result<Commands, All
     Ok(all)
 }
 
-/// One of these `known_command`, where it is needed.
+/// Adds one of these `known_command`, if it is needed.
 fn add_needed(all: &mut Commands, commands: &[CheckCommand], known: Known) -> Result<(), AllocError>
     ensures { OnOk result (all.new.items ≡ all.old.items ++ needed_for commands.now known) }
 {
@@ -357,14 +359,14 @@ fn add_needed(all: &mut Commands, commands: &[CheckCommand], known: Known) -> Re
     add_if(all, is_needed(commands, known).then_some(command))
 }
 
-/// Whether one of these commands needs it.
+/// Returns whether one of these commands needs it.
 fn is_needed(commands: &[CheckCommand], known: Known) -> bool
     ensures { result ≡ list_any (λ command. needs command known) commands.now }
 {
     commands.iter().any(|command| needs(command, known))
 }
 
-/// Whether a command may be asked only of an engine that was asked whether it knows this one.
+/// Returns whether a command may be asked only of an engine that was asked whether it knows this one.
 fn needs(command: &CheckCommand, known: Known) -> bool
     ensures { result ≡ needs command.now known }
 {
@@ -376,7 +378,7 @@ fn needs(command: &CheckCommand, known: Known) -> bool
     }
 }
 
-/// What a command is to a game.
+/// Returns what a command does to a game.
 pub(crate) fn role_of(said: &Said) -> Role
     ensures { result ≡ role_of said.now }
 {
@@ -392,7 +394,7 @@ pub(crate) fn role_of(said: &Said) -> Role
     }
 }
 
-/// The same of a command of a match, where it is a `play` that a right engine refuses or not.
+/// The same for a command of a match; `is_refused` says whether it is a `play` that a correct engine refuses.
 fn match_role(command: &Command, is_refused: bool) -> Role
     ensures { result ≡ match_role command.now is_refused }
 {
@@ -408,21 +410,21 @@ fn match_role(command: &Command, is_refused: bool) -> Role
     }
 }
 
-/// Whether it begins a game.
+/// Returns whether it begins a game.
 fn is_clear(role: Role) -> bool
     ensures { result ≡ is_clear role }
 {
     matches!(role, Role::Clear)
 }
 
-/// Whether it sets the size.
+/// Returns whether it sets the size.
 fn is_size(role: Role) -> bool
     ensures { result ≡ is_size role }
 {
     matches!(role, Role::Size)
 }
 
-/// Whether it sets komi.
+/// Returns whether it sets komi.
 fn is_komi(role: Role) -> bool
     ensures { result ≡ is_komi role }
 {

@@ -1,4 +1,4 @@
-//! The last game of a conversation, where it is shown alone.
+//! The last game of a conversation, if only that is shown.
 ghost use Rattle.std.specs.Prelude.{◌≡◌, ◌≤◌, length, not, count_by, slice_get, option_map};
 ghost use Rattle.std.specs.List.{range_with_len};
 ghost use Rattle.gtp_check_shortening.specs.LastGame.{is_boardsize, is_place, last_game, last_setting, left_out};
@@ -12,18 +12,18 @@ use go_base::{Move, Size};
 use gtp_check_judge::CheckCommand;
 use gtp_wire::Command;
 
-/// The last game of a conversation, and where that was set what is in force when it begins.
+/// The last game of a conversation, and the commands that set what is in force when it begins.
 #[derive(Clone, Copy, Debug, PartialEq, Eq)]
 pub struct LastGame {
     /// How many commands come before it.
     pub start: usize,
-    /// The place of the one that set the size of its board, counted from 0, if one did.
+    /// The place of the command that set the size of its board, counted from 0, if one did.
     pub size: Option<usize>,
-    /// The place of the one that set its komi, if one did.
+    /// The place of the command that set its komi, if one did.
     pub komi: Option<usize>,
 }
 
-/// What is in force in a game.
+/// Something that is in force in a game.
 #[derive(Clone, Copy, Debug, PartialEq, Eq)]
 pub enum Setting {
     /// The board has this size.
@@ -32,7 +32,7 @@ pub enum Setting {
     Komi,
 }
 
-/// The last game of a conversation: it begins with the last `clear_board`, or where the conversation does.
+/// Returns the last game of a conversation: it begins with the last `clear_board`, or with the conversation.
 pub fn last_game(talk: &[Said]) -> LastGame
     ensures { result ≡ last_game talk.now }
 {
@@ -44,7 +44,7 @@ pub fn last_game(talk: &[Said]) -> LastGame
     }
 }
 
-/// The place at which the size was set that the board had when the command at this place was asked.
+/// Returns the place where the size was set that the board had when the command at this place was asked.
 fn size_before(talk: &[Said], start: usize) -> Option<usize>
     requires { start ≤ length talk.now }
     ensures { result ≡ size_before talk.now start }
@@ -53,7 +53,7 @@ fn size_before(talk: &[Said], start: usize) -> Option<usize>
     last_setting(&Setting::Size(said.size), talk, start)
 }
 
-/// The last place before this one at which a command sets this.
+/// Returns the last place before this one at which a command sets this.
 fn last_setting(what: &Setting, talk: &[Said], before: usize) -> Option<usize>
     requires { before ≤ length talk.now }
     ensures { result ≡ last_setting what.now talk.now before }
@@ -67,7 +67,7 @@ fn last_setting(what: &Setting, talk: &[Said], before: usize) -> Option<usize>
     last
 }
 
-/// Whether a command sets this: it is the `boardsize` of that size, or a `komi`.
+/// Returns whether a command sets this: it is the `boardsize` of that size, or a `komi`.
 fn sets(what: &Setting, command: &CheckCommand) -> bool
     ensures { result ≡ sets what.now command.now }
 {
@@ -77,7 +77,7 @@ fn sets(what: &Setting, command: &CheckCommand) -> bool
     }
 }
 
-/// Whether a command is the `boardsize` of this size.
+/// Returns whether a command is the `boardsize` of this size.
 fn is_boardsize(size: Size, command: &CheckCommand) -> bool
     ensures { result ≡ is_boardsize size command.now }
 {
@@ -88,14 +88,15 @@ fn is_boardsize(size: Size, command: &CheckCommand) -> bool
 }
 
 impl LastGame {
-    /// Whether the command at this place is shown: it is one of the game, or set what is in force when that begins.
+    /// Returns whether the command at this place is shown: it is one of the game, or set what is in force when that
+    /// begins.
     pub fn shows(&self, place: usize) -> bool
         ensures { result ≡ shows self.now place }
     {
         self.start <= place || is_place(self.size, place) || is_place(self.komi, place)
     }
 
-    /// How many commands aren't shown.
+    /// Returns how many commands aren't shown.
     pub fn left_out(&self) -> usize
         ensures { result ≡ left_out self.now }
     {
@@ -103,7 +104,7 @@ impl LastGame {
     }
 }
 
-/// Whether it is this place.
+/// Returns whether it is this place.
 fn is_place(set: Option<usize>, place: usize) -> bool
     ensures { result ≡ is_place set place }
 {
@@ -113,7 +114,7 @@ fn is_place(set: Option<usize>, place: usize) -> bool
     }
 }
 
-/// The move that was made by a command, where this one was asked next. `None` where it made none.
+/// Returns the move that a command made, if `next` was asked after it, or `None` if it made none.
 pub fn made_by(said: &Said, next: &Said) -> Option<Move>
     ensures { result ≡ made_by said.now next.now }
 {

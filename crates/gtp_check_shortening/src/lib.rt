@@ -1,10 +1,10 @@
-//! What was said with an engine, and shorter conversations that are tried in place of a long one.
+//! The conversation with an engine, and shorter ones, which are tried instead of a long one.
 //!
 //! First its last commands are tried on the board as it stood before them (`standing`), and then its last games
-//! (`flat`). Then it is made shorter by delta debugging: a [`Reduction`] says which commands are tried next, and
-//! hears what came of it. It starts no engine: its caller asks the commands of each trial on a new start, and
-//! compares how that ends. Each trial leaves a part of the shortest conversation out: first a half, then a quarter,
-//! and so on to single commands.
+//! (`flat`). Then delta debugging makes it shorter: a [`Reduction`] says which commands to try next, and is told what
+//! came of it. It starts no engine: its caller asks the commands of each trial of a new engine, and compares how that
+//! ends. Each trial leaves out a part of the shortest conversation so far: first a half, then a quarter, and so on down
+//! to single commands.
 #![tactic(auto)]
 
 pub mod flat;

@@ -2,24 +2,24 @@
 ghost use Rattle.std.specs.Prelude.{◌≡◌};
 ghost use Rattle.gtp_check_shortening.specs.Reduction.{allow, spent};
 
-/// How many trials are made at most, and how many commands are asked in all of them together.
+/// How many trials may be made, and how many commands they may ask together.
 #[derive(Clone, Copy, Debug, PartialEq, Eq)]
 pub struct Limits {
-    /// How many trials.
+    /// The most trials.
     pub trials: u32,
-    /// How many commands in all trials.
+    /// The most commands in all trials together.
     pub commands: usize,
 }
 
 impl Limits {
-    /// Whether they allow a trial of so many commands.
+    /// Returns whether they allow a trial of this many commands.
     pub(crate) fn allow(&self, count: usize) -> bool
         ensures { result ≡ allow count self.now }
     {
         0 < self.trials && count <= self.commands
     }
 
-    /// What is left of them after a trial in which so many commands were asked.
+    /// Returns what is left of them after a trial in which this many commands were asked.
     pub(crate) fn after(self, asked: usize) -> Limits
         ensures { result ≡ spent asked self }
     {

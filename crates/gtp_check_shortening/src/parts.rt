@@ -1,4 +1,4 @@
-//! The parts of a conversation, which are left out one after the other.
+//! The parts of a conversation that are left out, one after the other.
 ghost use Rattle.std.specs.Prelude.{◌≡◌, ◌≤◌, ◌<◌, length, IfOk, OnOk};
 ghost use Rattle.std.specs.List.{prefix_len, remove_range};
 ghost use Rattle.gtp_check_shortening.specs.Reduction.{before_last, ended_after, half_size, is_setup, part_end};
@@ -8,7 +8,8 @@ use gtp_check_judge::CheckCommand;
 use gtp_wire::Command;
 use std::alloc::{AllocError, Global};
 
-/// A part of a conversation: so many commands from a place on, or those before the last command where there are fewer.
+/// A part of a conversation: `size` commands from a place on, or those up to the last command if there are fewer. The
+/// last command is never in it.
 #[derive(Clone, Copy, Debug, PartialEq, Eq)]
 pub struct Part {
     /// The number of its first command, counted from 0.
@@ -17,14 +18,14 @@ pub struct Part {
     pub size: usize,
 }
 
-/// How many commands come before the last one.
+/// Returns how many commands come before the last one.
 pub fn before_last(commands: &[CheckCommand]) -> usize
     ensures { result ≡ before_last commands.now }
 {
     commands.len().saturating_sub(1)
 }
 
-/// Where a part of a conversation ends.
+/// Returns where a part of a conversation ends.
 pub fn part_end(commands: &[CheckCommand], part: Part) -> usize
     ensures { result ≡ part_end commands.now part }
 {
@@ -33,14 +34,14 @@ pub fn part_end(commands: &[CheckCommand], part: Part) -> usize
         .min(before_last(commands))
 }
 
-/// The first part that is tried: half of the conversation.
+/// Returns the first part to leave out: half of the conversation.
 pub fn first_part(commands: &[CheckCommand]) -> Part
     ensures { result ≡ round_of (half_size (length commands.now) commands.now) commands.now }
 {
     round_of(half_size(commands.len(), commands), commands)
 }
 
-/// The part that is tried next, from this one on. After the last one of a round the next round begins.
+/// Returns the next part to leave out, from this one on. After the last part of a round the next round begins.
 pub fn part_from(commands: &[CheckCommand], part: Part) -> Part
     ensures { result ≡ part_from commands.now part }
 {
@@ -53,7 +54,7 @@ pub fn part_from(commands: &[CheckCommand], part: Part) -> Part
     }
 }
 
-/// The first part of a round in which parts have this size.
+/// Returns the first part of a round in which parts have this size.
 fn round_of(size: usize, commands: &[CheckCommand]) -> Part
     ensures { result ≡ round_of size commands.now }
 {
@@ -61,7 +62,7 @@ fn round_of(size: usize, commands: &[CheckCommand]) -> Part
     Part { place, size }
 }
 
-/// Half the size of a part, or of what comes after the set-up where that is less.
+/// Returns half the size of a part, or of what comes after the set-up if that is less.
 fn half_size(size: usize, commands: &[CheckCommand]) -> usize
     ensures { result ≡ half_size size commands.now }
 {
@@ -69,14 +70,14 @@ fn half_size(size: usize, commands: &[CheckCommand]) -> usize
     (most - most / 2).max(1)
 }
 
-/// How many commands a conversation begins with that set a game up. The last one isn't counted.
+/// Returns how many commands at the beginning of a conversation set a game up, without the last command.
 fn setup_len(commands: &[CheckCommand]) -> usize
     ensures { result ≡ setup_len commands.now }
 {
     all_setup_len(commands).min(before_last(commands))
 }
 
-/// How many commands set a game up, from the first one on.
+/// Returns how many commands at the beginning set a game up.
 fn all_setup_len(commands: &[CheckCommand]) -> usize
     ensures { result ≡ prefix_len is_setup commands.now }
 {
@@ -86,7 +87,7 @@ fn all_setup_len(commands: &[CheckCommand]) -> usize
         .count()
 }
 
-/// Whether a command sets a game up, or asks what the engine knows.
+/// Returns whether a command sets a game up, or asks what the engine knows.
 fn is_setup(command: &CheckCommand) -> bool
     ensures { result ≡ is_setup command.now }
 {
@@ -102,7 +103,7 @@ fn is_setup(command: &CheckCommand) -> bool
     }
 }
 
-/// Whether a command of a match sets a game up.
+/// Returns whether a command of a match sets a game up.
 fn sets_game_up(command: &Command) -> bool
     ensures { result ≡ sets_game_up command.now }
 {
@@ -115,11 +116,11 @@ fn sets_game_up(command: &Command) -> bool
     }
 }
 
-/// The commands without those from one place up to another.
+/// Returns the commands without those from one place up to another.
 ///
 /// # Errors
 ///
-/// Where memory is refused.
+/// If memory can't be allocated.
 pub fn without(
     alloc: Global,
     commands: &[CheckCommand],
@@ -136,7 +137,7 @@ pub fn without(
     Ok(left)
 }
 
-/// Leaves out those from one place up to another.
+/// Removes the commands from one place up to another.
 #[tactic(auto, using(crate::proofs::Leaving::take_moved))]
 pub fn leave_out(commands: &mut Vec<CheckCommand>, from: usize, to: usize)
     requires ordered { from ≤ to }
@@ -148,7 +149,7 @@ pub fn leave_out(commands: &mut Vec<CheckCommand>, from: usize, to: usize)
     commands.truncate(from + (count - to));
 }
 
-/// Leaves out all between the first so many commands and the last one.
+/// Removes all commands between the first `answered` and the last one.
 pub fn end_after(commands: &mut Vec<CheckCommand>, answered: usize)
     ensures { commands.new.items ≡ ended_after answered commands.old.items }
 {

@@ -10,13 +10,13 @@ use gtp_check_judge::CheckCommand;
 use gtp_wire::Command;
 use std::alloc::{AllocError, Global};
 
-/// The commands of a conversation as what was done by them: each `genmove` is the `play` of what the engine chose.
-/// Without those by which nothing was done: where it resigned, or refused an `undo` or a size. The last command stays
-/// as it is.
+/// Returns what the commands of a conversation did: each `genmove` becomes the `play` of what the engine chose, and
+/// commands that did nothing are left out, since the engine resigned, or refused an `undo` or a size. The last command
+/// stays as it is.
 ///
 /// # Errors
 ///
-/// Where memory is refused.
+/// If memory can't be allocated.
 pub fn played(alloc: Global, talk: &[Said]) -> Result<Vec<Said>, AllocError>
     ensures { IfOk result (λ all. all.items ≡ played talk.now) }
 {
@@ -27,7 +27,7 @@ pub fn played(alloc: Global, talk: &[Said]) -> Result<Vec<Said>, AllocError>
     Ok(all)
 }
 
-/// What was done by a command is added, where this one was asked next.
+/// Adds what a command did, if `next` was asked after it.
 fn add_done(all: &mut Vec<Said>, said: &Said, next: Option<&Said>) -> Result<(), AllocError>
     ensures { OnOk result (all.new.items
         ≡ all.old.items ++ done_before said.now (option_map (λ one. one.now) next.entry)) }
@@ -38,7 +38,7 @@ fn add_done(all: &mut Vec<Said>, said: &Said, next: Option<&Said>) -> Result<(),
     }
 }
 
-/// A command is added in place of the one that was asked, if there is one.
+/// Adds a command instead of the one that was asked, if there is one.
 fn add_as(all: &mut Vec<Said>, said: &Said, command: Option<CheckCommand>) -> Result<(), AllocError>
     ensures { OnOk result (all.new.items ≡ all.old.items ++ said_as said.now command) }
 {
@@ -48,7 +48,7 @@ fn add_as(all: &mut Vec<Said>, said: &Said, command: Option<CheckCommand>) -> Re
     }
 }
 
-/// What was done by a command, where this one was asked next.
+/// Returns what a command did, if `next` was asked after it.
 pub(crate) fn asked_as(said: &Said, next: &Said) -> Option<CheckCommand>
     ensures { result ≡ asked_as said.now.command said.now next.now }
 {
@@ -63,7 +63,7 @@ pub(crate) fn asked_as(said: &Said, next: &Said) -> Option<CheckCommand>
     }
 }
 
-/// The same of a command of a match.
+/// The same for a command of a match.
 fn done_by(command: &Command, said: &Said, next: &Said) -> Option<Command>
     ensures { result ≡ done_by command.now said.now next.now }
 {
@@ -78,7 +78,7 @@ fn done_by(command: &Command, said: &Said, next: &Said) -> Option<Command>
     }
 }
 
-/// The `play` of a move whose colour is written in full, if there is one.
+/// Returns the `play` of a move with the colour written in full, if there is a move.
 fn chosen_in_full(made: Option<Move>) -> Option<CheckCommand>
     ensures { result ≡ option_map (λ move. PlayInFull move) made }
 {
@@ -88,7 +88,7 @@ fn chosen_in_full(made: Option<Move>) -> Option<CheckCommand>
     }
 }
 
-/// The `play` of a move, if there is one.
+/// Returns the `play` of a move, if there is one.
 fn chosen(made: Option<Move>) -> Option<Command>
     ensures { result ≡ option_map (λ move. command.Play move) made }
 {

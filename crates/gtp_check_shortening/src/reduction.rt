@@ -1,4 +1,4 @@
-//! A conversation that is made shorter.
+//! The reduction of a conversation to a shorter one.
 ghost use Rattle.std.specs.Prelude.{◌≡◌, true, IfOk, IsSome, option_map};
 ghost use Rattle.gtp_check_shortening.specs.Reduction.{after_failure, after_success, begun, has_next, is_minimal, next};
 
@@ -10,7 +10,7 @@ use gtp_check_judge::CheckCommand;
 use std::alloc::{AllocError, Global};
 use std::marker::Model;
 
-/// A conversation that is made shorter: which commands are tried next, and the shortest conversation so far.
+/// Makes a conversation shorter: it says which commands to try next, and keeps the shortest conversation so far.
 ///
 /// ```text
 /// let mut reduction = Reduction::new(alloc, commands, limits)?;
@@ -52,11 +52,11 @@ impl Model for Reduction {
 }
 
 impl Reduction {
-    /// A reduction of these commands, the last of which was answered wrongly. Nothing was tried yet.
+    /// Returns a reduction of these commands, the last of which was answered wrongly. Nothing was tried yet.
     ///
     /// # Errors
     ///
-    /// Where memory is refused.
+    /// If memory can't be allocated.
     pub fn new(
         alloc: Global,
         commands: &[CheckCommand],
@@ -75,26 +75,26 @@ impl Reduction {
         })
     }
 
-    /// The shortest conversation so far.
+    /// Returns the shortest conversation so far.
     pub fn commands(&self) -> &[CheckCommand]
         ensures { result.now ≡ self.now.commands }
     {
         self.commands.as_slice()
     }
 
-    /// Whether each command before the last was left out alone, in vain: no single one can be left out.
+    /// Returns whether each command before the last was left out alone, in vain: then no single one can be left out.
     pub fn is_minimal(&self) -> bool
         ensures { result ≡ is_minimal self.now }
     {
         before_last(self.commands.as_slice()) <= self.in_vain
     }
 
-    /// The commands that are tried next: the shortest conversation without one of its parts. There are none where no
-    /// single command can be left out, where no trial is left, or where they are more than may still be asked.
+    /// Returns the commands to try next: the shortest conversation without one of its parts. It returns `None` if no
+    /// single command can be left out, if no trial is left, or if they are more commands than may still be asked.
     ///
     /// # Errors
     ///
-    /// Where memory is refused.
+    /// If memory can't be allocated.
     pub fn next(&self, alloc: Global) -> Result<Option<Vec<CheckCommand>>, AllocError>
         ensures { IfOk result (λ trial. option_map (λ commands. commands.items) trial
             ≡ next self.now) }
@@ -112,7 +112,7 @@ impl Reduction {
         Ok(Some(trial))
     }
 
-    /// The trial didn't end by the same wrong answer. In it so many commands were asked.
+    /// Notes that the trial, in which `asked` commands were asked, didn't end with the same wrong reply.
     pub fn failed(&mut self, asked: usize)
         requires { IsSome (next self.old) }
         ensures { self.new ≡ after_failure asked self.old }
@@ -130,7 +130,8 @@ impl Reduction {
         self.left = self.left.after(asked);
     }
 
-    /// The trial ended by the same wrong answer. It came after so many right answers, and so many commands were asked.
+    /// Notes that the trial, in which `asked` commands were asked, ended with the same wrong reply, after `answered`
+    /// correct ones.
     pub fn succeeded(&mut self, answered: usize, asked: usize)
         requires { IsSome (next self.old) }
         ensures { self.new ≡ after_success answered asked self.old }

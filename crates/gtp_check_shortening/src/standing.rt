@@ -1,4 +1,4 @@
-//! A board is set up anew: by the moves of a game whose stones still stand.
+//! The moves of a game whose stones are still on the board: they set it up again.
 ghost use Rattle.std.specs.Prelude.{◌≡◌, ◌≤◌, length, IfOk};
 ghost use Rattle.std.specs.List.{list_any};
 ghost use Rattle.gtp_check_shortening.specs.Shortening.{is_play_at, is_point, set_up, standing};
@@ -12,8 +12,8 @@ use go_board::{Game, KoRule};
 use gtp_check_judge::CheckCommand;
 use std::alloc::{AllocError, Global};
 
-/// Of the commands from this place on those by which the board is set up that there is after all of them: what sets a
-/// game up, and of the moves those whose stones still stand. Without stones that were captured no move needs another.
+/// Returns those of the commands from `start` on that set up the board as it is after all of them: what sets a game up,
+/// and the moves whose stones are still on the board. Without captured stones no move needs another.
 pub(crate) fn set_up(alloc: Global, start: usize, talk: &[Said]) -> Result<Commands, AllocError>
     requires { start ≤ length talk.now }
     ensures { IfOk result (λ commands. commands.items ≡ set_up start talk.now) }
@@ -24,7 +24,7 @@ pub(crate) fn set_up(alloc: Global, start: usize, talk: &[Said]) -> Result<Comma
     }
 }
 
-/// The commands that stay where the board at the end is this game's.
+/// Returns the commands that stay, when the board at the end is this game's.
 fn standing(alloc: Global, game: &Game, talk: &[Said]) -> Result<Commands, AllocError>
     ensures { IfOk result (λ commands. commands.items ≡ standing game.now talk.now) }
 {
@@ -40,14 +40,15 @@ fn standing(alloc: Global, game: &Game, talk: &[Said]) -> Result<Commands, Alloc
     Ok(commands)
 }
 
-/// Whether a command stays, where those after it take so many moves back, and these of them stay.
+/// Returns whether a command stays, when those after it undo this many moves, and these of them stay.
 fn stays_on(game: &Game, said: &Said, after: usize, later: &[CheckCommand]) -> bool
     ensures { result ≡ stays_on game.now said.now after later.now }
 {
     stays(role_of(said), after) && stands(game, &said.command, later)
 }
 
-/// Whether a command isn't a `play`, or one whose stone stands at the end, and no later one puts it there.
+/// Returns whether a command isn't a `play`, or is one whose stone is on the board at the end, where no later one puts
+/// it.
 fn stands(game: &Game, command: &CheckCommand, later: &[CheckCommand]) -> bool
     ensures { result ≡ stands game.now command.now later.now }
 {
@@ -57,7 +58,7 @@ fn stands(game: &Game, command: &CheckCommand, later: &[CheckCommand]) -> bool
     }
 }
 
-/// Whether a vertex is a point on which a stone stands, and none of these commands is a `play` there.
+/// Returns whether a vertex is a point with a stone, and none of these commands is a `play` there.
 fn still_stands(game: &Game, vertex: Vertex, later: &[CheckCommand]) -> bool
     ensures { result ≡ still_stands game.now vertex later.now }
 {
@@ -67,14 +68,14 @@ fn still_stands(game: &Game, vertex: Vertex, later: &[CheckCommand]) -> bool
     }
 }
 
-/// Whether one of these commands is a `play` on this point.
+/// Returns whether one of these commands is a `play` on this point.
 fn is_played(commands: &[CheckCommand], point: Point) -> bool
     ensures { result ≡ list_any (λ command. is_play_at command point) commands.now }
 {
     commands.iter().any(|command| is_play_at(command, point))
 }
 
-/// Whether a command is a `play` on this point.
+/// Returns whether a command is a `play` on this point.
 fn is_play_at(command: &CheckCommand, point: Point) -> bool
     ensures { result ≡ is_play_at command.now point }
 {
@@ -84,7 +85,7 @@ fn is_play_at(command: &CheckCommand, point: Point) -> bool
     }
 }
 
-/// Whether a vertex is this point.
+/// Returns whether a vertex is this point.
 fn is_point(vertex: Vertex, point: Point) -> bool
     ensures { result ≡ is_point vertex point }
 {

@@ -13,8 +13,8 @@ use go_board::{Game, KoRule, PlayFault};
 use gtp_check_judge::CheckCommand;
 use gtp_wire::Command;
 
-/// Whether the last command is a `play` that positional ko forbids after the commands before it, on the board that it
-/// was asked on. Where a move among them was the engine's own it isn't known, and the answer is no.
+/// Returns whether the last command is a `play` that positional ko forbids after the commands before it, on the board
+/// that it was asked on. If a move among them was the engine's own this isn't known, and the answer is no.
 pub fn is_positional(talk: &[Said]) -> bool
     ensures { IsTrue result ↔ IsPositional talk.now }
 {
@@ -30,7 +30,7 @@ pub fn is_positional(talk: &[Said]) -> bool
     }
 }
 
-/// The move of a `play`, if it is one.
+/// Returns the move of a `play`, if it is one.
 pub(crate) fn play_of(command: &CheckCommand) -> Option<Move>
     ensures { result ≡ play_of command.now }
 {
@@ -40,7 +40,8 @@ pub(crate) fn play_of(command: &CheckCommand) -> Option<Move>
     }
 }
 
-/// The game in which the last of these commands was asked, if they give it, on the board that it was asked on.
+/// Returns the game in which the last of these commands was asked, on the board that it was asked on, if they determine
+/// it.
 pub fn game_before(talk: &[Said], rule: KoRule) -> Option<Game>
     ensures { result ≡ game_before rule talk.now }
 {
@@ -53,14 +54,14 @@ pub fn game_before(talk: &[Said], rule: KoRule) -> Option<Game>
     }
 }
 
-/// Whether a move is refused as ko.
+/// Returns whether a move is refused as ko.
 fn is_ko(game: &Game, made: Move) -> bool
     ensures { IsTrue result ↔ RefusesVertex game.now made.colour made.vertex fault.Ko }
 {
     matches!(game.refusal(made.colour, made.vertex), Some(PlayFault::Ko))
 }
 
-/// The game under a ko rule after these commands, if they give it: none where a `genmove` is among them.
+/// Returns the game after these commands under a ko rule, if they determine it: not if a `genmove` is among them.
 pub fn game_after(talk: &[Said], rule: KoRule) -> Option<Game>
     ensures { result ≡ after_all (fresh_game_under rule) talk.now }
 {
@@ -73,7 +74,7 @@ pub fn game_after(talk: &[Said], rule: KoRule) -> Option<Game>
     Some(game)
 }
 
-/// The game follows a command. Whether it could.
+/// Plays a command in the game. Returns whether it could.
 fn follow(game: &mut Game, command: &CheckCommand) -> bool
     ensures known { result ≡ true → after_asked game.old command.now ≡ Some game.new }
     ensures unknown { result ≡ false → after_asked game.old command.now ≡ None }
@@ -90,7 +91,7 @@ fn follow(game: &mut Game, command: &CheckCommand) -> bool
     }
 }
 
-/// The same of a command of a match.
+/// The same for a command of a match.
 fn follow_match(game: &mut Game, command: &Command) -> bool
     ensures known { result ≡ true → after_match game.old command.now ≡ Some game.new }
     ensures unknown { result ≡ false → after_match game.old command.now ≡ None }
@@ -124,21 +125,21 @@ fn follow_match(game: &mut Game, command: &Command) -> bool
     }
 }
 
-/// Handicap stones are placed, where they may be.
+/// Places handicap stones, if they may be placed.
 fn place(game: &mut Game, stones: u32)
     ensures { game.new ≡ after_stones game.old stones }
 {
     let _ = game.place_handicap(stones);
 }
 
-/// A move is made, where it may be.
+/// Makes a move, if it may be made.
 fn play(game: &mut Game, made: Move)
     ensures { game.new ≡ after_play game.old made }
 {
     let _ = game.play(made.colour, made.vertex);
 }
 
-/// The last move is taken back, if there is one.
+/// Undoes the last move, if there is one.
 fn undo(game: &mut Game)
     ensures { game.new ≡ without_last game.old }
 {

@@ -6,7 +6,7 @@ use go_base::{Move, Size};
 use gtp_check_judge::CheckCommand;
 use gtp_check_questions::Lesson;
 
-/// For what a command is asked.
+/// The lesson and part that a command is asked for.
 #[derive(Clone, Copy, Debug, PartialEq, Eq)]
 pub struct Purpose {
     /// The lesson.
@@ -16,14 +16,14 @@ pub struct Purpose {
 }
 
 impl Purpose {
-    /// Whether it is the same lesson, and the same part of it.
+    /// Returns whether it is the same lesson and the same part of it.
     pub fn is_same(self, other: Purpose) -> bool
         ensures { result ≡ is_same_purpose self other }
     {
         self.is_same_lesson(other) && self.part == other.part
     }
 
-    /// Whether it is the same lesson, in whichever part.
+    /// Returns whether it is the same lesson, in any part.
     pub fn is_same_lesson(self, other: Purpose) -> bool
         ensures { result ≡ is_same_lesson self other }
     {
@@ -38,9 +38,9 @@ pub struct Said {
     pub command: CheckCommand,
     /// What it was asked for.
     pub purpose: Purpose,
-    /// Whether it is a `play` that isn't legal: a right engine refuses it.
+    /// Whether it is a `play` that isn't legal, which a correct engine refuses.
     pub is_illegal: bool,
-    /// The size of the board of a right engine when it was asked.
+    /// The board size of a correct engine when it was asked.
     pub size: Size,
     /// How many moves its game had then.
     pub moves: usize,
@@ -50,7 +50,7 @@ pub struct Said {
     pub end: usize,
 }
 
-/// The command with this number, counted from 0, if there is one.
+/// Returns the command with this number, counted from 0, if there is one.
 pub fn said_at(talk: &[Said], number: usize) -> Option<Said>
     ensures { result ≡ slice_get talk.now number }
 {

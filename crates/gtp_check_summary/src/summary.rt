@@ -25,19 +25,19 @@ use std::alloc::{AllocError, Global};
 pub enum Over {
     /// Each lesson of the course was asked.
     Done,
-    /// The engine may not be started once more.
+    /// No start of the engine is left.
     NoMoreStarts,
-    /// It was started three times in a row, and gave no right answer.
+    /// It was started three times in a row, and gave no correct reply.
     NoRightAnswer,
-    /// It was not started.
+    /// It couldn't be started.
     NotStarted(Unstarted),
 }
 
-/// The first line: the engine's name and version, the seed and the ko rule.
+/// Returns the first line: the engine's name and version, the seed and the ko rule.
 ///
 /// # Errors
 ///
-/// Where memory is refused.
+/// If memory can't be allocated.
 pub fn first_line(alloc: Global, plan: &Plan<'_>, notes: &Notes) -> Result<Vec<u8>, AllocError>
     ensures { IfOk result (λ text. text.items ≡ first_line plan.now notes.now) }
 {
@@ -57,7 +57,7 @@ pub fn first_line(alloc: Global, plan: &Plan<'_>, notes: &Notes) -> Result<Vec<u
     Ok(text)
 }
 
-/// What the engine answered, or what is said in its place.
+/// Returns what the engine answered, or this other text.
 fn shown_or(beginning: &Option<Beginning>, other: &[u8]) -> ArrayVec<u8, 322>
     requires { length other.now ≤ 322 }
     ensures { result.items ≡ shown_or beginning.now other.now }
@@ -70,7 +70,7 @@ fn shown_or(beginning: &Option<Beginning>, other: &[u8]) -> ArrayVec<u8, 322>
     shown
 }
 
-/// The ko rule, at the end of the first line.
+/// Returns the ko rule, as the end of the first line.
 fn ko_text(rule: KoRule) -> &'static [u8]
     ensures { result.now ≡ ko_text rule }
 {
@@ -80,12 +80,12 @@ fn ko_text(rule: KoRule) -> &'static [u8]
     }
 }
 
-/// What the last lines say.
+/// What the last lines report.
 #[derive(Clone, Copy)]
 pub struct Ending<'c> {
     /// Why the check is over.
     pub over: &'c Over,
-    /// The lessons that were to be asked and were not, or not whole.
+    /// The lessons that should have been asked and weren't, or not to their end.
     pub missed: &'c [Lesson],
     /// How many complaints of each lesson aren't shown, in the order of all lessons.
     pub hidden: &'c [u32],
@@ -97,11 +97,11 @@ pub struct Ending<'c> {
     pub suicides: u32,
 }
 
-/// The last lines: what wasn't shown, what wasn't asked and why, and the counts.
+/// Returns the last lines: what wasn't shown, what wasn't asked and why, and the counts.
 ///
 /// # Errors
 ///
-/// Where memory is refused.
+/// If memory can't be allocated.
 pub fn last_lines(
     alloc: Global,
     plan: &Plan<'_>,
@@ -123,7 +123,7 @@ pub fn last_lines(
     Ok(text)
 }
 
-/// How many complaints of the lessons aren't shown.
+/// Appends how many complaints of the lessons aren't shown.
 fn add_hidden(text: &mut Vec<u8>, hidden: &[u32]) -> Result<(), AllocError>
     ensures { OnOk result (text.new.items ≡ text.old.items ++ hidden_lines hidden.now) }
 {
@@ -133,7 +133,7 @@ fn add_hidden(text: &mut Vec<u8>, hidden: &[u32]) -> Result<(), AllocError>
     Ok(())
 }
 
-/// The same of a lesson.
+/// The same for one lesson.
 fn add_hidden_of(text: &mut Vec<u8>, hidden: &[u32], lesson: Lesson) -> Result<(), AllocError>
     ensures { OnOk result (text.new.items ≡ text.old.items ++ hidden_line hidden.now lesson) }
 {
@@ -153,14 +153,14 @@ fn add_hidden_of(text: &mut Vec<u8>, hidden: &[u32], lesson: Lesson) -> Result<(
     )
 }
 
-/// How many complaints of a lesson aren't shown.
+/// Returns how many complaints of a lesson aren't shown.
 fn hidden_of(hidden: &[u32], lesson: Lesson) -> u32
     ensures { result ≡ hidden_of hidden.now lesson }
 {
     hidden.get(lesson.number()).copied().unwrap_or(0)
 }
 
-/// A line that names lessons, where there are any.
+/// Appends a line that names lessons, if there are any.
 fn add_lessons(text: &mut Vec<u8>, lessons: &[Lesson], what: &[u8]) -> Result<(), AllocError>
     ensures { OnOk result (text.new.items ≡ text.old.items ++ lessons_line what.now lessons.now) }
 {
@@ -174,7 +174,7 @@ fn add_lessons(text: &mut Vec<u8>, lessons: &[Lesson], what: &[u8]) -> Result<()
     Ok(())
 }
 
-/// The names of lessons, each after a space.
+/// Appends the names of lessons, each after a space.
 fn add_names(text: &mut Vec<u8>, lessons: &[Lesson]) -> Result<(), AllocError>
     ensures { OnOk result (text.new.items ≡
         text.old.items ++ concat (map spaced_name lessons.now)) }
@@ -185,7 +185,7 @@ fn add_names(text: &mut Vec<u8>, lessons: &[Lesson]) -> Result<(), AllocError>
     Ok(())
 }
 
-/// The name of a lesson, after a space.
+/// Appends the name of a lesson, after a space.
 fn add_name(text: &mut Vec<u8>, lesson: Lesson) -> Result<(), AllocError>
     ensures { OnOk result (text.new.items ≡ text.old.items ++ spaced_name lesson) }
 {
@@ -194,7 +194,7 @@ fn add_name(text: &mut Vec<u8>, lesson: Lesson) -> Result<(), AllocError>
     Ok(())
 }
 
-/// The lessons that were to be asked and were not, and why.
+/// Appends the lessons that should have been asked and weren't, and why.
 fn add_missed(text: &mut Vec<u8>, over: &Over, missed: &[Lesson]) -> Result<(), AllocError>
     ensures { OnOk result (text.new.items ≡ text.old.items ++ missed_lines over.now missed.now) }
 {
@@ -217,7 +217,7 @@ fn add_missed(text: &mut Vec<u8>, over: &Over, missed: &[Lesson]) -> Result<(), 
     }
 }
 
-/// The lessons of these that were asked to their end, and in which no move was answered rightly, a line each.
+/// Appends those of these lessons that were completed, but had no move answered correctly, one a line.
 fn add_unplayed(
     text: &mut Vec<u8>,
     lessons: &[Lesson],
@@ -233,7 +233,7 @@ fn add_unplayed(
     Ok(())
 }
 
-/// The line of a lesson, where it is one of those.
+/// Appends the line of a lesson, if it is one of those.
 fn add_if_unplayed(text: &mut Vec<u8>, is_one: bool, lesson: Lesson) -> Result<(), AllocError>
     ensures { OnOk result (text.new.items ≡ text.old.items ++ unplayed_line is_one lesson) }
 {
@@ -250,7 +250,7 @@ fn add_if_unplayed(text: &mut Vec<u8>, is_one: bool, lesson: Lesson) -> Result<(
     )
 }
 
-/// Whether a lesson is among these and isn't missed, but no move was answered rightly in it.
+/// Returns whether a lesson is among these and isn't missed, but had no move answered correctly.
 fn is_unplayed(lessons: &[Lesson], missed: &[Lesson], answered: &[Lesson], lesson: Lesson) -> bool
     ensures { result ≡ is_unplayed lessons.now missed.now answered.now lesson }
 {
@@ -260,7 +260,7 @@ fn is_unplayed(lessons: &[Lesson], missed: &[Lesson], answered: &[Lesson], lesso
     !is_among(answered, lesson)
 }
 
-/// The line of a program that was not started.
+/// Appends the line of a program that couldn't be started.
 fn add_unstarted(text: &mut Vec<u8>, unstarted: &Unstarted) -> Result<(), AllocError>
     ensures { OnOk result (text.new.items ≡ text.old.items ++ unstarted_line unstarted.now) }
 {
@@ -270,7 +270,7 @@ fn add_unstarted(text: &mut Vec<u8>, unstarted: &Unstarted) -> Result<(), AllocE
     )
 }
 
-/// Why a program was not started.
+/// Returns why a program couldn't be started.
 fn unstarted_text(unstarted: &Unstarted) -> ArrayVec<u8, 397>
     ensures { result.items ≡ unstarted_text unstarted.now }
 {
@@ -279,7 +279,7 @@ fn unstarted_text(unstarted: &Unstarted) -> ArrayVec<u8, 397>
     text
 }
 
-/// The commands that the engine said it lacks.
+/// Appends the commands that the engine said it lacks.
 fn add_lacks(text: &mut Vec<u8>, notes: &Notes) -> Result<(), AllocError>
     ensures { OnOk result (text.new.items ≡ text.old.items ++ lack_lines notes.now) }
 {
@@ -289,7 +289,7 @@ fn add_lacks(text: &mut Vec<u8>, notes: &Notes) -> Result<(), AllocError>
     Ok(())
 }
 
-/// A command that the engine said it lacks, if it did.
+/// Appends a command that the engine said it lacks, if it did.
 fn add_lack(text: &mut Vec<u8>, lacks: bool, name: &[u8]) -> Result<(), AllocError>
     ensures { OnOk result (text.new.items ≡ text.old.items ++ lack_line lacks name.now) }
 {
@@ -306,7 +306,7 @@ fn add_lack(text: &mut Vec<u8>, lacks: bool, name: &[u8]) -> Result<(), AllocErr
     )
 }
 
-/// How many moves in a row the engine had taken back where it first refused an `undo`.
+/// Appends how many moves in a row the engine had undone when it first refused an `undo`.
 fn add_most_undos(text: &mut Vec<u8>, most: Option<u32>) -> Result<(), AllocError>
     ensures { OnOk result (text.new.items ≡ text.old.items ++ undos_line most) }
 {
@@ -319,7 +319,7 @@ fn add_most_undos(text: &mut Vec<u8>, most: Option<u32>) -> Result<(), AllocErro
     Ok(())
 }
 
-/// The sizes that the engine refused, where there are any.
+/// Appends the sizes that the engine refused, if there are any.
 fn add_refused(text: &mut Vec<u8>, sizes: &[u32]) -> Result<(), AllocError>
     ensures { OnOk result (text.new.items ≡ text.old.items ++ refused_line sizes.now) }
 {
@@ -330,7 +330,7 @@ fn add_refused(text: &mut Vec<u8>, sizes: &[u32]) -> Result<(), AllocError>
     Ok(())
 }
 
-/// A line of these sizes.
+/// Appends a line of these sizes.
 fn add_refusals(text: &mut Vec<u8>, sizes: &[u32]) -> Result<(), AllocError>
     ensures { OnOk result (text.new.items ≡ text.old.items ++ sizes_line sizes.now) }
 {
@@ -340,7 +340,7 @@ fn add_refusals(text: &mut Vec<u8>, sizes: &[u32]) -> Result<(), AllocError>
     Ok(())
 }
 
-/// Sizes, each after a space.
+/// Appends sizes, each after a space.
 fn add_sizes(text: &mut Vec<u8>, sizes: &[u32]) -> Result<(), AllocError>
     ensures { OnOk result (text.new.items ≡
         text.old.items ++ concat (map spaced_size sizes.now)) }
@@ -351,7 +351,7 @@ fn add_sizes(text: &mut Vec<u8>, sizes: &[u32]) -> Result<(), AllocError>
     Ok(())
 }
 
-/// A size, after a space.
+/// Appends a size, after a space.
 fn add_size(text: &mut Vec<u8>, size: u32) -> Result<(), AllocError>
     ensures { OnOk result (text.new.items ≡ text.old.items ++ spaced_size size) }
 {
@@ -360,7 +360,7 @@ fn add_size(text: &mut Vec<u8>, size: u32) -> Result<(), AllocError>
     Ok(())
 }
 
-/// How many moves that a `genmove` chose were suicide and weren't judged, where there are any.
+/// Appends how many suicides that a `genmove` chose weren't judged, if there are any.
 fn add_suicides(text: &mut Vec<u8>, suicides: u32) -> Result<(), AllocError>
     ensures { OnOk result (text.new.items ≡ text.old.items ++ suicides_line suicides) }
 {
@@ -371,7 +371,7 @@ fn add_suicides(text: &mut Vec<u8>, suicides: u32) -> Result<(), AllocError>
     Ok(())
 }
 
-/// That so many weren't judged.
+/// Appends the line that this many weren't judged.
 fn add_suicides_text(text: &mut Vec<u8>, suicides: u32) -> Result<(), AllocError>
     ensures { OnOk result (text.new.items ≡ text.old.items ++ suicides_text suicides) }
 {
@@ -381,7 +381,7 @@ fn add_suicides_text(text: &mut Vec<u8>, suicides: u32) -> Result<(), AllocError
     Ok(())
 }
 
-/// The last line.
+/// Appends the last line.
 fn add_counts(
     text: &mut Vec<u8>,
     commands: u32,
@@ -401,7 +401,7 @@ fn add_counts(
     Ok(())
 }
 
-/// A number and what it counts.
+/// Appends a number and what it counts.
 fn add_count(text: &mut Vec<u8>, number: u32, what: &[u8]) -> Result<(), AllocError>
     ensures { OnOk result (text.new.items ≡ text.old.items ++ counted_text number what.now) }
 {
@@ -411,7 +411,7 @@ fn add_count(text: &mut Vec<u8>, number: u32, what: &[u8]) -> Result<(), AllocEr
     Ok(())
 }
 
-/// The ending of what is counted.
+/// Returns the ending of what is counted.
 pub fn plural(number: u32) -> &'static [u8]
     ensures { result.now ≡ plural number }
 {

@@ -104,12 +104,12 @@ IsIllegal game _ = ⊥
 abbrev pub last_move : GameRecord → Option Move
 last_move game = slice_get game.moves (length game.moves - 1)
 
--- whether the line of the command that was asked last is sent in two pieces: so are those of its part
+-- whether the line of the command that was asked last is sent in two chunks: so are those of its part
 abbrev pub ends_in_pieces : List Said → Bool
 ends_in_pieces talk =
     option_map_or (λ said. is_in_pieces said.purpose.lesson said.purpose.part) (slice_get talk (length talk - 1)) false
 
--- Another line may follow the lines that wait: none of them is sent in two pieces. So a line that is sent in pieces is
+-- Another line may follow the lines that wait: none of them is sent in two chunks. So a line that is sent in chunks is
 -- the last of those that are sent with it.
 abbrev pub MayFollow : List Said → List ℕ → Type 0
 MayFollow talk waiting = ends_in_pieces talk ≡ true → waiting ≡ []
@@ -118,7 +118,7 @@ MayFollow talk waiting = ends_in_pieces talk ≡ true → waiting ≡ []
 abbrev pub lines_room : ℕ
 lines_room = 16 * most_command_bytes
 
--- Another line can't wait: there is no room for it, or one waits that is sent in two pieces.
+-- Another line can't wait: there is no room for it, or one waits that is sent in two chunks.
 abbrev pub IsFull : List Said → List ℕ → Type 0
 IsFull talk waiting =
     (lines_room < length waiting + most_command_bytes) ⊎ ((ends_in_pieces talk ≡ true) × (0 < length waiting))
@@ -217,20 +217,20 @@ AreHeard bytes before (Some fault) after = IsFoundIn bytes before fault after
 
 -- ---- an exchange
 
--- a process took this piece whole, and nothing waits to go out
+-- a process took this chunk whole, and nothing waits to go out
 pub record IsTaken {P : Type 0} (known : Ghosts P) (piece : List ℕ) (before after : P) : Type 0 where
   pub taken : Appends (known.taken before) (known.taken after) piece
   pub unbroken : IsUnbroken known.fails known.succeeds before after
   pub flushed : known.flushed after
   pub given : Keeps (known.given before) (known.given after)
 
--- it was cut off, and took a beginning of the piece
+-- it was cut off, and took a beginning of the chunk
 pub record IsTakenInPart {P : Type 0} (known : Ghosts P) (piece : List ℕ) (before after : P) : Type 0 where
   pub taken : TakesPart piece (known.taken before) (known.taken after)
   pub cut_off : IsCutOff known.fails known.succeeds before after
   pub given : Keeps (known.given before) (known.given after)
 
--- A process was sent pieces, one after the other. It took each of them whole. Or it was cut off in one, and was sent
+-- A process was sent chunks, one after the other. It took each of them whole. Or it was cut off in one, and was sent
 -- none after that.
 pub data AreTaken {P : Type 0} (known : Ghosts P) : List (List ℕ) → P → P → Type 0 where
   no_piece : {before : P} → AreTaken known [] before before
@@ -239,7 +239,7 @@ pub data AreTaken {P : Type 0} (known : Ghosts P) : List (List ℕ) → P → P 
   part : {pieces : List (List ℕ)} {before after : P} (piece : List ℕ) → IsTakenInPart known piece before after
       → AreTaken known (piece ∷ pieces) before after
 
--- how many bytes are sent later, where the last line is sent in two pieces: its newline, and the byte before that
+-- how many bytes are sent later, where the last line is sent in two chunks: its newline, and the byte before that
 abbrev pub later_bytes : ℕ
 later_bytes = 2
 
@@ -252,7 +252,7 @@ pieces_of in_pieces [] = []
 pieces_of in_pieces (byte ∷ more) =
     if in_pieces then two_pieces (byte ∷ more) else (byte ∷ more) ∷ []
 
--- A process was sent lines, if there were any: at once, or the last of them in two pieces. Before the second piece it
+-- A process was sent lines, if there were any: at once, or the last of them in two chunks. Before the second chunk it
 -- had time to read the first.
 abbrev pub IsSent : {P : Type 0} → Ghosts P → Bool → List ℕ → P → P → Type 0
 IsSent known in_pieces lines before after = AreTaken known (pieces_of in_pieces lines) before after

@@ -191,9 +191,9 @@ pub record MovesAreNotedOnceAnswered {P : Type 0} (known : Ghosts P) : Type 0 wh
 abbrev pub lines_end : List Said → ℕ
 lines_end talk = option_map_or (λ said. said.end) (slice_get talk (length talk - 1)) 0
 
--- A process was handed these bytes, a piece after the other, and between two pieces it took nothing. It took a piece
+-- A process was handed these bytes, a chunk after the other, and between two chunks it took nothing. It took a chunk
 -- whole. Or it was cut off in one, and took a beginning of that alone. Then up to two bytes more count, which it was not
--- handed: the end of a line that was to come in two pieces. It may be handed more pieces after that.
+-- handed: the end of a line that was to come in two chunks. It may be handed more chunks after that.
 pub data IsHanded {P : Type 0} (known : Ghosts P) (process : P) : List ℕ → P → Type 0 where
   nothing : IsHanded known process [] process
   took : {bytes : List ℕ} {mid now : P} (piece : List ℕ) → IsHanded known process bytes mid

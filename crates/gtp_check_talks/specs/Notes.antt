@@ -106,7 +106,7 @@ abbrev pub beginning_of : Reply → List ℕ
 beginning_of reply = if reply.ok then take most_shown reply.text.items else []
 
 -- How many moves in a row were taken back, once a command of a match was answered rightly: an `undo` takes one back, and
--- after any other success the row begins anew.
+-- after any other success the row begins again.
 abbrev pub undos_after : ℕ → Command → Bool → ℕ
 undos_after count Undo true = one_more count
 undos_after count Undo false = count

@@ -4,7 +4,7 @@ ghost use Rattle.gtp_check_talks.specs.Among.{is_among};
 
 use gtp_check_questions::Lesson;
 
-/// Whether a lesson is among these.
+/// Returns whether a lesson is among these.
 pub fn is_among(lessons: &[Lesson], lesson: Lesson) -> bool
     ensures { result ≡ is_among lessons.now lesson }
 {

@@ -1,4 +1,4 @@
-//! An engine that was started: what it is asked, and what it writes.
+//! A running engine: what it is asked, and what it writes.
 ghost use Rattle.std.specs.Prelude.{◌≡◌, ◌↔◌, ◌⊎◌, ◌+◌, ◌-◌, ◌++◌, ◌≤◌, ◌<◌, true, [], ◌∷◌, length, drop, take};
 ghost use Rattle.std.specs.Prelude.{IsTrue, IfNone, IfSome, OnOk, false, is_some, option_map};
 ghost use Rattle.arrayvec.specs.ArrayVec.{array_vec_len};
@@ -30,26 +30,26 @@ use gtp_process::{CutOff, Ending, PipeCause, Process, READ_ROOM, read_some, writ
 use gtp_wire::{CommandText, MOST_COMMAND_BYTES, MOST_SHOWN, Reply};
 use std::alloc::{AllocError, Global};
 
-/// The room for the lines of commands that are sent at once.
+/// The buffer size for the lines of commands that are sent at once.
 pub const LINES_ROOM: usize = 16 * MOST_COMMAND_BYTES;
 
-/// How many bytes are sent later, where a line is sent in two pieces: its newline, and the byte before that.
+/// How many bytes are sent later if a line is sent in two chunks: its newline, and the byte before that.
 const LATER_BYTES: usize = 2;
 
 /// The lines of commands that are sent at once.
 pub type Lines = ArrayVec<u8, LINES_ROOM>;
 
-/// The room for what is read.
+/// The buffers for what is read.
 #[derive(Drop)]
 pub struct Room {
-    /// For the bytes of one read.
+    /// The buffer of one read.
     pub buffer: [u8; READ_ROOM],
-    /// For a reply.
+    /// The buffer of a reply.
     pub reply: Reply,
 }
 
 impl Room {
-    /// Nothing was read.
+    /// Returns buffers without any output.
     pub fn new() -> Room {
         Room {
             buffer: [0u8; READ_ROOM],
@@ -58,7 +58,7 @@ impl Room {
     }
 }
 
-/// An engine that was started. It is not `Drop`: its process has to be ended.
+/// A running engine. It is not `Drop`: its process has to be ended.
 pub struct Engine<P> {
     /// Its process.
     pub process: P,
@@ -66,16 +66,16 @@ pub struct Engine<P> {
     pub sent: Vec<u8>,
     /// The commands.
     pub talk: Vec<Said>,
-    /// The lines of those that aren't sent yet.
+    /// The lines of commands that aren't sent yet.
     pub waiting: Lines,
-    /// What was read of it past the end of one reply. That is heard in the next exchange, before it is read again.
+    /// Output that was read past the end of one reply. The next exchange takes it before it reads again.
     pub held: Held,
-    /// The beginning of what it wrote since its last whole reply.
+    /// The beginning of what it wrote since its last complete reply.
     pub wrote: Beginning,
 }
 
 impl<P: Process> Engine<P> {
-    /// An engine that was asked nothing.
+    /// Returns an engine that was asked nothing yet.
     pub fn new(alloc: Global, process: P) -> Self
         ensures { (exam : Exam) → (notes : Notes)
             → dialogue result exam notes ≡ begun_with exam process notes }
@@ -90,7 +90,7 @@ impl<P: Process> Engine<P> {
         }
     }
 
-    /// Whether another line can wait to be sent. It can't follow one that is sent in two pieces.
+    /// Returns whether another line can wait to be sent. It can't follow one that is sent in two chunks.
     pub fn has_room(&self) -> bool
         ensures room { result ≡ true → array_vec_len self.now.waiting + 64 ≤ LINES_ROOM }
         ensures follows { result ≡ true
@@ -101,11 +101,11 @@ impl<P: Process> Engine<P> {
         !is_cut && self.waiting.len() + MOST_COMMAND_BYTES <= LINES_ROOM
     }
 
-    /// The engine is asked a command, whose line is joined to those that are sent next.
+    /// Asks the engine a command: the line waits with those that are sent next.
     ///
     /// # Errors
     ///
-    /// Where memory is refused.
+    /// If memory can't be allocated.
     pub fn ask(
         &mut self,
         examiner: &mut Examiner,
@@ -141,11 +141,11 @@ impl<P: Process> Engine<P> {
         Ok(())
     }
 
-    /// What the engine owes is heard, one reply at most. What it wrote before is heard first. Else what waits is sent,
-    /// and the engine is read once. Returns what is wrong with it, if anything.
+    /// Takes at most one reply of the engine: from what it wrote earlier, if any of that is left. Otherwise it sends
+    /// the waiting lines, and reads the engine once. Returns what is wrong with the engine, if anything.
     ///
-    /// So the engine is asked the next commands after each reply, however many come at once: what it was asked when
-    /// something is found doesn't hang on the time. How much of that was sent may.
+    /// So the engine is asked the next commands after each reply, however many replies come at once. What it was asked
+    /// when something is found doesn't depend on timing; how much of that was sent may.
     pub fn exchange(
         &mut self,
         examiner: &mut Examiner,
@@ -167,7 +167,7 @@ impl<P: Process> Engine<P> {
         self.read(examiner, room, notes)
     }
 
-    /// What waits is sent, and the last line of it in two pieces where that is asked for.
+    /// Sends the waiting lines, the last one in two chunks if its part asks for that.
     fn send_waiting(&mut self)
         ensures sent { IsSent P.Process (ends_in_pieces self.old.talk.items) self.old.waiting.items
             self.old.process self.new.process }
@@ -179,7 +179,7 @@ impl<P: Process> Engine<P> {
         self.waiting.clear();
     }
 
-    /// The engine is read once, and what it wrote is heard. One that owes several answers may run first.
+    /// Reads the engine once, and takes what it wrote. An engine that owes several replies may run first.
     fn read(&mut self, examiner: &mut Examiner, room: &mut Room, notes: &mut Notes) -> Option<Fault>
         ensures read { IsRead P.Process (dialogue self.old examiner.old.exam notes.old) result
             (dialogue self.new examiner.new.exam notes.new) }
@@ -195,7 +195,7 @@ impl<P: Process> Engine<P> {
         }
     }
 
-    /// What was read is heard. What is left of it is held.
+    /// Takes what was read, and holds what is left of it.
     fn hear_read(
         &mut self,
         examiner: &mut Examiner,
@@ -220,7 +220,7 @@ impl<P: Process> Engine<P> {
         }
     }
 
-    /// What the engine wrote before is heard.
+    /// Takes what the engine wrote earlier.
     fn hear_held(
         &mut self,
         examiner: &mut Examiner,
@@ -246,21 +246,21 @@ impl<P: Process> Engine<P> {
         }
     }
 
-    /// How many commands the engine has answered.
+    /// Returns how many commands the engine has answered.
     pub fn answered(&self, examiner: &Examiner) -> usize
         ensures { result ≡ length self.now.talk.items - length examiner.now.exam.unanswered }
     {
         self.talk.len().saturating_sub(examiner.unanswered())
     }
 
-    /// For what the oldest command that isn't answered was asked.
+    /// Returns the lesson and part for which the oldest unanswered command was asked.
     pub fn owed_purpose(&self, examiner: &Examiner) -> Purpose
         ensures { result ≡ owed_purpose self.now.talk.items examiner.now.exam }
     {
         purpose_of(said_at(self.talk.as_slice(), self.answered(examiner)))
     }
 
-    /// Whether the engine was sent all that it was asked, and has answered it.
+    /// Returns whether the engine was sent all that it was asked, and has answered it.
     pub fn owes_nothing(&self, examiner: &Examiner) -> bool
         ensures sent { result ≡ true → self.now.waiting.items ≡ [] }
         ensures answered { result ≡ true → examiner.now.exam.unanswered ≡ [] }
@@ -270,7 +270,7 @@ impl<P: Process> Engine<P> {
         self.waiting.is_empty() && examiner.unanswered() == 0
     }
 
-    /// The process is ended, and what was said stays.
+    /// Ends the process, and returns the conversation.
     pub fn end(self) -> Ended
         ensures said { (result.sent.items ≡ self.sent.items)
             × (result.talk.items ≡ self.talk.items) × (result.wrote.items ≡ self.wrote.items) }
@@ -297,8 +297,8 @@ impl<P: Process> Engine<P> {
     }
 }
 
-/// What an engine wrote is heard, up to the end of one reply, or to something wrong. The beginning of what it wrote
-/// since its last whole reply is kept, where something is wrong up to the end of its line.
+/// Takes output of an engine, up to the end of one reply, or to something wrong. Keeps the beginning of what it wrote
+/// since its last complete reply: if something is wrong, up to the end of that line.
 fn hear(bytes: &[u8], wrote: &mut Beginning, examiner: &mut Examiner, reply: &mut Reply) -> Heard
     ensures used { result.used ≤ length bytes.now }
     ensures heard { IsHeard examiner.old.exam bytes.now (hearing result.used
@@ -320,7 +320,8 @@ fn hear(bytes: &[u8], wrote: &mut Beginning, examiner: &mut Examiner, reply: &mu
     heard
 }
 
-/// The bytes up to the end of the line in which the last of so many is, with its newline, as far as they are there.
+/// Returns the bytes up to the end of the line that has the last of the first `used` bytes, with its newline, as far as
+/// they are there.
 fn through_line(bytes: &[u8], used: usize) -> &[u8]
     requires { used ≤ length bytes.now }
     ensures { result.now ≡ through_line used bytes.entry.now }
@@ -331,7 +332,7 @@ fn through_line(bytes: &[u8], used: usize) -> &[u8]
     &bytes[..end.min(bytes.len())]
 }
 
-/// The beginning of what an engine wrote since its last whole reply is kept: nothing where these bytes end one.
+/// Keeps the beginning of what an engine wrote since its last complete reply: nothing if these bytes end one.
 fn keep_since(wrote: &mut Beginning, bytes: &[u8], is_read: bool)
     ensures { wrote.new.items ≡ kept_after wrote.old.items bytes.now is_read }
 {
@@ -342,7 +343,7 @@ fn keep_since(wrote: &mut Beginning, bytes: &[u8], is_read: bool)
     keep(wrote, bytes);
 }
 
-/// The beginning of what an engine wrote is kept.
+/// Keeps the beginning of what an engine wrote.
 fn keep(wrote: &mut Beginning, bytes: &[u8])
     ensures { wrote.new.items ≡ take most_shown (wrote.old.items ++ bytes.now) }
 {
@@ -350,7 +351,7 @@ fn keep(wrote: &mut Beginning, bytes: &[u8])
     push(wrote, &bytes[..room.min(bytes.len())]);
 }
 
-/// What a command was asked for, if there is one.
+/// Returns the lesson and part that a command was asked for, if there is one.
 pub fn purpose_of(said: Option<Said>) -> Purpose
     ensures { result ≡ purpose_of said }
 {
@@ -363,7 +364,7 @@ pub fn purpose_of(said: Option<Said>) -> Purpose
     }
 }
 
-/// Whether the line of the command that was asked last is sent in two pieces.
+/// Returns whether the line of the command that was asked last is sent in two chunks.
 fn ends_in_pieces(talk: &[Said]) -> bool
     ensures { result ≡ ends_in_pieces talk.now }
 {
@@ -373,8 +374,8 @@ fn ends_in_pieces(talk: &[Said]) -> bool
     }
 }
 
-/// The lines are sent, if there are any: at once, or all but the last bytes, and these a moment later. Where a process
-/// is cut off then, what it wrote before is heard still, up to the end of its output.
+/// Sends lines, if there are any: all at once, or in two chunks, with the last bytes a moment later. If a process is
+/// cut off then, what it wrote before is still taken, up to the end of its output.
 fn send<P: Process>(process: &mut P, lines: &[u8], in_pieces: bool)
     ensures { IsSent P.Process in_pieces lines.now process.old process.new }
 {
@@ -388,7 +389,7 @@ fn send<P: Process>(process: &mut P, lines: &[u8], in_pieces: bool)
     }
 }
 
-/// All but the last bytes are sent, and these a moment later.
+/// Sends all but the last bytes, and these a moment later.
 fn send_in_two<P: Process>(process: &mut P, lines: &[u8])
     ensures { AreTaken P.Process (two_pieces lines.now) process.old process.new }
 {
@@ -400,14 +401,14 @@ fn send_in_two<P: Process>(process: &mut P, lines: &[u8])
     send_at_once(process, second);
 }
 
-/// A piece is sent.
+/// Sends a chunk.
 fn send_at_once<P: Process>(process: &mut P, piece: &[u8])
     ensures { AreTaken P.Process (piece.now ∷ []) process.old process.new }
 {
     let _ = is_taken(process, piece);
 }
 
-/// A piece is sent. Returns whether the process took it whole.
+/// Sends a chunk. Returns whether the process took all of it.
 fn is_taken<P: Process>(process: &mut P, piece: &[u8]) -> bool
     ensures whole { result ≡ true → IsTaken P.Process piece.now process.old process.new }
     ensures part { result ≡ false → IsTakenInPart P.Process piece.now process.old process.new }
@@ -418,16 +419,16 @@ fn is_taken<P: Process>(process: &mut P, piece: &[u8]) -> bool
     }
 }
 
-/// A command that is asked.
+/// A command to ask.
 #[derive(Drop)]
 struct Line {
-    /// The bytes of its line.
+    /// Its line.
     text: CommandText,
     /// Whether it is a `play` that isn't legal.
     is_illegal: bool,
 }
 
-/// The examiner asks a command. What is due to it says whether it is a `play` that isn't legal.
+/// Asks the examiner for the line of a command. What is due to it says whether it is a `play` that isn't legal.
 fn line_of(examiner: &mut Examiner, command: &CheckCommand) -> Line
     requires may { HasRoomFor examiner.old.exam command.now }
     ensures asks { Asks examiner.old.exam command.now examiner.new.exam }
@@ -443,7 +444,7 @@ fn line_of(examiner: &mut Examiner, command: &CheckCommand) -> Line
     }
 }
 
-/// Whether a failure is due, since a move isn't legal.
+/// Returns whether a failure is due because a move isn't legal.
 fn is_bad_move(due: &Due) -> bool
     ensures { result ≡ is_bad_move due.now }
 {
@@ -453,7 +454,7 @@ fn is_bad_move(due: &Due) -> bool
     }
 }
 
-/// The last move of a game, if it has one.
+/// Returns the last move of a game, if it has one.
 fn last_move(game: &Game) -> Option<Move>
     ensures { result ≡ last_move game.now }
 {
@@ -463,17 +464,17 @@ fn last_move(game: &Game) -> Option<Move>
     }
 }
 
-/// What was said with an engine that was ended.
+/// The conversation with an engine that was ended.
 #[derive(Drop)]
 pub struct Ended {
     /// The lines of all that it was asked.
     pub sent: Vec<u8>,
-    /// How many bytes of these lines were sent to it. The rest still waited.
+    /// How many bytes of these lines were sent to it. The rest was still waiting.
     pub went_out: usize,
     /// The commands.
     pub talk: Vec<Said>,
-    /// The beginning of what it wrote since its last whole reply.
+    /// The beginning of what it wrote since its last complete reply.
     pub wrote: Beginning,
-    /// How it ended.
+    /// How its process ended.
     pub ending: Ending,
 }

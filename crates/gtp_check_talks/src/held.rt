@@ -1,4 +1,4 @@
-//! What an engine wrote that isn't heard yet.
+//! Output of an engine that isn't taken yet.
 ghost use Rattle.std.specs.Prelude.{◌≡◌, ◌≤◌, ◌==◌, [], drop, length};
 
 use arrayvec::ArrayVec;
@@ -6,14 +6,14 @@ use go_base::push;
 use gtp_process::READ_ROOM;
 use std::marker::Model;
 
-/// What was read of an engine and isn't heard yet. What is heard is passed by, and nothing is moved.
+/// Output of an engine that was read and isn't taken yet. Taking bytes moves nothing in the buffer.
 ///
-/// It is seen as the bytes that aren't heard yet.
+/// Its model is the bytes that aren't taken yet.
 #[derive(Drop)]
 pub struct Held {
-    /// What was read at last.
+    /// What was read last.
     bytes: ArrayVec<u8, READ_ROOM>,
-    /// How many of these were heard.
+    /// How many of these bytes were taken.
     heard: usize,
 }
 
@@ -28,7 +28,7 @@ impl Model for Held {
 }
 
 impl Held {
-    /// Nothing.
+    /// Returns a buffer without bytes.
     pub fn new() -> Held
         ensures { result ≡ [] }
     {
@@ -38,21 +38,21 @@ impl Held {
         }
     }
 
-    /// Whether all is heard.
+    /// Returns whether all is taken.
     pub fn is_empty(&self) -> bool
         ensures { result ≡ (length self.now == 0) }
     {
         self.heard == self.bytes.len()
     }
 
-    /// The bytes that aren't heard yet.
+    /// Returns the bytes that aren't taken yet.
     pub fn bytes(&self) -> &[u8]
         ensures { result.now ≡ self.now }
     {
         &self.bytes.as_slice()[self.heard..]
     }
 
-    /// These bytes were read, in place of what is held.
+    /// Holds these bytes instead of the old ones.
     pub fn hold(&mut self, bytes: &[u8])
         requires { length bytes.now ≤ READ_ROOM }
         ensures { self.new ≡ bytes.now }
@@ -62,7 +62,7 @@ impl Held {
         push(&mut self.bytes, bytes);
     }
 
-    /// So many of the bytes are heard.
+    /// Notes that this many bytes were taken.
     pub fn pass(&mut self, count: usize)
         requires { count ≤ length self.old }
         ensures { self.new ≡ drop count self.old }
@@ -71,7 +71,7 @@ impl Held {
         self.heard = self.bytes.len() - rest;
     }
 
-    /// Nothing is held any more.
+    /// Drops all bytes.
     pub fn clear(&mut self)
         ensures { self.new ≡ [] }
     {

@@ -1,4 +1,4 @@
-//! Laws of what is said with an engine. Each is the contract of a function that does nothing.
+//! Laws of the conversation with an engine. Each is the contract of a function that does nothing.
 ghost use Rattle.gtp_check_talks.specs.Laws.{ComplaintsAreJustified, NoRightEngineIsComplainedOf};
 ghost use Rattle.gtp_check_talks.specs.Laws.{KoRulesStay, LossesAreNoWrongAnswers, RightAnswersEndStartsInVain};
 ghost use Rattle.gtp_check_talks.specs.Laws.{MovesAreNotedOnceAnswered, SilenceSaysAllIsRight};
@@ -10,7 +10,7 @@ use gtp_check_judge::laws::{
 use gtp_process::Process;
 use gtp_session::policy::Policy;
 
-/// What is found in what an engine wrote is justified: all that it answered before was right, and no right answer to
+/// What is found in the output of an engine is justified: all its replies before were correct, and no correct reply to
 /// the command is what was heard.
 pub fn complaints_are_justified<P: Process>()
     ensures { ComplaintsAreJustified P.Process }
@@ -18,7 +18,7 @@ pub fn complaints_are_justified<P: Process>()
     findings_are_justified();
 }
 
-/// In what a right engine writes nothing is found, whatever it chooses.
+/// Nothing is found in the output of a correct engine, whatever it chooses.
 pub fn no_right_engine_is_complained_of<P: Process, Q: Policy>()
     ensures { NoRightEngineIsComplainedOf P.Process Q.may }
 {
@@ -26,16 +26,16 @@ pub fn no_right_engine_is_complained_of<P: Process, Q: Policy>()
     no_right_engine_is_blamed::<Q>();
 }
 
-/// As long as nothing is found, each answer that was heard of an engine is a right one, and what was heard and is held
-/// is all that it gave.
+/// As long as nothing is found, each reply of an engine that was heard is correct, and what was heard and is held is
+/// all that it wrote.
 pub fn silent_conversations_are_right<P: Process>()
     ensures { SilenceSaysAllIsRight P.Process }
 {
     silence_says_all_is_right();
 }
 
-/// An engine that is lost owed an answer, and then its output ended or it was cut off. All that it answered before was
-/// right.
+/// An engine that is lost owed a reply, and then its output ended or it was cut off. All that it answered before was
+/// correct.
 pub fn losses_are_no_wrong_answers<P: Process>()
     ensures { LossesAreNoWrongAnswers P.Process }
 {
@@ -47,18 +47,18 @@ pub fn ko_rules_stay<P: Process>()
     ensures { KoRulesStay P.Process }
 {}
 
-/// A right answer ends the starts in vain, and nothing that is heard makes them more.
+/// A correct reply ends the count of starts in vain, and nothing that is heard makes them more.
 pub fn right_answers_end_starts_in_vain<P: Process>()
     ensures { RightAnswersEndStartsInVain P.Process }
 {}
 
-/// What counts as sent of the lines that an engine was asked are all but those that wait: the lines of its first commands.
-/// Its process was handed them.
+/// Of the lines that an engine was asked, all count as sent except those that wait: these are the lines of its first
+/// commands. They were passed to its process.
 pub fn what_counts_as_sent_was_handed<P: Process>()
     ensures { WhatCountsAsSentWasHanded P.Process }
 {}
 
-/// A lesson is noted just where a `play` or a `genmove` that was asked in it was answered rightly, and then it stays
+/// A lesson is noted exactly when a `play` or a `genmove` that was asked in it is answered correctly, and then it stays
 /// noted.
 pub fn moves_are_noted_once_answered<P: Process>()
     ensures { MovesAreNotedOnceAnswered P.Process }

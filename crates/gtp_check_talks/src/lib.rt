@@ -1,5 +1,5 @@
-//! What `gtp_check` says with one engine: what it is asked, what is heard of it, and what is noted of that. A conversation is tried again
-//! on a new engine. `gtp_check_app` is the check over all engines that are started.
+//! The conversation of `gtp_check` with one engine: what the engine is asked, what it answers, and what is noted of
+//! that. It can be tried again with a new engine. `gtp_check_app` has the check over all engines that are started.
 #![tactic(auto)]
 
 pub mod among;

@@ -1,4 +1,4 @@
-//! What is noted of right answers.
+//! What is noted of correct replies.
 ghost use Rattle.std.specs.Prelude.{◌≡◌};
 ghost use Rattle.gtp_check_talks.specs.Notes.{asks_for_move, beginning_of, counted, is_move, is_refused, lacks};
 ghost use Rattle.gtp_check_talks.specs.Notes.{noted, noted_in, noted_of, nothing_noted, started, with_answer};
@@ -17,20 +17,20 @@ use gtp_wire::{Command, MOST_SHOWN, Reply};
 /// The beginning of what an engine wrote: 80 bytes at most.
 pub type Beginning = ArrayVec<u8, MOST_SHOWN>;
 
-/// What is noted of the right answers of an engine, over all its starts.
+/// What is noted of the correct replies of an engine, over all its starts.
 #[derive(Drop)]
 pub struct Notes {
     /// The beginning of its name, once it has answered.
     pub name: Option<Beginning>,
     /// The beginning of its version.
     pub version: Option<Beginning>,
-    /// The sizes that it refused before it took any board of them, each once.
+    /// The sizes that it refused before it accepted any board of them, each once.
     pub refused: ArrayVec<u32, 25>,
-    /// The sizes that it took, each once.
+    /// The sizes that it accepted, each once.
     pub taken: ArrayVec<u32, 25>,
-    /// How many moves in a row it took back, up to now.
+    /// How many moves in a row it has undone up to now.
     pub in_a_row: u32,
-    /// How many in a row it had taken back where it first refused to take back the next.
+    /// How many moves in a row it had undone when it first refused to undo the next.
     pub most_undos: Option<u32>,
     /// Whether it said that it lacks `fixed_handicap`.
     pub lacks_handicap: bool,
@@ -38,18 +38,18 @@ pub struct Notes {
     pub lacks_undo: bool,
     /// Whether it said that it lacks `final_score`.
     pub lacks_score: bool,
-    /// Whether it gave a right answer since it was started.
+    /// Whether it gave a correct reply since it was started.
     pub has_answered: bool,
-    /// How often in a row it was started and gave no right answer.
+    /// How often in a row it was started and gave no correct reply.
     pub fruitless: u32,
     /// How many commands were asked.
     pub commands: u32,
-    /// The lessons in which a `play` or a `genmove` was answered rightly, each once.
+    /// The lessons in which a `play` or a `genmove` was answered correctly, each once.
     pub answered: Lessons,
 }
 
 impl Notes {
-    /// Before the first start.
+    /// The notes before the first start.
     pub fn new() -> Notes
         ensures { result ≡ nothing_noted }
     {
@@ -70,7 +70,7 @@ impl Notes {
         }
     }
 
-    /// The engine was started.
+    /// Notes a start of the engine.
     pub fn start(&mut self)
         ensures { self.new ≡ started self.old }
     {
@@ -79,15 +79,15 @@ impl Notes {
         self.in_a_row = 0;
     }
 
-    /// A command was asked.
+    /// Counts a command that was asked.
     pub fn count(&mut self)
         ensures { self.new ≡ counted self.old }
     {
         self.commands = self.commands.saturating_add(1);
     }
 
-    /// What was heard without a finding, where the oldest command was asked in this lesson. The reply is read only where
-    /// that was answered.
+    /// Notes what was heard without a finding, when the oldest command was asked in this lesson. The reply is read only
+    /// if that command was answered.
     pub fn take(&mut self, heard: &Heard, lesson: Lesson, reply: &Reply, skills: Skills)
         ensures { self.new ≡ noted_in lesson heard.now.answered
             (noted self.old heard.now.answered heard.now.refused reply.now skills) }
@@ -102,7 +102,7 @@ impl Notes {
         }
     }
 
-    /// A move of a lesson was answered rightly.
+    /// Notes that a move of a lesson was answered correctly.
     fn take_lesson(&mut self, lesson: Lesson)
         ensures { self.new ≡ with_lesson lesson self.old }
     {
@@ -112,7 +112,7 @@ impl Notes {
         }
     }
 
-    /// What it refused rightly, if anything.
+    /// Notes what it refused and may refuse, if anything.
     fn take_refusal(&mut self, refused: &Option<Refusal>)
         ensures { self.new ≡ with_refusal self.old refused.now }
     {
@@ -123,7 +123,7 @@ impl Notes {
         }
     }
 
-    /// A right answer to a command.
+    /// Notes a correct reply to a command.
     fn answer(&mut self, command: &CheckCommand, reply: &Reply, skills: Skills)
         ensures { self.new ≡ noted_of command.now reply.now skills (with_answer self.old) }
     {
@@ -142,7 +142,7 @@ impl Notes {
         }
     }
 
-    /// A right answer to a command of a match, a success or a failure.
+    /// Notes a correct reply to a command of a match, a success or a failure.
     fn take_match(&mut self, command: &Command, ok: bool)
         ensures { self.new ≡ with_match self.old command.now ok }
     {
@@ -150,7 +150,7 @@ impl Notes {
         self.take_size(taken_by(command, ok));
     }
 
-    /// It took a board of this size, if there is one.
+    /// Notes that it accepted a board of this size, if there is one.
     fn take_size(&mut self, size: Option<Size>)
         ensures { self.new ≡ with_taken self.old size }
     {
@@ -163,7 +163,7 @@ impl Notes {
         }
     }
 
-    /// What the engine said that it lacks.
+    /// Notes what the engine said that it lacks.
     fn take_skills(&mut self, skills: Skills)
         ensures { self.new ≡ with_lacks self.old skills }
     {
@@ -172,7 +172,7 @@ impl Notes {
         self.lacks_score = self.lacks_score || lacks(skills.final_score);
     }
 
-    /// It refused a size. That is noted where it didn't take it before.
+    /// Notes that it refused a size, unless it accepted it before.
     fn refuse(&mut self, size: Size)
         ensures { self.new ≡ with_size self.old size }
     {
@@ -183,7 +183,7 @@ impl Notes {
         }
     }
 
-    /// It refused to take back one move more.
+    /// Notes that it refused to undo another move.
     fn refuse_undo(&mut self)
         ensures { self.new ≡ with_most_undos self.old }
     {
@@ -192,14 +192,14 @@ impl Notes {
         }
     }
 
-    /// Whether it took a size before.
+    /// Returns whether it accepted a size before.
     fn is_taken(&self, lines: u32) -> bool
         ensures { result ≡ is_taken self.now lines }
     {
         self.taken.iter().any(|known| *known == lines)
     }
 
-    /// Whether it refused a size before.
+    /// Returns whether it refused a size before.
     fn is_refused(&self, lines: u32) -> bool
         ensures { result ≡ is_refused self.now lines }
     {
@@ -207,7 +207,7 @@ impl Notes {
     }
 }
 
-/// How many moves in a row were taken back, once a command of a match was answered so.
+/// Returns how many moves in a row were undone, after this reply to a command of a match.
 fn undos_after(count: u32, command: &Command, ok: bool) -> u32
     ensures { result ≡ undos_after count command.now ok }
 {
@@ -224,7 +224,7 @@ fn undos_after(count: u32, command: &Command, ok: bool) -> u32
     }
 }
 
-/// The size of the board that was taken by this answer, if it was.
+/// Returns the board size that was accepted with this reply, if one was.
 fn taken_by(command: &Command, ok: bool) -> Option<Size>
     ensures { result ≡ taken_by command.now ok }
 {
@@ -234,7 +234,7 @@ fn taken_by(command: &Command, ok: bool) -> Option<Size>
     }
 }
 
-/// Whether a command asks for a move: a `play` or a `genmove`.
+/// Returns whether a command asks for a move: a `play` or a `genmove`.
 fn asks_for_move(command: &CheckCommand) -> bool
     ensures { result ≡ asks_for_move command.now }
 {
@@ -249,7 +249,7 @@ fn asks_for_move(command: &CheckCommand) -> bool
     }
 }
 
-/// The same of a command of a match.
+/// The same for a command of a match.
 fn is_move(command: &Command) -> bool
     ensures { result ≡ is_move command.now }
 {
@@ -264,7 +264,7 @@ fn is_move(command: &Command) -> bool
     }
 }
 
-/// Whether an engine said that it lacks a command.
+/// Returns whether an engine said that it lacks a command.
 fn lacks(skill: Skill) -> bool
     ensures { result ≡ lacks skill }
 {
@@ -274,7 +274,7 @@ fn lacks(skill: Skill) -> bool
     }
 }
 
-/// The beginning of the text of a reply, and nothing of a failure.
+/// Returns the beginning of the text of a reply; of a failure it is empty.
 fn beginning_of(reply: &Reply) -> Beginning
     ensures { result.items ≡ beginning_of reply.now }
 {

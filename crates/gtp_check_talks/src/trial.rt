@@ -1,4 +1,4 @@
-//! A shorter conversation is tried on a new engine.
+//! The trial of a shorter conversation with a new engine.
 ghost use Rattle.std.specs.Prelude.{◌≡◌, ◌<◌, ◌≤◌, ◌↔◌, ◌⊎◌, true, false, [], length, take, slice_get};
 ghost use Rattle.std.specs.Prelude.{IsTrue, IfOk, IfNone, IfSome, OnOk, OnErr, option_map};
 ghost use Rattle.gtp_process.specs.Starts.{program_line};
@@ -26,12 +26,12 @@ pub struct Tried {
     pub fault: Fault,
     /// How many commands were answered.
     pub answered: usize,
-    /// What was said.
+    /// The conversation.
     pub said: Ended,
 }
 
 impl Tried {
-    /// What was asked up to the command that was answered wrongly.
+    /// Returns what was asked, up to the command that was answered wrongly.
     pub fn conversation(&self) -> &[Said]
         ensures { result.now ≡ wrong_talk (wrong_of self.now) }
     {
@@ -39,7 +39,7 @@ impl Tried {
         &self.said.talk[..count]
     }
 
-    /// The command that was answered wrongly.
+    /// Returns the command that was answered wrongly.
     fn command(&self) -> Option<CheckCommand>
         ensures { result ≡ wrong_command (wrong_of self.now) }
     {
@@ -49,7 +49,7 @@ impl Tried {
         }
     }
 
-    /// What that was asked for.
+    /// Returns the lesson and part that it was asked for.
     pub fn purpose(&self) -> Purpose
         ensures { result ≡ wrong_purpose (wrong_of self.now) }
     {
@@ -62,7 +62,7 @@ impl Tried {
         }
     }
 
-    /// Whether another conversation ended with the same command and the same fault.
+    /// Returns whether another conversation ended with the same command and the same fault.
     pub fn ends_like(&self, other: &Tried) -> bool
         ensures { IsTrue result ↔ EndsLike (wrong_of self.now) (wrong_of other.now) }
     {
@@ -70,27 +70,27 @@ impl Tried {
     }
 }
 
-/// A conversation that is tried.
+/// A conversation to try.
 #[derive(Clone, Copy)]
 pub struct Trial<'t> {
-    /// What hands out memory.
+    /// The allocator.
     pub alloc: Global,
-    /// The command line of the engine.
+    /// The engine's program and its arguments.
     pub words: &'t [&'t str],
     /// The commands, in their order.
     pub commands: &'t [CheckCommand],
-    /// For what each of them is asked.
+    /// The lesson and part that each of them is asked for.
     pub purpose: Purpose,
-    /// Whether a `play` is asked that would be suicide.
+    /// Whether a `play` that would be suicide is asked.
     pub suicide: Suicide,
 }
 
-/// A new engine is started, asked the commands of a trial and ended. Returns what is wrong with it, if anything is. One
-/// that can't be started gives nothing. Where a command may not be asked, or is left out, the trial is over.
+/// Starts a new engine, asks it the commands of a trial, and ends it. Returns what is wrong with it, if anything, and
+/// nothing if it can't be started. If a command may not be asked, or is left out, the trial is over.
 ///
 /// # Errors
 ///
-/// Where memory is refused.
+/// If memory can't be allocated.
 pub fn try_commands<S: Starter>(
     trial: &Trial<'_>,
     starter: &mut S,
@@ -126,11 +126,11 @@ pub fn try_commands<S: Starter>(
     }
 }
 
-/// The engine, which is up, is asked the commands of a trial, one after the other: until something is wrong, or it has
-/// answered all up to one that may not be asked, or is left out.
+/// Asks the engine, which is up, the commands of a trial, one after the other: until something is wrong, or until it
+/// has answered all up to one that may not be asked or is left out.
 ///
-/// Each turn of the loop gets on: a command is answered, or more of a reply is read, which has 8,192 bytes at most, or what
-/// waits is sent.
+/// Each turn of the loop makes progress: a command is answered, or more of a reply is read, which has 8,192 bytes at
+/// most, or what waits is sent.
 fn ask_all<P: Process>(
     trial: &Trial<'_>,
     engine: &mut Engine<P>,
@@ -161,7 +161,7 @@ fn ask_all<P: Process>(
     }
 }
 
-/// The engine is asked the first of these commands of a trial, as many as may be asked at once. Returns how many.
+/// Asks the engine the first of these commands of a trial, as many as may be asked at once. Returns how many.
 fn ask_some<P: Process>(
     trial: &Trial<'_>,
     commands: &[CheckCommand],
@@ -189,7 +189,7 @@ fn ask_some<P: Process>(
     Ok(commands.len())
 }
 
-/// Whether a command may not be asked of the engine now, or is left out.
+/// Returns whether a command may not be asked of the engine now, or is left out.
 fn is_held_back(examiner: &Examiner, command: &CheckCommand, suicide: Suicide) -> bool
     ensures is { result ≡ true → IsHeldBack suicide examiner.now.exam command.now }
     ensures may { result ≡ false → HasRoomFor examiner.now.exam command.now }

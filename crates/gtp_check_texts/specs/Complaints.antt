@@ -111,7 +111,7 @@ ahead_text false = codes "# asked before this answer was read:\n"
 abbrev pub ahead_lines : List ℕ → List ℕ
 ahead_lines lines = ahead_text (length lines == 0) ++ lines
 
--- that the line of the command came in two pieces, which is not to be seen in the block
+-- that the line of the command came in two chunks, which is not to be seen in the block
 abbrev pub pieces_text : Bool → List ℕ
 pieces_text true = codes "# that line came in two pieces: a right engine waits for its newline\n"
 pieces_text false = []
@@ -135,7 +135,7 @@ abbrev pub shown_before : Complaint → Shown → List ℕ
 shown_before complaint Whole = before_lines complaint
 shown_before complaint LastGame = last_game_lines complaint
 
--- what the engine was asked: the lines before the command, the board, the command, and that it came in pieces
+-- what the engine was asked: the lines before the command, the board, the command, and that it came in chunks
 abbrev pub asked_lines : Complaint → List ℕ
 asked_lines complaint =
     shown_before complaint complaint.shown

@@ -1,4 +1,4 @@
-//! The board that is drawn in a complaint.
+//! The board that a complaint shows.
 ghost use Rattle.std.specs.Prelude.{◌≡◌, ◌++◌, ◌≤◌, OnOk, MatchBool};
 ghost use Rattle.std.specs.List.{flat_map};
 ghost use Rattle.go_base.specs.Decide.{holds};
@@ -16,12 +16,12 @@ use gtp_check_reasons::ended_line;
 use gtp_check_reasons::texts::add_all;
 use std::alloc::AllocError;
 
-/// Appends the board of a game as lines that begin with `#`: its rows from the top down, then the columns' letters.
-/// Nothing is appended where no stone is on the board.
+/// Appends the board of a game as lines that begin with `#`: its rows from the top down, then the columns' letters. It
+/// appends nothing if the board has no stone.
 ///
 /// # Errors
 ///
-/// Where memory is refused.
+/// If memory can't be allocated.
 pub fn add_board(text: &mut Vec<u8>, game: &Game) -> Result<(), AllocError>
     ensures { OnOk result (text.new.items ≡ text.old.items ++ drawn_board game.now) }
 {
@@ -31,7 +31,7 @@ pub fn add_board(text: &mut Vec<u8>, game: &Game) -> Result<(), AllocError>
     add_comments(text, &game.show())
 }
 
-/// Appends the lines of a text but the last, each after `# `.
+/// Appends all lines of a text except the last, each after `# `.
 fn add_comments(text: &mut Vec<u8>, shown: &[u8]) -> Result<(), AllocError>
     ensures { OnOk result (text.new.items
         ≡ text.old.items ++ flat_map comment_line (all_but_last (lines_of shown.now))) }
@@ -44,7 +44,7 @@ fn add_comments(text: &mut Vec<u8>, shown: &[u8]) -> Result<(), AllocError>
     Ok(())
 }
 
-/// Whether a stone is on the board.
+/// Returns whether there is a stone on the board.
 fn has_stone(game: &Game) -> bool
     ensures { result ≡ holds (stone? (board_of game.now)) }
 {
@@ -56,7 +56,7 @@ fn has_stone(game: &Game) -> bool
     false
 }
 
-/// Whether a stone is on a row of the board.
+/// Returns whether there is a stone on a row of the board.
 fn has_stone_in_row(game: &Game, row: u32) -> bool
     requires least { 1 ≤ row }
     requires most { row ≤ most_size }
@@ -70,7 +70,7 @@ fn has_stone_in_row(game: &Game, row: u32) -> bool
     false
 }
 
-/// The stone where a column and a row cross.
+/// Returns the stone where a column and a row cross.
 fn stone_on(game: &Game, column: u32, row: u32) -> Option<Colour>
     requires { IsCrossing column row }
     ensures { result ≡ stone_at (board_of game.now) (point column row) }

@@ -34,7 +34,7 @@ use gtp_process::{Ending, PipeCause, push_ending, push_quoted};
 use gtp_wire::MOST_SHOWN;
 use std::alloc::{AllocError, Global};
 
-/// Something that was found, and the conversation in which it was.
+/// A fault, and the conversation in which it was found.
 #[derive(Clone, Copy)]
 pub struct Complaint<'t> {
     /// Its number, counted from 1.
@@ -49,26 +49,26 @@ pub struct Complaint<'t> {
     pub went_out: usize,
     /// The commands.
     pub talk: &'t [Said],
-    /// How many of them it answered before.
+    /// How many of them it answered before the fault.
     pub answered: usize,
-    /// The beginning of what it wrote after these answers.
+    /// The beginning of what it wrote after these replies.
     pub wrote: &'t [u8],
     /// How its process ended.
     pub ending: Ending,
     /// Whether positional ko explains the refusal.
     pub is_positional: bool,
-    /// The game of a right engine before the faulty command, where it is known.
+    /// The game of a correct engine before the faulty command, if it is known.
     pub game: Option<&'t Game>,
     /// How much of the conversation is shown.
     pub shown: Shown,
 }
 
-/// The text of a complaint: what was wrong, the conversation as it was sent with the board before the faulty command,
-/// what the engine wrote, what is right, and what was sent before that answer was read.
+/// Returns the text of a complaint: what was wrong, the conversation as it was sent with the board before the faulty
+/// command, what the engine wrote, what is right, and what was sent before that reply was read.
 ///
 /// # Errors
 ///
-/// Where memory is refused.
+/// If memory can't be allocated.
 pub fn complaint_text(alloc: Global, complaint: &Complaint<'_>) -> Result<Vec<u8>, AllocError>
     ensures { IfOk result (λ text. text.items ≡ complaint_lines complaint.now) }
 {
@@ -85,7 +85,7 @@ pub fn complaint_text(alloc: Global, complaint: &Complaint<'_>) -> Result<Vec<u8
 }
 
 impl<'t> Complaint<'t> {
-    /// Where the line of the command with this number, counted from 0, ends.
+    /// Returns where the line of the command with this number, counted from 0, ends.
     fn line_end(&self, number: usize) -> usize
         ensures { result ≡ line_end self.now number }
     {
@@ -95,7 +95,7 @@ impl<'t> Complaint<'t> {
         }
     }
 
-    /// Where it begins.
+    /// Returns where it begins.
     fn line_start(&self, number: usize) -> usize
         ensures { result ≡ line_start self.now number }
     {
@@ -105,14 +105,14 @@ impl<'t> Complaint<'t> {
         }
     }
 
-    /// The lines that were sent, up to that of this command.
+    /// Returns the lines that were sent, up to that of this command.
     fn lines_to(&self, number: usize) -> &'t [u8]
         ensures { result.now ≡ lines_to self.now number }
     {
         front(self.sent, self.line_end(number))
     }
 
-    /// The line of this command as it was sent.
+    /// Returns the line of this command as it was sent.
     pub(crate) fn line_of(&self, number: usize) -> &'t [u8]
         ensures { result.now ≡ line_of self.now number }
     {
@@ -121,21 +121,21 @@ impl<'t> Complaint<'t> {
         &lines[start.min(lines.len())..]
     }
 
-    /// The lines before the faulty command.
+    /// Returns the lines before the faulty command.
     fn before_lines(&self) -> &'t [u8]
         ensures { result.now ≡ before_lines self.now }
     {
         front(self.lines_to(self.answered), self.line_start(self.answered))
     }
 
-    /// The line of the faulty command as it was sent.
+    /// Returns the line of the faulty command as it was sent.
     fn asked_line(&self) -> &'t [u8]
         ensures { result.now ≡ asked_line self.now }
     {
         self.line_of(self.answered)
     }
 
-    /// What was asked, up to the faulty command.
+    /// Returns what was asked, up to the faulty command.
     pub(crate) fn asked(&self) -> &'t [Said]
         ensures { result.now ≡ take (self.now.answered + 1) self.now.talk.now }
     {
@@ -143,14 +143,14 @@ impl<'t> Complaint<'t> {
         &self.talk[..count]
     }
 
-    /// The faulty command, without its newline.
+    /// Returns the faulty command, without its newline.
     fn faulty_line(&self) -> &'t [u8]
         ensures { result.now ≡ faulty_line self.now }
     {
         without_newline(self.asked_line())
     }
 
-    /// The lines that were sent after it.
+    /// Returns the lines that were sent after it.
     fn after_lines(&self) -> &'t [u8]
         ensures { result.now ≡ after_lines self.now }
     {
@@ -159,7 +159,7 @@ impl<'t> Complaint<'t> {
         &lines[end.min(lines.len())..]
     }
 
-    /// That the line of the faulty command came in two pieces, where it did.
+    /// Returns the note that the line of the faulty command came in two chunks, if it did.
     fn pieces_line(&self) -> &'static [u8]
         ensures { result.now ≡ pieces_line (faulty_said self.now) }
     {
@@ -169,7 +169,7 @@ impl<'t> Complaint<'t> {
         }
     }
 
-    /// Whether its output ended within a reply, of which something was written that isn't blank.
+    /// Returns whether its output ended within a reply, of which something was written that isn't blank.
     fn is_within(&self) -> bool
         ensures { result ≡ is_within self.now.fault self.now.wrote.now }
     {
@@ -179,21 +179,21 @@ impl<'t> Complaint<'t> {
         }
     }
 
-    /// Whether an answer may have run on into the next one.
+    /// Returns whether a reply may have run on into the next one.
     fn may_run_on(&self) -> bool
         ensures { result ≡ may_run_on self.now }
     {
         runs_on(self.fault, self.answered, self.talk.len(), self.wrote)
     }
 
-    /// The rule that says what is right, in whatever game.
+    /// Returns the rule that says what is right, in any game.
     fn rule(&self) -> &'static [u8]
         ensures { result.now ≡ rule_text self.now.fault self.now.ending (told self.now) }
     {
         rule_text(self.fault, self.ending, self.told())
     }
 
-    /// That moves of one colour in a row are legal, where such a one was refused in a known game.
+    /// Returns the note that moves of one colour in a row are legal, if such a move was refused in a known game.
     fn in_a_row(&self) -> &'static [u8]
         ensures { result.now ≡ in_a_row self.now.game self.now.fault (told self.now) }
     {
@@ -203,7 +203,7 @@ impl<'t> Complaint<'t> {
         }
     }
 
-    /// The command for which it is said what is right, if there is one.
+    /// Returns the command to explain, if there is one.
     fn told(&self) -> Option<CheckCommand>
         ensures { result ≡ told self.now }
     {
@@ -212,7 +212,7 @@ impl<'t> Complaint<'t> {
         Some(told_after(before, said.command))
     }
 
-    /// What a right engine answers, where that is shown.
+    /// Returns what a correct engine answers, if that is shown.
     fn answer(&self) -> ArrayVec<u8, ANSWER_ROOM>
         ensures { result.items ≡ answer_of self.now }
     {
@@ -220,14 +220,14 @@ impl<'t> Complaint<'t> {
     }
 }
 
-/// The first so many bytes of a text.
+/// Returns the first `count` bytes of a text.
 fn front(text: &[u8], count: usize) -> &[u8]
     ensures { result.now ≡ take count text.entry.now }
 {
     &text[..count.min(text.len())]
 }
 
-/// A line without its newline.
+/// Returns a line without its newline.
 pub fn without_newline(line: &[u8]) -> &[u8]
     ensures { result.now ≡ strip_last newline line.entry.now }
 {
@@ -237,7 +237,7 @@ pub fn without_newline(line: &[u8]) -> &[u8]
     }
 }
 
-/// The first line: the number, the lesson, the command and what was wrong.
+/// Appends the first line: the number, the lesson, the command and what was wrong.
 fn add_head(text: &mut Vec<u8>, complaint: &Complaint<'_>) -> Result<(), AllocError>
     ensures { OnOk result (text.new.items ≡ text.old.items ++ head_line complaint.now) }
 {
@@ -264,7 +264,7 @@ fn add_head(text: &mut Vec<u8>, complaint: &Complaint<'_>) -> Result<(), AllocEr
     )
 }
 
-/// That a line came in two pieces, where it did.
+/// Returns the note that a line came in two chunks, if it did.
 fn pieces_text(in_pieces: bool) -> &'static [u8]
     ensures { result.now ≡ pieces_text in_pieces }
 {
@@ -275,21 +275,21 @@ fn pieces_text(in_pieces: bool) -> &'static [u8]
     }
 }
 
-/// Whether something is written that isn't blank.
+/// Returns whether something is written that isn't blank.
 fn has_more_than_blanks(wrote: &[u8]) -> bool
     ensures { result ≡ list_any (λ byte. nat_lt space byte) wrote.now }
 {
     wrote.iter().any(|byte| *byte > b' ')
 }
 
-/// That its output ended within a reply.
+/// Returns the note that its output ended within a reply, if it did.
 fn within_text(is_within: bool) -> &'static [u8]
     ensures { result.now ≡ within_text is_within }
 {
     if is_within { b" within a reply" } else { b"" }
 }
 
-/// How the process ended, where that is what was wrong.
+/// Returns how the process ended, if that is what was wrong.
 fn ended_text(fault: Fault, ending: Ending) -> ArrayVec<u8, 24>
     ensures { result.items ≡ ended_text fault ending }
 {
@@ -301,14 +301,14 @@ fn ended_text(fault: Fault, ending: Ending) -> ArrayVec<u8, 24>
     text
 }
 
-/// The line of what the engine wrote.
+/// Appends the line with what the engine wrote.
 fn add_wrote(text: &mut Vec<u8>, wrote: &[u8]) -> Result<(), AllocError>
     ensures { OnOk result (text.new.items ≡ text.old.items ++ wrote_line wrote.now) }
 {
     add_all(text, &[b"# it wrote: ", &shown(wrote), b"\n"])
 }
 
-/// The beginning of what the engine wrote, as it is shown.
+/// Returns the beginning of what the engine wrote, as it is shown.
 fn shown(wrote: &[u8]) -> ArrayVec<u8, 322>
     ensures { result.items ≡ quoted (take most_shown wrote.now) }
 {
@@ -317,7 +317,7 @@ fn shown(wrote: &[u8]) -> ArrayVec<u8, 322>
     text
 }
 
-/// The beginning of what the engine wrote.
+/// Returns the beginning of what the engine wrote.
 fn beginning(wrote: &[u8]) -> &[u8]
     ensures beginning { result.now ≡ take most_shown wrote.entry.now }
     ensures few { length result.now ≤ 80 }
@@ -325,7 +325,8 @@ fn beginning(wrote: &[u8]) -> &[u8]
     &wrote[..MOST_SHOWN.min(wrote.len())]
 }
 
-/// What the engine was asked: the lines before the faulty command, the board, that command, and that it came in pieces.
+/// Appends what the engine was asked: the lines before the faulty command, the board, that command, and the note that
+/// it came in chunks.
 fn add_asked(alloc: Global, text: &mut Vec<u8>, complaint: &Complaint<'_>) -> Result<(), AllocError>
     ensures { OnOk result (text.new.items ≡ text.old.items ++ asked_lines complaint.now) }
 {
@@ -335,7 +336,7 @@ fn add_asked(alloc: Global, text: &mut Vec<u8>, complaint: &Complaint<'_>) -> Re
     text.extend_from_slice(complaint.pieces_line())
 }
 
-/// The lines before the faulty command, or of these the last game alone.
+/// Appends the lines before the faulty command, or only the last game of them.
 fn add_before(
     alloc: Global,
     text: &mut Vec<u8>,
@@ -350,7 +351,7 @@ fn add_before(
     }
 }
 
-/// The board of a game, where it is known.
+/// Appends the board of a game, if it is known.
 fn add_board_if(text: &mut Vec<u8>, game: Option<&Game>) -> Result<(), AllocError>
     ensures { OnOk result (text.new.items ≡ text.old.items ++ board_lines game.entry) }
 {
@@ -360,7 +361,7 @@ fn add_board_if(text: &mut Vec<u8>, game: Option<&Game>) -> Result<(), AllocErro
     }
 }
 
-/// The line of what is right, and a line more on the colour of a move where there is one.
+/// Appends the line that says what is right, and another one about the colour of a move if there is one.
 fn add_rule(text: &mut Vec<u8>, complaint: &Complaint<'_>) -> Result<(), AllocError>
     ensures { OnOk result (text.new.items ≡ text.old.items ++ rule_line complaint.now) }
 {
@@ -371,7 +372,7 @@ fn add_rule(text: &mut Vec<u8>, complaint: &Complaint<'_>) -> Result<(), AllocEr
     text.extend_from_slice(complaint.in_a_row())
 }
 
-/// What is right, as far as no answer is shown.
+/// Appends what is right, without the answer itself.
 fn add_decided(text: &mut Vec<u8>, complaint: &Complaint<'_>) -> Result<(), AllocError>
     ensures { OnOk result (text.new.items ≡ text.old.items
         ++ rule_of complaint.now (is_within complaint.now.fault complaint.now.wrote.now)) }
@@ -387,7 +388,7 @@ fn add_decided(text: &mut Vec<u8>, complaint: &Complaint<'_>) -> Result<(), Allo
     }
 }
 
-/// What a right engine answers, if that is known.
+/// Appends what a correct engine answers, if that is known.
 fn add_answer(text: &mut Vec<u8>, answer: &[u8]) -> Result<(), AllocError>
     ensures { OnOk result (text.new.items ≡ text.old.items ++ before_rule answer.now) }
 {
@@ -397,7 +398,7 @@ fn add_answer(text: &mut Vec<u8>, answer: &[u8]) -> Result<(), AllocError>
     add_all(text, &[answer, b"; "])
 }
 
-/// The line of an answer that may have run on into the next one, where one may.
+/// Appends the line about a reply that may have run on into the next one, if one may.
 fn add_run_on(text: &mut Vec<u8>, complaint: &Complaint<'_>) -> Result<(), AllocError>
     ensures { OnOk result (text.new.items
         ≡ text.old.items ++ run_on_line (may_run_on complaint.now)) }
@@ -405,7 +406,7 @@ fn add_run_on(text: &mut Vec<u8>, complaint: &Complaint<'_>) -> Result<(), Alloc
     text.extend_from_slice(run_on_line(complaint.may_run_on()))
 }
 
-/// What was asked after the faulty command, before that was answered, where there is any.
+/// Appends what was asked after the faulty command and before the reply to it, if anything was.
 fn add_ahead(text: &mut Vec<u8>, lines: &[u8]) -> Result<(), AllocError>
     ensures { OnOk result (text.new.items ≡ text.old.items ++ ahead_lines lines.now) }
 {
@@ -413,7 +414,7 @@ fn add_ahead(text: &mut Vec<u8>, lines: &[u8]) -> Result<(), AllocError>
     text.extend_from_slice(lines)
 }
 
-/// That they were asked before, where there are any.
+/// Returns the head of these lines, if there are any.
 fn ahead_text(are_none: bool) -> &'static [u8]
     ensures { result.now ≡ ahead_text are_none }
 {
@@ -424,7 +425,7 @@ fn ahead_text(are_none: bool) -> &'static [u8]
     }
 }
 
-/// The line of the other ko rule, where that explains the refusal.
+/// Appends the line about the other ko rule, if that explains the refusal.
 fn add_ko(text: &mut Vec<u8>, is_positional: bool) -> Result<(), AllocError>
     ensures { OnOk result (text.new.items ≡ text.old.items ++ ko_line is_positional) }
 {

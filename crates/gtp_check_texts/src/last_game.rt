@@ -1,4 +1,4 @@
-//! The last game of a conversation, where a complaint shows it alone.
+//! The last game of a conversation, if a complaint shows only that.
 ghost use Rattle.std.specs.Prelude.{◌≡◌, ◌<◌, ◌++◌, OnOk};
 ghost use Rattle.gtp_check_texts.specs.LastGame.{answered_lines, choice_at, choice_line, chosen_line, game_lines, is_genmove};
 ghost use Rattle.gtp_check_texts.specs.LastGame.{last_game_lines, left_out_line};
@@ -21,8 +21,8 @@ pub enum Shown {
     LastGame,
 }
 
-/// Appends the lines of the last game before the faulty command, after how many earlier ones are left out. The lines
-/// that set what is in force when it begins come first. After each `genmove` comes what the engine chose.
+/// Appends the lines of the last game before the faulty command, after the number of earlier ones that are left out.
+/// First come the lines that set what is in force when it begins. After each `genmove` comes what the engine chose.
 pub(crate) fn add_last_game(
     alloc: Global,
     text: &mut Vec<u8>,
@@ -36,7 +36,7 @@ pub(crate) fn add_last_game(
     Ok(())
 }
 
-/// Appends how many lines are left out, where any are.
+/// Appends how many lines are left out, if any are.
 fn add_left_out(alloc: Global, text: &mut Vec<u8>, count: usize) -> Result<(), AllocError>
     ensures { OnOk result (text.new.items ≡ text.old.items ++ left_out_line count) }
 {
@@ -86,7 +86,7 @@ fn add_answered(
     add_choice_at(text, said, next)
 }
 
-/// Appends what the engine chose, where this was asked and then that.
+/// Appends what the engine chose, if this command was asked and then that one.
 fn add_choice_at(
     text: &mut Vec<u8>,
     said: Option<Said>,
@@ -100,7 +100,7 @@ fn add_choice_at(
     }
 }
 
-/// Appends what the engine chose at a `genmove`, where this was asked next.
+/// Appends what the engine chose at a `genmove`, if this command was asked next.
 fn add_choice(text: &mut Vec<u8>, said: &Said, next: &Said) -> Result<(), AllocError>
     ensures { OnOk result (text.new.items ≡ text.old.items ++ choice_line said.now next.now) }
 {
@@ -120,7 +120,7 @@ fn add_chosen(text: &mut Vec<u8>, made: Option<Move>) -> Result<(), AllocError>
     }
 }
 
-/// Whether an engine is asked for a move.
+/// Returns whether a command asks the engine for a move.
 fn is_genmove(command: &CheckCommand) -> bool
     ensures { result ≡ is_genmove command.now }
 {

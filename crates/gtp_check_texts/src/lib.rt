@@ -1,4 +1,5 @@
-//! The texts of `gtp_check`: the block of a complaint, with the board before the command, and the list of lessons.
+//! The texts of `gtp_check`: the block of a complaint, with the board before the faulty command, and the list of
+//! lessons.
 #![tactic(auto)]
 
 mod board;

@@ -6,11 +6,11 @@ use gtp_check_questions::{LESSONS, Lesson};
 use gtp_check_reasons::texts::add_all;
 use std::alloc::{AllocError, Global};
 
-/// The lessons, a line each: the name, and what is asked.
+/// Returns the lessons, one a line: the name, and what is asked.
 ///
 /// # Errors
 ///
-/// Where memory is refused.
+/// If memory can't be allocated.
 pub fn list_text(alloc: Global) -> Result<Vec<u8>, AllocError>
     ensures { IfOk result (λ text. text.items ≡ list_lines) }
 {
@@ -29,14 +29,14 @@ fn add_line(text: &mut Vec<u8>, lesson: Lesson) -> Result<(), AllocError>
     add_all(text, &[name, spaces_after(name), asked_text(lesson), b"\n"])
 }
 
-/// The spaces after a name: up to thirteen bytes together.
+/// Returns the spaces after a name: up to thirteen bytes together.
 fn spaces_after(name: &[u8]) -> &'static [u8]
     ensures { result.now ≡ spaces_after (length name.now) }
 {
     &b"             "[name.len().min(12)..]
 }
 
-/// What a lesson asks.
+/// Returns what a lesson asks.
 fn asked_text(lesson: Lesson) -> &'static [u8]
     ensures { result.now ≡ asked_text lesson }
 {

@@ -266,7 +266,7 @@ pub record RetakesAreMet : Type 0 where
 
 -- ---- restarts
 
--- the restarts of a side are the calls that started it, but for the first
+-- the restarts of a side are the calls that started it, except for the first
 abbrev pub RestartsAreCounted : Type 0
 RestartsAreCounted =
     (setup : SetupRecord) (calls : List Call) (c : Controller) (side : Colour) → Calls (new setup) calls c

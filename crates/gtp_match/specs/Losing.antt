@@ -172,7 +172,7 @@ pub record ReportsLoss (side : Colour) (c new : Controller) (fault : Option Side
   -- the other side stays as it is, so that one never goes down
   pub other_stays : side_of new.sides (other side) ≡ side_of c.sides (other side)
 
--- This holds of bytes that are heard once, and of all bytes of a piece, which are heard reply by reply. Of the match
+-- This holds of bytes that are heard once, and of all bytes of a chunk, which are heard reply by reply. Of the match
 -- nothing is asked. Once a verdict was given no side fails by what is heard, and nothing is reported.
 pub record LossesAreReported : Type 0 where
   pub once : (c new : Controller) (side : Colour) (bytes : List ℕ) (used : ℕ) (fault : Option SideFault)

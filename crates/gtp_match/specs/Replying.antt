@@ -174,7 +174,7 @@ MovesHaveReplies =
     → Hears c s bytes used fault new
     → (new.game ≡ c.game) ⊎ (MakesMove c new s bytes used ⊎ TakesMoveBack c new s bytes used fault)
 
--- A start and a command that is sent leave the game. So does `lost`, but for a move that was to be taken back at the
+-- A start and a command that is sent leave the game. So does `lost`, except for a move that was to be taken back at the
 -- side that goes down.
 abbrev pub OthersLeaveTheGame : Type 0
 OthersLeaveTheGame =

@@ -115,7 +115,7 @@ pub record AreReported (side : Colour) (c new : Controller) (retakes : List Reta
   -- none once a verdict was given
   pub over : IsSome c.verdict → retakes ≡ []
 
--- This holds of bytes that are heard once, and of all bytes of a piece, which are heard reply by reply.
+-- This holds of bytes that are heard once, and of all bytes of a chunk, which are heard reply by reply.
 pub record RetakesAreReported : Type 0 where
   pub once : (c new : Controller) (side : Colour) (bytes : List ℕ) (used : ℕ) (fault : Option SideFault)
       (retake : Option Retake) → IsSound c → HearsExactly c side bytes used fault new

@@ -1,4 +1,4 @@
-//! Why a side fails by what it writes: it goes down, is unfit or forfeits.
+//! Why a side fails by what it writes: it goes down, is unfit, or forfeits.
 ghost use Rattle.std.specs.Prelude.{◌≡◌, ◌++◌, take};
 ghost use Rattle.gtp_match.specs.Losing.{owed_of, BreaksRule};
 ghost use Rattle.gtp_wire.specs.Replies.{most_shown};
@@ -21,18 +21,18 @@ pub type ShownBytes = ArrayVec<u8, MOST_SHOWN>;
 pub enum LossCause {
     /// Its bytes show this fault. It goes down.
     Shows(SideFault),
-    /// It failed at a command of the script other than `play`, or its answer to `fixed_handicap` isn't the handicap's
+    /// It failed a command of the script other than `play`, or its answer to `fixed_handicap` isn't the handicap's
     /// points. It is unfit.
     Unfit,
     /// It refused a `play` that isn't retaken. It forfeits.
     RefusesPlay,
-    /// It failed to take back its last move, which the other side refused. The other side forfeits.
+    /// It failed to undo its last move, which the other side refused. The other side forfeits.
     KeepsMove,
-    /// It failed at a `genmove`. It forfeits.
+    /// It failed a `genmove`. It forfeits.
     NoMove,
     /// Its answer to a `genmove` is neither a vertex nor a resignation. It forfeits.
     NoVertex,
-    /// Its move is refused for this cause. It forfeits.
+    /// Its move is illegal for this cause. It forfeits.
     Illegal(PlayFault),
 }
 
@@ -52,13 +52,13 @@ pub struct Owed {
 pub struct Loss {
     /// Why.
     pub cause: LossCause,
-    /// What it owed when its bytes ended the reply, or showed the fault, by which it fails. The bytes are those of this
-    /// reply, without what follows it. Where they are no reply, they are the first 80 of all that was heard since the
-    /// last whole reply, also of what follows the fault.
+    /// What it owed at the end of the reply, or at the fault, by which it fails. If that is a reply, the bytes are
+    /// those of the reply, without what follows it. Otherwise they are the first 80 of all that was read since the last
+    /// whole reply, including what follows the fault.
     pub owed: Owed,
 }
 
-/// What an engine owes.
+/// Returns what an engine owes.
 pub(crate) fn owed_by(engine: &EngineRun) -> Owed
     ensures { result ≡ owed_of engine.now engine.now.reader }
 {
@@ -69,7 +69,7 @@ pub(crate) fn owed_by(engine: &EngineRun) -> Owed
     }
 }
 
-/// The first bytes of a text.
+/// Returns the first bytes of a text, as many as are shown.
 pub(crate) fn first_bytes(text: &[u8]) -> ShownBytes
     ensures { result.items ≡ take most_shown text.now }
 {
@@ -78,7 +78,7 @@ pub(crate) fn first_bytes(text: &[u8]) -> ShownBytes
     bytes
 }
 
-/// The first bytes of two texts, joined, of which the first has no more.
+/// Returns the first bytes of two texts, joined. The first has no more than are shown.
 pub(crate) fn joined_bytes(held: &Option<ShownBytes>, text: &[u8]) -> ShownBytes
     ensures { result.items ≡ take most_shown (bytes_in held.now ++ text.now) }
 {
@@ -93,7 +93,7 @@ pub(crate) fn joined_bytes(held: &Option<ShownBytes>, text: &[u8]) -> ShownBytes
     }
 }
 
-/// The rule that a chosen vertex breaks, if any.
+/// Returns the rule that a chosen vertex breaks, if any.
 pub(crate) fn broken_rule(game: &Game, side: Side, choice: Option<Choice>) -> Option<LossCause>
     ensures { BreaksRule game.now side choice result }
 {

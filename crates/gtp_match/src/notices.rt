@@ -1,4 +1,4 @@
-//! What is reported of a side: what it owes, and what is found of a reply that was judged.
+//! What is reported of a side: what it owes, and what a judged reply shows.
 ghost use Rattle.std.specs.Prelude.{◌≡◌, IfSome, IsSome};
 ghost use Rattle.gtp_match.specs.Losing.{HasLossCause, owed};
 ghost use Rattle.gtp_match.specs.Sides.{side_of};
@@ -14,7 +14,7 @@ use go_base::Side;
 use gtp_wire::{Reply, read_choice};
 
 impl Controller {
-    /// What a side owes. None where it is down, or a verdict was given.
+    /// Returns what a side owes, or `None` if it is down or a verdict was given.
     pub fn owed(&self, side: Side) -> Option<Owed>
         ensures { result ≡ owed self.now side }
     {
@@ -27,7 +27,7 @@ impl Controller {
         }
     }
 
-    /// The first bytes that a side wrote since its last whole reply, if any.
+    /// Returns the first bytes that a side wrote since its last whole reply, if any.
     pub fn held(&self, side: Side) -> Option<ShownBytes>
         ensures { bytes_in result ≡ held self.now side }
     {
@@ -43,7 +43,7 @@ impl Controller {
         }
     }
 
-    /// What is reported of a reply with this outcome, if anything.
+    /// Returns what to report of a reply with this outcome, if anything.
     pub fn notice(&self, side: Side, outcome: Outcome, reply: &Reply) -> Option<Notice>
         requires { IsSome (side_of self.now.sides side).up }
         ensures { IfSome (side_of self.now.sides side).up (λ engine.
@@ -56,7 +56,7 @@ impl Controller {
         }
     }
 
-    /// What is found of a reply with this outcome, if it is to be reported.
+    /// Returns what a reply with this outcome shows, if it is to be reported.
     fn finding(&self, side: Side, outcome: Outcome, reply: &Reply) -> Option<Finding>
         requires { IsSome (side_of self.now.sides side).up }
         ensures { IfSome (side_of self.now.sides side).up (λ engine.
@@ -81,7 +81,7 @@ impl Controller {
         }
     }
 
-    /// The cause of a loss by a reply for which its side forfeits.
+    /// Returns the cause of the loss for a reply by which its side forfeits.
     fn forfeit_cause(&self, side: Side, cause: ForfeitCause, reply: &Reply) -> Option<LossCause>
         ensures { IfSome (side_of self.now.sides side).up (λ engine.
             HasLossCause self.now side engine reply.now (Outcome.Forfeits cause) result) }

@@ -1,4 +1,4 @@
-//! What a match reports of bytes of a side that were heard: a refused `play` that is retaken, and a loss.
+//! What a match reports of the bytes of a side: a refused `play` that is retaken, and a loss.
 ghost use Rattle.std.specs.Prelude.{◌≡◌, None, Some};
 ghost use Rattle.std.specs.Option.{option_or};
 ghost use Rattle.gtp_match.specs.Losing.{first_of};
@@ -9,28 +9,28 @@ use crate::sides::EngineRun;
 use crate::unanswered::SentCommand;
 use crate::verdicts::SideFault;
 
-/// That a refused `play` is retaken. The move that was refused leaves the record, and its maker is asked for another,
-/// unless the match ends before that. This is no loss.
+/// Reports that a refused `play` is retaken: the refused move leaves the record, and its maker is asked for another,
+/// unless the match ends before that. This is not a loss.
 #[derive(Drop)]
 pub struct Retake {
-    /// Which retake of this number of a move it is: 1 to 3.
+    /// How often the move of this number was retaken, this time included: 1 to 3.
     pub count: u32,
-    /// What the side that refused owed when its reply ended: the refused `play` alone. The bytes are those of the
-    /// refusal, without what follows it.
+    /// What the refusing side owed when its reply ended: only the refused `play`. The bytes are those of the refusal,
+    /// without what follows it.
     pub owed: Owed,
 }
 
-/// What a match reports of bytes that were heard.
+/// What a match reports of the bytes that it processed.
 #[derive(Drop)]
 pub struct Report {
     /// The refused `play` that is retaken, if any.
     pub retake: Option<Retake>,
-    /// Why the side fails, if it does. Where a refusal is retaken, it fails by what follows.
+    /// Why the side fails, if it does. If there is also a retake, the loss came after it.
     pub loss: Option<Loss>,
 }
 
 impl Report {
-    /// Nothing is reported.
+    /// Returns an empty report.
     pub(crate) fn nothing() -> Report
         ensures { result ≡ record { retake = None; loss = None } }
     {
@@ -40,8 +40,8 @@ impl Report {
         }
     }
 
-    /// Adds what is reported of bytes that were heard, of a side that held these before and wrote this text then. The
-    /// first retake and the first loss stay.
+    /// Adds what is to be reported of bytes: the side wrote `text` now, and the reader held `held` before. The first
+    /// retake and the first loss stay.
     pub(crate) fn add(&mut self, held: &Option<ShownBytes>, text: &[u8], notice: Option<Notice>)
         ensures retake { self.new.retake
             ≡ option_or self.old.retake (retake_in (bytes_in held.now) text.now notice) }
@@ -62,7 +62,7 @@ impl Report {
         }
     }
 
-    /// A retake is reported, unless one was before.
+    /// Adds a retake, unless the report has one.
     fn add_retake(&mut self, retake: Retake)
         ensures retake { self.new.retake ≡ option_or self.old.retake (Some retake) }
         ensures loss { self.new.loss ≡ self.old.loss }
@@ -72,7 +72,7 @@ impl Report {
         }
     }
 
-    /// A loss is reported, unless one was before.
+    /// Adds a loss, unless the report has one.
     fn add_loss(&mut self, loss: Loss)
         ensures loss { self.new.loss ≡ first_of self.old.loss (Some loss) }
         ensures retake { self.new.retake ≡ self.old.retake }
@@ -83,19 +83,21 @@ impl Report {
     }
 }
 
-/// What is found of bytes of a side that were heard once.
+/// What bytes of a side show, when they are processed up to one reply or fault.
 #[derive(Clone, Copy, Debug)]
 pub enum Finding {
-    /// They end a refused `play` that is retaken. It is the retake of this count, of its number of a move.
+    /// They complete the refusal of a `play` that is retaken. The move of its number was retaken this often, this time
+    /// included.
     Retakes(u32),
-    /// By them the side fails, for this cause.
+    /// They make the side fail, for this cause.
     Fails(LossCause),
 }
 
-/// What is reported of bytes of a side that were heard once, and what it hadn't answered then.
+/// What to report of bytes of a side that were processed up to one reply or fault, and what the side hadn't answered
+/// then.
 #[derive(Clone, Copy, Debug)]
 pub struct Notice {
-    /// What is found.
+    /// What they show.
     pub finding: Finding,
     /// How many commands it hadn't answered.
     pub unanswered: u32,
@@ -104,7 +106,7 @@ pub struct Notice {
 }
 
 impl Notice {
-    /// This is found of what an engine wrote.
+    /// Reports this finding about what an engine wrote.
     pub fn new(engine: &EngineRun, finding: Finding) -> Notice
         ensures { result ≡ noticed engine.now finding }
     {
@@ -116,7 +118,7 @@ impl Notice {
     }
 }
 
-/// What was heard of bytes of a side: up to the end of one reply or a fault, or all of them.
+/// What came of bytes of a side, up to the end of one reply or a fault, or else of all of them.
 #[derive(Clone, Copy, Debug)]
 pub struct HeardOnce {
     /// How many of the bytes were used.
@@ -125,12 +127,12 @@ pub struct HeardOnce {
     pub fault: Option<SideFault>,
     /// What is reported of them, if anything.
     pub notice: Option<Notice>,
-    /// How many of the bytes are shown with it: those of the reply, or all where they are no reply.
+    /// How many of the bytes are shown with it: those of the reply, or all if they are no reply.
     pub shown: usize,
 }
 
 impl HeardOnce {
-    /// As many bytes were used, and show nothing.
+    /// Returns that this many bytes were used, with nothing to report.
     pub fn nothing(used: usize) -> HeardOnce
         ensures { result ≡ record { used = used; fault = None; notice = None; shown = used } }
     {

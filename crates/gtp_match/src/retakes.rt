@@ -1,4 +1,4 @@
-//! How often the move of each number was refused, and met by a retake.
+//! How often the move of each number was refused and retaken.
 ghost use Rattle.std.specs.Prelude.{◌≡◌, ◌<◌, ◌≤◌};
 ghost use Rattle.go_board.specs.Game.{most_moves};
 ghost use Rattle.gtp_match.specs.Retakes.{most_retakes, no_retakes, retakes_of, with_retake};
@@ -27,7 +27,7 @@ impl Model for Retakes {
 }
 
 impl Retakes {
-    /// No move was retaken.
+    /// Returns a table without retakes.
     pub fn new() -> Retakes
         ensures { result ≡ no_retakes }
     {
@@ -36,7 +36,8 @@ impl Retakes {
         }
     }
 
-    /// The retakes of the move of this number, counted from 1. A number that has none has 0.
+    /// Returns how often the move of this number, counted from 1, was retaken. It is 0 for a number that was never
+    /// retaken.
     pub fn of(&self, number: u32) -> u32
         ensures { result ≡ retakes_of self.now number }
     {
@@ -49,7 +50,7 @@ impl Retakes {
         }
     }
 
-    /// The move of this number was retaken once more.
+    /// Adds a retake of the move of this number.
     pub fn add(&mut self, number: u32)
         requires first { 0 < number }
         requires last { number ≤ most_moves }

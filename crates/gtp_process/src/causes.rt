@@ -33,8 +33,8 @@ pub struct Unstarted {
 }
 
 impl Unstarted {
-    /// The program that the first of these words names, of which the first 80 bytes are kept, was not started for this
-    /// reason.
+    /// Records that a program was not started for this reason. The first word is its name, of which the first 80 bytes
+    /// are kept.
     pub fn new(words: &[&str], reason: StartReason) -> Self
         ensures { result ≡ unstarted (program_line words.now) reason }
     {
@@ -45,7 +45,7 @@ impl Unstarted {
     }
 }
 
-/// The first word, and none where there is no word.
+/// Returns the first word, or an empty one if there is none.
 fn first_word<'a>(words: &[&'a str]) -> &'a str
     ensures { result.now ≡ first_word (program_line words.now) }
 {
@@ -55,7 +55,7 @@ fn first_word<'a>(words: &[&'a str]) -> &'a str
     }
 }
 
-/// The beginning of a text.
+/// Returns the beginning of a text.
 fn first_bytes(text: &[u8]) -> ProgramName
     ensures { result.items ≡ take most_shown text.now }
 {

@@ -1,4 +1,4 @@
-//! How a process is ended, and how it ended.
+//! How to end a process, and how it ended.
 ghost use Rattle.std.specs.Prelude.{◌≡◌};
 ghost use Rattle.gtp_process.specs.Endings.{EndsAs, IsEnded, after_kill, told_ending};
 
@@ -7,7 +7,7 @@ use crate::starter::{Ending, Process};
 /// The number of the signal that kills a process: the same on Linux, the BSDs and macOS.
 const SIGKILL: u32 = 9;
 
-/// Ends a process, if there is one, and returns how it ended.
+/// Ends a process, if there is one, and returns how it ended. Without a process this is `Unknown`.
 pub fn end_known<P: Process>(process: Option<P>) -> Ending
     ensures { EndsAs P.Process process result }
 {
@@ -24,7 +24,7 @@ pub fn end<P: Process>(process: Option<P>)
     let _ = end_known(process);
 }
 
-/// How a process ended, by the status that it ended with and the number of the signal that ended it.
+/// Returns how a process ended, by its exit status and the number of the signal that ended it.
 pub(crate) fn told_ending(status: Option<i32>, signal: Option<i32>) -> Ending
     ensures { result ≡ told_ending status signal }
 {
@@ -35,8 +35,8 @@ pub(crate) fn told_ending(status: Option<i32>, signal: Option<i32>) -> Ending
     }
 }
 
-/// How a process ended that still ran when it was killed, by what the system tells then. It may have ended by itself
-/// just before.
+/// Returns how a process ended that was still running when it was killed, by what the system reports then. It may have
+/// exited by itself just before.
 pub(crate) fn after_kill(told: Ending) -> Ending
     ensures { result ≡ after_kill told }
 {

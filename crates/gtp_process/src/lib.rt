@@ -1,9 +1,9 @@
-//! Engines as processes of the system: how one is started, sent to, read and ended.
+//! Engines as processes of the operating system: how to start one, send to it, read from it and end it.
 //!
-//! A [`Starter`] starts a program, and what it returns is a [`Process`]. [`SystemStarter`] starts those of the
-//! operating system. [`write_whole`] and [`read_some`] are calls of its pipes, which are tried again where they are
-//! interrupted. [`quit_and_end`] and [`end`] end one. [`push_quoted`] and its kin show what a process wrote and how
-//! it ended.
+//! A [`Starter`] starts a program and returns a [`Process`]. [`SystemStarter`] starts those of the operating system.
+//! [`write_whole`] and [`read_some`] use a process's pipes, and retry calls that are interrupted. [`quit_and_end`] and
+//! [`end`] end a process. [`push_quoted`], [`push_shown`], [`push_ending`] and [`push_unstarted`] show what a process
+//! wrote, how it ended, and why none was started.
 #![tactic(auto)]
 
 mod causes;

@@ -1,4 +1,4 @@
-//! Calls of a process's pipes, which are tried again where they are interrupted.
+//! Calls of a process's pipes, which are retried if they are interrupted.
 ghost use Rattle.std.specs.Prelude.{◌≡◌, ◌≤◌, ◌<◌, length, IfOk, OnOk, OnErr};
 ghost use Rattle.std.specs.Io.KnownBytes.{Appends, WriteAppends, Keeps};
 ghost use Rattle.gtp_process.specs.Pipes.{IsCutOff, IsUnbroken, OutputEnded};
@@ -7,22 +7,22 @@ ghost use Rattle.byte_streams.specs.Parts.{TakesPart};
 use crate::starter::Process;
 use byte_streams::CallFault;
 
-/// The room of a buffer for the replies of an engine: one read fills it at most.
+/// The buffer size for an engine's replies: one read returns at most as many bytes.
 pub const READ_ROOM: usize = 4096;
 
-/// How often one call is made at most, where each is interrupted.
+/// The most tries of one call, if each is interrupted.
 const MOST_TRIES: u32 = 1_000_000_000;
 
-/// A process is cut off: a write took nothing, a pipe is broken, or a call was interrupted too often.
+/// A process is cut off: a write took no bytes, a pipe is broken, or a call was interrupted too often.
 #[derive(Clone, Copy, Debug, PartialEq, Eq, Drop)]
 pub struct CutOff;
 
-/// Waits for bytes, and puts them into the front of the buffer, as many as it has room for at most. `Ok(0)` is the end
-/// of the stream, where the buffer has room.
+/// Waits for bytes, writes them into the front of the buffer, at most as many as it holds, and returns how many. If the
+/// buffer isn't empty, `Ok(0)` is the end of the stream.
 ///
 /// # Errors
 ///
-/// Where the read fails otherwise than by an interruption, or is interrupted 1,000,000,000 times in a row.
+/// `CutOff` if the read fails other than by an interruption, or is interrupted 1,000,000,000 times in a row.
 pub fn read_some<P: Process>(process: &mut P, buffer: &mut [u8]) -> Result<usize, CutOff>
     ensures bound { IfOk result (λ n. n ≤ length buffer.new) }
     ensures len { length buffer.new ≡ length buffer.old }
@@ -48,8 +48,8 @@ pub fn read_some<P: Process>(process: &mut P, buffer: &mut [u8]) -> Result<usize
 ///
 /// # Errors
 ///
-/// Where a write takes nothing, or a write or the flush fails otherwise than by an interruption, or is interrupted
-/// 1,000,000,000 times in a row.
+/// `CutOff` if a write takes no bytes, or if a write or the flush fails other than by an interruption, or is
+/// interrupted 1,000,000,000 times in a row.
 pub fn write_whole<P: Process>(process: &mut P, text: &[u8]) -> Result<(), CutOff>
     ensures takes { OnOk result (Appends (P.taken process.old) (P.taken process.new) text.now) }
     ensures part { OnErr result

@@ -1,28 +1,29 @@
-//! Which goes first: a process, or the program that reads what it writes.
+//! Which runs first: a process, or the program that reads what it writes.
 ghost use Rattle.std.specs.Prelude.{◌≡◌};
 
 use std::thread::yield_now;
 use std::time::{Clock, Duration, Instant};
 
-/// How many milliseconds the processor may be gone for a process to go first again.
+/// How many milliseconds the processor may be away if the process is to go first again.
 const MOST_MILLISECONDS: u64 = 1;
 
-/// Whether a process goes first: where it has several commands to answer, it runs before it is read.
+/// Whether a process goes first: if it has several commands to answer, it runs before it is read.
 ///
-/// Where both share a processor, it has answered them all by then, mostly. The system needn't wake the reading program
-/// for each answer. The bytes are the same, maybe in other pieces.
+/// When both share a processor, the process has mostly answered them all by the time it is read, and the system needn't
+/// wake the reading program for each answer. The bytes are the same, though maybe in other chunks.
 #[derive(Clone, Copy, Debug, PartialEq, Eq, Drop)]
 pub enum Precedence {
-    /// It was just started. It doesn't go first at its first read, where the time of its start would count.
+    /// It was just started. It doesn't go first at its first read, because its startup time would count.
     Starting,
     /// It goes first.
     First,
-    /// It goes first no more: the processor came back too late. The process thinks, or others want the processor too.
+    /// It no longer goes first, because the processor came back too late: the process is thinking, or others want the
+    /// processor too.
     Over,
 }
 
 impl Precedence {
-    /// Lets the process run first, where it goes first, and returns its precedence at the next read.
+    /// Lets the process run first, if it goes first, and returns its precedence at the next read.
     pub fn let_run_first<C: Clock>(self, clock: &C) -> Precedence
         ensures starting { self ≡ Precedence.Starting → result ≡ Precedence.First }
         ensures over { self ≡ Precedence.Over → result ≡ Precedence.Over }
@@ -35,7 +36,7 @@ impl Precedence {
     }
 }
 
-/// Lets others have the processor, and returns whether it was back soon. It wasn't where the clock can't be read.
+/// Yields the processor, and returns whether it came back soon. If the clock can't be read, it returns `false`.
 fn is_back_soon<C: Clock>(clock: &C) -> bool {
     let Ok(start) = Instant::now(clock) else {
         return false;

@@ -1,16 +1,16 @@
-//! How a process is sent `quit`, and ended after its answer.
+//! How to send a process `quit`, and end it after its answer.
 ghost use Rattle.gtp_process.specs.Quitting.{IsAwaited, IsSentQuit, QuitsIfAny};
 
 use crate::pipes::{CutOff, READ_ROOM, read_some, write_whole};
 use crate::starter::Process;
 use gtp_wire::{Command, Reply, ReplyReader, write_command};
 
-/// How often a reply to `quit` is read for at most. Each read gives a byte, and by 8,193 bytes a reply reader has
-/// returned a reply or a fault: a reply has at most 8,192.
+/// The most reads for a reply to `quit`. Each read returns at least a byte, and within 8,193 bytes a reply reader has
+/// returned a reply or a fault, since a reply has at most 8,192.
 const MOST_QUIT_READS: u32 = 8193;
 
-/// Sends a process, if there is one, `quit`, waits for its answer, and ends it. A reply, a fault of the reply, the
-/// end of its output and a pipe that breaks all end the waiting.
+/// Sends a process, if there is one, `quit`, waits for its answer, and ends it. The wait ends with a reply, a fault of
+/// the reply, the end of the output, or a broken pipe.
 pub fn quit_and_end<P: Process>(process: Option<P>, buffer: &mut [u8; READ_ROOM])
     ensures { QuitsIfAny P.Process process }
 {

@@ -1,4 +1,4 @@
-//! How a process and what it wrote are shown.
+//! How to show a process and what it wrote.
 ghost use Rattle.std.specs.Prelude.{◌≡◌, ◌+◌, ◌*◌, ◌<◌, ◌≤◌, ◌++◌, length};
 ghost use Rattle.arrayvec.specs.ArrayVec.{array_vec_len};
 ghost use Rattle.std.specs.Fmt.{decimal};
@@ -22,7 +22,7 @@ pub fn push_unstarted<const ROOM: usize>(line: &mut ArrayVec<u8, ROOM>, start: &
     push_quoted(line, &start.program);
 }
 
-/// Why a program was not started, in words.
+/// Returns why a program was not started, in words.
 fn reason_text(reason: StartReason) -> &'static [u8]
     ensures text { result.now ≡ reason_text reason }
     ensures few { length result.now ≤ 60 }
@@ -40,7 +40,7 @@ fn reason_text(reason: StartReason) -> &'static [u8]
     }
 }
 
-/// How a pipe cut a process off, in words.
+/// Returns how a pipe cut a process off, in words.
 pub fn pipe_text(cause: PipeCause) -> &'static [u8]
     ensures text { result.now ≡ pipe_text cause }
     ensures few { length result.now ≤ 16 }
@@ -52,7 +52,7 @@ pub fn pipe_text(cause: PipeCause) -> &'static [u8]
     }
 }
 
-/// Appends how a process ended, where that is known: at most 24 bytes.
+/// Appends how a process ended, if that is known: at most 24 bytes.
 pub fn push_ending<const ROOM: usize>(line: &mut ArrayVec<u8, ROOM>, ending: Ending)
     requires { array_vec_len line.old + 24 ≤ ROOM }
     ensures bytes { line.new.items ≡ line.old.items ++ ending_text ending }
@@ -72,7 +72,7 @@ pub fn push_ending<const ROOM: usize>(line: &mut ArrayVec<u8, ROOM>, ending: End
     }
 }
 
-/// Appends bytes as they are shown, in quotes: at most four bytes for each, and two.
+/// Appends bytes in printable form, in quotes: at most four bytes for each, and two more.
 pub fn push_quoted<const ROOM: usize>(line: &mut ArrayVec<u8, ROOM>, bytes: &[u8])
     requires { array_vec_len line.old + 4 * length bytes.now + 2 ≤ ROOM }
     ensures bytes { line.new.items ≡ line.old.items ++ quoted bytes.now }
@@ -83,7 +83,7 @@ pub fn push_quoted<const ROOM: usize>(line: &mut ArrayVec<u8, ROOM>, bytes: &[u8
     push(line, b"\"");
 }
 
-/// Appends bytes as they are shown: at most four bytes for each.
+/// Appends bytes in printable form: at most four bytes for each.
 pub fn push_shown<const ROOM: usize>(line: &mut ArrayVec<u8, ROOM>, bytes: &[u8])
     requires { array_vec_len line.old + 4 * length bytes.now ≤ ROOM }
     ensures bytes { line.new.items ≡ line.old.items ++ shown_bytes bytes.now }
@@ -94,7 +94,7 @@ pub fn push_shown<const ROOM: usize>(line: &mut ArrayVec<u8, ROOM>, bytes: &[u8]
     }
 }
 
-/// Appends a byte as it is shown.
+/// Appends a byte in printable form.
 fn push_byte<const ROOM: usize>(line: &mut ArrayVec<u8, ROOM>, byte: u8)
     requires { array_vec_len line.old + 4 ≤ ROOM }
     ensures bytes { line.new.items ≡ line.old.items ++ shown_byte byte }
@@ -114,7 +114,7 @@ fn push_byte<const ROOM: usize>(line: &mut ArrayVec<u8, ROOM>, byte: u8)
     }
 }
 
-/// A digit in base 16.
+/// Returns a digit in base 16.
 fn hex_digit(number: u8) -> u8
     requires { number < 16 }
     ensures { result ≡ hex_digit number }

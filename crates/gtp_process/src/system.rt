@@ -18,23 +18,23 @@ use std::os::unix::process::ExitStatusExt;
 use std::process::{Child, Command, ExitStatus, OpenProcess, Processes, Stdio};
 use std::time::{Clock, Duration};
 
-/// The number of the system's error where no file can be opened any more in the whole system: the same on Linux, the
-/// BSDs and macOS.
+/// The system's error number when no more files can be opened in the whole system: the same on Linux, the BSDs and
+/// macOS.
 const ENFILE: i32 = 23;
 
-/// The number of its error where no file can be opened any more in this process: the same on these systems too.
+/// The system's error number when no more files can be opened in this process: the same on these systems too.
 const EMFILE: i32 = 24;
 
-/// How often a process is looked at that may be about to end, with a pause after each look.
+/// How often to check a process that may be about to exit, with a pause after each check.
 const MOST_PAUSES: u32 = 200;
 
 /// How many milliseconds a pause has.
 const PAUSE_MILLISECONDS: u64 = 1;
 
-/// How many milliseconds a process has to read what it was sent, before it is sent more.
+/// How many milliseconds a process has to read what it was sent before it is sent more.
 const READ_MILLISECONDS: u64 = 10;
 
-/// Starts processes of the operating system. Their standard error is the program's own.
+/// Starts processes of the operating system. Their standard error is this program's.
 #[derive(Drop)]
 pub struct SystemStarter<'r, R> {
     /// The memory for the command.
@@ -51,7 +51,7 @@ pub struct SystemProcess<P: OpenProcess, C> {
     clock: C,
     /// Whether it goes first before it is read.
     precedence: Cell<Precedence>,
-    /// Whether its output ended, or another call of a pipe broke. Then it may be about to end.
+    /// Whether its output ended, or another call of a pipe broke. It may be about to exit then.
     is_broken: bool,
 }
 
@@ -70,7 +70,8 @@ impl<'r, R: Processes + Clock> Starter for SystemStarter<'r, R> {
     }
 }
 
-/// The process of a child that was started, which goes first from its second read on, or why there is none.
+/// Returns the process of a child that was started, which goes first from its second read on, or the reason why there
+/// is none.
 fn process_of<P: OpenProcess, C: Drop>(
     spawned: io::Result<Child<P>>,
     clock: C,
@@ -91,8 +92,8 @@ fn process_of<P: OpenProcess, C: Drop>(
     }
 }
 
-/// Starts the program that the first word names. The standard error is handed on by name: the file that holds the
-/// number of a closed one isn't inherited.
+/// Starts the program that the first word names. Standard error is passed by name, so that if it is closed, a file that
+/// has taken its number isn't inherited.
 fn spawn_program<R: Processes>(
     alloc: Global,
     processes: &R,
@@ -115,7 +116,7 @@ fn spawn_program<R: Processes>(
     command.spawn(processes)
 }
 
-/// Why no process was started: want of memory, or else a reason.
+/// Returns why no process was started: not enough memory, or a reason of the system.
 pub fn start_fault_of(error: &io::Error) -> StartFault
     ensures { result ≡ start_fault_of (raw_os_error error.now) (error_kind error.now) }
 {
@@ -125,7 +126,7 @@ pub fn start_fault_of(error: &io::Error) -> StartFault
     }
 }
 
-/// Why the system doesn't start a program, by the number of its error where that is of a limit of files, and else by
+/// Returns why the system didn't start a program: by the error's number if it is that of a limit of files, otherwise by
 /// its kind.
 fn reason_of(number: Option<i32>, kind: ErrorKind) -> StartReason
     ensures { result ≡ reason_of number kind }
@@ -136,7 +137,7 @@ fn reason_of(number: Option<i32>, kind: ErrorKind) -> StartReason
     }
 }
 
-/// The limit of files that the system has come to, by the number of its error, if it is one. Rust has no kind for it.
+/// Returns the limit of files that was reached, by the error's number, if it is such an error. Rust has no kind for it.
 fn limit_of(number: Option<i32>) -> Option<StartReason>
     ensures { result ≡ limit_of number }
 {
@@ -146,9 +147,9 @@ fn limit_of(number: Option<i32>) -> Option<StartReason>
     }
 }
 
-/// Why the system doesn't start a program, by the kind of its error. Where no process can be started any more, that is
-/// `EAGAIN`: its number differs from system to system, but its kind is `WouldBlock` on each, and no other error of a
-/// start is of that kind. What has no kind of its own is mostly that the file is no program.
+/// Returns why the system didn't start a program, by the error's kind. When no more processes can be started, the error
+/// is `EAGAIN`: its number differs between systems, but its kind is `WouldBlock` on each, and no other error of a start
+/// is of that kind. An error without a kind of its own mostly means that the file isn't a program.
 fn kind_reason(kind: ErrorKind) -> StartReason
     ensures { result ≡ kind_reason kind }
 {
@@ -220,7 +221,7 @@ impl<P: OpenProcess + Drop, C: Clock + Drop> Process for SystemProcess<P, C> {
             precedence: _,
             is_broken,
         } = self;
-        // Its input stays open meanwhile: an engine that lives on may end at the end of its input.
+        // Its input stays open meanwhile, because an engine that is still running may exit at the end of its input.
         if is_broken {
             wait_a_while(&mut child, &clock);
         }
@@ -231,8 +232,8 @@ impl<P: OpenProcess + Drop, C: Clock + Drop> Process for SystemProcess<P, C> {
     }
 }
 
-/// Whether a call of a pipe shows that it is closed at the other end or fails, by what it returned, asked for so many
-/// bytes.
+/// Whether the result of a call of a pipe, which was asked for `asked` bytes, shows that the pipe is closed at the
+/// other end or fails.
 fn shows_break(outcome: Result<usize, CallFault>, asked: usize) -> bool
     ensures { result ≡ shows_break asked outcome }
 {
@@ -242,7 +243,7 @@ fn shows_break(outcome: Result<usize, CallFault>, asked: usize) -> bool
     }
 }
 
-/// Waits until a process has ended, for some 200 milliseconds at most.
+/// Waits until a process has exited, for at most about 200 milliseconds.
 fn wait_a_while<P: OpenProcess, C: Clock>(child: &mut Child<P>, clock: &C) {
     for _pause in 0..MOST_PAUSES {
         match child.try_wait() {
@@ -252,7 +253,7 @@ fn wait_a_while<P: OpenProcess, C: Clock>(child: &mut Child<P>, clock: &C) {
     }
 }
 
-/// Kills a process, waits for it, and returns how it ended. Where it can't be killed, its own end is waited for.
+/// Kills a process, waits for it, and returns how it ended. If it can't be killed, this waits until it exits by itself.
 fn kill<P: OpenProcess + Drop>(mut child: Child<P>) -> Ending {
     let _ = child.kill();
     drop(child.stdin.take());
@@ -263,7 +264,7 @@ fn kill<P: OpenProcess + Drop>(mut child: Child<P>) -> Ending {
     }
 }
 
-/// How a process with this exit status ended.
+/// Returns how a process with this exit status ended.
 fn ending_of(status: ExitStatus) -> Ending
     ensures { result ≡ told_ending (exit_code status) (exit_signal status) }
 {

@@ -1,7 +1,7 @@
-//! A match that a referee may end: the controller of a match, and a ruling by which a side loses.
+//! A match that a referee may end: a match controller, and a ruling by which a side loses.
 //!
-//! A [`RefereedMatch`] is a [`Match`](gtp_match::Match) until a ruling is given. Then it is over, and what its sides
-//! do changes nothing.
+//! A [`RefereedMatch`] is a [`Match`](gtp_match::Match) until a ruling is given. Then it is over, and nothing that its
+//! sides do changes it.
 #![tactic(auto)]
 
 pub mod laws;

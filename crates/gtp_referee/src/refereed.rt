@@ -13,8 +13,8 @@ use std::marker::Model;
 
 /// A match between two engines that a referee may end by a ruling.
 ///
-/// Without a ruling it is the [`Match`] that it has. Once there is a ruling the match is over: that and the ruling stay
-/// as they are, whatever its sides do.
+/// Until there is a ruling, it behaves as the [`Match`] that it contains. With a ruling the match is over: the match
+/// and the ruling stay as they are, whatever the sides do.
 #[derive(Drop)]
 pub struct RefereedMatch {
     played: Match,
@@ -41,7 +41,7 @@ impl RefereedMatch {
     ghost use Rattle.gtp_referee.specs.Refereed.{new, next, owed, started, sent, lost, Hears, IsRefereed};
     ghost use Rattle.gtp_referee.specs.Refereed.{AdjudicateCall};
 
-    /// A match of this setup that has not begun, without a ruling.
+    /// A match with this setup that hasn't begun and has no ruling.
     pub fn new(setup: Setup) -> RefereedMatch
         ensures { result ≡ new setup }
     {
@@ -69,7 +69,7 @@ impl RefereedMatch {
         &self.ruled
     }
 
-    /// The reason of the ruling, or an empty text where it is for time or there is none.
+    /// The reason of the ruling. It is empty if the side ran out of time, or if there is no ruling.
     pub fn reason(&self) -> &[u8]
         ensures { result.now ≡ reason_of self.now.ruled }
     {
@@ -79,7 +79,7 @@ impl RefereedMatch {
         }
     }
 
-    /// The verdict of the match's own, if it has one. With a ruling it has none.
+    /// The match's own verdict, if it has one. A match that a ruling ended has none.
     pub fn verdict(&self) -> Option<Verdict>
         ensures verdict { result ≡ self.now.controller.verdict }
         ensures given { IsRefereed self.now }
@@ -91,7 +91,7 @@ impl RefereedMatch {
         }
     }
 
-    /// What is to be done next. After a ruling there is nothing to do, and none is returned.
+    /// What to do next. Returns `None` after a ruling: there is nothing left to do.
     pub fn next(&self) -> Option<Action>
         ensures { result ≡ next self.now }
     {
@@ -101,9 +101,9 @@ impl RefereedMatch {
         }
     }
 
-    /// The side's engine was started. Where the start failed, `lost` follows.
+    /// Reports that the side's engine was started. If the start failed, call `lost` next.
     ///
-    /// `next` says `Start` of that side.
+    /// `next` must be `Start` for this side.
     pub fn started(&mut self, side: Side)
         requires { next self.old ≡ Some (action.Start side) }
         ensures { self.new ≡ started self.old side }
@@ -111,9 +111,10 @@ impl RefereedMatch {
         self.played.started(side);
     }
 
-    /// The bytes of the side's next command, which count as sent. Where they can't be written, `lost` follows.
+    /// Returns the bytes of the side's next command, which then counts as sent. If they can't be written, call `lost`
+    /// next.
     ///
-    /// `next` says `Send` of that side.
+    /// `next` must be `Send` for this side.
     pub fn send(&mut self, side: Side) -> CommandText
         requires { next self.old ≡ Some (action.Send side) }
         ensures sent { self.new ≡ sent self.old side }
@@ -123,8 +124,8 @@ impl RefereedMatch {
         self.played.send(side)
     }
 
-    /// The side's engine wrote these bytes. All of them are heard, and what they report is returned, as
-    /// `hear_reporting` of the match does. After a ruling nothing is heard and nothing changes.
+    /// Passes the match these bytes, which the side's engine wrote. All of them are used. Returns what they report, as
+    /// `hear_reporting` of the match does. After a ruling the bytes are ignored and nothing changes.
     pub fn hear_reporting(&mut self, side: Side, bytes: &[u8]) -> Report
         ensures heard { Hears side self.old bytes.now result.loss result.retake self.new }
         ensures loss_shown { IfSome result.loss (λ loss. CanBeShown loss.owed) }
@@ -139,7 +140,7 @@ impl RefereedMatch {
         }
     }
 
-    /// What a side owes. None where it is down, or the match is over.
+    /// What a side owes. Returns `None` if the side is down or the match is over.
     pub fn owed(&self, side: Side) -> Option<Owed>
         ensures owed { result ≡ owed self.now side }
         ensures shown { IfSome result CanBeShown }
@@ -150,7 +151,8 @@ impl RefereedMatch {
         }
     }
 
-    /// The side is down now: its stream ended, a read or write failed, or it exited. After a ruling nothing changes.
+    /// Reports that the side is down: its stream ended, a read or write failed, or it exited. After a ruling nothing
+    /// changes.
     pub fn lost(&mut self, side: Side)
         ensures { self.new ≡ lost self.old side }
     {
@@ -159,13 +161,13 @@ impl RefereedMatch {
         }
     }
 
-    /// Ends the match: the side loses, for time where the reason is empty, and else for this reason.
+    /// Ends the match: the side loses for this reason, or on time if the reason is empty.
     ///
     /// # Errors
     ///
-    /// In this order: `Over` where the match is over, by a verdict of its own or by a ruling; `BadReason` where the
-    /// reason isn't empty and isn't 1 to 20 letters from `a` to `z` or `A` to `Z` and spaces, or is the cause of a
-    /// forfeit: `refused play`, `no move`, `no vertex` or `illegal move`. All stays.
+    /// The match stays as it was, and the first of these that applies is returned: `Over` if the match is over, by its
+    /// own verdict or by a ruling; `BadReason` if the reason isn't empty and isn't 1 to 20 letters (`a` to `z`, `A` to
+    /// `Z`) and spaces, or is the reason of a forfeit: `refused play`, `no move`, `no vertex` or `illegal move`.
     pub fn adjudicate(&mut self, side: Side, reason: &[u8]) -> Result<(), RulingFault>
         ensures { AdjudicateCall side reason.now self.old self.new result }
     {
@@ -184,11 +186,11 @@ impl RefereedMatch {
     }
 }
 
-/// For what a side loses by this reason.
+/// The ruling for this reason.
 ///
 /// # Errors
 ///
-/// `BadReason` where it is neither empty nor a reason.
+/// `BadReason` if the text is neither empty nor a valid reason.
 fn ruling_of(reason: &[u8]) -> Result<Ruling, RulingFault>
     ensures rules { IfOk result (Rules reason.now) }
     ensures refused { IfErr result (λ why. (why ≡ fault.BadReason)

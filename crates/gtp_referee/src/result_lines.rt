@@ -1,4 +1,4 @@
-//! The line of a match that is over, by a verdict of its own or by a ruling.
+//! The result line of a match that is over, by its own verdict or by a ruling.
 ghost use Rattle.std.specs.Prelude.{◌≡◌, ◌+◌, ◌≤◌, ◌++◌, length, Some, IfSome, IfNone};
 ghost use Rattle.arrayvec.specs.ArrayVec.{array_vec_len};
 ghost use Rattle.gtp_match.specs.ResultLine.{won_against, counts_text};
@@ -20,9 +20,9 @@ const MOST_RULING_BYTES: usize = 25;
 /// The most bytes up to the end of the ruling.
 const MOST_HEAD_BYTES: usize = MOST_NUMBER_BYTES + MOST_RULING_BYTES;
 
-/// The line of a match that is over, without its newline: `game N: VERDICT moves M restarts RB RW`. `None` before the
-/// end. Where a ruling ended it, the verdict is `W+T` or `W+F(REASON)` where Black loses, `B+T` or `B+F(REASON)` where
-/// White does.
+/// Returns the result line of a match that is over, without its newline: `game N: VERDICT moves M restarts RB RW`. If a
+/// ruling ended the match, the verdict is `W+T` or `W+F(REASON)` when Black loses, and `B+T` or `B+F(REASON)` when
+/// White does. Returns `None` before the end.
 pub fn result_line(game: u32, ended: &RefereedMatch) -> Option<ResultText>
     ensures some { IfSome result (λ text. line_of game ended.now ≡ Some text.items) }
     ensures none { IfNone result (GoesOn ended.now) }
@@ -33,7 +33,7 @@ pub fn result_line(game: u32, ended: &RefereedMatch) -> Option<ResultText>
     }
 }
 
-/// The line of a match that a ruling ended.
+/// The result line of a match that a ruling ended.
 fn ruled_line(game: u32, ended: &Match, given: &Ruled) -> ResultText
     ensures { result.items ≡ ruled_line game ended.now given.now }
 {
@@ -72,7 +72,7 @@ fn push_ruling(text: &mut ResultText, ruling: &Ruling)
     }
 }
 
-/// Who won, where this side loses.
+/// The winner, if this side loses.
 fn won_against(side: Side) -> &'static [u8]
     ensures text { result.now ≡ won_against side }
     ensures few { length result.now ≤ 2 }

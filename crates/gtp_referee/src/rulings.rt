@@ -1,4 +1,4 @@
-//! Rulings, and which texts may be their reasons.
+//! Rulings, and the reasons that they may have.
 ghost use Rattle.std.specs.Prelude.{◌≡◌, ◌↔◌, ◌≤◌, IsTrue, length};
 ghost use Rattle.std.specs.List.{list_all};
 ghost use Rattle.gtp_referee.specs.Ruling.{IsReason, most_reason, is_reason_byte, is_forfeit_text, reason_in};
@@ -18,12 +18,13 @@ pub type ReasonText = ArrayVec<u8, MOST_REASON_BYTES>;
 pub enum Ruling {
     /// It ran out of time.
     Time,
-    /// For this reason: 1 to 20 letters and spaces, which are no cause for which a match itself lets a side forfeit.
+    /// It loses for this reason: 1 to 20 letters and spaces. The reasons for which a match itself lets a side forfeit
+    /// aren't allowed.
     Reason(ReasonText),
 }
 
 impl Ruling {
-    /// The reason, or an empty text where it is for time.
+    /// The reason, or an empty text if the side ran out of time.
     pub(crate) fn reason(&self) -> &[u8]
         ensures { result.now ≡ reason_in self.now }
     {
@@ -39,23 +40,23 @@ impl Ruling {
 pub struct Ruled {
     /// The side that loses.
     pub loser: Side,
-    /// Why it does.
+    /// Why it loses.
     pub ruling: Ruling,
 }
 
-/// Why a ruling is refused, in the order of checking.
+/// Why a ruling is rejected, in the order of checking.
 #[derive(Clone, Copy, PartialEq, Eq, Debug, Drop, Error)]
 pub enum RulingFault {
-    /// The match is over, by a verdict of its own or by an earlier ruling.
+    /// The match is over, by its own verdict or by an earlier ruling.
     #[error("the match is over")]
     Over,
-    /// The reason isn't 1 to 20 letters and spaces, or it is the cause of a forfeit.
+    /// The reason isn't 1 to 20 letters and spaces, or it is the reason of a forfeit.
     #[error("the reason is not 1 to 20 letters (a-z, A-Z) and spaces, or a match itself gives it for a forfeit")]
     BadReason,
 }
 
-/// Whether a text may be the reason of a ruling: 1 to 20 bytes, each a letter from `a` to `z` or `A` to `Z` or a space,
-/// which are none of `refused play`, `no move`, `no vertex` and `illegal move`.
+/// Whether a text may be the reason of a ruling: 1 to 20 bytes, each a letter from `a` to `z` or `A` to `Z` or a space.
+/// The texts `refused play`, `no move`, `no vertex` and `illegal move` aren't allowed.
 pub(crate) fn is_reason(text: &[u8]) -> bool
     ensures { IsTrue result ↔ IsReason text.now }
 {
@@ -71,21 +72,21 @@ pub(crate) fn is_reason(text: &[u8]) -> bool
     !is_forfeit_text(text)
 }
 
-/// Whether a reason may have all of these bytes.
+/// Whether all these bytes are allowed in a reason.
 fn has_reason_bytes(text: &[u8]) -> bool
     ensures { result ≡ list_all is_reason_byte text.now }
 {
     text.iter().all(|byte| is_reason_byte(*byte))
 }
 
-/// Whether a reason may have the byte: a letter or a space.
+/// Whether the byte is allowed in a reason: a letter or a space.
 fn is_reason_byte(byte: u8) -> bool
     ensures { result ≡ is_reason_byte byte }
 {
     byte == b' ' || (b'a' <= byte && byte <= b'z') || (b'A' <= byte && byte <= b'Z')
 }
 
-/// Whether the text is a cause for which a match itself lets a side forfeit.
+/// Whether the text is a reason for which a match itself lets a side forfeit.
 fn is_forfeit_text(text: &[u8]) -> bool
     ensures { result ≡ is_forfeit_text text.now }
 {

@@ -1,4 +1,4 @@
--- An engine in steps whose author sets nothing, and lets a policy choose.
+-- A sans-IO engine whose author sets nothing, and lets a policy choose.
 use Rattle.std.specs.Prelude.{◌≡◌, [], codes}
 use Rattle.gtp_wire.specs.Lines.{lines}
 use Rattle.gtp_session.specs.declared.events.Wait.TheVariants as wait

@@ -1,4 +1,4 @@
--- An engine whose author hands in its choices, and answers the commands that the table doesn't have.
+-- An engine whose author supplies its choices, and answers the commands that the table doesn't have.
 use Rattle.std.specs.Prelude.{◌≡◌, ◌≢◌, ℕ, Bool, true, false, List, [], ◌∷◌, ◌++◌, length, ◌≤◌, Option, None, Some}
 use Rattle.std.specs.Prelude.{is_none, codes}
 use Rattle.go_base.specs.declared.colours.Colour.{Colour}
@@ -144,12 +144,12 @@ event_of wait.Nothing = event.Reply
 event_of (wait.Choice colour) = event.Asked colour
 event_of wait.Answer = event.Other
 
--- all of the piece is used, and no line that has a word ends in it
+-- all of the chunk is used, and no line that has a word ends in it
 pub record FindsNone (old : StepsState) (input : List ℕ) (used : ℕ) (new : StepsState) : Type 0 where
   pub reads : ReadsLine old.rest input used None new.rest
   pub new_is : new ≡ record old { rest = new.rest }
 
--- the piece is used up to the end of the first line, and that line is read
+-- the chunk is used up to the end of the first line, and that line is read
 pub record FindsLine (old : StepsState) (input : List ℕ) (used : ℕ) (event : Event) (new : StepsState) : Type 0 where
   pub line : Line
   pub rest : List ℕ
@@ -157,7 +157,7 @@ pub record FindsLine (old : StepsState) (input : List ℕ) (used : ℕ) (event :
   pub new_is : new ≡ after_line old line rest
   pub event_is : event ≡ event_of (wait_of old.game line)
 
--- an engine that is open reads a piece
+-- an engine that is open reads a chunk
 abbrev pub ReadsOn : StepsState → List ℕ → ℕ → Event → StepsState → Type 0
 ReadsOn old input used event.More new = FindsNone old input used new
 ReadsOn old input used event.Reply new = FindsLine old input used event.Reply new
@@ -220,7 +220,7 @@ pub record AddsCommand (old : StepsState) (name : List ℕ) (new : StepsState) :
 
 -- What holds at any time. No whole line is held back. It waits only for what the line that it read last asks for, and
 -- then its session has not ended. Its last reply, where there was one, is one reply. What its author has set are titles
--- and names of own commands.
+-- and names of custom commands.
 pub record IsStepsState (s : StepsState) : Type 0 where
   pub unread : lines s.rest ≡ []
   pub waits : s.wait ≢ wait.Nothing → s.wait ≡ wait_of s.game s.line

@@ -1,4 +1,4 @@
--- Runs of engines in steps, and the laws that they are engines of the definition.
+-- Runs of sans-IO engines, and the laws that they are engines of the definition.
 use Rattle.std.specs.Prelude.{◌≡◌, ◌≢◌, ℕ, Bool, true, false, List, [], ◌∷◌, ◌++◌, map, take, All, Option, None, Some}
 use Rattle.std.specs.Prelude.{is_some, codes}
 use Rattle.gtp_wire.specs.declared.commands.Command.{Command}
@@ -37,7 +37,7 @@ pub record OwnAnswer : Type 0 where
   pub text : List ℕ
 
 -- One line that was answered: the engine as it was then, the line being the one that it read last; the choice that was
--- made, where the line asks for one; the answer that the author handed in, where he did; and the reply.
+-- made, where the line asks for one; the answer that the author supplied, where he did; and the reply.
 pub record Exchange : Type 0 where
   pub was : StepsState
   pub choice : Choice
@@ -45,7 +45,7 @@ pub record Exchange : Type 0 where
   pub reply : List ℕ
 
 -- What calls do to it, one after the other: it uses this text, these choices are made, and these lines are answered. (A
--- call that is refused, and a piece of which it uses nothing since it waits or has ended, change nothing.)
+-- call that is refused, and a chunk of which it uses nothing since it waits or has ended, change nothing.)
 pub data Goes : StepsState → List ℕ → List Choice → List Exchange → StepsState → Type 0 where
   start : {a : StepsState} → Goes a [] [] [] a
   more : {a b c : StepsState} {text : List ℕ} {choices : List Choice} {given : List Exchange}
@@ -102,7 +102,7 @@ tables_reply e =
 abbrev pub given_reply : Exchange → WrittenReply
 given_reply e = record { text = e.reply; genmove = is_some (asked e.was.game e.was.line) }
 
--- A line of another command has the answer that the author handed in: a success or a failure, and a text that a reply
+-- A line of another command has the answer that the author supplied: a success or a failure, and a text that a reply
 -- may have. A line for which the author has set a text has a success of that text. Every other has the table's reply.
 abbrev pub IsGivenBy : Exchange → Option (List ℕ) → Bool → Type 0
 IsGivenBy e set true =
@@ -153,7 +153,7 @@ EachLineIsGivenOne =
     (a b : StepsState) (text : List ℕ) (choices : List Choice) (given : List Exchange)
     → IsRun a text choices given b → map (λ e. e.was.line) given ≡ lines (a.rest ++ text)
 
--- An author's engine is an engine of the definition, whose policy makes the author's choices, in any cuts: it goes
+-- An author's engine is an engine of the definition, whose policy makes the author's choices, in any chunks: it goes
 -- through the same games, and ends where that does. That one's replies are the table's.
 abbrev pub AuthorsEnginesAreEngines : Type 0
 AuthorsEnginesAreEngines =
@@ -161,7 +161,7 @@ AuthorsEnginesAreEngines =
     → IsRun a text choices given b
     → Replies list_may (engine_of a (choices ++ left)) text (engine_of b left) (map tables_reply given)
 
--- What it replies is the table's, but for the texts that its author has set, and his answers to other commands.
+-- What it replies is the table's, except for the texts that its author has set, and his answers to other commands.
 abbrev pub RepliesAreGiven : Type 0
 RepliesAreGiven =
     (a b : StepsState) (text : List ℕ) (choices : List Choice) (given : List Exchange)

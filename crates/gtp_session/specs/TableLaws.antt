@@ -191,7 +191,7 @@ pub record FirstCausesAreGiven : Type 0 where
       → Names words command.Undo → ¬ CanBeDone game command.Undo words
       → answer_with game id words choice ≡ failure game (codes "cannot undo")
 
--- Whatever the line, the game after it has the ko rule of the game before it, and the other parts too, but for those
+-- Whatever the line, the game after it has the ko rule of the game before it, and the other parts too, except for those
 -- that the command of the line is there to change.
 pub record LinesChangeTheirPart (game : GameRecord) (line : Line) (after : GameRecord) : Type 0 where
   pub rule : after.rule ≡ game.rule

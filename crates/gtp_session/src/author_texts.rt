@@ -1,4 +1,4 @@
-//! The texts in which what an author has set is named.
+//! The answers that depend on what an author has set.
 ghost use Rattle.std.specs.Prelude.{◌≡◌, Some};
 ghost use Rattle.gtp_session.specs.declared.commands.CommandName.TheVariants as command;
 ghost use Rattle.gtp_session.specs.Steps.{StepsState, author_text, author_text_to};
@@ -9,20 +9,20 @@ use crate::commands::CommandName;
 use crate::own_commands::OwnCommands;
 use gtp_wire::{CommandLine, Line};
 
-/// A text in which what an author has set is named.
+/// An answer that depends on what an author has set.
 #[derive(Clone, Copy)]
 pub(crate) enum AuthorText {
-    /// His name for the engine.
+    /// The author's name for the engine.
     Name,
-    /// His version of it.
+    /// The author's version of it.
     Version,
-    /// Whether a word names a command of the table or of his.
+    /// Whether a word names a command of the table or a custom one.
     Known(bool),
-    /// The names of the table's commands and of his.
+    /// The names of the table's commands and of the custom ones.
     Commands,
 }
 
-/// That text, where the answer to the line is one.
+/// Returns the answer to a line, if it is one of these.
 pub(crate) fn text_for(line: &Line, commands: &OwnCommands) -> Option<AuthorText>
     ensures { (s : StepsState) → s.commands ≡ commands.now →
         author_text_to s line.now ≡ text_in s result }
@@ -33,7 +33,7 @@ pub(crate) fn text_for(line: &Line, commands: &OwnCommands) -> Option<AuthorText
     }
 }
 
-/// The same of a command line that names this command.
+/// Returns the answer to a command line that names this command, if it is one of these.
 fn text_by_command(
     command: Option<CommandName>,
     line: &CommandLine,
@@ -61,7 +61,7 @@ fn text_by_command(
     }
 }
 
-/// Whether the first argument names a command, where there is one.
+/// Returns whether the first argument, if there is one, names a command.
 fn known_word(line: &CommandLine, commands: &OwnCommands) -> Option<AuthorText>
     ensures { (s : StepsState) → s.commands ≡ commands.now →
         author_text s (Some command.KnownCommand) line.now.words ≡ text_in s result }

@@ -20,12 +20,12 @@ pub enum Entry {
     Empty,
     /// To resign.
     Resign,
-    /// To play on a point or to pass, where that is legal, and else to pass.
+    /// To play on a point or to pass, if that is legal, otherwise to pass.
     Play(Vertex),
 }
 
 impl Entry {
-    /// Reads an entry: a vertex, `resign` in small or capital letters, or nothing. `None` for any other text.
+    /// Reads an entry: a vertex, `resign` in small or capital letters, or nothing. Returns `None` for any other text.
     pub fn read(text: &[u8]) -> Option<Entry>
         ensures { result ≡ entry_of text.now }
     {
@@ -51,9 +51,9 @@ impl Default for Entry {
     }
 }
 
-/// Chooses by the entry that has the number of the record's moves, counted from 0.
+/// Chooses by the entry whose number is that of the record's moves, counted from 0.
 ///
-/// Where that entry is missing, empty, or a vertex that isn't legal, it passes.
+/// If that entry is missing, empty, or a vertex that isn't legal, the policy passes.
 #[derive(Drop)]
 pub struct Book {
     entries: ArrayVec<Entry, MOST_ENTRIES>,
@@ -71,7 +71,7 @@ impl Model for Book {
 impl Book {
     /// Reads a book: entries separated by commas. The empty text is a book of one empty entry.
     ///
-    /// `None` where an entry can't be read, and for more than 2,000 entries.
+    /// Returns `None` if an entry can't be read, and for more than 2,000 entries.
     pub fn read(text: &[u8]) -> Option<Book>
         ensures { result ≡ book_of text.now }
     {

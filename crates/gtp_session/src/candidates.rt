@@ -12,13 +12,13 @@ use arrayvec::ArrayVec;
 use go_base::{Colour, Point, Size, Vertex};
 use go_board::Game;
 
-/// As many points as the largest board has, 25 to a row.
+/// The points of the largest board, which has 25 to a row.
 pub(crate) const MOST_POINTS: usize = 625;
 
 /// Points of a board, at most all of them.
 pub(crate) type Points = ArrayVec<Point, MOST_POINTS>;
 
-/// The candidates for a colour, in the order A1, B1, .., A2, B2, ...
+/// Returns the candidates for a colour, in the order A1, B1, .., A2, B2, ...
 pub fn candidates(game: &Game, colour: Colour) -> Points
     ensures { result.items ≡ candidates game.now colour }
 {
@@ -32,7 +32,7 @@ pub fn candidates(game: &Game, colour: Colour) -> Points
     found
 }
 
-/// The first candidate for a colour, where there is one.
+/// Returns the first candidate for a colour, if there is one.
 pub(crate) fn first_candidate(game: &Game, colour: Colour) -> Option<Point>
     ensures { result ≡ slice_get (candidates game.now colour) 0 }
 {
@@ -45,7 +45,7 @@ pub(crate) fn first_candidate(game: &Game, colour: Colour) -> Option<Point>
     None
 }
 
-/// The play on this point, or a pass where there is none.
+/// Returns the play on this point, or a pass if there is none.
 pub(crate) fn play_or_pass(point: Option<Point>) -> Choice
     ensures { result ≡ play_or_pass point }
 {
@@ -55,14 +55,14 @@ pub(crate) fn play_or_pass(point: Option<Point>) -> Choice
     }
 }
 
-/// Whether the point is legal for the colour and has a neighbour that is empty or holds a stone of the other colour.
+/// Whether the point is legal for the colour and has a neighbour that is empty or has a stone of the other colour.
 fn is_candidate(game: &Game, colour: Colour, point: Point) -> bool
     ensures { IsTrue result ↔ IsCandidate game.now colour point }
 {
     has_open_neighbour(game, colour, point) && game.legal(colour, Vertex::At(point))
 }
 
-/// Whether the point has a neighbour that is empty or holds a stone of the other colour.
+/// Whether the point has a neighbour that is empty or has a stone of the other colour.
 fn has_open_neighbour(game: &Game, colour: Colour, point: Point) -> bool
     ensures { IsTrue result ↔ HasOpenNeighbour game.now colour point }
 {
@@ -73,7 +73,7 @@ fn has_open_neighbour(game: &Game, colour: Colour, point: Point) -> bool
         || is_open(game, colour, column, row + 1)
 }
 
-/// Whether a column and a row cross on the board, on a point that is empty or holds a stone of the other colour.
+/// Whether this column and row have a point on the board, and it is empty or has a stone of the other colour.
 fn is_open(game: &Game, colour: Colour, column: u32, row: u32) -> bool
     requires column { column ≤ most_size + 1 }
     requires row { row ≤ most_size + 1 }
@@ -86,7 +86,7 @@ fn is_open(game: &Game, colour: Colour, column: u32, row: u32) -> bool
     }
 }
 
-/// Whether a point that holds this is empty or holds a stone of the other colour.
+/// Whether a point with this content is empty or has a stone of the other colour.
 fn allows(colour: Colour, stone: Option<Colour>) -> bool
     ensures { IsTrue result ↔ ((stone ≡ None) ⊎ (stone ≡ Some (other colour))) }
 {
@@ -96,7 +96,7 @@ fn allows(colour: Colour, stone: Option<Colour>) -> bool
     }
 }
 
-/// The points of a board of this size, in the order A1, B1, .., A2, B2, ...
+/// Returns the points of a board of this size, in the order A1, B1, .., A2, B2, ...
 fn points_of(size: Size) -> Points
     ensures { result.items ≡ points_of size }
 {
@@ -120,7 +120,7 @@ fn push_row(points: &mut Points, size: Size, row: u32)
     }
 }
 
-/// Appends the point where a column and a row cross.
+/// Appends the point of this column and row.
 fn push_point(points: &mut Points, column: u32, row: u32)
     requires crossing { IsCrossing column row }
     requires room { array_vec_len points.old < MOST_POINTS }

@@ -7,7 +7,7 @@ use crate::policy::{Choice, Policy};
 use go_base::{Colour, Vertex};
 use go_board::{Game, PlayFault};
 
-/// The policy that makes one choice, where it is lawful.
+/// The policy that makes one choice, if it is lawful.
 #[derive(Drop)]
 pub(crate) struct Chosen {
     pub choice: Choice,
@@ -28,7 +28,7 @@ impl Policy for Chosen {
     ghost lawful = { λ old game colour choice new may. may.0 };
 }
 
-/// Why a choice isn't lawful, where it isn't.
+/// Returns why a choice isn't lawful, if it isn't.
 pub(crate) fn refusal(game: &Game, colour: Colour, choice: &Choice) -> Option<PlayFault>
     ensures lawful { IfNone result (IsLawful game.now colour choice.now) }
     ensures refused { IfSome result (IsUnlawful game.now colour choice.now) }

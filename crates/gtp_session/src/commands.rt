@@ -59,13 +59,13 @@ static COMMANDS: &[CommandName] = &[
     CommandName::Showboard,
 ];
 
-/// The most bytes of a command's name, which `protocol_version` has.
+/// The most bytes of a command's name. `protocol_version` has as many.
 const MOST_NAME_BYTES: usize = 16;
 
-/// The room for the names of all commands, each with a newline: 20 of them have room.
+/// The buffer size for the names of all commands, each with a newline: enough for 20 names.
 const NAMES_ROOM: usize = 20 * (MOST_NAME_BYTES + 1);
 
-/// The names of the commands, a line each.
+/// Returns the names of the commands, a line each.
 pub(crate) fn all_names() -> ArrayVec<u8, NAMES_ROOM>
     ensures { result.items ≡ all_names }
 {
@@ -77,7 +77,7 @@ pub(crate) fn all_names() -> ArrayVec<u8, NAMES_ROOM>
 }
 
 impl CommandName {
-    /// The command of this name, where there is one. Case matters.
+    /// Returns the command of this name, if there is one. Case matters.
     pub fn read(word: &[u8]) -> Option<CommandName>
         ensures { result ≡ command_named word.now }
     {
@@ -87,7 +87,7 @@ impl CommandName {
             .find(|command| command.name() == word)
     }
 
-    /// The command's name.
+    /// Returns the command's name.
     pub fn name(self) -> &'static [u8]
         ensures name { result.now ≡ spelled self }
         ensures few { length result.now ≤ 16 }

@@ -7,9 +7,9 @@ use crate::policy::{Choice, Policy};
 use go_base::Colour;
 use go_board::Game;
 
-/// Chooses the first candidate, or a pass where there is none.
+/// Chooses the first candidate, or a pass if there is none.
 ///
-/// A candidate for a colour is a legal point that has a neighbour which is empty or holds a stone of the other colour.
+/// A candidate for a colour is a legal point that has a neighbour which is empty or has a stone of the other colour.
 /// The candidates are in the order A1, B1, .., A2, B2, ...
 #[derive(Clone, Copy, Debug, Drop)]
 pub struct First;

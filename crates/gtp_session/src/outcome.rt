@@ -1,4 +1,4 @@
-//! What a command comes to, and how it is written as a reply.
+//! The result of a command, and how it is written as a reply.
 ghost use Rattle.std.specs.Prelude.{◌≡◌, ◌≤◌, length, true};
 ghost use Rattle.gtp_wire.specs.Replies.{most_text_bytes, written_reply};
 ghost use Rattle.go_board.specs.Show.{board_text};
@@ -11,13 +11,13 @@ use go_base::{Point, Vertex, write_int, write_score, write_vertices};
 use go_board::Game;
 use gtp_wire::{ReplyText, write_reply_into};
 
-/// What a command comes to: the text of its success, or that of its failure.
+/// The result of a command: the text of its success or of its failure.
 pub(crate) type Outcome = Result<Text, &'static [u8]>;
 
 /// The text of a success.
 #[derive(Drop)]
 pub(crate) enum Text {
-    /// No byte.
+    /// No bytes.
     Empty,
     /// These bytes.
     Fixed(&'static [u8]),
@@ -35,7 +35,7 @@ pub(crate) enum Text {
     Board,
 }
 
-/// Puts the reply of a command that left this game in place of what `reply` holds.
+/// Writes the reply of a command that left this game over what `reply` holds.
 pub(crate) fn write_outcome(outcome: &Outcome, game: &Game, id: Option<u32>, reply: &mut ReplyText)
     requires { length (answer_of game.now outcome.now).text ≤ most_text_bytes }
     ensures { let answer = answer_of game.now outcome.now in
@@ -47,7 +47,7 @@ pub(crate) fn write_outcome(outcome: &Outcome, game: &Game, id: Option<u32>, rep
     }
 }
 
-/// Puts the reply of a success in place of what `reply` holds.
+/// Writes the reply of a success over what `reply` holds.
 fn write_success(text: &Text, game: &Game, id: Option<u32>, reply: &mut ReplyText)
     requires { length (text_of game.now text.now) ≤ most_text_bytes }
     ensures { reply.new.items ≡ written_reply true id (text_of game.now text.now) }
@@ -64,15 +64,15 @@ fn write_success(text: &Text, game: &Game, id: Option<u32>, reply: &mut ReplyTex
     }
 }
 
-/// Puts a reply with the names of the commands in place of what `reply` holds. It is apart, since only this needs room
-/// for the names.
+/// Writes a reply with the names of the commands over what `reply` holds. This is a function of its own because nothing
+/// else needs stack space for the names.
 fn write_names(id: Option<u32>, reply: &mut ReplyText)
     ensures { reply.new.items ≡ written_reply true id all_names }
 {
     write_reply_into(reply, true, id, &all_names());
 }
 
-/// Puts a reply with the board in place of what `reply` holds.
+/// Writes a reply with the board over what `reply` holds.
 fn write_board(game: &Game, id: Option<u32>, reply: &mut ReplyText)
     requires { length (board_text game.now) ≤ most_text_bytes }
     ensures { reply.new.items ≡ written_reply true id (board_text game.now) }

@@ -1,4 +1,4 @@
-//! Commands of an author's own.
+//! Custom commands.
 ghost use Rattle.std.specs.Prelude.{◌≡◌, ℕ, ◌≤◌, List, [], ◌∷◌, ◌++◌, length, IfSome, IfNone, MatchOption, OnOk};
 ghost use Rattle.std.specs.Prelude.{OnErr, IfErr};
 ghost use Rattle.std.specs.Char.{is_ascii_digit};
@@ -12,16 +12,16 @@ use arrayvec::ArrayVec;
 use go_base::{push, push_word};
 use std::marker::Model;
 
-/// How many commands an author has at most.
+/// The most custom commands of an engine.
 const MOST_OWN_COMMANDS: usize = 32;
 
-/// The most bytes of the name of one.
+/// The most bytes of the name of a custom command.
 const MOST_OWN_NAME_BYTES: usize = 32;
 
-/// The room for the names of all commands, each with a newline.
+/// The buffer size for the names of all commands, each with a newline.
 const ALL_NAMES_ROOM: usize = 1500;
 
-/// The name of one command.
+/// The name of a custom command.
 #[derive(Drop)]
 struct OwnName {
     bytes: ArrayVec<u8, MOST_OWN_NAME_BYTES>,
@@ -48,7 +48,7 @@ impl Default for OwnName {
 }
 
 impl OwnName {
-    /// A name of these bytes.
+    /// Returns a name of these bytes.
     fn new(name: &[u8]) -> OwnName
         requires { length name.now ≤ 32 }
         ensures { result ≡ name.now }
@@ -66,7 +66,7 @@ impl OwnName {
     }
 }
 
-/// The names of an author's own commands, in the order in which they were added.
+/// The names of an author's custom commands, in the order in which they were added.
 #[derive(Drop)]
 pub(crate) struct OwnCommands {
     names: ArrayVec<OwnName, MOST_OWN_COMMANDS>,
@@ -86,7 +86,7 @@ impl Model for OwnCommands {
 impl OwnCommands {
     ghost use Rattle.gtp_session.specs.OwnCommands.{MayBeAdded, has_command, is_known, names_with};
 
-    /// None.
+    /// Returns an empty list.
     pub fn new() -> OwnCommands
         ensures { result ≡ [] }
     {
@@ -102,14 +102,14 @@ impl OwnCommands {
         self.names.iter().any(|own| own.is(name))
     }
 
-    /// Whether the word is the name of a command of the table, or of one of these.
+    /// Whether the word is the name of a command of the table, or of a custom one.
     pub fn knows(&self, word: &[u8]) -> bool
         ensures { result ≡ is_known self.now word.now }
     {
         CommandName::read(word).is_some() || self.has(word)
     }
 
-    /// The names of the table's commands and then of these, a line each.
+    /// Returns the names of the table's commands and then of the custom ones, a line each.
     pub fn listed(&self) -> ArrayVec<u8, ALL_NAMES_ROOM>
         ensures { result.items ≡ names_with self.now }
     {
@@ -125,7 +125,7 @@ impl OwnCommands {
     ///
     /// # Errors
     ///
-    /// The first cause by which it isn't added, in the order of `CommandFault`. All stays.
+    /// The first reason not to add it, in the order of `CommandFault`. Nothing changes then.
     pub fn add(&mut self, name: &[u8]) -> Result<(), CommandFault>
         ensures new { OnOk result (self.new ≡ self.old ++ name.now ∷ []) }
         ensures added { OnOk result (MayBeAdded self.old name.now) }
@@ -139,7 +139,7 @@ impl OwnCommands {
         Ok(())
     }
 
-    /// Why the name isn't added, where it isn't.
+    /// Returns why the name can't be added, if it can't.
     fn refusal(&self, name: &[u8]) -> Option<CommandFault>
         ensures { MatchOption result
             (MayBeAdded self.now name.now)
@@ -161,7 +161,7 @@ impl OwnCommands {
     }
 }
 
-/// Why the word names no command of an author's, where it doesn't.
+/// Returns why a custom command can't have this name, if it can't.
 fn word_fault(name: &[u8]) -> Option<CommandFault>
     ensures none { IfNone result (IsOwnName name.now) }
     ensures some { IfSome result (λ fault.
@@ -182,7 +182,7 @@ fn word_fault(name: &[u8]) -> Option<CommandFault>
     None
 }
 
-/// Whether the name of a command may have all of these bytes.
+/// Whether the name of a custom command may have all of these bytes.
 fn has_name_bytes(name: &[u8]) -> bool
     ensures { result ≡ list_all is_name_byte name.now }
 {
@@ -196,7 +196,7 @@ fn has_digits(name: &[u8]) -> bool
     name.iter().all(|byte| byte.is_ascii_digit())
 }
 
-/// Whether the name of a command may have the byte.
+/// Whether the name of a custom command may have this byte.
 fn is_name_byte(byte: u8) -> bool
     ensures { result ≡ is_name_byte byte }
 {

@@ -8,13 +8,13 @@ pub use go_base::Choice;
 use go_base::Colour;
 use go_board::Game;
 
-/// What chooses the moves of an engine.
+/// Chooses the moves of an engine.
 pub trait Policy: Drop {
-    // Asked in a game for a colour, the first state may make this choice and leave the second state.
+    // When asked for a colour in a game, the first state may make this choice and leave the second state.
     ghost may: { Self → GameRecord → Colour → Choice → Self → Type 0 };
 
-    /// Chooses what the colour does next in the game: a resignation, or a vertex that is legal for the colour. Whose
-    /// turn it is doesn't count, nor whether the record has room.
+    /// Chooses what the colour does next in the game: a resignation, or a vertex that is legal for the colour. It makes
+    /// no difference whose turn it is, or whether the record is full.
     fn choose(&mut self, game: &Game, colour: Colour) -> Choice
         ensures { may self.old game.now colour result self.new };
 

@@ -1,4 +1,4 @@
-//! The policy that draws a candidate.
+//! The policy that chooses a random candidate.
 ghost use Rattle.std.specs.Prelude.{◌≡◌};
 ghost use Rattle.gtp_session.specs.Random.{generator_of};
 ghost use Rattle.gtp_session.specs.private.Lawful.{lawful_draw};
@@ -13,10 +13,10 @@ use rand_core::utils::NextWord;
 use rand_pcg::Pcg64;
 use std::marker::Model;
 
-/// Chooses the candidate that the next word of a generator names, and passes where there is none.
+/// Chooses a random candidate by the next word of a generator, and passes if there is none.
 ///
-/// The candidates are those of [`First`](crate::first::First), in the same order. Of `n` of them it takes number
-/// `word mod n`, counted from 0. Where there is none it draws no word.
+/// The candidates are those of [`First`](crate::first::First), in the same order. Of `n` candidates it chooses number
+/// `word mod n`, counted from 0. If there is none, the generator isn't used.
 #[derive(Drop)]
 pub struct Random {
     generator: Pcg64,
@@ -31,7 +31,7 @@ impl Model for Random {
 }
 
 impl Random {
-    /// A policy with the generator that `seed_from_u64` makes of the seed.
+    /// Returns a policy with the generator that `seed_from_u64` makes from the seed.
     pub fn new(seed: u32) -> Self
         ensures { result ≡ generator_of seed }
     {
@@ -49,7 +49,7 @@ impl Policy for Random {
         if all.is_empty() {
             return Choice::Play(Vertex::Pass);
         }
-        // The word that `next_u64` gives; the contract of this call names the state after it too.
+        // The word that `next_u64` returns. The contract of this call also says the state after it.
         let word = self.generator.next_word();
         let number = word % all.len() as u64;
         play_or_pass(all.get(number as usize).copied())

@@ -1,4 +1,4 @@
-//! A session that is an engine in steps and a policy.
+//! A session made of a sans-IO engine and a policy.
 ghost use Rattle.std.specs.Prelude.{◌≡◌, true, false, Some};
 ghost use Rattle.go_base.specs.Size.{IsSize};
 ghost use Rattle.gtp_session.specs.Engine.{reply_if};
@@ -14,10 +14,10 @@ use go_board::{Game, KoRule};
 use gtp_wire::ReplyText;
 use std::marker::Model;
 
-/// A session that is an engine in steps and a policy, which makes the choices that are asked for. A line whose command
-/// isn't in the table is declined. `feed_into` has the contract of `Session::feed_into`, word for word.
+/// A session made of a sans-IO engine and a policy, which makes the choices that the engine waits for. A line whose
+/// command isn't in the table is declined. `feed_into` has the contract of `Session::feed_into`, word for word.
 ///
-/// It is seen as an engine, as a `Session` is.
+/// Its model is an engine, as that of a `Session` is.
 #[derive(Drop)]
 pub struct SteppedSession<P: Policy> {
     steps: Steps,
@@ -38,7 +38,7 @@ impl<P: Policy> Model for SteppedSession<P> {
 impl<P: Policy> SteppedSession<P> {
     ghost use Rattle.gtp_session.specs.Engine.{fresh_under};
 
-    /// A session with this policy and this ko rule that was given nothing.
+    /// Returns a session with this policy and this ko rule that has read nothing.
     pub fn new(policy: P, rule: KoRule) -> Self
         ensures { result ≡ fresh_under rule policy }
     {
@@ -48,7 +48,7 @@ impl<P: Policy> SteppedSession<P> {
         }
     }
 
-    /// The game after the lines that were answered so far.
+    /// Returns the game after the lines that were answered so far.
     pub fn game(&self) -> &Game
         ensures { result.now ≡ self.now.game }
     {
@@ -62,9 +62,9 @@ impl<P: Policy> SteppedSession<P> {
         self.steps.ended()
     }
 
-    /// As `Session::feed_into`: takes the next piece up to and with the newline that ends the first line that has a
-    /// word, or all of it, and answers that line, with the reply in place of what `text` holds. Without a reply `text`
-    /// stays. A session that has ended uses no byte and gives no reply.
+    /// Does what `Session::feed_into` does: reads the next chunk up to and including the newline that ends the first
+    /// line with a word, or all of it, and answers that line, writing the reply over what `text` holds. If there is no
+    /// reply, `text` stays as it is. A session that has ended uses no byte and returns no reply.
     pub fn feed_into(&mut self, input: &[u8], text: &mut ReplyText) -> FedInto
         ensures fed { IsFed P.may self.old input.now result.used
             self.new (reply_if result.replied text.new) result.genmove }
@@ -74,7 +74,7 @@ impl<P: Policy> SteppedSession<P> {
     }
 }
 
-/// The same of the engine in steps and the policy.
+/// Feeds the sans-IO engine, and lets the policy make the choice that it waits for, if any.
 fn feed_unset<P: Policy>(
     steps: &mut Steps,
     policy: &mut P,
@@ -87,7 +87,7 @@ fn feed_unset<P: Policy>(
         (engine_with steps.new policy.new) (reply_if result.replied text.new) result.genmove }
     ensures kept { result.replied ≡ false → text.new ≡ text.old }
 {
-    // A look: the size is 1 to 25.
+    // For the proof only: the size is 1 to 25.
     let _ = steps.game().size();
     let StepsFed { used, event } = steps.feed(input);
     if !ends_line(event) {
@@ -113,7 +113,7 @@ fn ends_line(event: Event) -> bool
     }
 }
 
-/// Answers what the event asks for, and returns whether that was a choice.
+/// Answers what the event waits for, and returns whether that was a choice.
 fn complete<P: Policy>(steps: &mut Steps, policy: &mut P, event: Event) -> bool
     requires { IsAskedBy steps.old event }
     ensures { Completes P.may steps.old policy.old event steps.new policy.new result }
@@ -121,12 +121,12 @@ fn complete<P: Policy>(steps: &mut Steps, policy: &mut P, event: Event) -> bool
     match event {
         Event::Asked(colour) => {
             let choice = policy.choose(steps.game(), colour);
-            // The choice is lawful, so it is never refused.
+            // The choice is lawful, so it is never rejected.
             let _ = steps.choose(choice);
             true
         }
         Event::Other => {
-            // An answer is asked for.
+            // An answer is being waited for.
             let _ = steps.decline();
             false
         }

@@ -1,4 +1,4 @@
-//! An engine in steps, whose author hands in its choices, and answers the commands that the table doesn't have.
+//! A sans-IO engine: its caller supplies its choices, and answers the commands that the table doesn't have.
 ghost use Rattle.std.specs.Prelude.{◌≡◌, ◌≢◌, ◌≤◌, length, true, false, [], None, IfSome, IfNone, IfErr};
 ghost use Rattle.std.specs.Prelude.{OnOk, OnErr, if◌then◌else◌, codes};
 ghost use Rattle.gtp_wire.specs.Replies.{IsReplyText, most_written_bytes};
@@ -24,15 +24,16 @@ use gtp_wire::{
 };
 use std::marker::Model;
 
-/// An engine in steps. Bytes go in. What comes out is a reply, or the colour for which a choice is asked, or a line
-/// whose command isn't in the table. The choice, or the answer to that line, is handed in afterwards.
+/// A sans-IO engine: it reads and writes nothing itself. Its caller passes it bytes, and gets back a reply, or the
+/// colour for which it waits for a choice, or a line whose command isn't in the table. The caller then supplies the
+/// choice, or the answer to that line.
 ///
-/// It is seen as the text that it was given and has not read as lines, the line that it read last, what it waits for,
+/// Its model is the text that it was passed and hasn't read as lines, the line that it read last, what it waits for,
 /// its game, whether it has ended, its last reply, and what its author has set.
 #[derive(Drop)]
 pub struct Steps {
     reader: LineReader,
-    /// The line that was read last, in whose place the next is put (`TooLong` before the first).
+    /// The line that was read last, overwritten by the next (`TooLong` before the first).
     line: Line,
     wait: Wait,
     game: Game,
@@ -61,7 +62,7 @@ impl Steps {
     ghost use Rattle.gtp_session.specs.Steps.{SetsName, SetsVersion, AddsCommand, declined_text};
     ghost use Rattle.gtp_session.specs.OwnCommands.{RefusesName};
 
-    /// An engine with this ko rule that was given nothing: size 19, komi 0, no handicap and no moves. It answers
+    /// Returns an engine with this ko rule that has read nothing: size 19, komi 0, no handicap and no moves. It answers
     /// `stepgo` to `name` and `1.0` to `version`.
     pub fn new(rule: KoRule) -> Steps
         ensures { result ≡ fresh_steps rule }
@@ -81,33 +82,33 @@ impl Steps {
         }
     }
 
-    /// The game after the lines that were answered so far.
+    /// Returns the game after the lines that were answered so far.
     pub fn game(&self) -> &Game
         ensures { result.now ≡ self.now.game }
     {
         &self.game
     }
 
-    /// The bytes of the last reply, or none before the first.
+    /// Returns the bytes of the last reply, or none before the first.
     pub fn reply(&self) -> &[u8]
         ensures bytes { result.now ≡ self.now.reply }
-        // They are one reply: a status, an id or none, and a text that a reply may have.
+        // They are one reply: a status, an id or none, and a text that is allowed in a reply.
         ensures spoken { result.now ≢ [] → IsSpoken result.now }
         ensures few { length result.now ≤ most_written_bytes }
     {
         self.reply.as_slice()
     }
 
-    /// What it waits for.
+    /// Returns what it waits for.
     pub fn wait(&self) -> Wait
         ensures wait { result ≡ self.now.wait }
-        // No whole line is held back, and it waits only for what the line that it read last asks for.
+        // No whole line is kept unread, and it waits only for what the line that it read last needs.
         ensures kept { IsStepsState self.now }
     {
         self.wait
     }
 
-    /// The line whose choice or answer it waits for, where it waits for one.
+    /// Returns the line whose choice or answer it waits for, if it waits for one.
     pub fn line(&self) -> Option<&CommandLine>
         ensures some { IfSome result (λ waiting.
             (self.now.line ≡ line.Command waiting.now) × (self.now.wait ≢ wait.Nothing)) }
@@ -129,11 +130,12 @@ impl Steps {
         self.ended
     }
 
-    /// Takes the next piece up to and with the newline that ends the first line that has a word, or all of it. A line
-    /// that asks the author for nothing is answered. One that asks for a choice or for an answer waits for it, and
-    /// meanwhile no byte is used: the event says again what is asked for. Once the session has ended no byte is used.
+    /// Reads the next chunk up to and including the newline that ends the first line with a word, or all of it. A line
+    /// that needs nothing from the author is answered. For a line that needs a choice or an answer the engine waits,
+    /// and until it comes, this call uses no byte and returns the same event again. Once the session has ended, no byte
+    /// is used.
     ///
-    /// What it didn't use is for the next call: `input[used..]`.
+    /// Pass the bytes that it didn't use, `input[used..]`, in the next call.
     pub fn feed(&mut self, input: &[u8]) -> StepsFed
         ensures within { result.used ≤ length input.now }
         ensures reads { IsOpen self.old →
@@ -163,7 +165,7 @@ impl Steps {
         StepsFed { used, event }
     }
 
-    /// The line that was read last waits for what it asks for, or is answered.
+    /// Answers the line that was read last, or waits for what it needs.
     fn take_line(&mut self) -> Event
         requires open { IsOpen self.old }
         ensures after { self.new ≡ after_wait self.old (wait_of self.old.game self.old.line) }
@@ -185,7 +187,7 @@ impl Steps {
         }
     }
 
-    /// Answers the line that was read last, which asks for nothing.
+    /// Answers the line that was read last, which needs nothing from the author.
     fn reply_unasked(&mut self)
         requires open { IsOpen self.old }
         requires asks { asked self.old.game self.old.line ≡ None }
@@ -224,12 +226,12 @@ impl Steps {
         self.wait = Wait::Nothing;
     }
 
-    /// Makes the choice that is asked for: the move is made, and the reply is there.
+    /// Makes the choice that the engine waits for: plays the move or resigns. The reply is ready then.
     ///
     /// # Errors
     ///
-    /// `NotAsked` where none is asked for, and `Illegal` where it is a vertex that isn't legal, with the first cause.
-    /// The engine stays as it was, and a choice that was asked for is still asked for.
+    /// `NotAsked` if no choice is being waited for. `Illegal` if the choice is a vertex that isn't legal, with the
+    /// first cause. The engine stays as it was, and still waits for a choice if it did.
     pub fn choose(&mut self, choice: Choice) -> Result<(), ChoiceFault>
         ensures made { OnOk result (Chooses self.old choice self.new) }
         ensures kept { OnErr result (self.new ≡ self.old) }
@@ -245,11 +247,12 @@ impl Steps {
         Ok(())
     }
 
-    /// Answers the line whose command isn't in the table, by a success or a failure of this text. The game stays.
+    /// Answers the line whose command isn't in the table, by a success or a failure with this text. The game stays as
+    /// it is.
     ///
     /// # Errors
     ///
-    /// `NotAsked` where no such line waits, and `BadText` where no reply may have the text. A reply may have at most
+    /// `NotAsked` if no such line is waiting. `BadText` if the text isn't allowed in a reply: a reply may have at most
     /// 2,000 bytes, each of them a newline or 32 to 126, without two newlines in a row, and with neither a space nor a
     /// newline at its ends. The engine stays as it was.
     pub fn answer(&mut self, ok: bool, text: &[u8]) -> Result<(), AnswerFault>
@@ -271,7 +274,7 @@ impl Steps {
     ///
     /// # Errors
     ///
-    /// `NotAsked` where no such line waits. The engine stays as it was.
+    /// `NotAsked` if no such line is waiting. The engine stays as it was.
     pub fn decline(&mut self) -> Result<(), AnswerFault>
         ensures made { OnOk result (AnswersOther self.old false declined_text self.new) }
         ensures kept { OnErr result (self.new ≡ self.old) }
@@ -285,7 +288,7 @@ impl Steps {
         Ok(())
     }
 
-    /// Answers the line that was read last by this text.
+    /// Answers the line that was read last with this text.
     fn reply_text(&mut self, ok: bool, text: &[u8])
         requires { IsReplyText text.now }
         ensures { self.new ≡ texted self.old ok text.now }
@@ -294,11 +297,11 @@ impl Steps {
         self.wait = Wait::Nothing;
     }
 
-    /// Answers `name` by this text from now on.
+    /// Sets the answer to `name` from now on.
     ///
     /// # Errors
     ///
-    /// The text has more than 200 bytes, or no reply may have it. The engine stays as it was.
+    /// `NoTitle` if the text has more than 200 bytes, or isn't allowed in a reply. The engine stays as it was.
     pub fn set_name(&mut self, text: &[u8]) -> Result<(), NoTitle>
         ensures set { OnOk result (SetsName self.old text.now self.new) }
         ensures kept { OnErr result (self.new ≡ self.old) }
@@ -311,11 +314,11 @@ impl Steps {
         Ok(())
     }
 
-    /// Answers `version` by this text from now on.
+    /// Sets the answer to `version` from now on.
     ///
     /// # Errors
     ///
-    /// As those of [`Steps::set_name`].
+    /// Those of [`Steps::set_name`].
     pub fn set_version(&mut self, text: &[u8]) -> Result<(), NoTitle>
         ensures set { OnOk result (SetsVersion self.old text.now self.new) }
         ensures kept { OnErr result (self.new ≡ self.old) }
@@ -328,12 +331,12 @@ impl Steps {
         Ok(())
     }
 
-    /// Adds a command of the author's own. `known_command` and `list_commands` know its name from now on, and a line
-    /// with it is one whose command isn't in the table.
+    /// Adds a custom command. From now on `known_command` and `list_commands` know its name, and `feed` returns its
+    /// lines as those whose command isn't in the table.
     ///
     /// # Errors
     ///
-    /// The first cause by which it isn't added, in the order of [`CommandFault`]. The engine stays as it was.
+    /// The first reason not to add it, in the order of [`CommandFault`]. The engine stays as it was.
     pub fn add_command(&mut self, name: &[u8]) -> Result<(), CommandFault>
         ensures added { OnOk result (AddsCommand self.old name.now self.new) }
         ensures kept { OnErr result (self.new ≡ self.old) }
@@ -343,7 +346,7 @@ impl Steps {
     }
 }
 
-/// What an engine that waits reports, or nothing where it waits for nothing.
+/// Returns the event of an engine that waits, or `None` if it waits for nothing.
 fn awaited(wanted: Wait) -> Option<Event>
     ensures some { IfSome result (λ event. (event ≡ event_of wanted) × (wanted ≢ wait.Nothing)) }
     ensures none { IfNone result (wanted ≡ wait.Nothing) }
@@ -355,7 +358,7 @@ fn awaited(wanted: Wait) -> Option<Event>
     }
 }
 
-/// `true` or `false`.
+/// Returns `true` or `false` as text.
 fn truth(holds: bool) -> &'static [u8]
     ensures { result.now ≡ (if holds then codes "true" else codes "false") }
 {

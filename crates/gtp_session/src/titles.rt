@@ -12,7 +12,7 @@ const MOST_TITLE_BYTES: usize = 200;
 /// A name or a version.
 pub(crate) type Title = ArrayVec<u8, MOST_TITLE_BYTES>;
 
-/// The title of this text, where it is one.
+/// Returns this text as a name or version, if it can be one.
 pub(crate) fn title_of(text: &[u8]) -> Option<Title>
     ensures some { IfSome result (λ title. (title.items ≡ text.now) × IsTitle text.now) }
     ensures none { IfNone result (¬ IsTitle text.now) }
@@ -26,7 +26,7 @@ pub(crate) fn title_of(text: &[u8]) -> Option<Title>
     Some(copy_of(text))
 }
 
-/// The text once more.
+/// Returns a copy of the text.
 pub(crate) fn copy_of(text: &[u8]) -> Title
     requires { length text.now ≤ 200 }
     ensures { result.items ≡ text.now }

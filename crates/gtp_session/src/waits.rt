@@ -1,4 +1,4 @@
-//! What a line asks an author for.
+//! What a line needs from an author.
 ghost use Rattle.std.specs.Prelude.{◌≡◌, false, is_none};
 ghost use Rattle.gtp_session.specs.declared.commands.CommandName.TheVariants as command;
 ghost use Rattle.gtp_session.specs.Commands.{argument, asked_by_command, asked_by_words, command_named, id_of};
@@ -11,7 +11,7 @@ use crate::events::Wait;
 use go_board::Game;
 use gtp_wire::{CommandLine, Line};
 
-/// What the author is asked for by a line.
+/// Returns what the line needs from the author.
 pub(crate) fn wait_of(game: &Game, line: &Line) -> Wait
     ensures { result ≡ wait_of game.now line.now }
 {
@@ -21,7 +21,7 @@ pub(crate) fn wait_of(game: &Game, line: &Line) -> Wait
     }
 }
 
-/// The same of a command line.
+/// Returns what a command line needs from the author.
 fn wait_of_command(game: &Game, line: &CommandLine) -> Wait
     ensures { result ≡ wait_by (asked_by_words game.now line.now.words)
         (is_none (argument command_named line.now.words 0)) }
@@ -35,7 +35,7 @@ fn wait_of_command(game: &Game, line: &CommandLine) -> Wait
     Wait::Nothing
 }
 
-/// The same of a `genmove`.
+/// Returns what a `genmove` needs from the author.
 fn wait_of_genmove(game: &Game, line: &CommandLine) -> Wait
     ensures { result
         ≡ wait_by (asked_by_command game.now command.Genmove line.now.words) false }
@@ -49,7 +49,7 @@ fn wait_of_genmove(game: &Game, line: &CommandLine) -> Wait
     Wait::Choice(colour)
 }
 
-/// The id that the reply to the line repeats.
+/// Returns the id that the reply to the line repeats.
 pub(crate) fn id_of(line: &Line) -> Option<u32>
     ensures value { result ≡ id_of line.now }
     ensures int { HasIntId line.now }

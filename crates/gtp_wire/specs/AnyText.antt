@@ -127,7 +127,7 @@ FaultsStay = (old piece : List ℕ) (used : ℕ) (fault : ReplyFault) (held : Li
     → ReadsFirst old piece used (Some (Err fault)) held → ReadsFirst held later more got new
     → (more ≡ 0) × (got ≡ Some (Err fault)) × (new ≡ held)
 
--- A reply leaves nothing: what is read after it is read anew.
+-- A reply leaves nothing: what is read after it is read from scratch.
 abbrev pub RepliesLeaveNothing : Type 0
 RepliesLeaveNothing = (old piece : List ℕ) (used : ℕ) (value : Reply) (held : List ℕ)
     → ReadsFirst old piece used (Some (Ok value)) held → held ≡ []

@@ -53,7 +53,7 @@ abbrev pub FindsJoin : Type 0
 FindsJoin = (old first : List ℕ) (found : List Line) (mid second : List ℕ) (more : List Line) (new : List ℕ)
     → Finds old first found mid → Finds mid second more new → Finds old (first ++ second) (found ++ more) new
 
--- A piece is fed until it is used up: each time some bytes of what is left of it are used, and they end a line or none.
+-- A chunk is fed until it is used up: each time some bytes of what is left of it are used, and they end a line or none.
 pub data IsFed : List ℕ → List ℕ → List Line → List ℕ → Type 0 where
   used_up : {old : List ℕ} → IsFed old [] [] old
   used : {old mid new piece : List ℕ} {found : List Line} (n : ℕ) (line : Option Line)
@@ -66,7 +66,7 @@ pub data AreFed : List ℕ → List (List ℕ) → List Line → List ℕ → Ty
   fed : {old mid new piece : List ℕ} {pieces : List (List ℕ)} {found more : List Line}
       → IsFed old piece found mid → AreFed mid pieces more new → AreFed old (piece ∷ pieces) (found ++ more) new
 
--- in whatever pieces a text is fed, its lines are found, and what is held then reads on as the whole text does
+-- in whatever chunks a text is fed, its lines are found, and what is held then reads on as the whole text does
 abbrev pub AnyPiecesReadAlike : Type 0
 AnyPiecesReadAlike = (old : List ℕ) (pieces : List (List ℕ)) (found : List Line) (new : List ℕ)
     → lines old ≡ [] → AreFed old pieces found new
@@ -164,7 +164,7 @@ pub data AreRead : List ℕ → List (List ℕ) → ℕ → Option (Result Reply
       → ReadsFirst old piece used (Some answer) new
       → AreRead old (piece ∷ pieces) used (Some answer) new
 
--- In whatever pieces a text is read, the same comes first, as many bytes are used, and the same is left as if it
+-- In whatever chunks a text is read, the same comes first, as many bytes are used, and the same is left as if it
 -- were read whole.
 abbrev pub AnyPiecesAnswerAlike : Type 0
 AnyPiecesAnswerAlike = (old : List ℕ) (pieces : List (List ℕ)) (used : ℕ) (got : Option (Result Reply ReplyFault))

@@ -54,7 +54,7 @@ pub record Finds (old text : List ℕ) (found : List Line) (new : List ℕ) : Ty
   pub rest : (later : List ℕ) → lines (old ++ (text ++ later)) ≡ found ++ lines (new ++ later)
   pub no_line : lines new ≡ []
 
--- A reader that held `old` reads a piece: it uses `used` bytes of it, and finds `line`, or none; then it holds `new`.
+-- A reader that held `old` reads a chunk: it uses `used` bytes of it, and finds `line`, or none; then it holds `new`.
 pub record ReadsLine (old input : List ℕ) (used : ℕ) (line : Option Line) (new : List ℕ) : Type 0 where
   -- no whole line was held back
   pub held : lines old ≡ []
@@ -69,7 +69,7 @@ pub record ReadsLine (old input : List ℕ) (used : ℕ) (line : Option Line) (n
   pub none : IfNone line (used ≡ length input)
   -- whatever comes next, what is left reads as it would have after the bytes that were used
   pub finds : Finds old (take used input) (option_to_list line) new
-  -- of a piece that isn't empty one byte at least is used
+  -- of a chunk that isn't empty one byte at least is used
   pub progress : 0 < length input → 0 < used
 
 -- the line, where one was found

@@ -105,14 +105,14 @@ pub record IsFirst (text : List ℕ) (count : ℕ) (answer : Result Reply ReplyF
   pub is_given : GivesAnswer (take count text) answer
   pub before : (n : ℕ) (other : Result Reply ReplyFault) → n < count → GivesAnswer (take n text) other → ⊥
 
--- What stays of the text after this answer: a reply is taken off, and the rest begins anew; else all of it stays.
+-- What stays of the text after this answer: a reply is taken off, and the rest begins again; else all of it stays.
 abbrev pub rest_after : Option (Result Reply ReplyFault) → List ℕ → List ℕ
 rest_after None text = text
 rest_after (Some (Ok value)) text = []
 rest_after (Some (Err fault)) text = text
 
--- What reading a piece after what is held gives: the answer that comes first in both together, at the last byte of what
--- was held and what is used. Where there is none, neither reply nor fault has come yet, and all of the piece is used.
+-- What reading a chunk after what is held gives: the answer that comes first in both together, at the last byte of what
+-- was held and what is used. Where there is none, neither reply nor fault has come yet, and all of the chunk is used.
 pub record ReadsFirst (old input : List ℕ) (used : ℕ) (got : Option (Result Reply ReplyFault)) (new : List ℕ)
     : Type 0 where
   pub first : IfSome got (λ answer. IsFirst (old ++ input) (length old + used) answer)

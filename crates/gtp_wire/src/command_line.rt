@@ -14,12 +14,13 @@ use std::marker::Model;
 /// The most bytes that the words of a line have, the id's word included, joined by single spaces.
 pub(crate) const MOST_LINE_BYTES: usize = 1000;
 
-/// The room for the words of a line, and for a space and a byte that show that it is longer.
+/// The capacity for the words of a line, plus a space and a byte that show that the line is longer.
 pub(crate) const LINE_ROOM: usize = MOST_LINE_BYTES + 2;
 
-/// A command line: an id where its first word is an int, and the words after it, the command's name first.
+/// A command line: its id, if its first word is an integer, and the words after it, of which the first is the command's
+/// name.
 ///
-/// Its words, the id's word included, have at most 1,000 bytes, joined by single spaces.
+/// All its words, the id included, have at most 1,000 bytes when they are joined by single spaces.
 #[derive(Debug, Drop)]
 pub struct CommandLine {
     id: Option<u32>,
@@ -40,7 +41,7 @@ impl Model for CommandLine {
 }
 
 impl CommandLine {
-    /// The command line of a text of words joined by single spaces.
+    /// Makes a command line of words joined by single spaces.
     pub(crate) fn of_text(line: &[u8]) -> Self
         requires { IsLineText line.now }
         ensures { result ≡ command_of (words line.now) }
@@ -53,7 +54,7 @@ impl CommandLine {
         }
     }
 
-    /// Puts the command line of a text of words joined by single spaces in place of this one.
+    /// Replaces this command line by that of words joined by single spaces.
     pub(crate) fn put(&mut self, text: &[u8])
         requires { IsLineText text.now }
         ensures { self.new ≡ command_of (words text.now) }
@@ -63,7 +64,7 @@ impl CommandLine {
         push(&mut self.text, text);
     }
 
-    /// The id, where the line has one: an int of the protocol, at most 2,147,483,647.
+    /// The id, if the line has one: an integer of the protocol, at most 2,147,483,647.
     pub fn id(&self) -> Option<u32>
         ensures value { result ≡ self.now.id }
         ensures int { IfSome result (λ n. n ≤ most_int) }
@@ -71,9 +72,10 @@ impl CommandLine {
         self.id
     }
 
-    /// The word of this number, counted from 0 after the id: word 0 is the command's name.
+    /// The word with this number, counted from 0 after the id: word 0 is the command's name. Returns `None` if there is
+    /// no such word.
     ///
-    /// A line with an id alone has no word 0.
+    /// A line that consists of an id has no word 0.
     pub fn word(&self, number: usize) -> Option<&[u8]>
         ensures { option_copied result ≡ slice_get self.now.words number }
     {
@@ -84,7 +86,7 @@ impl CommandLine {
     }
 }
 
-/// The int that the first part is.
+/// The integer that the first word spells, if it is one.
 fn first_int(text: &[u8]) -> Option<u32>
     ensures value { result ≡ id_of_words (slice_split is_space text.now) }
     ensures int { IfSome result (λ n. n ≤ most_int) }
@@ -92,7 +94,7 @@ fn first_int(text: &[u8]) -> Option<u32>
     read_int(part(text, 0)?)
 }
 
-/// The part of this number between the spaces.
+/// The part with this number, counted from 0, when the text is split at each space.
 fn part(text: &[u8], number: usize) -> Option<&[u8]>
     ensures { option_copied result ≡ slice_get (slice_split is_space text.now) number }
 {

@@ -1,4 +1,4 @@
-//! Lines, and their reader.
+//! Command lines and their reader.
 ghost use Rattle.std.specs.Prelude.{◌≡◌, ◌≢◌, ℕ, List, [], ◌∷◌, ◌++◌, false};
 ghost use Rattle.std.specs.Option.{option_to_list};
 ghost use Rattle.gtp_wire.specs.declared.lines.Line.TheVariants.{Command};
@@ -10,17 +10,17 @@ use super::command_line::{CommandLine, LINE_ROOM, MOST_LINE_BYTES};
 use arrayvec::ArrayVec;
 use std::marker::Model;
 
-/// A line that has a word: a command, or one that is too long to be read.
+/// A line with at least one word: a command, or a line that is too long to be read.
 #[derive(Debug, Drop)]
 pub enum Line {
     /// A command line.
     Command(CommandLine),
-    /// A line whose words, the id's word included, have more than 1,000 bytes, joined by single spaces.
+    /// A line whose words, the id included, have more than 1,000 bytes when they are joined by single spaces.
     TooLong,
 }
 
 impl Line {
-    /// Puts the command line of a text of words joined by single spaces in place of this line.
+    /// Replaces this line by the command line of words joined by single spaces.
     fn put_command(&mut self, text: &[u8])
         requires { IsLineText text.now }
         ensures { self.new ≡ Command (command_of (words text.now)) }
@@ -32,25 +32,26 @@ impl Line {
     }
 }
 
-/// What a line reader did with a piece of its input.
+/// What a line reader did with a chunk of its input.
 #[derive(Debug, Drop)]
 pub struct LineFed {
-    /// How many bytes of the piece it used.
+    /// How many bytes of the chunk it used.
     pub used: usize,
-    /// The line that the last of these bytes ended, if any.
+    /// The line that the last of these bytes ended, if it did.
     pub line: Option<Line>,
 }
 
-/// What a line reader did with a piece of its input, where it put the line elsewhere.
+/// What a line reader did with a chunk of its input, when it writes the line elsewhere.
 #[derive(Clone, Copy, Debug, PartialEq, Eq, Drop)]
 pub struct LineRead {
-    /// How many bytes of the piece it used.
+    /// How many bytes of the chunk it used.
     pub used: usize,
     /// Whether the last of these bytes ended a line.
     pub found: bool,
 }
 
-/// How far a line is: in or after a word (or before all words), after a space that ended a word, or in a comment.
+/// How far a line has been read: in or after a word (or before all words), after a space that ended a word, or in a
+/// comment.
 #[derive(Clone, Copy, Debug, PartialEq, Eq)]
 enum Stage {
     Word,
@@ -58,8 +59,7 @@ enum Stage {
     Comment,
 }
 
-/// What a byte is to a line that it doesn't end: a space, a control character, the begin of a comment, or a byte of a
-/// word.
+/// What a byte that doesn't end the line is: a space, a control character, the start of a comment, or part of a word.
 #[derive(Clone, Copy, PartialEq, Eq)]
 enum Kind {
     Space,
@@ -68,7 +68,7 @@ enum Kind {
     Other,
 }
 
-/// The kind of a byte that ends no line.
+/// The kind of a byte that isn't a newline.
 fn kind_of(byte: u8) -> Kind
     requires { byte ≢ newline }
     ensures { IsKind byte result }
@@ -86,10 +86,10 @@ fn kind_of(byte: u8) -> Kind
     }
 }
 
-/// Reads command lines from bytes in any pieces.
+/// Reads command lines from bytes in any chunks.
 ///
-/// It is seen as a text without a whole line that reads, with every text after it, as what it was fed since the last
-/// line.
+/// Contracts see a reader as a text without a complete line. With any further text after it, it gives the same lines as
+/// what the reader was fed since the last line.
 #[derive(Debug, Drop)]
 pub struct LineReader {
     held: ArrayVec<u8, LINE_ROOM>,
@@ -128,11 +128,12 @@ impl LineReader {
         }
     }
 
-    /// Takes the next piece up to and with the newline that ends the first line that has a word, or all of it. No whole
-    /// line is held back, and no byte after that newline is used.
+    /// Reads the next chunk up to and including the newline that ends the first line with a word, or all of it if there
+    /// is none. Returns how many bytes it used, and the line. It holds back no complete line, and uses no byte after
+    /// that newline.
     ///
-    /// Lines without a word (blank lines and comments) are passed over. A line that is too long is reported at its
-    /// newline. A line takes some 1 kB: `feed_into` puts it in place.
+    /// Lines without a word (blank lines and comments) are skipped. A line that is too long is reported at its newline.
+    /// A line takes about 1 kB: `feed_into` writes it in place.
     pub fn feed(&mut self, input: &[u8]) -> LineFed
         ensures { ReadsLine self.old input.now result.used result.line self.new }
     {
@@ -144,11 +145,11 @@ impl LineReader {
         }
     }
 
-    /// Takes the next piece as `feed` does, and puts a line that it ends in place of the one handed in.
+    /// Reads the next chunk as `feed` does, and writes a line that it ends to `line`.
     pub fn feed_into(&mut self, input: &[u8], line: &mut Line) -> LineRead
         ensures reads { ReadsLine self.old input.now result.used
             (line_if result.found line.new) self.new }
-        // Where none is found, the line stays as it was.
+        // If no line is found, `line` stays as it was.
         ensures unchanged { result.found ≡ false → line.new ≡ line.old }
     {
         // A look: what the invariant says holds of every reader.
@@ -171,7 +172,7 @@ impl LineReader {
         }
     }
 
-    /// Takes one byte that ends no line.
+    /// Reads a byte that isn't a newline.
     fn take_byte(&mut self, byte: u8)
         requires { byte ≢ newline }
         ensures { Finds self.old (byte ∷ []) [] self.new }
@@ -184,7 +185,7 @@ impl LineReader {
         }
     }
 
-    /// A control character changes nothing.
+    /// Skips a control character, which changes nothing.
     fn skip(&self, byte: u8)
         requires { IsKind byte Kind.Removed }
         ensures { Finds self.now (byte ∷ []) [] self.now }
@@ -193,7 +194,7 @@ impl LineReader {
         let _ = &self.held;
     }
 
-    /// A space ends a word.
+    /// Reads a space, which ends a word.
     fn take_space(&mut self, byte: u8)
         requires { IsKind byte Kind.Space }
         ensures { Finds self.old (byte ∷ []) [] self.new }
@@ -210,7 +211,7 @@ impl LineReader {
         }
     }
 
-    /// `#` begins a comment.
+    /// Reads `#`, which starts a comment.
     fn take_hash(&mut self)
         ensures { Finds self.old (hash ∷ []) [] self.new }
     {
@@ -219,7 +220,7 @@ impl LineReader {
         self.stage = Stage::Comment;
     }
 
-    /// Any other byte belongs to a word, unless it is in a comment or the line is too long already.
+    /// Reads any other byte. It belongs to a word, unless it is in a comment or the line is too long already.
     fn take_word_byte(&mut self, byte: u8)
         requires { IsKind byte Kind.Other }
         ensures { Finds self.old (byte ∷ []) [] self.new }
@@ -238,7 +239,7 @@ impl LineReader {
         }
     }
 
-    /// Puts the line that is held, which a newline ends, in place of the one handed in. Returns whether there is one.
+    /// Ends the line at a newline, and writes it to `line` if it has a word. Returns whether it has one.
     fn end_line(&mut self, line: &mut Line) -> bool
         ensures step { (z : List ℕ) → lines (self.old ++ newline ∷ z)
             ≡ option_to_list (line_if result line.new) ++ lines z }

@@ -1,4 +1,4 @@
-//! Replies, and their writer.
+//! Replies, and how they are written.
 ghost use Rattle.std.specs.Prelude.{◌≡◌, ℕ, ◌+◌, ◌<◌, ◌≤◌, false, [], ◌++◌, length, None, IfSome};
 ghost use Rattle.arrayvec.specs.ArrayVec.{array_vec_len};
 ghost use Rattle.go_base.specs.Int.{most_int};
@@ -17,16 +17,16 @@ pub const MOST_SHOWN: usize = 80;
 /// What an engine answered to a command.
 #[derive(Debug, Drop)]
 pub struct Reply {
-    /// Whether the command succeeded: the reply begins with `=`, and with `?` where it failed.
+    /// Whether the command succeeded: the reply begins with `=` if it did, and with `?` if it failed.
     pub ok: bool,
-    /// The id, an int, where the reply has one.
+    /// The id, an integer of the protocol, if the reply has one.
     pub id: Option<u32>,
-    /// The text, without the spaces at its ends; rows are separated by single newlines.
+    /// The text without the spaces around it. Its lines are separated by single newlines.
     pub text: ArrayVec<u8, MOST_REPLY_BYTES>,
 }
 
 impl Reply {
-    /// A failure without an id and without a text, for a reader to write in.
+    /// A failure with no id and an empty text, for a reader to overwrite.
     pub fn new() -> Self
         ensures ok { result.ok ≡ false }
         ensures id { result.id ≡ None }
@@ -48,37 +48,37 @@ impl Default for Reply {
     }
 }
 
-/// Why bytes are no reply. For each byte they are checked in this order.
+/// Why bytes are not a reply. Each byte is checked for these in this order.
 #[derive(Clone, Copy, Debug, PartialEq, Eq)]
 pub enum ReplyFault {
-    /// More than 8,192 bytes came since the last reply.
+    /// More than 8,192 bytes arrived since the last reply.
     Overlong,
-    /// What follows the spaces and newlines before a reply is neither `=` nor `?`.
+    /// The first byte after the spaces and newlines before a reply is neither `=` nor `?`.
     NoStatus,
 }
 
-/// The bytes of a reply that is written.
+/// The bytes of a written reply.
 pub type ReplyText = ArrayVec<u8, REPLY_ROOM>;
 
-/// The most bytes that the text of a written reply has.
+/// The most bytes of the text of a written reply.
 pub(crate) const MOST_TEXT_BYTES: usize = 2000;
 
-/// The room for a status, an id, a space, a text and two newlines.
+/// The capacity for a status, an id, a space, a text and two newlines.
 const REPLY_ROOM: usize = 2048;
 
 /// The most bytes of a status and an id.
 const MOST_FRONT_BYTES: usize = 11;
 
-/// Writes a reply: `=` for success or `?` for failure, the id where there is one, a space and the text where it isn't
-/// empty, and two newlines.
+/// Writes a reply: `=` for success or `?` for failure, the id if there is one, a space and the text unless it is empty,
+/// and two newlines.
 ///
-/// The id is an int of the protocol. The text has at most 2,000 bytes, each of them a newline or 32 to 126, without two
-/// newlines in a row, and begins and ends with neither a space nor a newline.
+/// The id must be an integer of the protocol. The text must have at most 2,000 bytes, each a newline or 32 to 126,
+/// without two newlines in a row, and may neither begin nor end with a space or a newline.
 pub fn write_reply(ok: bool, id: Option<u32>, text: &[u8]) -> ReplyText
     requires id_fits { IfSome id (λ n. n ≤ most_int) }
     requires text_fits { IsReplyText text.now }
     ensures bytes { result.items ≡ written_reply ok id text.now }
-    // They are one reply, of this status, id and text.
+    // The bytes are one reply, with this status, id and text.
     ensures reply { (value : Reply) → value.ok ≡ ok → value.id ≡ id → value.text.items ≡ text.now →
         IsReply result.items value }
 {
@@ -87,13 +87,13 @@ pub fn write_reply(ok: bool, id: Option<u32>, text: &[u8]) -> ReplyText
     out
 }
 
-/// Writes a reply as `write_reply` does, in place of what `out` holds. Of a text of more than 2,000 bytes it writes
-/// nothing.
+/// Writes a reply to `out` as `write_reply` does, replacing what was there. If the text has more than 2,000 bytes,
+/// `out` is empty afterwards.
 pub fn write_reply_into(out: &mut ReplyText, ok: bool, id: Option<u32>, text: &[u8])
     ensures bytes { length text.now ≤ most_text_bytes →
         out.new.items ≡ written_reply ok id text.now }
     ensures nothing { most_text_bytes < length text.now → out.new.items ≡ [] }
-    // Where id and text are those of a reply, the bytes are one reply, of this status, id and text.
+    // If a reply may have this id and text, the bytes are one reply, with this status, id and text.
     ensures reply { IfSome id (λ n. n ≤ most_int) → IsReplyText text.now →
         (value : Reply) → value.ok ≡ ok → value.id ≡ id → value.text.items ≡ text.now →
         IsReply out.new.items value }
@@ -105,7 +105,7 @@ pub fn write_reply_into(out: &mut ReplyText, ok: bool, id: Option<u32>, text: &[
     put_reply(out, ok, id, text);
 }
 
-/// Puts the bytes of the reply in place of what `out` holds.
+/// Replaces what `out` holds by the bytes of the reply.
 fn put_reply(out: &mut ReplyText, ok: bool, id: Option<u32>, text: &[u8])
     requires { length text.now ≤ most_text_bytes }
     ensures { out.new.items ≡ written_reply ok id text.now }
@@ -118,7 +118,7 @@ fn put_reply(out: &mut ReplyText, ok: bool, id: Option<u32>, text: &[u8])
     out.push(b'\n');
 }
 
-/// Appends the id, where there is one.
+/// Appends the id, if there is one.
 fn push_id(out: &mut ReplyText, id: Option<u32>)
     requires { array_vec_len out.old ≤ 1 }
     ensures bytes { out.new.items ≡ out.old.items ++ written_id id }
@@ -129,7 +129,7 @@ fn push_id(out: &mut ReplyText, id: Option<u32>)
     }
 }
 
-/// Appends a space and the text, where there is one.
+/// Appends a space and the text, unless the text is empty.
 fn push_text(out: &mut ReplyText, text: &[u8])
     requires { array_vec_len out.old + length text.now + 3 ≤ REPLY_ROOM }
     ensures bytes { out.new.items ≡ out.old.items ++ spaced text.now }

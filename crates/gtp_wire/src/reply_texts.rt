@@ -1,4 +1,4 @@
-//! Texts that a reply may have.
+//! The texts that a reply may have.
 ghost use Rattle.std.specs.Prelude.{◌≡◌, ◌↔◌, IsTrue, reverse};
 ghost use Rattle.std.specs.List.{list_all};
 ghost use Rattle.gtp_wire.specs.Replies.{IsReplyText, is_shown, has_two_newlines, begins_blank};
@@ -7,8 +7,8 @@ ghost use Rattle.gtp_wire.specs.private.ReplyReading.{begins_newline};
 use crate::bytes::is_blank;
 use crate::replies::MOST_TEXT_BYTES;
 
-/// Whether a reply may have the text: at most 2,000 bytes, each of them a newline or 32 to 126, without two newlines in
-/// a row, and with neither a space nor a newline at its front or at its end.
+/// Whether a reply may have this text: at most 2,000 bytes, each a newline or 32 to 126, without two newlines in a row,
+/// and with neither a space nor a newline at the beginning or the end.
 pub fn is_reply_text(text: &[u8]) -> bool
     ensures { IsTrue result ↔ IsReplyText text.now }
 {
@@ -27,21 +27,21 @@ pub fn is_reply_text(text: &[u8]) -> bool
     !ends_blank(text)
 }
 
-/// Whether a text may have all of these bytes.
+/// Whether a reply's text may have all these bytes.
 fn all_shown(text: &[u8]) -> bool
     ensures { result ≡ list_all is_shown text.now }
 {
     text.iter().all(|byte| is_shown(*byte))
 }
 
-/// Whether a text may have the byte.
+/// Whether a reply's text may have this byte.
 fn is_shown(byte: u8) -> bool
     ensures { result ≡ is_shown byte }
 {
     byte == b'\n' || (b' ' <= byte && byte <= b'~')
 }
 
-/// Whether two newlines come in a row.
+/// Whether the text has two newlines in a row.
 fn has_two_newlines(text: &[u8]) -> bool
     ensures { result ≡ has_two_newlines text.now }
 {
@@ -55,7 +55,7 @@ fn has_two_newlines(text: &[u8]) -> bool
     false
 }
 
-/// Whether a newline is in front.
+/// Whether the text begins with a newline.
 fn begins_newline(text: &[u8]) -> bool
     ensures { result ≡ begins_newline text.now }
 {
@@ -65,7 +65,7 @@ fn begins_newline(text: &[u8]) -> bool
     }
 }
 
-/// Whether a space or a newline is in front.
+/// Whether the text begins with a space or a newline.
 fn begins_blank(text: &[u8]) -> bool
     ensures { result ≡ begins_blank text.now }
 {
@@ -75,7 +75,7 @@ fn begins_blank(text: &[u8]) -> bool
     }
 }
 
-/// Whether a space or a newline is at the end.
+/// Whether the text ends with a space or a newline.
 fn ends_blank(text: &[u8]) -> bool
     ensures { result ≡ begins_blank (reverse text.now) }
 {

@@ -1,4 +1,4 @@
-//! What the words of a reply's text say: a choice, or points.
+//! What the words of a reply's text mean: a choice, or points.
 ghost use Rattle.std.specs.Prelude.{◌≡◌, length, Some};
 ghost use Rattle.gtp_wire.specs.Words.{reply_words};
 ghost use Rattle.gtp_wire.specs.ReplyWords.{choice_of_text, is_at, names_point, names_points};
@@ -7,9 +7,9 @@ ghost use Rattle.std.specs.List.{list_all, list_any};
 use crate::words::first_word;
 use go_base::{Choice, Point, Vertex};
 
-/// The choice that a reply's text says: its one word is a vertex or `resign`, in any case.
+/// Reads the choice in a reply's text, which must be one word: a vertex or `resign`, in any case.
 ///
-/// It is `None` where the text has no word or more than one, or its one word spells neither.
+/// Returns `None` if the text has no word or several, or if its word is neither.
 pub fn read_choice(text: &[u8]) -> Option<Choice>
     ensures { result ≡ choice_of_text text.now }
 {
@@ -20,11 +20,11 @@ pub fn read_choice(text: &[u8]) -> Option<Choice>
     Choice::read(word)
 }
 
-/// Whether a reply's text has as many words as there are points, and a vertex on each point among them.
+/// Whether a reply's text has as many words as there are points, and a vertex on each of the points among them.
 ///
-/// Where the points are distinct, as those of a handicap are, each word is then a vertex on one of them, and each
-/// point is named by one word, in any order. So it is then false where a word spells no vertex, is a pass or another
-/// point, or names a point again.
+/// For distinct points, such as those of a handicap, this means that each word is a vertex on one of the points and
+/// each point is named once, in any order. So the answer is false if a word isn't a vertex, is a pass or another point,
+/// or names a point again.
 pub fn names_points(text: &[u8], points: &[Point]) -> bool
     ensures { result ≡ names_points points.now (reply_words text.now) }
 {
@@ -51,7 +51,7 @@ fn count_words(text: &[u8]) -> usize
     count
 }
 
-/// Whether the point is among the words of the text.
+/// Whether a word of the text names the point.
 fn has_point(text: &[u8], point: Point) -> bool
     ensures { result ≡ list_any (names_point point) (reply_words text.now) }
 {
@@ -65,7 +65,7 @@ fn has_point(text: &[u8], point: Point) -> bool
     false
 }
 
-/// Whether the word is this point.
+/// Whether the word names this point.
 fn is_point(word: &[u8], point: Point) -> bool
     ensures { result ≡ names_point point word.now }
 {
@@ -75,7 +75,7 @@ fn is_point(word: &[u8], point: Point) -> bool
     is_at(vertex, point)
 }
 
-/// Whether the vertex is this point.
+/// Whether the vertex is on this point.
 fn is_at(vertex: Vertex, point: Point) -> bool
     ensures { result ≡ is_at point (Some vertex) }
 {

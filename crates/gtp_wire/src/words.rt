@@ -1,4 +1,4 @@
-//! The words of a reply's text, one after the other. What they say is in `reply_words.rt`.
+//! The words of a reply's text, one after the other. What they mean is in `reply_words.rt`.
 ghost use Rattle.std.specs.Prelude.{◌≡◌, ◌<◌, ◌≤◌, [], ◌∷◌, length, MatchOption, IfSome};
 ghost use Rattle.std.specs.List.{prefix_len};
 ghost use Rattle.go_base.specs.Text.{skip_while};
@@ -7,7 +7,8 @@ ghost use Rattle.gtp_wire.specs.Words.{reply_words};
 
 use crate::bytes::is_blank;
 
-/// The first word of a reply's text and what follows it, where the text has a word. Spaces and newlines separate words.
+/// Returns the first word of a reply's text and what follows it, or `None` if the text has no word. Spaces and newlines
+/// separate words.
 pub fn first_word(text: &[u8]) -> Option<(&[u8], &[u8])>
     ensures words { MatchOption result
         (reply_words text.now ≡ [])
@@ -31,7 +32,7 @@ pub(crate) fn skip_blanks(text: &[u8]) -> &[u8]
     rest
 }
 
-/// How many spaces and newlines are in front of a text.
+/// How many spaces and newlines are at the front of a text.
 fn blanks_len(text: &[u8]) -> usize
     ensures value { result ≡ prefix_len is_blank text.now }
     ensures within { result ≤ length text.now }
@@ -39,7 +40,7 @@ fn blanks_len(text: &[u8]) -> usize
     text.iter().take_while(|byte| is_blank(**byte)).count()
 }
 
-/// How many bytes are before the first space or newline.
+/// How many bytes come before the first space or newline.
 fn word_len(text: &[u8]) -> usize
     ensures value { result ≡ prefix_len is_inside text.now }
     ensures within { result ≤ length text.now }

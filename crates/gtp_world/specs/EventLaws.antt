@@ -168,7 +168,7 @@ module _ {B W : Type 0} (policies_black : SidePolicies B) (policies_white : Side
   NoByteHeardIsNothing = (side : Colour) (old new : World B W)
       → Happens policies_black policies_white old (ToController side 0) new → new ≡ old
 
-  -- bytes that reach an engine in two cuts may reach it in one, with the same outcome
+  -- bytes that reach an engine in two chunks may reach it in one, with the same outcome
   abbrev pub CutsOfReadingsJoin : Type 0
   CutsOfReadingsJoin = (side : Colour) (one two : ℕ) (old mid new : World B W)
       → Happens policies_black policies_white old (ToEngine side one) mid

@@ -1,5 +1,5 @@
 -- Kinds of engines: what the engines of one side of a world are. They are sessions, which ask a policy, or engines in
--- steps, whose author is asked, thinks as long as he likes, and hands in what he chose.
+-- steps, whose author is asked, thinks as long as he likes, and supplies what he chose.
 use Rattle.std.specs.Prelude.{◌≡◌, ◌≢◌, ◌⊎◌, ◌≤◌, ℕ, Bool, true, false, List, [], take, drop, length}
 use Rattle.go_base.specs.declared.choices.Choice.{Choice}
 use Rattle.go_board.specs.Game.{GameRecord}
@@ -65,7 +65,7 @@ sessions {P} policies = record {
   rule = policies.rule;
 }
 
--- ---- the calls of an engine in steps, by their contracts
+-- ---- the calls of a sans-IO engine, by their contracts
 
 -- `feed`: one that is open reads on, up to the end of the first line; one that waits, or that has ended, uses nothing
 -- and stays as it was
@@ -118,7 +118,7 @@ Calls old (Call.set_version text) new written =
 Calls old (Call.add_command name) new written =
     OrRefused (AddsCommand old name new × (written ≡ [])) (RefusesName old.commands name) old new written
 
--- engines in steps with this ko rule, each of which was given nothing at its start
+-- sans-IO engines with this ko rule, each of which was given nothing at its start
 abbrev pub in_steps : KoRule → Kind StepsState
 in_steps rule = record {
   begins = λ s. s ≡ fresh_steps rule;

@@ -1,4 +1,4 @@
--- Laws of one event in worlds whose engines are in steps.
+-- Laws of one event in worlds whose engines are sans-IO.
 use Rattle.std.specs.Prelude.{◌≡◌, ◌≢◌, ◌⊎◌, ◌<◌, ◌≤◌, List, [], None, Some}
 use Rattle.go_base.specs.Colour.{other}
 use Rattle.go_base.specs.declared.colours.Colour.{Colour}

@@ -1,4 +1,4 @@
--- Laws of worlds whose engines are in steps: where such worlds go, and that no two engines in step disagree.
+-- Laws of worlds whose engines are sans-IO: where such worlds go, and that no two engines in step disagree.
 use Rattle.std.specs.Prelude.{◌≡◌, ◌≢◌, ◌≤◌, ℕ, true, List, [], ◌∷◌, ◌++◌, length, Option, None, Some}
 use Rattle.go_base.specs.declared.colours.Colour.{Colour}
 use Rattle.go_base.specs.declared.colours.Colour.TheVariants.{Black, White}
@@ -44,7 +44,7 @@ module _ {B W : Type 0} (black : Kind B) (white : Kind W) where
   -- An engine that runs, and whose side the controller counts as in step, is there; and two such engines hold the same
   -- game. An engine that waits for a choice, before a verdict, is asked for it there. An engine whose side has answered
   -- all that it was sent waits for nothing of its author. None ever waits for an answer to a line of his own. The lists
-  -- are short, and no verdict blames an engine but for a fourth refusal.
+  -- are short, and no verdict blames an engine except for a fourth refusal.
   pub record StepsAgree (world : StepsWorld B W) : Type 0 where
     pub there : (side : Colour) (engine : at_side B W side) → (steps_lane_of world side).engine ≡ Some engine
         → in_step world.controller side ≡ true → IsThere (kind_at black white side) world.controller.game engine
@@ -121,22 +121,22 @@ GoesAlong {B} {W} {P} {Q} black white policies_black policies_white =
 
 -- ---- of which kinds
 
--- A law of the kinds of both sides holds where the engines of both are in steps, whatever the two ko rules.
+-- A law of the kinds of both sides holds where the engines of both are sans-IO, whatever the two ko rules.
 abbrev pub BothInSteps : (Kind StepsState → Kind StepsState → Type 0) → Type 0
 BothInSteps Law = (black white : KoRule) → Law (in_steps black) (in_steps white)
 
--- It holds where Black's engines are in steps, and White's are sessions with any policies that a maker makes; whatever
+-- It holds where Black's engines are sans-IO, and White's are sessions with any policies that a maker makes; whatever
 -- the two ko rules.
 abbrev pub BlackInSteps : {M P : Type 0} → (Making M → SidePolicies P) → (Kind StepsState → Kind (Engine P) → Type 0)
     → Type 0
 BlackInSteps {M} white_by Law = (black : KoRule) (white : Making M) → Law (in_steps black) (sessions (white_by white))
 
--- the same with White's in steps
+-- the same with White's sans-IO
 abbrev pub WhiteInSteps : {M P : Type 0} → (Making M → SidePolicies P) → (Kind (Engine P) → Kind StepsState → Type 0)
     → Type 0
 WhiteInSteps {M} black_by Law = (black : Making M) (white : KoRule) → Law (sessions (black_by black)) (in_steps white)
 
--- Where such worlds go, of the same three. An engine in steps is like one whose policy may choose all that is lawful,
+-- Where such worlds go, of the same three. A sans-IO engine is like one whose policy may choose all that is lawful,
 -- and a session is like itself.
 abbrev pub BothGoAlong : Type 0
 BothGoAlong = (black white : KoRule)

@@ -1,4 +1,4 @@
--- Catching up in worlds whose engines are in steps: the same starts and deliveries as in the definition's worlds bring
+-- Catching up in worlds whose engines are sans-IO: the same starts and deliveries as in the definition's worlds bring
 -- both sides into step, and no author has to call.
 use Rattle.std.specs.Prelude.{◌≡◌, ◌≢◌, true, false, List, [], map, None, Some}
 use Rattle.go_base.specs.declared.colours.Colour.{Colour}

@@ -1,4 +1,4 @@
--- Worlds in which the engines of both sides are in steps, with the ko rules of both sides' engines.
+-- Worlds in which the engines of both sides are sans-IO, with the ko rules of both sides' engines.
 use Rattle.std.specs.Prelude.{◌≡◌, true, List, [], Option, Some}
 use Rattle.go_base.specs.declared.colours.Colour.{Colour}
 use Rattle.go_base.specs.declared.colours.Colour.TheVariants.{Black, White}
@@ -50,7 +50,7 @@ pub record StepsSeatHappens (side : Colour) (event : StepsEvent) (before : Contr
 
 -- ---- the world
 
--- a world whose engines are in steps, and the ko rules of both sides' engines
+-- a world whose engines are sans-IO, and the ko rules of both sides' engines
 pub record RuledWorld : Type 0 where
   pub rules : Rules
   pub world : StepsWorld StepsState StepsState

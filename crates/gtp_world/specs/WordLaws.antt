@@ -32,12 +32,12 @@ use Rattle.gtp_world.specs.Settle.{MaySettle, IsSettled, settle}
 
 -- ---- holding, agreeing
 
--- a game that holds another is the other, but for the ko rule
+-- a game that holds another is the other, except for the ko rule
 abbrev pub HoldingIsBeingIt : Type 0
 HoldingIsBeingIt = (one two : GameRecord) (rule : KoRule) → Holds one two → ruled rule one ≡ ruled rule two
 
--- In a world that agrees, an engine that runs and is in step is at the controller's game, but for the ko rule, and the
--- lists have at most 512 and 16,384 bytes. The two words in which the program says so of games say no less.
+-- In a world that agrees, an engine that runs and is in step holds the controller's game except for the ko rule, and
+-- the lists have at most 512 and 16,384 bytes. The two words in which the program says so of games say no less.
 pub record AgreeingIsBeingThere (B W : Type 0) : Type 0 where
   pub agrees : (world : World B W) (side : Colour) (game : GameRecord) (rule : KoRule) → Agrees world
       → game_at world side ≡ Some game → in_step world.controller side ≡ true

@@ -1,4 +1,4 @@
-//! The calls of an engine in steps, with what comes of them in a world. Each function here does its call alone.
+//! The calls of a sans-IO engine, with contracts that say what they do to a world. Each function only makes its call.
 ghost use Rattle.std.specs.Prelude.{[], OnOk, OnErr, IfErr};
 ghost use Rattle.gtp_session.specs.OwnCommands.{RefusesName};
 ghost use Rattle.gtp_session.specs.Steps.{RefusesChoice, RefusesAnswer, declined_text};
@@ -8,14 +8,18 @@ ghost use Rattle.gtp_world.specs.Kinds.{Call, Calls, Feeds};
 use gtp_session::policy::Choice;
 use gtp_session::steps::{AnswerFault, ChoiceFault, CommandFault, NoTitle, Steps, StepsFed};
 
-/// It is fed.
+/// Feeds the engine these bytes. Returns what came of it.
 pub fn feed(steps: &mut Steps, input: &[u8]) -> StepsFed
     ensures { Feeds steps.old input.now result steps.new }
 {
     steps.feed(input)
 }
 
-/// A choice is handed in: its reply is there, or nothing comes of it.
+/// Supplies a choice. Its reply is then ready.
+///
+/// # Errors
+///
+/// Those of `Steps::choose`. The engine stays as it was, and no reply is written.
 pub fn choose(steps: &mut Steps, choice: Choice) -> Result<(), ChoiceFault>
     ensures made { OnOk result (Calls steps.old (Call.choose choice) steps.new steps.new.reply) }
     ensures refused { OnErr result (Calls steps.old (Call.choose choice) steps.new []) }
@@ -24,7 +28,11 @@ pub fn choose(steps: &mut Steps, choice: Choice) -> Result<(), ChoiceFault>
     steps.choose(choice)
 }
 
-/// An answer is handed in: its reply is there, or nothing comes of it.
+/// Supplies an answer. Its reply is then ready.
+///
+/// # Errors
+///
+/// Those of `Steps::answer`. The engine stays as it was, and no reply is written.
 pub fn answer(steps: &mut Steps, ok: bool, text: &[u8]) -> Result<(), AnswerFault>
     ensures made { OnOk result
         (Calls steps.old (Call.answer ok text.now) steps.new steps.new.reply) }
@@ -34,7 +42,11 @@ pub fn answer(steps: &mut Steps, ok: bool, text: &[u8]) -> Result<(), AnswerFaul
     steps.answer(ok, text)
 }
 
-/// A line is declined: its reply is there, or nothing comes of it.
+/// Declines a line. The reply is then ready.
+///
+/// # Errors
+///
+/// Those of `Steps::decline`. The engine stays as it was, and no reply is written.
 pub fn decline(steps: &mut Steps) -> Result<(), AnswerFault>
     ensures made { OnOk result (Calls steps.old Call.decline steps.new steps.new.reply) }
     ensures refused { OnErr result (Calls steps.old Call.decline steps.new []) }
@@ -43,7 +55,11 @@ pub fn decline(steps: &mut Steps) -> Result<(), AnswerFault>
     steps.decline()
 }
 
-/// A name is set, or nothing comes of it.
+/// Sets the engine's name. No reply is written.
+///
+/// # Errors
+///
+/// Those of `Steps::set_name`. The engine stays as it was.
 pub fn set_name(steps: &mut Steps, text: &[u8]) -> Result<(), NoTitle>
     ensures comes { Calls steps.old (Call.set_name text.now) steps.new [] }
     ensures set { OnOk result (SetsName steps.old text.now steps.new) }
@@ -52,7 +68,11 @@ pub fn set_name(steps: &mut Steps, text: &[u8]) -> Result<(), NoTitle>
     steps.set_name(text)
 }
 
-/// A version is set, or nothing comes of it.
+/// Sets the engine's version. No reply is written.
+///
+/// # Errors
+///
+/// Those of `Steps::set_version`. The engine stays as it was.
 pub fn set_version(steps: &mut Steps, text: &[u8]) -> Result<(), NoTitle>
     ensures comes { Calls steps.old (Call.set_version text.now) steps.new [] }
     ensures set { OnOk result (SetsVersion steps.old text.now steps.new) }
@@ -61,7 +81,11 @@ pub fn set_version(steps: &mut Steps, text: &[u8]) -> Result<(), NoTitle>
     steps.set_version(text)
 }
 
-/// A command of the author's own is added, or nothing comes of it.
+/// Adds a custom command. No reply is written.
+///
+/// # Errors
+///
+/// Those of `Steps::add_command`. The engine stays as it was.
 pub fn add_command(steps: &mut Steps, name: &[u8]) -> Result<(), CommandFault>
     ensures comes { Calls steps.old (Call.add_command name.now) steps.new [] }
     ensures added { OnOk result (AddsCommand steps.old name.now steps.new) }

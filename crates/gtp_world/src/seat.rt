@@ -19,7 +19,8 @@ use go_board::{Game, KoRule};
 use gtp_match::{Action, Match, Status};
 use std::marker::Model;
 
-/// One side: what makes its engines' policies, their ko rule, and its engine with the bytes on their ways.
+/// One side: the maker of its engines' policies, their ko rule, and its engine with the bytes on the way to it and from
+/// it.
 #[derive(Drop)]
 pub(crate) struct Seat<M: Maker> {
     maker: M,
@@ -49,7 +50,7 @@ pub(crate) fn is_down(played: &Match, side: Side) -> bool
 }
 
 impl<M: Maker> Seat<M> {
-    /// No engine, and empty lists.
+    /// A side with no engine and with empty lists.
     pub fn new(maker: M, rule: KoRule) -> Seat<M>
         ensures { result ≡ record {
           making = record { maker = maker; rule = rule };
@@ -63,7 +64,7 @@ impl<M: Maker> Seat<M> {
         }
     }
 
-    /// The side's engine is started, with a new policy and the side's ko rule.
+    /// Starts the side's engine, with a new policy and the side's ko rule.
     fn start(&mut self, played: &mut Match, side: Side)
         requires { next played.old ≡ action.Start side }
         ensures making { self.new.making ≡ self.old.making }
@@ -74,7 +75,7 @@ impl<M: Maker> Seat<M> {
         self.lane = Lane::begin(self.maker.make(), self.rule);
     }
 
-    /// The side is sent its next command.
+    /// Sends the side its next command.
     fn send(&mut self, played: &mut Match, side: Side)
         requires next { next played.old ≡ action.Send side }
         requires room { HasRoom side played.old self.old.lane }
@@ -85,7 +86,7 @@ impl<M: Maker> Seat<M> {
         self.lane.hand(text.as_slice());
     }
 
-    /// What the controller is to do next at the side is done.
+    /// Does what the controller must do next at the side.
     fn act(&mut self, played: &mut Match, side: Side)
         requires side { side_of_action (next played.old) ≡ Some side }
         requires room { HasRoom side played.old self.old.lane }
@@ -100,7 +101,7 @@ impl<M: Maker> Seat<M> {
         }
     }
 
-    /// The write of the side's next command breaks, and the side fails.
+    /// Breaks the write of the side's next command, so that the side goes down.
     fn break_off(&mut self, played: &mut Match, side: Side)
         requires { side_of_action (next played.old) ≡ Some side }
         ensures making { self.new.making ≡ self.old.making }
@@ -117,7 +118,7 @@ impl<M: Maker> Seat<M> {
         }
     }
 
-    /// The first `count` bytes of the side, or all where there are fewer, are heard, where it is up.
+    /// Passes the controller the first `count` bytes of the side, or all if there are fewer, if the side is up.
     fn hear(&mut self, played: &mut Match, side: Side, count: usize)
         ensures making { self.new.making ≡ self.old.making }
         ensures hears { SideHears side played.old self.old.lane count played.new self.new.lane }
@@ -132,7 +133,7 @@ impl<M: Maker> Seat<M> {
         }
     }
 
-    /// The side fails, where it is up.
+    /// Puts the side down, if it is up.
     fn end(&mut self, played: &mut Match, side: Side)
         ensures making { self.new.making ≡ self.old.making }
         ensures ends { SideFails side played.old self.old.lane played.new self.new.lane }
@@ -153,7 +154,7 @@ impl<M: Maker> Seat<M> {
     {
         match event {
             Event::Act => self.act(played, side),
-            // The side fails and its engine with it, so it doesn't matter how many bytes went out.
+            // The side goes down and loses its engine, so it doesn't matter how many bytes went out.
             Event::BrokenWrite(_) => self.break_off(played, side),
             Event::ToEngine(_, count) => self.lane.feed(count),
             Event::ToController(_, count) => self.hear(played, side, count),
@@ -162,7 +163,7 @@ impl<M: Maker> Seat<M> {
         }
     }
 
-    /// The game of the engine, if one runs.
+    /// The engine's game, if one runs.
     pub(crate) fn game(&self) -> Option<&Game>
         ensures { MatchOption result (game_in self.now.lane.engine ≡ None) (λ game.
             game_in self.now.lane.engine ≡ Some game.now) }
@@ -170,7 +171,7 @@ impl<M: Maker> Seat<M> {
         self.lane.game()
     }
 
-    /// The bytes on their way to the engine.
+    /// The bytes on the way to the engine.
     pub(crate) fn to_engine(&self) -> &[u8]
         ensures bytes { result.now ≡ self.now.lane.to_engine }
         ensures room { length result.now ≤ most_to_engine }
@@ -178,7 +179,7 @@ impl<M: Maker> Seat<M> {
         self.lane.to_engine()
     }
 
-    /// The bytes on their way to the controller.
+    /// The bytes on the way to the controller.
     pub(crate) fn to_controller(&self) -> &[u8]
         ensures bytes { result.now ≡ self.now.lane.to_controller }
         ensures room { length result.now ≤ most_to_controller }

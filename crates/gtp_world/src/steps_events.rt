@@ -1,30 +1,30 @@
-//! What happens in a world of engines in steps.
+//! The events of a world with sans-IO engines.
 use crate::events::Event;
 use go_base::Side;
 use gtp_session::policy::Choice;
 
-/// What happens in a world of engines in steps. An event that doesn't apply does nothing.
+/// An event in a world with sans-IO engines. One that doesn't apply does nothing.
 #[derive(Clone, Copy, Debug, PartialEq, Eq)]
 pub enum StepsEvent<'t> {
-    /// One of the six events of every world. Bytes that reach an engine are fed up to the end of a line.
+    /// One of the six events of every world. Bytes that reach an engine are fed to it up to the end of a line.
     Happens(Event),
-    /// The author of this side's engine calls it.
+    /// The caller of this side's engine makes this call.
     Calls(Side, Call<'t>),
 }
 
-/// A call of an engine's author. One that the engine refuses does nothing.
+/// A call of a sans-IO engine. One that the engine rejects does nothing.
 #[derive(Clone, Copy, Debug, PartialEq, Eq)]
 pub enum Call<'t> {
-    /// The choice that is asked for is handed in.
+    /// Supplies the choice that is asked for.
     Choose(Choice),
-    /// A line whose command isn't in the table is answered: whether by a success, and by which text.
+    /// Answers a line whose command isn't in the table: whether with success, and with which text.
     Answer(bool, &'t [u8]),
-    /// Such a line is declined.
+    /// Declines such a line.
     Decline,
-    /// `name` is answered by this text from now on.
+    /// Sets this text as the answer to `name` from now on.
     SetName(&'t [u8]),
-    /// `version` is answered by this text from now on.
+    /// Sets this text as the answer to `version` from now on.
     SetVersion(&'t [u8]),
-    /// A command of the author's own, of this name, is added.
+    /// Adds a custom command with this name.
     AddCommand(&'t [u8]),
 }

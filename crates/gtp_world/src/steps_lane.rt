@@ -1,4 +1,4 @@
-//! One side's engine in steps, and the bytes on their ways to it and from it.
+//! One side's sans-IO engine, and the bytes on the way to it and from it.
 ghost use Rattle.std.specs.Prelude.{◌≡◌, ◌+◌, ◌≤◌, [], take, drop, length, MatchOption, None, Some};
 ghost use Rattle.go_board.specs.declared.rules.KoRule.{KoRule as KoRules};
 ghost use Rattle.gtp_world.specs.Kinds.{Calls, in_steps, written_at};
@@ -15,7 +15,7 @@ use go_board::KoRule;
 use gtp_session::steps::{Event, Steps};
 use std::marker::Model;
 
-/// One side's engine, if one runs, and the bytes on their ways to it and from it.
+/// One side's engine, if one runs, and the bytes on the way to it and from it.
 #[derive(Drop)]
 pub(crate) struct StepsLane {
     engine: Option<Steps>,
@@ -36,7 +36,7 @@ impl Model for StepsLane {
     } };
 }
 
-/// What the author writes of what was reported: the reply, where one is there.
+/// What the caller writes when this was reported: the reply, if one is ready.
 fn written(event: Event, steps: &Steps) -> &[u8]
     ensures { result.now ≡ written_at event steps.now }
 {
@@ -46,7 +46,7 @@ fn written(event: Event, steps: &Steps) -> &[u8]
     }
 }
 
-/// The author calls the engine. Whether its reply is there, to be written.
+/// Makes a call of the engine. Returns whether its reply is ready to be written.
 fn make(steps: &mut Steps, call: &Call<'_>) -> bool
     ensures { Calls steps.old (call_of call.now) steps.new (reply_where result steps.new) }
 {
@@ -74,7 +74,7 @@ impl StepsLane {
     ghost use Rattle.gtp_world.specs.StepsWorld.{empty_steps_lane, running_steps_lane, written_steps_lane};
     ghost use Rattle.gtp_world.specs.StepsWorld.{StepsReads, StepsCalls, crashed_steps_lane};
 
-    /// No engine, and empty lists.
+    /// A side with no engine and with empty lists.
     pub(crate) fn new() -> StepsLane
         ensures { result ≡ empty_steps_lane }
     {
@@ -85,7 +85,7 @@ impl StepsLane {
         }
     }
 
-    /// An engine that was just started, with this ko rule.
+    /// A side with an engine that was just started, with this ko rule.
     pub(crate) fn begin(rule: KoRule) -> StepsLane
         ensures { result ≡ running_steps_lane (fresh_steps rule) [] [] }
     {
@@ -96,7 +96,7 @@ impl StepsLane {
         }
     }
 
-    /// These bytes are on their way to the engine, where one runs.
+    /// Appends these bytes to those on the way to the engine, if one runs.
     pub(crate) fn hand(&mut self, bytes: &[u8])
         requires { length self.old.to_engine + length bytes.now ≤ most_to_engine }
         ensures { self.new ≡ written_steps_lane self.old bytes.now }
@@ -106,8 +106,9 @@ impl StepsLane {
         }
     }
 
-    /// The engine's author reads the first `count` bytes, or all where there are fewer, and feeds them. What isn't used
-    /// stays on its way. A reply that is there is on its way.
+    /// Lets the engine's caller read the first `count` bytes on the way to the engine, or all if there are fewer, and
+    /// feed them. What the engine doesn't use stays on the way. A reply that is ready is then on the way to the
+    /// controller.
     pub(crate) fn feed(&mut self, count: usize)
         requires { HasFeedRoom self.old count }
         ensures { (rule : KoRules) → StepsReads (in_steps rule) self.old count self.new }
@@ -120,7 +121,8 @@ impl StepsLane {
         }
     }
 
-    /// The engine's author calls it, where one runs. A reply that is there is on its way.
+    /// Lets the engine's caller make this call, if an engine runs. A reply that is ready is then on the way to the
+    /// controller.
     pub(crate) fn call(&mut self, call: &Call<'_>)
         requires { HasCallRoom self.old (call_of call.now) }
         ensures { (rule : KoRules) →
@@ -133,7 +135,7 @@ impl StepsLane {
         }
     }
 
-    /// The engine is gone, with what was on its way to it. Of what it wrote the first `count` bytes are left.
+    /// Removes the engine and the bytes on the way to it. Of those that it wrote, the first `count` are left.
     pub(crate) fn crash(&mut self, count: usize)
         ensures { self.new ≡ crashed_steps_lane self.old count }
     {
@@ -144,7 +146,7 @@ impl StepsLane {
         }
     }
 
-    /// The first `count` bytes on their way to the controller, or all where there are fewer.
+    /// The first `count` bytes on the way to the controller, or all if there are fewer.
     pub(crate) fn front(&self, count: usize) -> &[u8]
         ensures { result.now ≡ take count self.now.to_controller }
     {
@@ -152,7 +154,7 @@ impl StepsLane {
         &self.to_controller.as_slice()[..used]
     }
 
-    /// The first `count` bytes on their way to the controller have arrived.
+    /// Removes the first `count` bytes on the way to the controller: they arrived.
     pub(crate) fn cut(&mut self, count: usize)
         ensures { self.new ≡ record {
           engine = self.old.engine;
@@ -171,7 +173,7 @@ impl StepsLane {
         self.engine.as_ref()
     }
 
-    /// The bytes on their way to the engine.
+    /// The bytes on the way to the engine.
     pub(crate) fn to_engine(&self) -> &[u8]
         ensures bytes { result.now ≡ self.now.to_engine }
         ensures room { length result.now ≤ most_to_engine }
@@ -179,7 +181,7 @@ impl StepsLane {
         self.to_engine.as_slice()
     }
 
-    /// The bytes on their way to the controller.
+    /// The bytes on the way to the controller.
     pub(crate) fn to_controller(&self) -> &[u8]
         ensures bytes { result.now ≡ self.now.to_controller }
         ensures room { length result.now ≤ most_to_controller }

@@ -1,4 +1,4 @@
-//! One side of a world of engines in steps, and what happens between it and the controller.
+//! One side of a world with sans-IO engines, and what happens between it and the controller.
 ghost use Rattle.std.specs.Prelude.{◌≡◌, ◌≤◌, length, MatchOption, Some, None};
 ghost use Rattle.gtp_match.specs.declared.verdicts.Action.TheVariants as action;
 ghost use Rattle.gtp_match.specs.Next.{next};
@@ -21,7 +21,7 @@ use gtp_match::{Action, Match};
 use gtp_session::steps::Steps;
 use std::marker::Model;
 
-/// One side: the ko rule of its engines, and its engine with the bytes on their ways.
+/// One side: the ko rule of its engines, and its engine with the bytes on the way to it and from it.
 #[derive(Drop)]
 pub(crate) struct StepsSeat {
     rule: KoRule,
@@ -37,7 +37,7 @@ impl Model for StepsSeat {
 }
 
 impl StepsSeat {
-    /// No engine, and empty lists.
+    /// A side with no engine and with empty lists.
     pub(crate) fn new(rule: KoRule) -> StepsSeat
         ensures { result ≡ record { rule = rule; lane = empty_steps_lane } }
     {
@@ -47,7 +47,7 @@ impl StepsSeat {
         }
     }
 
-    /// The side's engine is started, with the side's ko rule.
+    /// Starts the side's engine, with the side's ko rule.
     fn start(&mut self, played: &mut Match, side: Side)
         requires { next played.old ≡ action.Start side }
         ensures rule { self.new.rule ≡ self.old.rule }
@@ -58,7 +58,7 @@ impl StepsSeat {
         self.lane = StepsLane::begin(self.rule);
     }
 
-    /// The side is sent its next command.
+    /// Sends the side its next command.
     fn send(&mut self, played: &mut Match, side: Side)
         requires next { next played.old ≡ action.Send side }
         requires room { HasStepsRoom side played.old self.old.lane }
@@ -69,7 +69,7 @@ impl StepsSeat {
         self.lane.hand(text.as_slice());
     }
 
-    /// What the controller is to do next at the side is done.
+    /// Does what the controller must do next at the side.
     fn act(&mut self, played: &mut Match, side: Side)
         requires side { side_of_action (next played.old) ≡ Some side }
         requires room { HasStepsRoom side played.old self.old.lane }
@@ -84,7 +84,7 @@ impl StepsSeat {
         }
     }
 
-    /// The write of the side's next command breaks, and the side fails.
+    /// Breaks the write of the side's next command, so that the side goes down.
     fn break_off(&mut self, played: &mut Match, side: Side)
         requires { side_of_action (next played.old) ≡ Some side }
         ensures rule { self.new.rule ≡ self.old.rule }
@@ -101,7 +101,7 @@ impl StepsSeat {
         }
     }
 
-    /// The first `count` bytes of the side, or all where there are fewer, are heard, where it is up.
+    /// Passes the controller the first `count` bytes of the side, or all if there are fewer, if the side is up.
     fn hear(&mut self, played: &mut Match, side: Side, count: usize)
         ensures rule { self.new.rule ≡ self.old.rule }
         ensures hears { StepsHearsWhereUp side played.old (side_of played.old.sides side).up
@@ -117,7 +117,7 @@ impl StepsSeat {
         }
     }
 
-    /// The side fails, where it is up.
+    /// Puts the side down, if it is up.
     fn end(&mut self, played: &mut Match, side: Side)
         ensures rule { self.new.rule ≡ self.old.rule }
         ensures ends { StepsFailsWhereUp side played.old (side_of played.old.sides side).up
@@ -130,7 +130,7 @@ impl StepsSeat {
         self.lane = StepsLane::new();
     }
 
-    /// One of the six events happens at the side. Where it doesn't apply, nothing does.
+    /// Applies one of the six events at the side. One that doesn't apply does nothing.
     fn happen(&mut self, played: &mut Match, side: Side, event: Event)
         requires side { side_of_event played.old event ≡ Some side }
         requires room { HasStepsRoom side played.old self.old.lane }
@@ -140,7 +140,7 @@ impl StepsSeat {
     {
         match event {
             Event::Act => self.act(played, side),
-            // The side fails and its engine with it, so it doesn't matter how many bytes went out.
+            // The side goes down and loses its engine, so it doesn't matter how many bytes went out.
             Event::BrokenWrite(_) => self.break_off(played, side),
             Event::ToEngine(_, count) => self.lane.feed(count),
             Event::ToController(_, count) => self.hear(played, side, count),
@@ -149,7 +149,7 @@ impl StepsSeat {
         }
     }
 
-    /// One event happens at the side. Where it doesn't apply, nothing does.
+    /// Applies one event at the side. One that doesn't apply does nothing.
     pub(crate) fn step(&mut self, played: &mut Match, side: Side, event: &StepsEvent<'_>)
         requires side { side_of_steps_event played.old (event_of event.now) ≡ Some side }
         requires room { HasStepsRoom side played.old self.old.lane }
@@ -170,7 +170,7 @@ impl StepsSeat {
         self.lane.engine()
     }
 
-    /// The bytes on their way to the engine.
+    /// The bytes on the way to the engine.
     pub(crate) fn to_engine(&self) -> &[u8]
         ensures bytes { result.now ≡ self.now.lane.to_engine }
         ensures room { length result.now ≤ most_to_engine }
@@ -178,7 +178,7 @@ impl StepsSeat {
         self.lane.to_engine()
     }
 
-    /// The bytes on their way to the controller.
+    /// The bytes on the way to the controller.
     pub(crate) fn to_controller(&self) -> &[u8]
         ensures bytes { result.now ≡ self.now.lane.to_controller }
         ensures room { length result.now ≤ most_to_controller }

@@ -1,5 +1,5 @@
-//! The world of engines in steps: a controller, two engines whose authors hand in what they choose, and the bytes on
-//! their ways.
+//! The world of sans-IO engines: a controller, two engines whose callers supply their choices, and the bytes on the way
+//! between them.
 ghost use Rattle.std.specs.Prelude.{◌≡◌, ◌≢◌, ◌≤◌, length, map, MatchOption, IfSome, None, Some};
 ghost use Rattle.go_board.specs.declared.rules.KoRule.TheVariants.{Simple};
 ghost use Rattle.gtp_session.specs.declared.events.Wait.TheVariants as wait;
@@ -19,7 +19,7 @@ use gtp_match::{Match, Setup};
 use gtp_session::steps::Steps;
 use std::marker::Model;
 
-/// A controller and, for each side, an engine in steps or none, and the bytes on their ways.
+/// A controller and, for each side, a sans-IO engine or none, and the bytes on the way between them.
 ///
 /// Each start makes a new engine with the side's ko rule. The controller's game is under simple ko.
 #[derive(Drop)]
@@ -36,11 +36,11 @@ impl Model for StepsWorld {
 
     ghost view = { λ w. ruled_world w.controller w.black w.white };
 
-    // some events lead to it from the opening
+    // Some events lead to it from the opening.
     ghost invariant = { λ w. RuledReached (ruled_world w.controller w.black w.white) };
 }
 
-/// The side at which an event happens: that of the controller's next action, or the event's own.
+/// The side at which an event happens: that of the controller's next action, or that of the event itself.
 fn side_of_steps(controller: &Match, event: &StepsEvent<'_>) -> Option<Side>
     ensures { result ≡ side_of_steps_event controller.now (event_of event.now) }
 {
@@ -51,7 +51,8 @@ fn side_of_steps(controller: &Match, event: &StepsEvent<'_>) -> Option<Side>
 }
 
 impl StepsWorld {
-    /// A new match of this setup, no engines, and empty lists. The engines of both sides play under simple ko.
+    /// A world with a new match of this setup, no engines, and empty lists. The engines of both sides play under simple
+    /// ko.
     pub fn new(setup: Setup) -> StepsWorld
         ensures { result ≡ record {
           rules = record { black = Simple; white = Simple };
@@ -61,7 +62,8 @@ impl StepsWorld {
         StepsWorld::with_rules(setup, KoRule::Simple, KoRule::Simple)
     }
 
-    /// A new match of this setup, no engines, and empty lists. Each side's engines play under the side's ko rule.
+    /// A world with a new match of this setup, no engines, and empty lists. Each side's engines play under that side's
+    /// ko rule.
     pub fn with_rules(setup: Setup, rule_black: KoRule, rule_white: KoRule) -> StepsWorld
         ensures { result ≡ record {
           rules = record { black = rule_black; white = rule_white };
@@ -78,7 +80,7 @@ impl StepsWorld {
         }
     }
 
-    /// One event happens. Where it doesn't apply, nothing does.
+    /// Applies one event. One that doesn't apply does nothing.
     pub fn step(&mut self, event: &StepsEvent<'_>)
         ensures { RuledHappens self.old (event_of event.now) self.new }
     {
@@ -89,7 +91,7 @@ impl StepsWorld {
         }
     }
 
-    /// All these events happen in turn.
+    /// Applies all these events in turn.
     pub fn run(&mut self, events: &[StepsEvent<'_>])
         ensures { RuledRuns self.old (map event_of events.now) self.new }
     {
@@ -98,7 +100,7 @@ impl StepsWorld {
         }
     }
 
-    /// A side's engine, where one runs. Some events lead to the world from the opening.
+    /// A side's engine, if one runs. The contract adds that some events lead from the opening to this world.
     fn engine_of(&self, side: Side) -> Option<&Steps>
         ensures running { MatchOption result (engine_at self.now.world side ≡ None) (λ engine.
             engine_at self.now.world side ≡ Some engine.now) }
@@ -110,21 +112,21 @@ impl StepsWorld {
         }
     }
 
-    /// A side's engine, where one runs: its game, what it waits for, and its last reply.
+    /// A side's engine, if one runs, with its game, what it waits for, and its last reply.
     pub fn running(&self, side: Side) -> Option<&Steps>
         ensures running { MatchOption result (engine_at self.now.world side ≡ None) (λ engine.
             engine_at self.now.world side ≡ Some engine.now) }
-        // One whose side is in step is at the controller's game, under its own side's ko rule, and waits for nothing.
+        // If its side is in step, its game is the controller's, under its own side's ko rule, and it waits for nothing.
         ensures there { IfSome result (λ engine. IsThereAtOnce self.now side engine.now) }
         // So it holds the controller's size, komi, handicap, moves and board.
         ensures holds { IfSome result (λ engine.
             HoldsInStep self.now.world.controller side engine.now.game) }
-        // Where both are, the two games are the same.
+        // If both sides are in step, the two games are the same.
         ensures same { IfSome result (λ engine. SameAtOnce self.now.world engine.now) }
-        // One whose side has answered all that it was sent waits for nothing.
+        // If its side has answered everything that it was sent, it waits for nothing.
         ensures answered { IfSome result (λ engine.
             WaitsOnlyUnanswered self.now.world.controller side engine.now) }
-        // None ever waits for an answer to a line of its author's own.
+        // No engine ever waits for the answer to a custom command.
         ensures own { IfSome result (λ engine. engine.now.wait ≢ wait.Answer) }
     {
         self.engine_of(side)
@@ -133,13 +135,13 @@ impl StepsWorld {
     /// The controller.
     pub fn controller(&self) -> &Match
         ensures controller { result.now ≡ self.now.world.controller }
-        // No verdict blames a side but for a fourth refusal, and a side is abandoned only after all its starts.
+        // No verdict blames a side except for a fourth refusal, and a side is abandoned only after all its starts.
         ensures fair { IsFair self.now.rules result.now result.now.verdict }
     {
         &self.controller
     }
 
-    /// The bytes on their way to a side's engine.
+    /// The bytes on the way to a side's engine.
     pub fn to_engine(&self, side: Side) -> &[u8]
         ensures bytes { result.now ≡ (side_lane self.now.world side).to_engine }
         ensures room { length result.now ≤ most_to_engine }
@@ -150,7 +152,7 @@ impl StepsWorld {
         }
     }
 
-    /// The bytes of a side on their way to the controller.
+    /// The bytes of a side on the way to the controller.
     pub fn to_controller(&self, side: Side) -> &[u8]
         ensures bytes { result.now ≡ (side_lane self.now.world side).to_controller }
         ensures room { length result.now ≤ most_to_controller }

@@ -14,7 +14,7 @@ use Rattle.twogtp_app.specs.declared.plan.Plan.{Plan}
 use Rattle.twogtp_app.specs.declared.task.Commands.{Commands}
 use Rattle.twogtp_app.specs.declared.task.Task.{Task}
 
--- the command of an engine: the words of its text, which is cut at spaces
+-- the command of an engine: the words of its text, which is split at spaces
 abbrev pub IsCommand : Text → List (Bor Text) → Type 0
 IsCommand text command = map (λ word. word.now) command ≡ words text
 

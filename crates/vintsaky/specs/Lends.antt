@@ -1,4 +1,4 @@
--- What a handle lends.
+-- What a handle gives access to.
 use base.Fml.{Fml}
 use denote.Follow.{follows}
 use denote.RattleType.{RattleType}

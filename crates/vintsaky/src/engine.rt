@@ -1,4 +1,4 @@
-//! An engine in steps, for callers in other languages.
+//! A sans-IO engine, for callers in other languages.
 
 pub mod exports;
 pub mod handle;

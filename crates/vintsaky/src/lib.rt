@@ -1,9 +1,9 @@
 //! The library for other languages: each call of `vintsaky_calls` by its C name, over a handle of what it works on.
 //!
-//! A handle is made in memory that the caller gives. No call takes memory, blocks, or reads or writes anything but its
-//! object and the caller's buffers.
+//! An object is placed in memory that the caller gives. No call allocates memory, blocks, or reads or writes anything
+//! except its object and the caller's buffers.
 //!
-//! In C a slice is two arguments: the pointer, and how many items are there.
+//! In C a slice is two arguments: a pointer, and the number of items there.
 #![tactic(auto)]
 
 pub mod engine;

@@ -1,14 +1,14 @@
-//! The library itself: its interface, its version, and what a cause means.
+//! The library itself: its interface, its version, and the texts of its errors.
 ghost use Rattle.std.specs.Prelude.{◌≡◌};
 ghost use Rattle.vintsaky_calls.specs.Library.{library_version, CauseTextCall};
 
 use vintsaky_calls::library;
 
-/// Does nothing. A program that asks for it is linked with a library of this interface alone.
+/// Does nothing. A program that refers to it can be linked only with a library of this interface.
 #[unsafe(no_mangle)]
 pub extern "C" fn vintsaky_interface_1() {}
 
-/// The version of the library: see VINTSAKY_VERSION.
+/// Returns the version of the library: see VINTSAKY_VERSION.
 #[unsafe(no_mangle)]
 pub extern "C" fn vintsaky_version() -> u32
     ensures { result ≡ library_version }
@@ -16,8 +16,7 @@ pub extern "C" fn vintsaky_version() -> u32
     library::version()
 }
 
-/// Writes a sentence that says what a cause means. How many bytes it has. Each number has one: also 0, and what is no
-/// cause.
+/// Writes the sentence that explains an error, and returns its length. Every number has one, even 0 and unknown ones.
 #[unsafe(no_mangle)]
 pub extern "C" fn vintsaky_cause_text(cause: u32, text: &mut [u8]) -> usize
     ensures call { CauseTextCall cause text.old text.new result }

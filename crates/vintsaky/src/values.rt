@@ -5,7 +5,7 @@ ghost use Rattle.vintsaky_calls.specs.Values.{VertexTextCall, ReadKomiCall, Komi
 
 use vintsaky_calls::{code_of, values};
 
-/// Reads a colour: `b`, `w`, `black` or `white`, where each letter may be small or capital.
+/// Reads a colour: `b`, `w`, `black` or `white`, in upper or lower case or a mix of both.
 ///
 /// # Errors
 ///
@@ -17,7 +17,7 @@ pub extern "C" fn vintsaky_read_colour(text: &[u8], colour: &mut u32) -> u32
     code_of(values::read_colour(text, colour))
 }
 
-/// Writes a colour, as the protocol spells it: `b` or `w`, and the length of that text.
+/// Writes a colour as the protocol spells it, `b` or `w`, and the length of that text.
 ///
 /// # Errors
 ///
@@ -29,7 +29,7 @@ pub extern "C" fn vintsaky_colour_text(colour: u32, text: &mut [u8], count: &mut
     code_of(values::colour_text(colour, text, count))
 }
 
-/// The number of the point of a column and a row, both from 1 to 25.
+/// Writes the number of the point at a column and a row, each from 1 to 25.
 ///
 /// # Errors
 ///
@@ -41,7 +41,7 @@ pub extern "C" fn vintsaky_point(column: u32, row: u32, vertex: &mut u32) -> u32
     code_of(values::point(column, row, vertex))
 }
 
-/// Reads a vertex, as the protocol spells it: `pass`, or a letter and a row, in any case.
+/// Reads a vertex as the protocol spells it: `pass`, or a column letter and a row number, in upper or lower case.
 ///
 /// # Errors
 ///
@@ -53,7 +53,7 @@ pub extern "C" fn vintsaky_read_vertex(text: &[u8], vertex: &mut u32) -> u32
     code_of(values::read_vertex(text, vertex))
 }
 
-/// Writes a vertex, as the protocol spells it, and the length of that text.
+/// Writes a vertex as the protocol spells it, and the length of that text.
 ///
 /// # Errors
 ///
@@ -65,7 +65,7 @@ pub extern "C" fn vintsaky_vertex_text(vertex: u32, text: &mut [u8], count: &mut
     code_of(values::vertex_text(vertex, text, count))
 }
 
-/// Reads a komi in points, as the protocol spells it: the half points.
+/// Reads a komi in points, as the protocol spells it, and writes it in half points.
 ///
 /// # Errors
 ///
@@ -77,7 +77,7 @@ pub extern "C" fn vintsaky_read_komi(text: &[u8], half_points: &mut i32) -> u32
     code_of(values::read_komi(text, half_points))
 }
 
-/// Writes a komi in points, as the protocol spells it, and the length of that text.
+/// Writes a komi in points, as the protocol spells it, and the length of that text. It is given in half points.
 ///
 /// # Errors
 ///

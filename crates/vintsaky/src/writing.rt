@@ -1,19 +1,19 @@
-//! Lines that are written: commands and replies.
+//! Writing commands and replies.
 ghost use Rattle.vintsaky_calls.specs.Codes.{Returns};
 ghost use Rattle.vintsaky_calls.specs.Writing.{WriteCommandCall, WriteReplyCall};
 
 use vintsaky_calls::{code_of, writing};
 
-/// Writes the line of a command, with its newline, and its length: 64 bytes at most.
+/// Writes the line of a command with its newline, at most 64 bytes, and its length.
 ///
-/// The id is -1 for none. The value is the size of `boardsize`, the half points of `komi`, the number of stones of
-/// `fixed_handicap`, the colour of `play` and `genmove`; the vertex is that of `play`. What a command doesn't have
-/// isn't looked at.
+/// The id is -1 for none. `value` is the size of `boardsize`, the half points of `komi`, the number of stones of
+/// `fixed_handicap`, or the colour of `play` and `genmove`; `vertex` is that of `play`. An argument that the command
+/// doesn't have is ignored.
 ///
 /// # Errors
 ///
-/// `BadId`, or else `BadCommand`, or else `BadSize`, `BadKomi`, `BadHandicap` (of a negative number alone), `BadColour`
-/// or `BadVertex`, the first of these that holds. Nothing is written.
+/// `BadId`, `BadCommand`, `BadSize`, `BadKomi`, `BadHandicap` (only for a negative number), `BadColour` or `BadVertex`,
+/// the first of these that applies. Nothing is written.
 #[unsafe(no_mangle)]
 pub extern "C" fn vintsaky_write_command(
     id: i32,
@@ -29,13 +29,13 @@ pub extern "C" fn vintsaky_write_command(
     code_of(writing::write_command(id, command, value, vertex, text, count))
 }
 
-/// Writes a reply: a success where `ok` isn't 0, else a failure, and its length: 2,014 bytes at most. The id is -1 for
-/// none. A reply may have a text of at most 2,000 bytes, each a newline or 32 to 126, with no two newlines in a row,
-/// and no space or newline at its beginning or its end.
+/// Writes a reply, at most 2,014 bytes, and its length: a success if `ok` isn't 0, else a failure. The id is -1 for
+/// none. The text may have up to 2,000 bytes, each a newline or one of 32 to 126, without two newlines in a row, and
+/// without a space or newline at its beginning or end.
 ///
 /// # Errors
 ///
-/// `BadId`, or else `BadText` where no reply may have the text. Nothing is written.
+/// `BadId`, or else `BadText` if the text isn't allowed in a reply. Nothing is written.
 #[unsafe(no_mangle)]
 pub extern "C" fn vintsaky_write_reply(
     id: i32,

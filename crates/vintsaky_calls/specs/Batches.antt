@@ -72,7 +72,7 @@ pub record TellsOver (game : GameRecord) (limit over : ℕ) : Type 0 where
   pub goes_on : ¬ IsFinished game → length game.moves < limit → HasRoom game → over ≡ 0
 
 -- Whether a game is over is told. A game that is over is scored, and then loses its moves. One that goes on stays as it
--- was, and 0 stands for its score.
+-- was, and 0 represents its score.
 pub record Restarts (limit : ℕ) (old : GameRecord) (over : ℕ) (new : GameRecord) (half_points : ℤ) : Type 0 where
   pub told : TellsOver old limit over
   pub scored : over ≢ 0 → half_points ≡ score old
@@ -188,7 +188,7 @@ pub record PlayGamesCall (old new : List GameRecord) (moves causes_old causes_ne
   pub kept : OnErr made ((new ≡ old) × (causes_new ≡ causes_old))
   pub why : IfErr made (λ why. (why ≡ cause.NoRoom) × (IsShort old moves ⊎ IsShort old causes_old))
 
--- of each game it is written whether it is over and how it is scored, and those that are over begin anew
+-- of each game it is written whether it is over and how it is scored, and those that are over begin again
 pub record RestartsEach (limit : ℕ) (old new : List GameRecord) (over_old over_new : List ℕ)
     (half_points_old half_points_new : List ℤ)
     : Type 0 where
@@ -198,7 +198,7 @@ pub record RestartsEach (limit : ℕ) (old new : List GameRecord) (over_old over
   pub over_written : Overwrites over over_old over_new
   pub half_points_written : Overwrites half_points half_points_old half_points_new
 
--- The games that are over begin anew; or a list is too short, and nothing is done or written.
+-- The games that are over begin again; or a list is too short, and nothing is done or written.
 pub record RestartGamesCall (limit : ℕ) (old new : List GameRecord) (over_old over_new : List ℕ)
     (half_points_old half_points_new : List ℤ) (made : CallResult)
     : Type 0 where

@@ -1,4 +1,4 @@
--- The numbers that stand for colours, vertices, ko rules and causes in the calls of the library.
+-- The numbers that represent colours, vertices, ko rules and causes in the calls of the library.
 use Rattle.std.specs.Prelude.{◌≡◌, ◌≢◌, ℕ, ◌+◌, ◌*◌, Result, Ok, Err}
 use Rattle.go_base.specs.Point.{IsOn, column_of, row_of}
 use Rattle.go_base.specs.Size.{most_size}
@@ -24,7 +24,7 @@ abbrev pub colour_code : Colour → ℕ
 colour_code Black = 1
 colour_code White = 2
 
--- the number stands for no colour
+-- the number represents no colour
 abbrev pub NoColour : ℕ → Type 0
 NoColour n = (colour : Colour) → n ≢ colour_code colour
 
@@ -33,7 +33,7 @@ abbrev pub rule_code : KoRule → ℕ
 rule_code Simple = 1
 rule_code Positional = 2
 
--- the number stands for no ko rule
+-- the number represents no ko rule
 abbrev pub NoRule : ℕ → Type 0
 NoRule n = (rule : KoRule) → n ≢ rule_code rule
 
@@ -51,12 +51,12 @@ abbrev pub IsVertex : Vertex → Type 0
 IsVertex Pass = Unit {0}
 IsVertex (At p) = IsOn most_size p
 
--- the number stands for this vertex
+-- the number represents this vertex
 pub record IsCodeOf (n : ℕ) (vertex : Vertex) : Type 0 where
   pub code : n ≡ vertex_code vertex
   pub is : IsVertex vertex
 
--- the number stands for no vertex
+-- the number represents no vertex
 abbrev pub NoVertex : ℕ → Type 0
 NoVertex n = (vertex : Vertex) → IsVertex vertex → n ≢ vertex_code vertex
 
@@ -99,7 +99,7 @@ cause_code cause.Down = 34
 cause_code cause.IsOver = 35
 cause_code cause.BadReason = 36
 
--- the number stands for no cause
+-- the number represents no cause
 abbrev pub NoCause : ℕ → Type 0
 NoCause n = (why : Cause) → n ≢ cause_code why
 

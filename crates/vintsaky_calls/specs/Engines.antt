@@ -1,4 +1,4 @@
--- The calls of an engine in steps.
+-- The calls of a sans-IO engine.
 use Rattle.std.specs.Prelude.{◌≡◌, ◌≢◌, ℕ, ◌≤◌, Bool, true, false, List, length, Some, None, slice_get, nat_eq, not}
 use Rattle.std.specs.Prelude.{OnOk, OnErr, IfErr}
 use Rattle.go_base.specs.declared.choices.Choice.{Choice}
@@ -24,7 +24,7 @@ use Rattle.vintsaky_calls.specs.Texts.{Puts}
 use Rattle.vintsaky_calls.specs.declared.causes.Cause.{Cause}
 use Rattle.vintsaky_calls.specs.declared.causes.Cause.TheVariants as cause
 
--- the number of what came of a piece: a colour whose choice is asked for has its own number
+-- the number of what came of a chunk: a colour whose choice is asked for has its own number
 abbrev pub event_code : Event → ℕ
 event_code event.More = 0
 event_code (event.Asked colour) = colour_code colour
@@ -48,12 +48,12 @@ abbrev pub IsChoice : Choice → Type 0
 IsChoice Resign = Unit {0}
 IsChoice (Play vertex) = IsVertex vertex
 
--- the number stands for this choice
+-- the number represents this choice
 pub record IsChoiceOf (n : ℕ) (choice : Choice) : Type 0 where
   pub code : n ≡ choice_code choice
   pub is : IsChoice choice
 
--- the number stands for no choice
+-- the number represents no choice
 abbrev pub NoChoice : ℕ → Type 0
 NoChoice n = (choice : Choice) → IsChoice choice → n ≢ choice_code choice
 
@@ -63,20 +63,20 @@ pub record BeginsEngine (rule : ℕ) (new : StepsState) : Type 0 where
   pub rule_is : rule ≡ rule_code by
   pub new_is : new ≡ fresh_steps by
 
--- An engine is begun anew; or the number is no ko rule, and it stays as it was.
+-- An engine is reset; or the number is no ko rule, and it stays as it was.
 pub record BeginCall (rule : ℕ) (old new : StepsState) (made : CallResult) : Type 0 where
   pub begun : OnOk made (BeginsEngine rule new)
   pub kept : OnErr made (new ≡ old)
   pub why : IfErr made (λ why. (why ≡ cause.BadRule) × NoRule rule)
 
--- what comes of a piece, of which so many bytes are used
+-- what comes of a chunk, of which so many bytes are used
 pub record Feeds (old : StepsState) (input : List ℕ) (used : ℕ) (came : Event) (new : StepsState) : Type 0 where
   pub within : used ≤ length input
   pub reads : IsOpen old → ReadsOn old input used came new
   pub waits : old.wait ≢ wait.Nothing → (used ≡ 0) × (came ≡ event_of old.wait) × (new ≡ old)
   pub over : old.ended ≡ true → (used ≡ 0) × (came ≡ event.Ended) × (new ≡ old)
 
--- a piece is fed, and the number is that of what comes of it
+-- a chunk is fed, and the number is that of what comes of it
 pub record FeedCall (input : List ℕ) (old new : StepsState) (used number : ℕ) : Type 0 where
   pub came : Event
   pub number_is : number ≡ event_code came
@@ -155,7 +155,7 @@ RefusesCommand commands name cause.AddedBefore = RefusesName commands name comma
 RefusesCommand commands name cause.TooMany = RefusesName commands name command_fault.TooMany
 RefusesCommand commands name _ = ⊥
 
--- The name is that of one more own command; or the engine stays as it was, for a cause.
+-- The name is that of one more custom command; or the engine stays as it was, for a cause.
 pub record AddCommandCall (name : List ℕ) (old new : StepsState) (made : CallResult) : Type 0 where
   pub added : OnOk made (AddsCommand old name new)
   pub kept : OnErr made (new ≡ old)

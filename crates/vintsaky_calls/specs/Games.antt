@@ -26,7 +26,7 @@ use Rattle.vintsaky_calls.specs.Codes.{NoColour, NoRule, NoVertex, CallResult}
 use Rattle.vintsaky_calls.specs.declared.causes.Cause.{Cause}
 use Rattle.vintsaky_calls.specs.declared.causes.Cause.TheVariants as cause
 
--- a game is begun anew, by a ko rule, a size and a komi in half points
+-- a game is reset, by a ko rule, a size and a komi in half points
 pub record Begins (rule size : ℕ) (komi : ℤ) (new : GameRecord) : Type 0 where
   pub by : KoRule
   pub rule_is : rule ≡ rule_code by
@@ -41,7 +41,7 @@ RefusesToBegin rule size komi cause.BadSize = ((by : KoRule) × (rule ≡ rule_c
 RefusesToBegin rule size komi cause.BadKomi = ((by : KoRule) × (rule ≡ rule_code by)) × IsSize size × ¬ IsKomi komi
 RefusesToBegin rule size komi _ = ⊥
 
--- A game is begun anew; or it stays as it was, for a cause.
+-- A game is reset; or it stays as it was, for a cause.
 pub record BeginCall (rule size : ℕ) (komi : ℤ) (old new : GameRecord) (made : CallResult) : Type 0 where
   pub begun : OnOk made (Begins rule size komi new)
   pub kept : OnErr made (new ≡ old)

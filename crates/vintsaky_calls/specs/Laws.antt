@@ -55,7 +55,7 @@ WrittenWereSent =
     → (side : Colour) × (number ≡ colour_code side)
     × WroteOneMore (unanswered_of old side) (unanswered_of new side) text_new count_new
 
--- ---- own commands of an engine
+-- ---- custom commands of an engine
 
 -- the words of a line: its id, where it has one, the name of its command, and its arguments
 abbrev pub words_on_line : Option ℕ → List ℕ → List (List ℕ) → List (List ℕ)

@@ -11,53 +11,54 @@ library_version = 65536 * 1 + 256 * 0 + 0
 
 -- the sentence of each cause
 abbrev pub sentence : Cause → List ℕ
-sentence cause.BadColour = codes "The number is no colour and no side: it is neither 1, Black, nor 2, White."
+sentence cause.BadColour = codes "Not a colour or side: use 1 (Black) or 2 (White)."
 sentence cause.BadVertex =
-    codes "The number is no vertex: a row times 256 and a column, 1 to 25 each, or where the call takes a pass, 0."
-sentence cause.BadRule = codes "The number is no ko rule: it is neither 1, simple ko, nor 2, positional superko."
-sentence cause.BadSize = codes "The size isn't from 1 to 25."
-sentence cause.BadKomi = codes "The komi isn't from -1,999,999,999 to 1,999,999,999 half points."
-sentence cause.BadText = codes "The text is none that can be read, or that a reply may have."
-sentence cause.NoRoom = codes "The buffer is too short."
-sentence cause.Full = codes "The record has 2,000 moves."
+    codes "Not a vertex: use 256 times the row plus the column, each 1 to 25, or 0 (a pass) where allowed."
+sentence cause.BadRule = codes "Not a ko rule: use 1 (simple ko) or 2 (positional superko)."
+sentence cause.BadSize = codes "The size must be 1 to 25."
+sentence cause.BadKomi = codes "The komi must be -1,999,999,999 to 1,999,999,999 half points."
+sentence cause.BadText = codes "The text can't be parsed, or isn't allowed in a reply."
+sentence cause.NoRoom = codes "A buffer or array is shorter than the call needs."
+sentence cause.Full = codes "The record is full: it has 2,000 moves, the maximum."
 sentence cause.OffBoard = codes "The point isn't on a board of this size."
 sentence cause.Occupied = codes "A stone is on the point."
 sentence cause.Suicide = codes "The new stone's chain would have no liberty."
-sentence cause.Ko = codes "The board would be one that the ko rule forbids."
-sentence cause.NothingToUndo = codes "There is no move to take back."
-sentence cause.NotEmpty = codes "A stone is on the board, or a move is in the record."
-sentence cause.BadHandicap = codes "The size doesn't allow this number of handicap stones, or the number is negative."
-sentence cause.NoMove = codes "The record has no move of this number."
+sentence cause.Ko = codes "The move would repeat a board that the ko rule forbids."
+sentence cause.NothingToUndo = codes "The record has no move to undo."
+sentence cause.NotEmpty = codes "The board and the record must be empty."
+sentence cause.BadHandicap =
+    codes "Not a handicap of this size: use 2 to 9 stones on odd sizes from 9, 2 to 4 on 7 and even sizes from 8."
+sentence cause.NoMove = codes "The record has no move with this number, counted from 0."
 sentence cause.NoStone = codes "No stone is on the point."
-sentence cause.NotAsked = codes "Nothing is asked for that the call hands in."
-sentence cause.NoWord = codes "The line has no word of this number."
+sentence cause.NotAsked = codes "No such move or answer is being waited for."
+sentence cause.NoWord = codes "The line has no word with this number, counted from 0 after the id."
 sentence cause.NoId = codes "The line or the reply has no id."
-sentence cause.BadLength = codes "The name of the command has no byte, or more than 32."
-sentence cause.BadByte = codes "A byte of the name is #, or is none of 33 to 126."
-sentence cause.OnlyDigits = codes "The name has digits alone, as an id."
-sentence cause.InTable = codes "The protocol's table has a command of this name."
-sentence cause.AddedBefore = codes "A command of this name was added before."
-sentence cause.TooMany = codes "The engine has 32 own commands."
-sentence cause.BadMaxMoves = codes "The limit of moves is not 1 to 2,000."
-sentence cause.BadMaxRestarts = codes "The limit of restarts is more than 1,000."
-sentence cause.NotNext = codes "The call is not what the match says next."
-sentence cause.NotOver = codes "The match is not over."
-sentence cause.NoLine = codes "No line of a command was read, or the last one was too long."
-sentence cause.BadCommand = codes "The number is no command: it isn't from 1 to 8."
-sentence cause.BadId = codes "The id is negative, and not -1, which is none."
-sentence cause.Down = codes "The side was not started or went down, or the match is over."
-sentence cause.IsOver = codes "The match is over."
-sentence cause.BadReason = codes "The reason isn't 1 to 20 letters (a-z, A-Z) and spaces, or it is that of a forfeit."
+sentence cause.BadLength = codes "A name must have 1 to 32 bytes."
+sentence cause.BadByte = codes "A name may have only bytes 33 to 126, except #."
+sentence cause.OnlyDigits = codes "A name can't have only digits: it would be read as an id."
+sentence cause.InTable = codes "The protocol already has a command of this name."
+sentence cause.AddedBefore = codes "A custom command of this name was already added."
+sentence cause.TooMany = codes "The engine already has 32 custom commands, the maximum."
+sentence cause.BadMaxMoves = codes "The move limit must be 1 to 2,000."
+sentence cause.BadMaxRestarts = codes "The restart limit must be 0 to 1,000."
+sentence cause.NotNext = codes "Not the call that the match expects next."
+sentence cause.NotOver = codes "The match is not over yet."
+sentence cause.NoLine = codes "No command line was read, or the last one was too long."
+sentence cause.BadCommand = codes "Not a command: use 1 to 8."
+sentence cause.BadId = codes "The id must be 0 to 2,147,483,647, or -1 for none."
+sentence cause.Down = codes "The side isn't up: it was not started or it went down, or the match is over."
+sentence cause.IsOver = codes "The match is already over."
+sentence cause.BadReason = codes "A reason must be 1 to 20 letters (a-z, A-Z) and spaces, and not that of a forfeit."
 
 -- what is said of a number: that it was done, what a cause means, or that the number is none
 abbrev pub SaysDone : ℕ → List ℕ → Type 0
-SaysDone number said = (number ≡ 0) × (said ≡ codes "It was done.")
+SaysDone number said = (number ≡ 0) × (said ≡ codes "No error.")
 
 abbrev pub SaysCause : ℕ → List ℕ → Type 0
 SaysCause number said = (why : Cause) × (number ≡ cause_code why) × (said ≡ sentence why)
 
 abbrev pub SaysNone : ℕ → List ℕ → Type 0
-SaysNone number said = (number ≢ 0) × NoCause number × (said ≡ codes "The number is no cause.")
+SaysNone number said = (number ≢ 0) × NoCause number × (said ≡ codes "Unknown error number.")
 
 -- just one of these, by the number
 abbrev pub Says : ℕ → List ℕ → Type 0

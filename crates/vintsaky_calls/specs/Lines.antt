@@ -24,7 +24,7 @@ line_code line.TooLong = 2
 abbrev pub line_unless : ℕ → Line → Option Line
 line_unless number read = if nat_eq number 0 then None else Some read
 
--- A piece is read. The number is that of the line that was read; or it is 0, none was, and the line before stays.
+-- A chunk is read. The number is that of the line that was read; or it is 0, none was, and the line before stays.
 pub record FeedCall (input : List ℕ) (old new : Lines) (used number : ℕ) : Type 0 where
   pub reads : ReadsLine old.reader input used (line_unless number new.line) new.reader
   pub kind : (number ≡ 0) ⊎ (number ≡ line_code new.line)

@@ -60,7 +60,7 @@ RefusesMatch setup cause.BadMaxRestarts =
     IsSize setup.size × IsKomi setup.komi × RefusesSetup setup setup_fault.MaxRestarts
 RefusesMatch setup _ = ⊥
 
--- A match is begun anew; or it stays as it was, for a cause.
+-- A match is reset; or it stays as it was, for a cause.
 pub record BeginCall (setup : SetupRecord) (old new : Refereed) (made : CallResult) : Type 0 where
   pub begun : OnOk made (BeginsMatch setup new)
   pub kept : OnErr made (new ≡ old)

@@ -20,14 +20,14 @@ read_code (Some (Ok reply)) = 1
 read_code (Some (Err fault.NoStatus)) = 2
 read_code (Some (Err fault.Overlong)) = 3
 
--- a piece is read, and a reply is kept
+-- a chunk is read, and a reply is kept
 pub record ReadsReply (old input : List ℕ) (used number : ℕ) (reply : Reply) (new : List ℕ) : Type 0 where
   pub got : Option (Result Reply ReplyFault)
   pub number_is : number ≡ read_code got
   pub reads : ReadsFirst old input used got new
   pub kept : IfSome got (λ answer. IfOk answer (λ read. reply ≡ read))
 
--- A piece is read, with the number of what was; where that is no reply, the reply before stays.
+-- A chunk is read, with the number of what was; where that is no reply, the reply before stays.
 pub record FeedCall (input : List ℕ) (old new : Replies) (used number : ℕ) : Type 0 where
   pub reads : ReadsReply old.reader input used number new.reply new.reader
   pub kept : number ≢ 1 → new.reply ≡ old.reply

@@ -1,4 +1,4 @@
--- Talks: what a caller does with an engine that was placed, as long as it begins the engine anew only before the first
+-- Talks: what a caller does with an engine that was placed, as long as it resets the engine only before the first
 -- byte.
 use Rattle.std.specs.Prelude.{◌≡◌, ℕ, List, [], ◌++◌, take, Ok, Err}
 use Rattle.go_base.specs.declared.choices.Choice.{Choice}
@@ -12,7 +12,7 @@ use Rattle.vintsaky_calls.specs.Engines.{SetVersionCall, AddCommandCall}
 use Rattle.vintsaky_calls.specs.declared.causes.Cause.{Cause}
 
 -- The engine has this ko rule, has used this text, and is this one now. It was placed, which gives it simple ko, and
--- may be begun anew as long as it has used no byte. All other calls come in any order, also those that are refused.
+-- may be reset as long as it has used no byte. All other calls come in any order, also those that are refused.
 -- (What only reads an engine leaves it as it is.)
 pub data Talk : KoRule → List ℕ → StepsState → Type 0 where
   placed : Talk Simple [] (fresh_steps Simple)
@@ -45,11 +45,11 @@ pub record IsRunOf (rule : KoRule) (text : List ℕ) (s : StepsState) : Type 0 w
 
 -- ---- laws
 
--- A talk is a run of an engine in steps.
+-- A talk is a run of a sans-IO engine.
 abbrev pub TalksAreRuns : Type 0
 TalksAreRuns = (rule : KoRule) (text : List ℕ) (s : StepsState) → Talk rule text s → IsRunOf rule text s
 
--- Two engines that are begun anew by one number are the same, whatever they were.
+-- Two engines that are reset by one number are the same, whatever they were.
 abbrev pub BegunAreAlike : Type 0
 BegunAreAlike =
     (number : ℕ) (a b other new : StepsState) → BeginCall number a b (Ok tt) → BeginCall number other new (Ok tt)

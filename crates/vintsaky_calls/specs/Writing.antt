@@ -21,11 +21,11 @@ abbrev pub id_code : Option ℕ → ℤ
 id_code None = negsuc 0
 id_code (Some id) = pos id
 
--- the number stands for no id, and not for none either
+-- the number represents no id, and not for none either
 abbrev pub NoId : ℤ → Type 0
 NoId number = (id : Option ℕ) → number ≢ id_code id
 
--- the number stands for an id, or for none
+-- the number represents an id, or for none
 abbrev pub IsId : ℤ → Type 0
 IsId number = (id : Option ℕ) × (number ≡ id_code id)
 
@@ -53,7 +53,7 @@ HasValues value vertex (Genmove colour) = value ≡ pos (colour_code colour)
 HasValues value vertex Undo = Unit {0}
 HasValues value vertex Quit = Unit {0}
 
--- the numbers stand for this command
+-- the numbers represent this command
 pub record IsCommandOf (number : ℕ) (value : ℤ) (vertex : ℕ) (command : Command) : Type 0 where
   pub number_is : number ≡ command_code command
   pub values : HasValues value vertex command
@@ -82,7 +82,7 @@ NoSide value = (colour : Colour) → value ≢ pos (colour_code colour)
 abbrev pub NoCommand : ℕ → Type 0
 NoCommand number = (command : Command) → number ≢ command_code command
 
--- why numbers stand for no command
+-- why numbers represent no command
 abbrev pub RefusesValues : ℕ → ℤ → ℕ → Cause → Type 0
 RefusesValues number value vertex cause.BadCommand = NoCommand number
 RefusesValues number value vertex cause.BadSize = (number ≡ 1) × NoSize value
@@ -93,7 +93,7 @@ RefusesValues number value vertex cause.BadVertex =
     (number ≡ 5) × ((colour : Colour) × (value ≡ pos (colour_code colour))) × NoVertex vertex
 RefusesValues number value vertex _ = ⊥
 
--- why the line isn't written: the id is none, or else the numbers stand for no command
+-- why the line isn't written: the id is none, or else the numbers represent no command
 abbrev pub RefusesCommand : ℤ → ℕ → ℤ → ℕ → Cause → Type 0
 RefusesCommand id number value vertex cause.BadId = NoId id
 RefusesCommand id number value vertex why = IsId id × RefusesValues number value vertex why

@@ -1,4 +1,4 @@
-//! What the calls over many games do to one game of them.
+//! What the calls over many games do to each game.
 ghost use Rattle.std.specs.Prelude.{◌≡◌, ℕ, ◌+◌, ◌*◌, ◌<◌, [], length, map, replicate, IsTrue, IfOk, IfErr};
 ghost use Rattle.go_board.specs.Game.{without_last};
 ghost use Rattle.vintsaky_calls.specs.Batches.{PlayNumberCall, PlaysNumber, IsMoveNumber, TellsOver, Restarts};
@@ -15,31 +15,31 @@ use go_board::{Game, MOST_MOVES};
 /// What is shown of a game.
 #[derive(Clone, Copy, Drop)]
 pub enum Shown {
-    /// The planes of its board, and of so many earlier ones.
+    /// The planes of its board, and of this many earlier ones.
     Planes(u32),
-    /// Which moves may be made.
+    /// Which moves are legal.
     Mask,
 }
 
-/// What is told of a game that may be over.
+/// What is reported of a game that may be over.
 #[derive(Clone, Copy, Drop)]
 pub struct Told {
     /// Whether it is over, and how.
     pub over: u8,
-    /// Its score, where it is over.
+    /// Its score, if it is over.
     pub half_points: i32,
 }
 
 // ---- moves
 
-/// Makes the move of a number for the colour whose turn it is. The number of what it comes to.
+/// Plays the move of a number for the colour whose turn it is. Returns the number of the result.
 pub fn play(game: &mut Game, number: u32) -> u8
     ensures { PlaysNumber game.old number game.new result }
 {
     byte_of(play_number(game, number))
 }
 
-/// Makes the move of a number for the colour whose turn it is.
+/// Plays the move of a number for the colour whose turn it is.
 fn play_number(game: &mut Game, number: u32) -> Result<(), Cause>
     ensures { PlayNumberCall game.old number game.new result }
 {
@@ -48,7 +48,7 @@ fn play_number(game: &mut Game, number: u32) -> Result<(), Cause>
     game.play(colour, vertex).map_err(cause_of_play)
 }
 
-/// The vertex of the number of a move.
+/// The vertex of a move's number.
 fn vertex_of_move(game: &Game, number: u32) -> Result<Vertex, Cause>
     ensures some { IfOk result (IsMoveNumber game.now.size number) }
     ensures none { IfErr result
@@ -64,7 +64,7 @@ fn vertex_of_move(game: &Game, number: u32) -> Result<Vertex, Cause>
 
 // ---- games that are over
 
-/// Begins a game anew that is over. What is told of it before.
+/// Restarts a game that is over. Returns what is reported of it before.
 pub fn restart(game: &mut Game, limit: u32) -> Told
     ensures { Restarts limit game.old result.over game.new result.half_points }
 {
@@ -80,7 +80,7 @@ pub fn restart(game: &mut Game, limit: u32) -> Told
     Told { over, half_points }
 }
 
-/// Whether a game is over: 1 after two passes, 2 where it has so many moves or more, or is full, and else 0.
+/// Whether a game is over: 1 after two passes, 2 if it has at least this many moves or is full, else 0.
 fn over_of(game: &Game, limit: u32) -> u8
     ensures { TellsOver game.now limit result }
 {
@@ -94,11 +94,11 @@ fn over_of(game: &Game, limit: u32) -> u8
     }
 }
 
-/// Takes back all moves.
+/// Undoes all moves.
 fn begin_anew(game: &mut Game)
     ensures { game.new ≡ record game.old { moves = [] } }
 {
-    // A look: the size allows the handicap.
+    // A mere check: the size allows the handicap.
     let _ = game.size();
     let handicap = game.handicap();
     game.clear();
@@ -121,7 +121,7 @@ pub fn count(shown: Shown, game: &Game) -> usize
     }
 }
 
-/// Writes what is shown of a game, with these for no and for yes.
+/// Writes what is shown of a game, with these values for no and for yes.
 pub fn show<T: Copy>(shown: Shown, game: &Game, zero: T, one: T, values: &mut [T])
     requires { length values.old ≡ shown_count shown game.now }
     ensures { IsShown zero one shown game.now values.new }
@@ -132,7 +132,7 @@ pub fn show<T: Copy>(shown: Shown, game: &Game, zero: T, one: T, values: &mut [T
     }
 }
 
-/// Writes the planes of a game's board, and of so many earlier ones.
+/// Writes the planes of a game's board, and of this many earlier ones.
 fn put_planes<T: Copy>(game: &Game, earlier: u32, zero: T, one: T, values: &mut [T])
     requires { length values.old ≡ (1 + earlier) * (2 * (game.now.size * game.now.size)) }
     ensures { ArePlanes zero one earlier game.now values.new }
@@ -145,7 +145,7 @@ fn put_planes<T: Copy>(game: &Game, earlier: u32, zero: T, one: T, values: &mut 
     }
 }
 
-/// Writes the planes of a game's board, and of so many earlier ones, for a colour.
+/// Writes the planes of a game's board, and of this many earlier ones, for a colour.
 fn put_earlier_planes<T: Copy>(
     game: &Game,
     colour: Colour,
@@ -168,14 +168,14 @@ fn put_earlier_planes<T: Copy>(
     }
 }
 
-/// Takes back the last move, where there is one.
+/// Undoes the last move, if there is one.
 fn take_back(game: &mut Game)
     ensures { game.new ≡ without_last game.old }
 {
     let _ = game.undo();
 }
 
-/// Writes the planes of a board, or empty ones where there is no such board.
+/// Writes the planes of a board, or empty ones if there is no such board.
 fn put_board<T: Copy>(
     game: &Game,
     is_there: bool,
@@ -205,7 +205,7 @@ fn put_zeros<T: Copy>(zero: T, values: &mut [T])
     }
 }
 
-/// Writes the planes of one board: the stones of a colour, and those of the other one.
+/// Writes the planes of one board: the stones of a colour, and those of the other.
 fn put_stone_planes<T: Copy>(game: &Game, colour: Colour, zero: T, one: T, values: &mut [T])
     requires { length values.old ≡ 2 * (game.now.size * game.now.size) }
     ensures { AreStonePlanes zero one game.now colour values.new }
@@ -227,7 +227,7 @@ fn put_plane<T: Copy>(stones: &[Option<Colour>], colour: Colour, zero: T, one: T
     }
 }
 
-/// What is written for a point.
+/// The value that is written for a point.
 fn mark_of_stone<T: Copy>(stone: Option<Colour>, colour: Colour, zero: T, one: T) -> T
     ensures { result ≡ stone_mark zero one colour stone }
 {
@@ -238,7 +238,7 @@ fn mark_of_stone<T: Copy>(stone: Option<Colour>, colour: Colour, zero: T, one: T
     }
 }
 
-/// Writes for the move of each number whether the colour whose turn it is may make it.
+/// Writes for the move of each number whether it is legal for the colour whose turn it is.
 fn put_mask<T: Copy>(game: &Game, zero: T, one: T, values: &mut [T])
     requires { length values.old ≡ game.now.size * game.now.size + 1 }
     ensures { IsMask zero one game.now values.new }
@@ -262,7 +262,7 @@ fn put_marks<T: Copy>(marks: &[bool], zero: T, one: T, values: &mut [T])
 
 // ---- rollouts
 
-/// The score of a rollout by a seed, in which the colour whose turn it is begins.
+/// The score of a rollout by a seed, in which the colour whose turn it is moves first.
 pub fn rollout(game: &Game, seed: u64, limit: u32) -> i32
     ensures { ScoresInTurn game.now seed limit result }
 {

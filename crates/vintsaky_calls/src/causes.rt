@@ -1,29 +1,29 @@
-//! Why a call is refused.
+//! The errors of the calls.
 ghost use Rattle.std.specs.Prelude.{◌≡◌, IfSome, IfNone};
 ghost use Rattle.vintsaky_calls.specs.Codes.{cause_code, play_cause, result_code, NoCause};
 
 use go_board::PlayFault;
 
-/// Why a call is refused. Its number is the same in all later releases, and 0 is what a call returns that was done.
+/// Why a call is rejected: its error. Its number is the same in all later releases, and 0 means that the call was done.
 ///
-/// The comment of a cause is its sentence, which `library/declare` writes wherever else it stands.
+/// The comment of a variant is its sentence, which `library/declare` copies to all other places that have it.
 #[derive(Clone, Copy, PartialEq, Eq, Debug, Drop)]
 pub enum Cause {
-    /// The number is no colour and no side: it is neither 1, Black, nor 2, White.
+    /// Not a colour or side: use 1 (Black) or 2 (White).
     BadColour,
-    /// The number is no vertex: a row times 256 and a column, 1 to 25 each, or where the call takes a pass, 0.
+    /// Not a vertex: use 256 times the row plus the column, each 1 to 25, or 0 (a pass) where allowed.
     BadVertex,
-    /// The number is no ko rule: it is neither 1, simple ko, nor 2, positional superko.
+    /// Not a ko rule: use 1 (simple ko) or 2 (positional superko).
     BadRule,
-    /// The size isn't from 1 to 25.
+    /// The size must be 1 to 25.
     BadSize,
-    /// The komi isn't from -1,999,999,999 to 1,999,999,999 half points.
+    /// The komi must be -1,999,999,999 to 1,999,999,999 half points.
     BadKomi,
-    /// The text is none that can be read, or that a reply may have.
+    /// The text can't be parsed, or isn't allowed in a reply.
     BadText,
-    /// The buffer is too short.
+    /// A buffer or array is shorter than the call needs.
     NoRoom,
-    /// The record has 2,000 moves.
+    /// The record is full: it has 2,000 moves, the maximum.
     Full,
     /// The point isn't on a board of this size.
     OffBoard,
@@ -31,59 +31,59 @@ pub enum Cause {
     Occupied,
     /// The new stone's chain would have no liberty.
     Suicide,
-    /// The board would be one that the ko rule forbids.
+    /// The move would repeat a board that the ko rule forbids.
     Ko,
-    /// There is no move to take back.
+    /// The record has no move to undo.
     NothingToUndo,
-    /// A stone is on the board, or a move is in the record.
+    /// The board and the record must be empty.
     NotEmpty,
-    /// The size doesn't allow this number of handicap stones, or the number is negative.
+    /// Not a handicap of this size: use 2 to 9 stones on odd sizes from 9, 2 to 4 on 7 and even sizes from 8.
     BadHandicap,
-    /// The record has no move of this number.
+    /// The record has no move with this number, counted from 0.
     NoMove,
     /// No stone is on the point.
     NoStone,
-    /// Nothing is asked for that the call hands in.
+    /// No such move or answer is being waited for.
     NotAsked,
-    /// The line has no word of this number.
+    /// The line has no word with this number, counted from 0 after the id.
     NoWord,
     /// The line or the reply has no id.
     NoId,
-    /// The name of the command has no byte, or more than 32.
+    /// A name must have 1 to 32 bytes.
     BadLength,
-    /// A byte of the name is `#`, or is none of 33 to 126.
+    /// A name may have only bytes 33 to 126, except `#`.
     BadByte,
-    /// The name has digits alone, as an id.
+    /// A name can't have only digits: it would be read as an id.
     OnlyDigits,
-    /// The protocol's table has a command of this name.
+    /// The protocol already has a command of this name.
     InTable,
-    /// A command of this name was added before.
+    /// A custom command of this name was already added.
     AddedBefore,
-    /// The engine has 32 own commands.
+    /// The engine already has 32 custom commands, the maximum.
     TooMany,
-    /// The limit of moves is not 1 to 2,000.
+    /// The move limit must be 1 to 2,000.
     BadMaxMoves,
-    /// The limit of restarts is more than 1,000.
+    /// The restart limit must be 0 to 1,000.
     BadMaxRestarts,
-    /// The call is not what the match says next.
+    /// Not the call that the match expects next.
     NotNext,
-    /// The match is not over.
+    /// The match is not over yet.
     NotOver,
-    /// No line of a command was read, or the last one was too long.
+    /// No command line was read, or the last one was too long.
     NoLine,
-    /// The number is no command: it isn't from 1 to 8.
+    /// Not a command: use 1 to 8.
     BadCommand,
-    /// The id is negative, and not -1, which is none.
+    /// The id must be 0 to 2,147,483,647, or -1 for none.
     BadId,
-    /// The side was not started or went down, or the match is over.
+    /// The side isn't up: it was not started or it went down, or the match is over.
     Down,
-    /// The match is over.
+    /// The match is already over.
     IsOver,
-    /// The reason isn't 1 to 20 letters (a-z, A-Z) and spaces, or it is that of a forfeit.
+    /// A reason must be 1 to 20 letters (a-z, A-Z) and spaces, and not that of a forfeit.
     BadReason,
 }
 
-/// The number of what a call came to: 0 where it was done, and else that of the cause.
+/// The number of a call's result: 0 if it was done, else that of its error.
 pub fn code_of(made: Result<(), Cause>) -> u32
     ensures { result ≡ result_code made }
 {
@@ -93,7 +93,7 @@ pub fn code_of(made: Result<(), Cause>) -> u32
     }
 }
 
-/// The same number in a byte.
+/// The same number as a byte.
 pub(crate) fn byte_of(made: Result<(), Cause>) -> u8
     ensures { result ≡ result_code made }
 {
@@ -103,7 +103,7 @@ pub(crate) fn byte_of(made: Result<(), Cause>) -> u8
     }
 }
 
-/// The number of a cause.
+/// The number of an error.
 fn number_of(cause: Cause) -> u8
     ensures { result ≡ cause_code cause }
 {
@@ -147,7 +147,7 @@ fn number_of(cause: Cause) -> u8
     }
 }
 
-/// The cause of a number.
+/// The error of a number.
 pub(crate) fn cause_of(number: u32) -> Option<Cause>
     ensures some { IfSome result (λ why. number ≡ cause_code why) }
     ensures none { IfNone result (NoCause number) }
@@ -193,7 +193,7 @@ pub(crate) fn cause_of(number: u32) -> Option<Cause>
     }
 }
 
-/// The cause of a play that is refused.
+/// The error of an illegal play.
 pub(crate) fn cause_of_play(fault: PlayFault) -> Cause
     ensures { result ≡ play_cause fault }
 {

@@ -1,4 +1,4 @@
-//! Numbers that stand for colours, vertices and ko rules.
+//! Numbers that represent colours, vertices and ko rules.
 ghost use Rattle.std.specs.Prelude.{◌≡◌, ◌≢◌, ℕ, IfOk, IfErr};
 ghost use Rattle.go_base.specs.Point.{IsOn};
 ghost use Rattle.go_base.specs.Size.{most_size};
@@ -11,7 +11,7 @@ use crate::causes::Cause;
 use go_base::{Colour, Point, Vertex};
 use go_board::KoRule;
 
-/// The colour or the side of a number.
+/// The colour, or the side, of a number.
 pub(crate) fn colour_of(number: u32) -> Result<Colour, Cause>
     ensures some { IfOk result (λ colour. number ≡ colour_code colour) }
     ensures none { IfErr result (λ why. (why ≡ cause.BadColour) × NoColour number) }

@@ -22,19 +22,19 @@ pub(crate) fn number_of_ending(given: Verdict) -> u32
     ensures { result ≡ ending_code given }
 {
     match given {
-        // by two passes
+        // two passes ended the game
         Verdict::Score(_) => 1,
         // the side resigned
         Verdict::Resign(_) => 2,
         // the record has as many moves as the match allows
         Verdict::Limit => 3,
-        // the side refused a play that isn't retaken, or that the other side didn't take back: it forfeits
+        // the side refused a play that isn't retaken, or that the other side didn't undo: it forfeits
         Verdict::Forfeit(_, ForfeitCause::RefusedPlay) => 4,
-        // the side failed to answer with a move: it forfeits
+        // the side failed at a genmove: it forfeits
         Verdict::Forfeit(_, ForfeitCause::NoMove) => 5,
-        // the side answered with what is no move: it forfeits
+        // the side answered a genmove by what is neither a vertex nor a resignation: it forfeits
         Verdict::Forfeit(_, ForfeitCause::NoVertex) => 6,
-        // the side answered with a move that isn't legal: it forfeits
+        // the side answered a genmove by an illegal move: it forfeits
         Verdict::Forfeit(_, ForfeitCause::IllegalMove) => 7,
         // the side can't be brought to the record
         Verdict::Unfit(_) => 8,
@@ -48,14 +48,14 @@ pub(crate) fn number_of_ruling(ruling: &Ruling) -> u32
     ensures { result ≡ ruling_code ruling.now }
 {
     match ruling {
-        // the side ran out of time: a ruling ended the match
+        // the side lost on time, by a ruling
         Ruling::Time => 10,
-        // the side lost by a ruling that has a reason
+        // the side lost by a ruling with a reason
         Ruling::Reason(_) => 11,
     }
 }
 
-/// The number of the side that this is said of, or 0.
+/// The number of the side that an ending concerns, or 0.
 pub(crate) fn side_of_ending(given: Verdict) -> u32
     ensures { result ≡ ending_side given }
 {

@@ -1,4 +1,4 @@
-//! The calls of an engine in steps.
+//! The calls of a sans-IO engine.
 ghost use Rattle.std.specs.Prelude.{◌≡◌, IfOk, IfErr};
 ghost use Rattle.vintsaky_calls.specs.declared.causes.Cause.TheVariants as cause;
 ghost use Rattle.vintsaky_calls.specs.Codes.{choice_cause, answer_cause, command_cause};
@@ -17,7 +17,7 @@ use gtp_session::steps::{AnswerFault, ChoiceFault, CommandFault, Event, Steps, W
 /// The number of a resignation, which no vertex has.
 const RESIGN: u32 = 65535;
 
-/// What `vintsaky_engine_begin` does.
+/// Implements `vintsaky_engine_begin`.
 pub fn begin(engine: &mut Steps, rule: u32) -> Result<(), Cause>
     ensures { BeginCall rule engine.old engine.new result }
 {
@@ -25,7 +25,7 @@ pub fn begin(engine: &mut Steps, rule: u32) -> Result<(), Cause>
     Ok(())
 }
 
-/// What `vintsaky_engine_feed` does.
+/// Implements `vintsaky_engine_feed`.
 pub fn feed(engine: &mut Steps, bytes: &[u8], used: &mut usize) -> u32
     ensures { FeedCall bytes.now engine.old engine.new used.new result }
 {
@@ -34,24 +34,24 @@ pub fn feed(engine: &mut Steps, bytes: &[u8], used: &mut usize) -> u32
     number_of_event(fed.event)
 }
 
-/// The number of what came of a piece.
+/// The number of what came of a chunk.
 fn number_of_event(event: Event) -> u32
     ensures { result ≡ event_code event }
 {
     match event {
-        // all bytes were used: read on. Only now
+        // all bytes were used: read more, which no other result asks for
         Event::More => 0,
         Event::Asked(colour) => number_of_colour(colour),
-        // a line of another command: answer or decline it, and write the reply
+        // a command that isn't in the protocol's table: answer or decline it, then write the reply
         Event::Other => 3,
-        // a line was answered: write the reply. A quit is answered so too
+        // a line was answered, also a quit: write the reply
         Event::Reply => 4,
         // a quit was answered before: stop
         Event::Ended => 5,
     }
 }
 
-/// What `vintsaky_engine_wait` does.
+/// Implements `vintsaky_engine_wait`.
 pub fn wait(engine: &Steps) -> u32
     ensures { result ≡ wait_code engine.now.wait }
 {
@@ -62,7 +62,7 @@ pub fn wait(engine: &Steps) -> u32
     }
 }
 
-/// What `vintsaky_engine_choose` does.
+/// Implements `vintsaky_engine_choose`.
 pub fn choose(engine: &mut Steps, vertex: u32) -> Result<(), Cause>
     ensures { ChooseCall vertex engine.old engine.new result }
 {
@@ -84,7 +84,7 @@ fn choice_of(number: u32) -> Result<Choice, Cause>
     Ok(Choice::Play(vertex))
 }
 
-/// The cause of a choice that is refused.
+/// The error of a choice that is rejected.
 fn cause_of_choice(fault: ChoiceFault) -> Cause
     ensures { result ≡ choice_cause fault }
 {
@@ -94,14 +94,14 @@ fn cause_of_choice(fault: ChoiceFault) -> Cause
     }
 }
 
-/// What `vintsaky_engine_answer` does.
+/// Implements `vintsaky_engine_answer`.
 pub fn answer(engine: &mut Steps, ok: u32, text: &[u8]) -> Result<(), Cause>
     ensures { AnswerCall ok text.now engine.old engine.new result }
 {
     engine.answer(ok != 0, text).map_err(cause_of_answer)
 }
 
-/// The cause of an answer that is refused.
+/// The error of an answer that is rejected.
 fn cause_of_answer(fault: AnswerFault) -> Cause
     ensures { result ≡ answer_cause fault }
 {
@@ -111,14 +111,14 @@ fn cause_of_answer(fault: AnswerFault) -> Cause
     }
 }
 
-/// What `vintsaky_engine_decline` does.
+/// Implements `vintsaky_engine_decline`.
 pub fn decline(engine: &mut Steps) -> Result<(), Cause>
     ensures { DeclineCall engine.old engine.new result }
 {
     engine.decline().map_err(cause_of_answer)
 }
 
-/// What `vintsaky_engine_set_name` does.
+/// Implements `vintsaky_engine_set_name`.
 pub fn set_name(engine: &mut Steps, text: &[u8]) -> Result<(), Cause>
     ensures { SetNameCall text.now engine.old engine.new result }
 {
@@ -128,7 +128,7 @@ pub fn set_name(engine: &mut Steps, text: &[u8]) -> Result<(), Cause>
     }
 }
 
-/// What `vintsaky_engine_set_version` does.
+/// Implements `vintsaky_engine_set_version`.
 pub fn set_version(engine: &mut Steps, text: &[u8]) -> Result<(), Cause>
     ensures { SetVersionCall text.now engine.old engine.new result }
 {
@@ -138,14 +138,14 @@ pub fn set_version(engine: &mut Steps, text: &[u8]) -> Result<(), Cause>
     }
 }
 
-/// What `vintsaky_engine_add_command` does.
+/// Implements `vintsaky_engine_add_command`.
 pub fn add_command(engine: &mut Steps, name: &[u8]) -> Result<(), Cause>
     ensures { AddCommandCall name.now engine.old engine.new result }
 {
     engine.add_command(name).map_err(cause_of_command)
 }
 
-/// The cause of a command that isn't added.
+/// The error of a custom command that is rejected.
 fn cause_of_command(fault: CommandFault) -> Cause
     ensures { result ≡ command_cause fault }
 {
@@ -159,21 +159,21 @@ fn cause_of_command(fault: CommandFault) -> Cause
     }
 }
 
-/// What `vintsaky_engine_copy_game` does.
+/// Implements `vintsaky_engine_copy_game`.
 pub fn copy_game(engine: &Steps, game: &mut Game)
     ensures { game.new ≡ engine.now.game }
 {
     game.copy_from(engine.game());
 }
 
-/// What `vintsaky_engine_reply` does.
+/// Implements `vintsaky_engine_reply`.
 pub fn reply(engine: &Steps, text: &mut [u8]) -> usize
     ensures { Writes engine.now.reply text.old text.new result }
 {
     put(engine.reply(), text)
 }
 
-/// What `vintsaky_engine_word` does.
+/// Implements `vintsaky_engine_word`.
 pub fn word(engine: &Steps, number: usize, text: &mut [u8], count: &mut usize) -> Result<(), Cause>
     ensures { WordCall engine.now number text.old text.new count.old count.new result }
 {
@@ -183,7 +183,7 @@ pub fn word(engine: &Steps, number: usize, text: &mut [u8], count: &mut usize) -
     Ok(())
 }
 
-/// What `vintsaky_engine_id` does.
+/// Implements `vintsaky_engine_id`.
 pub fn id(engine: &Steps, id: &mut u32) -> Result<(), Cause>
     ensures { IdCall engine.now id.old id.new result }
 {

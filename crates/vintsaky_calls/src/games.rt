@@ -19,7 +19,7 @@ use arrayvec::ArrayVec;
 use go_base::{Komi, Point, Size};
 use go_board::{Game, HandicapFault, MOST_POINTS};
 
-/// What `vintsaky_game_begin` does.
+/// Implements `vintsaky_game_begin`.
 pub fn begin(game: &mut Game, rule: u32, size: u32, half_komi: i32) -> Result<(), Cause>
     ensures { BeginCall rule size half_komi game.old game.new result }
 {
@@ -30,7 +30,7 @@ pub fn begin(game: &mut Game, rule: u32, size: u32, half_komi: i32) -> Result<()
     Ok(())
 }
 
-/// What `vintsaky_game_play` does.
+/// Implements `vintsaky_game_play`.
 pub fn play(game: &mut Game, colour: u32, vertex: u32) -> Result<(), Cause>
     ensures { PlayCall colour vertex game.old game.new result }
 {
@@ -39,7 +39,7 @@ pub fn play(game: &mut Game, colour: u32, vertex: u32) -> Result<(), Cause>
     game.play(colour, vertex).map_err(cause_of_play)
 }
 
-/// What `vintsaky_game_legal` does.
+/// Implements `vintsaky_game_legal`.
 pub fn legal(game: &Game, colour: u32, vertex: u32) -> Result<(), Cause>
     ensures { LegalCall game.now colour vertex result }
 {
@@ -51,7 +51,7 @@ pub fn legal(game: &Game, colour: u32, vertex: u32) -> Result<(), Cause>
     }
 }
 
-/// What `vintsaky_game_undo` does.
+/// Implements `vintsaky_game_undo`.
 pub fn undo(game: &mut Game) -> Result<(), Cause>
     ensures { UndoCall game.old game.new result }
 {
@@ -61,7 +61,7 @@ pub fn undo(game: &mut Game) -> Result<(), Cause>
     }
 }
 
-/// What `vintsaky_game_set_komi` does.
+/// Implements `vintsaky_game_set_komi`.
 pub fn set_komi(game: &mut Game, half_komi: i32) -> Result<(), Cause>
     ensures { SetKomiCall half_komi game.old game.new result }
 {
@@ -70,7 +70,7 @@ pub fn set_komi(game: &mut Game, half_komi: i32) -> Result<(), Cause>
     Ok(())
 }
 
-/// What `vintsaky_game_place_handicap` does.
+/// Implements `vintsaky_game_place_handicap`.
 pub fn place_handicap(game: &mut Game, stones: u32) -> Result<(), Cause>
     ensures { PlaceHandicapCall stones game.old game.new result }
 {
@@ -81,7 +81,7 @@ pub fn place_handicap(game: &mut Game, stones: u32) -> Result<(), Cause>
     }
 }
 
-/// What `vintsaky_game_legal_points` does.
+/// Implements `vintsaky_game_legal_points`.
 pub fn legal_points(
     game: &Game,
     colour: u32,
@@ -97,7 +97,7 @@ pub fn legal_points(
     Ok(())
 }
 
-/// What `vintsaky_game_taken_by_last_move` does.
+/// Implements `vintsaky_game_taken_by_last_move`.
 #[tactic(auto, using(crate::proofs::TakenPoints::none_listed))]
 pub fn taken_by_last_move(game: &Game, points: &mut [u32]) -> usize
     ensures { ListsTaken game.now points.old points.new result }
@@ -110,7 +110,7 @@ pub fn taken_by_last_move(game: &Game, points: &mut [u32]) -> usize
     put_points(&taken, points)
 }
 
-/// Writes the numbers of points, where there is room for all of them. How many these are.
+/// Writes the numbers of points, if the buffer holds all of them. Returns how many there are.
 pub(crate) fn put_points(points: &ArrayVec<Point, MOST_POINTS>, numbers: &mut [u32]) -> usize
     ensures { PutsPoints points.now.items numbers.old numbers.new result }
 {
@@ -123,7 +123,7 @@ pub(crate) fn put_points(points: &ArrayVec<Point, MOST_POINTS>, numbers: &mut [u
     count
 }
 
-/// What `vintsaky_game_stone_at` does.
+/// Implements `vintsaky_game_stone_at`.
 pub fn stone_at(game: &Game, vertex: u32, colour: &mut u32) -> Result<(), Cause>
     ensures { StoneAtCall game.now vertex colour.old colour.new result }
 {
@@ -132,7 +132,7 @@ pub fn stone_at(game: &Game, vertex: u32, colour: &mut u32) -> Result<(), Cause>
     Ok(())
 }
 
-/// What `vintsaky_game_chain` does.
+/// Implements `vintsaky_game_chain`.
 pub fn chain(game: &Game, vertex: u32, stones: &mut u32, liberties: &mut u32) -> Result<(), Cause>
     ensures { ChainCall game.now vertex stones.old stones.new liberties.old liberties.new result }
 {
@@ -156,7 +156,7 @@ pub(crate) fn point_on(game: &Game, vertex: u32) -> Result<Point, Cause>
     }
 }
 
-/// The point of a number, on which a stone is.
+/// The point of a number, if a stone is there.
 pub(crate) fn stone_on(game: &Game, vertex: u32) -> Result<Point, Cause>
     ensures on { IfOk result (λ point. IsPointOn game.now vertex point) }
     ensures stone { IfOk result (λ point. stone_at (board_of game.now) point ≢ None) }
@@ -169,7 +169,7 @@ pub(crate) fn stone_on(game: &Game, vertex: u32) -> Result<Point, Cause>
     Ok(point)
 }
 
-/// What `vintsaky_game_made` does.
+/// Implements `vintsaky_game_made`.
 pub fn made(game: &Game, number: usize, colour: &mut u32, vertex: &mut u32) -> Result<(), Cause>
     ensures { MadeCall game.now number colour.old colour.new vertex.old vertex.new result }
 {
@@ -179,7 +179,7 @@ pub fn made(game: &Game, number: usize, colour: &mut u32, vertex: &mut u32) -> R
     Ok(())
 }
 
-/// What `vintsaky_game_captured` does.
+/// Implements `vintsaky_game_captured`.
 pub fn captured(game: &Game, colour: u32, stones: &mut u32) -> Result<(), Cause>
     ensures { CapturedCall game.now colour stones.old stones.new result }
 {
@@ -187,14 +187,14 @@ pub fn captured(game: &Game, colour: u32, stones: &mut u32) -> Result<(), Cause>
     Ok(())
 }
 
-/// What `vintsaky_game_rule` does.
+/// Implements `vintsaky_game_rule`.
 pub fn rule(game: &Game) -> u32
     ensures { result ≡ rule_code game.now.rule }
 {
     number_of_rule(game.rule())
 }
 
-/// What `vintsaky_game_board_text` does.
+/// Implements `vintsaky_game_board_text`.
 pub fn board_text(game: &Game, text: &mut [u8]) -> usize
     ensures { Writes (board_text game.now) text.old text.new result }
 {

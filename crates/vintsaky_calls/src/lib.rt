@@ -1,9 +1,9 @@
 //! The calls of the library for other languages, over the crates' own types: arguments are numbers, each of which is
-//! looked at, and what a call refuses is a [`Cause`].
+//! checked, and a call that is rejected returns a [`Cause`].
 //!
-//! The static library `vintsaky` exports each of them by its C name, and passes on what it lends of a handle. What a
-//! call does is said there, at its export, and what a number stands for is said here, beside the number: from both
-//! `library/declare` writes the C header.
+//! The static library `vintsaky` exports each call by its C name, and passes it what it borrows from a handle. The
+//! comment of an export says what its call does, and the comments here say what the numbers represent:
+//! `library/declare` writes the C header from both.
 #![tactic(auto)]
 
 pub mod batches;

@@ -11,14 +11,14 @@ use gtp_wire::{CommandLine, Line, LineRead, LineReader};
 /// A reader of command lines, and the line that it read last.
 #[derive(Drop)]
 pub struct Lines {
-    /// What was given and is not read yet.
+    /// What it has received and not read yet.
     pub reader: LineReader,
-    /// The line that was read last: one that is too long before the first.
+    /// The line that was read last. Before the first it is one that is too long.
     pub line: Line,
 }
 
 impl Lines {
-    /// A reader that was given nothing.
+    /// A reader that has received nothing.
     pub fn new() -> Lines
         ensures { result ≡ fresh_lines }
     {
@@ -29,7 +29,7 @@ impl Lines {
     }
 }
 
-/// What `vintsaky_lines_feed` does.
+/// Implements `vintsaky_lines_feed`.
 pub fn feed(lines: &mut Lines, bytes: &[u8], used: &mut usize) -> u32
     ensures { FeedCall bytes.now lines.old lines.new used.new result }
 {
@@ -55,7 +55,7 @@ fn command_of(read: &Line) -> Result<&CommandLine, Cause>
     }
 }
 
-/// What `vintsaky_lines_id` does.
+/// Implements `vintsaky_lines_id`.
 pub fn id(lines: &Lines, id: &mut u32) -> Result<(), Cause>
     ensures { IdCall lines.now.line id.old id.new result }
 {
@@ -64,7 +64,7 @@ pub fn id(lines: &Lines, id: &mut u32) -> Result<(), Cause>
     Ok(())
 }
 
-/// What `vintsaky_lines_word` does.
+/// Implements `vintsaky_lines_word`.
 pub fn word(lines: &Lines, number: usize, text: &mut [u8], count: &mut usize) -> Result<(), Cause>
     ensures { WordCall lines.now.line number text.old text.new count.old count.new result }
 {

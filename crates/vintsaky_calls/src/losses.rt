@@ -15,7 +15,7 @@ use gtp_wire::write_command;
 /// The bytes of a command as it was sent.
 type SentText = ArrayVec<u8, SENT_ROOM>;
 
-/// The room for ten digits, a space and the words of a command.
+/// The space for ten digits, a space and the words of a command.
 const SENT_ROOM: usize = 75;
 
 /// The number of a loss, or 0.
@@ -34,11 +34,11 @@ fn number_of_cause(cause: LossCause) -> u32
 {
     match cause {
         LossCause::Shows(fault) => number_of_fault(fault),
-        // It failed at a command of its script but a play, or placed another handicap. It is unfit.
+        // It failed at a command of its script other than a play, or placed another handicap. It is unfit.
         LossCause::Unfit => 5,
         // It refused a play that isn't retaken. It forfeits.
         LossCause::RefusesPlay => 6,
-        // It didn't take back its move, which the other side refused. The other side forfeits.
+        // It didn't undo its move, which the other side refused. The other side forfeits.
         LossCause::KeepsMove => 7,
         // It failed at a genmove. It forfeits.
         LossCause::NoMove => 8,
@@ -53,23 +53,23 @@ fn number_of_fault(fault: SideFault) -> u32
     ensures { result ≡ fault_code fault }
 {
     match fault {
-        // What it wrote is no reply: it begins with neither = nor ?. It goes down.
+        // What it wrote isn't a reply: it begins with neither = nor ?. It goes down.
         SideFault::NoStatus => 1,
         // More than 8,192 bytes came since its last reply. It goes down.
         SideFault::Overlong => 2,
-        // The reply hasn't the id of the oldest unanswered command. It goes down.
+        // The reply doesn't have the id of the oldest unanswered command. It goes down.
         SideFault::WrongId => 3,
-        // A reply came where no command is unanswered. It goes down.
+        // A reply came when no command was unanswered. It goes down.
         SideFault::Unasked => 4,
     }
 }
 
-/// The number of a rule that a move breaks.
+/// The number of the rule that a move breaks.
 fn number_of_rule(fault: PlayFault) -> u32
     ensures { result ≡ rule_loss_code fault }
 {
     match fault {
-        // Its move is refused, for the causes of the same names. It forfeits.
+        // Its move is illegal, by the error of the same name. It forfeits.
         PlayFault::Full => 10,
         PlayFault::OffBoard => 11,
         PlayFault::Occupied => 12,
@@ -78,7 +78,7 @@ fn number_of_rule(fault: PlayFault) -> u32
     }
 }
 
-/// Which retake of its number of a move it is, or 0.
+/// Which retake of its move number it is, or 0.
 pub(crate) fn number_of_retake(retake: &Option<Retake>) -> u32
     ensures { result ≡ retake_code retake.now }
 {
@@ -147,8 +147,8 @@ pub(crate) fn put_owed(
     *wrote_count = put(&owes.bytes, wrote);
 }
 
-/// The oldest unanswered command as it was sent, without its newline: its id, a space and its words. Nothing where
-/// there is none.
+/// The oldest unanswered command as it was sent, without its newline: its id, a space and its words. Empty if there is
+/// none.
 fn oldest_text(oldest: Option<SentCommand>) -> SentText
     requires { IfSome oldest (λ entry. IsWritable entry.command) }
     ensures { result.items ≡ oldest_text oldest }

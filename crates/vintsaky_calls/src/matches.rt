@@ -23,7 +23,7 @@ use gtp_match::{Action, Setup, SetupFault, Status, record_line};
 use gtp_referee::{RefereedMatch, RulingFault, result_line};
 use gtp_wire::MOST_COMMAND_BYTES;
 
-/// What `vintsaky_match_begin` does.
+/// Implements `vintsaky_match_begin`.
 pub fn begin(
     held: &mut RefereedMatch,
     size: u32,
@@ -48,7 +48,7 @@ pub fn begin(
     }
 }
 
-/// What `vintsaky_match_next` does.
+/// Implements `vintsaky_match_next`.
 pub fn next(held: &RefereedMatch, side: &mut u32) -> u32
     ensures { NextCall held.now result side.new }
 {
@@ -62,7 +62,7 @@ pub fn next(held: &RefereedMatch, side: &mut u32) -> u32
     action
 }
 
-/// What `vintsaky_match_started` does.
+/// Implements `vintsaky_match_started`.
 pub fn started(held: &mut RefereedMatch, side: u32) -> Result<(), Cause>
     ensures { StartedCall side held.old held.new result }
 {
@@ -74,7 +74,7 @@ pub fn started(held: &mut RefereedMatch, side: u32) -> Result<(), Cause>
     Ok(())
 }
 
-/// What `vintsaky_match_send` does.
+/// Implements `vintsaky_match_send`.
 pub fn send(
     held: &mut RefereedMatch,
     side: u32,
@@ -95,7 +95,7 @@ pub fn send(
     Ok(())
 }
 
-/// What `vintsaky_match_hear` does.
+/// Implements `vintsaky_match_hear`.
 pub fn hear(held: &mut RefereedMatch, side: u32, bytes: &[u8], loss: &mut u32) -> Result<(), Cause>
     ensures { HearCall side bytes.now held.old held.new loss.old loss.new result }
 {
@@ -105,7 +105,7 @@ pub fn hear(held: &mut RefereedMatch, side: u32, bytes: &[u8], loss: &mut u32) -
     Ok(())
 }
 
-/// What `vintsaky_match_hear_reporting` does.
+/// Implements `vintsaky_match_hear_reporting`.
 pub fn hear_reporting(
     held: &mut RefereedMatch,
     side: u32,
@@ -138,7 +138,7 @@ pub fn hear_reporting(
     Ok(())
 }
 
-/// What `vintsaky_match_owed` does.
+/// Implements `vintsaky_match_owed`.
 pub fn owed(
     held: &RefereedMatch,
     side: u32,
@@ -165,7 +165,7 @@ pub fn owed(
     Ok(())
 }
 
-/// What `vintsaky_match_status` does.
+/// Implements `vintsaky_match_status`.
 pub fn status(
     held: &RefereedMatch,
     side: u32,
@@ -192,7 +192,7 @@ pub fn status(
     }
 }
 
-/// What `vintsaky_match_lost` does.
+/// Implements `vintsaky_match_lost`.
 pub fn lost(held: &mut RefereedMatch, side: u32) -> Result<(), Cause>
     ensures { LostCall side held.old held.new result }
 {
@@ -200,7 +200,7 @@ pub fn lost(held: &mut RefereedMatch, side: u32) -> Result<(), Cause>
     Ok(())
 }
 
-/// What `vintsaky_match_in_step` does.
+/// Implements `vintsaky_match_in_step`.
 pub fn in_step(held: &RefereedMatch, side: u32, holds: &mut u32) -> Result<(), Cause>
     ensures { InStepCall held.now side holds.old holds.new result }
 {
@@ -209,7 +209,7 @@ pub fn in_step(held: &RefereedMatch, side: u32, holds: &mut u32) -> Result<(), C
     Ok(())
 }
 
-/// What `vintsaky_match_restarts` does.
+/// Implements `vintsaky_match_restarts`.
 pub fn restarts(held: &RefereedMatch, side: u32, restarts: &mut u32) -> Result<(), Cause>
     ensures { RestartsCall held.now side restarts.old restarts.new result }
 {
@@ -217,21 +217,21 @@ pub fn restarts(held: &RefereedMatch, side: u32, restarts: &mut u32) -> Result<(
     Ok(())
 }
 
-/// What `vintsaky_match_retakes` does.
+/// Implements `vintsaky_match_retakes`.
 pub fn retakes(held: &RefereedMatch, number: u32) -> u32
     ensures { result ≡ retakes_of held.now.controller.retakes number }
 {
     held.played().retakes(number)
 }
 
-/// What `vintsaky_match_taking_back` does.
+/// Implements `vintsaky_match_taking_back`.
 pub fn taking_back(held: &RefereedMatch) -> u32
     ensures { result ≡ maybe_side_code (taking_back held.now.controller) }
 {
     number_of_side(held.played().taking_back())
 }
 
-/// What `vintsaky_match_verdict` does.
+/// Implements `vintsaky_match_verdict`.
 pub fn verdict(
     held: &RefereedMatch,
     ending: &mut u32,
@@ -254,14 +254,14 @@ pub fn verdict(
     Ok(())
 }
 
-/// What `vintsaky_match_copy_game` does.
+/// Implements `vintsaky_match_copy_game`.
 pub fn copy_game(held: &RefereedMatch, game: &mut Game)
     ensures { game.new ≡ held.now.controller.game }
 {
     game.copy_from(held.played().game());
 }
 
-/// What `vintsaky_match_result` does.
+/// Implements `vintsaky_match_result`.
 pub fn result(
     held: &RefereedMatch,
     number: u32,
@@ -275,14 +275,14 @@ pub fn result(
     Ok(())
 }
 
-/// What `vintsaky_match_record` does.
+/// Implements `vintsaky_match_record`.
 pub fn record(held: &RefereedMatch, text: &mut [u8]) -> usize
     ensures { Writes (record_text held.now.controller.game) text.old text.new result }
 {
     put(&record_line(held.played()), text)
 }
 
-/// What `vintsaky_match_adjudicate` does.
+/// Implements `vintsaky_match_adjudicate`.
 pub fn adjudicate(held: &mut RefereedMatch, side: u32, reason: &[u8]) -> Result<(), Cause>
     ensures { AdjudicateCall side reason.now held.old held.new result }
 {
@@ -294,7 +294,7 @@ pub fn adjudicate(held: &mut RefereedMatch, side: u32, reason: &[u8]) -> Result<
     }
 }
 
-/// What `vintsaky_match_reason` does.
+/// Implements `vintsaky_match_reason`.
 pub fn reason(held: &RefereedMatch, text: &mut [u8]) -> usize
     ensures { Writes (reason_of held.now.ruled) text.old text.new result }
 {

@@ -10,14 +10,14 @@ use gtp_wire::{Reply, ReplyFault, ReplyReader};
 /// A reader of replies, and the reply that it read last.
 #[derive(Drop)]
 pub struct Replies {
-    /// What was given and is not read yet.
+    /// What it has received and not read yet.
     pub reader: ReplyReader,
-    /// The reply that was read last: a failure without id and text before the first.
+    /// The reply that was read last. Before the first it is a failure without id and text.
     pub reply: Reply,
 }
 
 impl Replies {
-    /// A reader that was given nothing.
+    /// A reader that has received nothing.
     pub fn new() -> Replies
         ensures { result ≡ fresh_replies }
     {
@@ -28,7 +28,7 @@ impl Replies {
     }
 }
 
-/// What `vintsaky_replies_feed` does.
+/// Implements `vintsaky_replies_feed`.
 pub fn feed(replies: &mut Replies, bytes: &[u8], used: &mut usize) -> u32
     ensures { FeedCall bytes.now replies.old replies.new used.new result }
 {
@@ -42,14 +42,14 @@ pub fn feed(replies: &mut Replies, bytes: &[u8], used: &mut usize) -> u32
     }
 }
 
-/// What `vintsaky_replies_ok` does.
+/// Implements `vintsaky_replies_ok`.
 pub fn ok(replies: &Replies) -> bool
     ensures { result ≡ replies.now.reply.ok }
 {
     replies.reply.ok
 }
 
-/// What `vintsaky_replies_id` does.
+/// Implements `vintsaky_replies_id`.
 pub fn id(replies: &Replies, id: &mut u32) -> Result<(), Cause>
     ensures { IdCall replies.now.reply id.old id.new result }
 {
@@ -57,7 +57,7 @@ pub fn id(replies: &Replies, id: &mut u32) -> Result<(), Cause>
     Ok(())
 }
 
-/// What `vintsaky_replies_text` does.
+/// Implements `vintsaky_replies_text`.
 pub fn text(replies: &Replies, text: &mut [u8]) -> usize
     ensures { Writes replies.now.reply.text.items text.old text.new result }
 {

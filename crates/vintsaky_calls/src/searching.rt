@@ -1,4 +1,4 @@
-//! The calls by which a search looks at a game, and plays on.
+//! The calls by which a search looks at a game, and playouts.
 ghost use Rattle.std.specs.Prelude.{◌≡◌, map};
 ghost use Rattle.vintsaky_calls.specs.Searching.{IndexCall, PointAtCall, ListsBoard, LegalMaskCall, IsOwnEyeCall};
 ghost use Rattle.vintsaky_calls.specs.Searching.{ChainPointsCall, ChainLibertiesCall, KoPointCall, RandomMoveCall};
@@ -13,7 +13,7 @@ use arrayvec::ArrayVec;
 use go_base::{Colour, Point};
 use go_board::{Game, MOST_POINTS};
 
-/// What `vintsaky_game_index` does.
+/// Implements `vintsaky_game_index`.
 pub fn index(game: &Game, vertex: u32, index: &mut usize) -> Result<(), Cause>
     ensures { IndexCall game.now vertex index.old index.new result }
 {
@@ -22,7 +22,7 @@ pub fn index(game: &Game, vertex: u32, index: &mut usize) -> Result<(), Cause>
     Ok(())
 }
 
-/// What `vintsaky_game_point_at` does.
+/// Implements `vintsaky_game_point_at`.
 pub fn point_at(game: &Game, index: usize, vertex: &mut u32) -> Result<(), Cause>
     ensures { PointAtCall game.now index vertex.old vertex.new result }
 {
@@ -31,7 +31,7 @@ pub fn point_at(game: &Game, index: usize, vertex: &mut u32) -> Result<(), Cause
     Ok(())
 }
 
-/// What `vintsaky_game_board` does.
+/// Implements `vintsaky_game_board`.
 pub fn board(game: &Game, bytes: &mut [u8]) -> usize
     ensures { ListsBoard game.now bytes.old bytes.new result }
 {
@@ -40,7 +40,7 @@ pub fn board(game: &Game, bytes: &mut [u8]) -> usize
     put_stones(&stones, bytes)
 }
 
-/// Writes the byte of each stone, where there is room for all of them. How many these are.
+/// Writes the byte of each stone, if the buffer holds all of them. Returns how many there are.
 fn put_stones(stones: &ArrayVec<Option<Colour>, MOST_POINTS>, bytes: &mut [u8]) -> usize
     ensures { PutsBytes (map stone_code stones.now.items) bytes.old bytes.new result }
 {
@@ -53,7 +53,7 @@ fn put_stones(stones: &ArrayVec<Option<Colour>, MOST_POINTS>, bytes: &mut [u8]) 
     count
 }
 
-/// The byte of a stone, and of none.
+/// The byte of a stone, or of an empty point.
 fn byte_of_stone(stone: Option<Colour>) -> u8
     ensures { result ≡ stone_code stone }
 {
@@ -64,7 +64,7 @@ fn byte_of_stone(stone: Option<Colour>) -> u8
     }
 }
 
-/// What `vintsaky_game_legal_mask` does.
+/// Implements `vintsaky_game_legal_mask`.
 pub fn legal_mask(
     game: &Game,
     colour: u32,
@@ -80,7 +80,7 @@ pub fn legal_mask(
     Ok(())
 }
 
-/// Writes a byte for each mark, where there is room for all of them. How many these are.
+/// Writes a byte for each mark, if the buffer holds all of them. Returns how many there are.
 fn put_marks(marks: &ArrayVec<bool, MOST_POINTS>, bytes: &mut [u8]) -> usize
     ensures { PutsBytes (map bool_code marks.now.items) bytes.old bytes.new result }
 {
@@ -100,7 +100,7 @@ fn byte_of_mark(mark: bool) -> u8
     if mark { 1 } else { 0 }
 }
 
-/// What `vintsaky_game_is_own_eye` does.
+/// Implements `vintsaky_game_is_own_eye`.
 pub fn is_own_eye(game: &Game, colour: u32, vertex: u32, holds: &mut u32) -> Result<(), Cause>
     ensures { IsOwnEyeCall game.now colour vertex holds.old holds.new result }
 {
@@ -110,7 +110,7 @@ pub fn is_own_eye(game: &Game, colour: u32, vertex: u32, holds: &mut u32) -> Res
     Ok(())
 }
 
-/// What `vintsaky_game_chain_points` does.
+/// Implements `vintsaky_game_chain_points`.
 pub fn chain_points(
     game: &Game,
     vertex: u32,
@@ -126,7 +126,7 @@ pub fn chain_points(
     Ok(())
 }
 
-/// What `vintsaky_game_chain_liberties` does.
+/// Implements `vintsaky_game_chain_liberties`.
 pub fn chain_liberties(
     game: &Game,
     vertex: u32,
@@ -142,7 +142,7 @@ pub fn chain_liberties(
     Ok(())
 }
 
-/// What `vintsaky_game_ko_point` does.
+/// Implements `vintsaky_game_ko_point`.
 pub fn ko_point(game: &Game, colour: u32, vertex: &mut u32) -> Result<(), Cause>
     ensures { KoPointCall game.now colour vertex.old vertex.new result }
 {
@@ -151,7 +151,7 @@ pub fn ko_point(game: &Game, colour: u32, vertex: &mut u32) -> Result<(), Cause>
     Ok(())
 }
 
-/// The number of a point, or 0, as a pass, where there is none.
+/// The number of a point, or 0, as for a pass, if there is none.
 fn number_of_maybe(point: Option<Point>) -> u32
     ensures { result ≡ maybe_point_code point }
 {
@@ -161,7 +161,7 @@ fn number_of_maybe(point: Option<Point>) -> u32
     }
 }
 
-/// What `vintsaky_game_random_move` does.
+/// Implements `vintsaky_game_random_move`.
 pub fn random_move(game: &Game, colour: u32, word: u64, vertex: &mut u32) -> Result<(), Cause>
     ensures { RandomMoveCall game.now colour word vertex.old vertex.new result }
 {
@@ -170,7 +170,7 @@ pub fn random_move(game: &Game, colour: u32, word: u64, vertex: &mut u32) -> Res
     Ok(())
 }
 
-/// What `vintsaky_game_position_hash` does.
+/// Implements `vintsaky_game_position_hash`.
 pub fn position_hash(game: &Game, colour: u32, hash: &mut u64) -> Result<(), Cause>
     ensures { PositionHashCall game.now colour hash.old hash.new result }
 {
@@ -179,7 +179,7 @@ pub fn position_hash(game: &Game, colour: u32, hash: &mut u64) -> Result<(), Cau
     Ok(())
 }
 
-/// What `vintsaky_game_playout` does.
+/// Implements `vintsaky_game_playout`.
 pub fn playout(game: &mut Game, colour: u32, seed: u64, limit: u32) -> Result<(), Cause>
     ensures { PlayoutCall colour seed limit game.old game.new result }
 {
@@ -188,7 +188,7 @@ pub fn playout(game: &mut Game, colour: u32, seed: u64, limit: u32) -> Result<()
     Ok(())
 }
 
-/// What `vintsaky_game_rollout` does.
+/// Implements `vintsaky_game_rollout`.
 pub fn rollout(
     game: &Game,
     colour: u32,

@@ -1,7 +1,7 @@
-//! Texts that are written into a buffer of the caller.
+//! Writing texts into a buffer of the caller.
 ghost use Rattle.vintsaky_calls.specs.Texts.{Writes};
 
-/// Writes the text and a NUL, where there is room for both. How many bytes the text has, without the NUL.
+/// Writes the text and a NUL, if the buffer holds both. Returns the length of the text, without the NUL.
 pub fn put(text: &[u8], buffer: &mut [u8]) -> usize
     ensures { Writes text.now buffer.old buffer.new result }
 {

@@ -5,7 +5,7 @@ use crate::codes::number_of_colour;
 use go_base::Colour;
 use go_board::Game;
 
-/// What `vintsaky_game_turn` does.
+/// Implements `vintsaky_game_turn`.
 pub fn turn(game: &Game) -> u32
     ensures { HasTurn game.now result }
 {

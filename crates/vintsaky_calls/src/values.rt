@@ -7,7 +7,7 @@ use crate::codes::{colour_of, number_of_colour, number_of_point, number_of_verte
 use crate::texts::put;
 use go_base::{Colour, Komi, Point, Vertex};
 
-/// What `vintsaky_read_colour` does.
+/// Implements `vintsaky_read_colour`.
 pub fn read_colour(text: &[u8], colour: &mut u32) -> Result<(), Cause>
     ensures { ReadColourCall text.now colour.old colour.new result }
 {
@@ -16,7 +16,7 @@ pub fn read_colour(text: &[u8], colour: &mut u32) -> Result<(), Cause>
     Ok(())
 }
 
-/// What `vintsaky_colour_text` does.
+/// Implements `vintsaky_colour_text`.
 pub fn colour_text(colour: u32, text: &mut [u8], count: &mut usize) -> Result<(), Cause>
     ensures { ColourTextCall colour text.old text.new count.old count.new result }
 {
@@ -25,7 +25,7 @@ pub fn colour_text(colour: u32, text: &mut [u8], count: &mut usize) -> Result<()
     Ok(())
 }
 
-/// What `vintsaky_point` does.
+/// Implements `vintsaky_point`.
 pub fn point(column: u32, row: u32, vertex: &mut u32) -> Result<(), Cause>
     ensures { PointCall column row vertex.old vertex.new result }
 {
@@ -34,7 +34,7 @@ pub fn point(column: u32, row: u32, vertex: &mut u32) -> Result<(), Cause>
     Ok(())
 }
 
-/// What `vintsaky_read_vertex` does.
+/// Implements `vintsaky_read_vertex`.
 pub fn read_vertex(text: &[u8], vertex: &mut u32) -> Result<(), Cause>
     ensures { ReadVertexCall text.now vertex.old vertex.new result }
 {
@@ -43,7 +43,7 @@ pub fn read_vertex(text: &[u8], vertex: &mut u32) -> Result<(), Cause>
     Ok(())
 }
 
-/// What `vintsaky_vertex_text` does.
+/// Implements `vintsaky_vertex_text`.
 pub fn vertex_text(vertex: u32, text: &mut [u8], count: &mut usize) -> Result<(), Cause>
     ensures { VertexTextCall vertex text.old text.new count.old count.new result }
 {
@@ -52,7 +52,7 @@ pub fn vertex_text(vertex: u32, text: &mut [u8], count: &mut usize) -> Result<()
     Ok(())
 }
 
-/// What `vintsaky_read_komi` does.
+/// Implements `vintsaky_read_komi`.
 pub fn read_komi(text: &[u8], half_points: &mut i32) -> Result<(), Cause>
     ensures { ReadKomiCall text.now half_points.old half_points.new result }
 {
@@ -61,7 +61,7 @@ pub fn read_komi(text: &[u8], half_points: &mut i32) -> Result<(), Cause>
     Ok(())
 }
 
-/// What `vintsaky_komi_text` does.
+/// Implements `vintsaky_komi_text`.
 pub fn komi_text(half_points: i32, text: &mut [u8], count: &mut usize) -> Result<(), Cause>
     ensures { KomiTextCall half_points text.old text.new count.old count.new result }
 {

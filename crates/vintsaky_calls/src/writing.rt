@@ -14,7 +14,7 @@ use crate::texts::put;
 use go_base::{Colour, Komi, Move, Size};
 use gtp_wire::{Command, is_reply_text};
 
-/// What `vintsaky_write_command` does.
+/// Implements `vintsaky_write_command`.
 pub fn write_command(
     id: i32,
     command: u32,
@@ -36,7 +36,7 @@ pub fn write_command(
     }
 }
 
-/// What `vintsaky_write_reply` does.
+/// Implements `vintsaky_write_reply`.
 pub fn write_reply(
     id: i32,
     ok: u32,
@@ -54,7 +54,7 @@ pub fn write_reply(
     Ok(())
 }
 
-/// The id of a number, where it has one.
+/// The id that a number represents, if any.
 fn id_of(number: i32) -> Result<Option<u32>, Cause>
     ensures some { IfOk result (λ id. number ≡ id_code id) }
     ensures fits { IfOk result (λ id. IfSome id (λ n. n ≤ most_int)) }

@@ -124,7 +124,7 @@ def arguments_of(text, function):
 def refused_for(found, path):
     """The causes for which a function is refused, in the order in which it names them, as the header calls them."""
     said = found[path]["said"].partition("# Errors")[2] if path in found else "Refusal::Missing"
-    other = re.search(r"As those of \[`\w+`\]\(Self::(\w+)\)", said)
+    other = re.search(r"Those of \[`\w+`\]\(Self::(\w+)\)", said)
     if other:
         return refused_for(found, f"{path.partition('::')[0]}::{other[1]}")
     return [snake(it) for it in re.findall(r"Refusal::(\w+)", said)]

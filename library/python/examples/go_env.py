@@ -2,13 +2,13 @@
 """An environment for learning, in the form of Gymnasium's vector environments: many games, with a step in all at once.
 
 Observations are planes, as `Games.planes_into` writes them, and actions are numbers of moves. `infos["action_mask"]`
-says which may be made, and `infos["refused"]` why one was not: that game stays. A game that is over begins anew in the
-same step, and how it looked at its end isn't shown. The reward is that of the side that has just moved: 1 where it won,
--1 where it lost, else 0.
+says which are legal, and `infos["refused"]` why one was rejected: that game is unchanged. A game that is over begins
+again in the same step, and its final position isn't shown. The reward is that of the side that has just moved: 1 if it
+won, -1 if it lost, else 0.
 
-Arrays are numpy's where it is there, and else memoryviews. Each step writes them anew: copy what is to be kept.
+Arrays are numpy's if numpy is installed, else memoryviews. Each step overwrites them: copy what you want to keep.
 
-usage: go_env.py [STEPS [SIZE]]    makes so many random steps in 256 games, and prints how many moves a second
+usage: go_env.py [STEPS [SIZE]]    makes STEPS random steps in 256 games, and prints the moves per second
 """
 import importlib
 import random
@@ -22,7 +22,7 @@ from vintsaky import BLACK, Games
 
 
 def found(name: str) -> Any:
-    """A module, or None where it isn't there."""
+    """A module, or None if it isn't installed."""
     try:
         return importlib.import_module(name)
     except ImportError:
@@ -36,14 +36,14 @@ same_step: Any = vector.AutoresetMode.SAME_STEP if hasattr(vector, "AutoresetMod
 
 
 def shaped(room: Any, *shape: int) -> Any:
-    """A buffer as an array of this shape, which sees what is written into it."""
+    """A view of a buffer as an array of this shape."""
     view = memoryview(room)
     view = view.cast("B").cast(view.format, shape) if len(shape) > 1 else view
     return numpy.asarray(view) if numpy else view
 
 
 class GoEnv(VectorEnv):  # type: ignore[misc]
-    """So many games of Go, which both sides play by turns. A game with as many moves as the limit is truncated."""
+    """`num_envs` games of Go, in which both sides play in turn. A game with `limit` moves is truncated."""
 
     metadata: Dict[str, Any] = {"render_modes": [], "autoreset_mode": same_step}
 
@@ -64,7 +64,7 @@ class GoEnv(VectorEnv):  # type: ignore[misc]
         self.reset()
 
     def reset(self, *, seed: Any = None, options: Any = None) -> Tuple[Any, Dict[str, Any]]:
-        """Begins all games anew. Nothing is drawn here, so that a seed changes nothing."""
+        """Begins all games again. Nothing here is random, so a seed changes nothing."""
         count, size, komi = self.made
         self.games = Games(count, size, komi, limit=self.limit)
         self.causes[:] = bytes(count)
@@ -73,7 +73,7 @@ class GoEnv(VectorEnv):  # type: ignore[misc]
         return self.planes, self.infos
 
     def step(self, actions: Any) -> Tuple[Any, Any, Any, Any, Dict[str, Any]]:
-        """Makes a move in each game. Returns observations, rewards, terminations, truncations and infos."""
+        """Plays a move in each game. Returns observations, rewards, terminations, truncations and infos."""
         movers = self.games.turns
         self.games.step(actions, causes=self.causes, over=self.over, scores=self.scores, planes=self.room,
                         earlier=self.earlier, masks=self.masks)  # fmt: skip
@@ -86,13 +86,13 @@ class GoEnv(VectorEnv):  # type: ignore[misc]
         return self.planes, shaped(self.won, self.num_envs), ended, cut, self.infos
 
     def random_actions(self) -> Any:
-        """A move of each game that may be made: the next one from a drawn number on, or a pass."""
+        """A legal move for each game: the next one from a random number on, or a pass."""
         each = len(self.masks) // self.num_envs
         starts = range(0, len(self.masks), each)
         return array("I", [self.masks.index(1, at + random.randrange(each)) - at for at in starts])
 
     def close(self) -> None:
-        """There is nothing to close."""
+        """Does nothing: there is nothing to close."""
 
 
 if __name__ == "__main__":

@@ -1,5 +1,5 @@
 #!/usr/bin/env python3
-"""A tournament program: plays two commands against each other, by the controller of the library.
+"""A tournament program: plays two engines against each other, with the library's controller.
 
 usage: play_match.py SIZE HALF_KOMI BLACK WHITE
 """
@@ -24,7 +24,7 @@ def end(side: Colour) -> None:
 
 
 def take_turn(match: Match, kind: Next, side: Colour, command: str) -> None:
-    """Does what is next. Where the side is gone, an OSError or an EOFError says so. A command is cut at spaces."""
+    """Does what is next. Raises OSError or EOFError if the side is gone. A command is split at spaces."""
     if kind is Next.START:
         end(side)
         match.started(side)
@@ -38,7 +38,7 @@ def take_turn(match: Match, kind: Next, side: Colour, command: str) -> None:
 
 
 def play(match: Match, commands: Dict[Colour, str]) -> str:
-    """Plays the match. Returns its line."""
+    """Plays the match. Returns its result line."""
     while (action := match.next()).side is not None:
         try:
             take_turn(match, action.kind, action.side, commands[action.side])

@@ -1,5 +1,5 @@
 #!/usr/bin/env python3
-"""An engine that plays a random legal point, but none of its own eyes: all but the choice is the library.
+"""An engine that plays a random legal point that isn't an own eye: the library does everything but choose the move.
 
 usage: random_engine.py [SEED]
 """
@@ -17,7 +17,7 @@ def is_eye(game: Game, colour: Colour, point: Point) -> bool:
 
 
 class RandomEngine(vintsaky.Engine):
-    """The engine: the choices of one seed are the same each time."""
+    """The engine. The same seed makes the same choices."""
 
     name = "random_engine"
 

@@ -1,8 +1,8 @@
 #!/usr/bin/env python3
-"""A server of one match: two engines connect to it, and a side that is late for an answer loses by a ruling.
+"""A server of one match: two engines connect to it, and a side whose answer is late loses by a ruling.
 
-It writes the number of its port on the loopback. The engine that connects first plays Black. Each side has SECONDS for
-each answer. At the end both are sent `quit`, and the line of the match is written.
+It prints the number of its port on the loopback interface. The engine that connects first plays Black. Each side has
+SECONDS for each answer. At the end it prints the result line of the match, and sends both engines `quit`.
 
 usage: serve_match.py SIZE HALF_KOMI SECONDS
 """
@@ -15,11 +15,11 @@ from vintsaky import BLACK, WHITE, Colour, Match, Next
 
 
 class Late(Exception):
-    """The engine is late for an answer."""
+    """The engine's answer is late."""
 
 
 class Peer:
-    """An engine at the other end of a connection, and until when it has to answer."""
+    """An engine at the other end of a connection, and the time by which it has to answer."""
 
     def __init__(self, connection: socket.socket, seconds: float) -> None:
         self.connection, self.seconds, self.due = connection, seconds, 0.0
@@ -30,7 +30,7 @@ class Peer:
         self.connection.sendall(command)
 
     def read(self) -> bytes:
-        """What the engine writes next. Errors: Late, and EOFError where it has closed."""
+        """Returns what the engine writes next. Errors: Late, and EOFError if it has closed."""
         left = self.due - time.monotonic()
         if left <= 0:
             raise Late
@@ -44,7 +44,7 @@ class Peer:
         return written
 
     def end(self) -> None:
-        """Sends `quit`, where it can be sent, and closes."""
+        """Sends `quit`, if possible, and closes."""
         with self.connection:
             try:
                 self.connection.sendall(b"quit\n")
@@ -53,7 +53,7 @@ class Peer:
 
 
 def take_turn(match: Match, kind: Next, side: Colour, peer: Peer) -> None:
-    """Does what is next. An engine that has connected is there already, so its start is only told."""
+    """Does what is next. An engine that has connected is running already, so its start is only reported."""
     if kind is Next.START:
         match.started(side)
     elif kind is Next.SEND:
@@ -63,7 +63,7 @@ def take_turn(match: Match, kind: Next, side: Colour, peer: Peer) -> None:
 
 
 def play(match: Match, peers: Dict[Colour, Peer]) -> str:
-    """Plays the match. Returns its line."""
+    """Plays the match. Returns its result line."""
     while (action := match.next()).side is not None:
         try:
             take_turn(match, action.kind, action.side, peers[action.side])

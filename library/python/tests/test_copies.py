@@ -297,7 +297,7 @@ class OfMoves(Refusing):
             ([("b", "A1", 1)], TypeError, r"^move 1: \('b', 'A1', 1\) is no pair of a colour and a vertex$"),
             (["b A1"], TypeError, "^move 1: 'b A1' is no pair of a colour and a vertex$"),
             ([5], TypeError, "^move 1: 5 is no pair"),
-            ([("b", PASS)] * 2001, Refused, "^move 2001: play b pass: The record has 2,000 moves.$"),
+            ([("b", PASS)] * 2001, Refused, "^move 2001: play b pass: The record is full: it has 2,000 moves, the maximum.$"),
         ):  # fmt: skip
             self.assertRaisesRegex(kind, text, Game.from_moves, moves)
         self.refused(Cause.OCCUPIED, Game.from_moves, [("b", "A1"), ("w", "A1")])

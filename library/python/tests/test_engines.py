@@ -264,7 +264,7 @@ class Served(unittest.TestCase):
         self.assertRaises(vintsaky.Refused, served, Named(), b"name\n")
 
     def test_bad_commands_come_out_at_once(self):
-        said = {"play": "The protocol's table", "a b": "A byte of the name", "é": "A byte of the name"}
+        said = {"play": "The protocol already", "a b": "A name may have only", "é": "A name may have only"}
         for name, text in said.items():
 
             class Commanded(First):
@@ -272,7 +272,7 @@ class Served(unittest.TestCase):
                 def say_more(self, words):
                     return ""
 
-            with self.assertRaisesRegex(vintsaky.Refused, f"^there can't be an own command '{name}': {text}"):
+            with self.assertRaisesRegex(vintsaky.Refused, f"^custom command '{name}': {text}"):
                 served(Commanded(), b"name\n")
 
     def test_the_game_is_a_copy(self):

@@ -1,6 +1,6 @@
 """The rules of Go, the controller of a match and the engine of the Go Text Protocol (GTP), over the library libvintsaky.
 
-This is an engine of one's own, which `twogtp --black 'python3 engine.py'` plays, say:
+This is an engine of your own. To play it, run `twogtp --black 'python3 engine.py'`, say:
 
     import random
     import vintsaky
@@ -15,19 +15,20 @@ This is an engine of one's own, which `twogtp --black 'python3 engine.py'` plays
 
     MyEngine().serve()
 
-`Game` has the rules, `Games` plays many games in one call, `Match` is the controller of a match, `Engine` an engine,
-and `Steps` one in steps. `CommandLines` and `Replies` read the protocol's lines in any cuts; `write_command` and
+`Game` has the rules, `Games` plays many games in one call, `Match` is the controller of a match, `Engine` is an engine,
+and `Steps` a sans-IO one. `CommandLines` and `Replies` read the protocol's lines in any chunks; `write_command` and
 `write_reply` write them.
 
-- A wrong type is a TypeError, and a wrong value a ValueError, also a number that is out of its range. Both name the
+- A wrong type is a TypeError, and a wrong value a ValueError, also a number that is out of range. Both name the
   argument, its value and what is wanted.
-- `Refused` is the ValueError for which the library has a cause: its `cause` says why, and nothing has changed. It names
-  the call and its arguments, as `play w C3: A stone is on the point.`; `Cause` lists what each cause means.
-- Texts are ASCII. Komis and scores are in points: floats, of which each is a multiple of 0.5.
-- A game can be copied, pickled and compared, also one of a subclass, with its attributes. It has no hash: for a table
-  take `board_hash` or `position_hash`. No other object can be copied or pickled.
-- Only the thread that made an object may use it, or the one that called its `adopt` last; another one gets a
-  RuntimeError. A game out of a pickle is of the thread that uses it first. Each call holds the interpreter's lock, but
+- `Refused` is the ValueError of a call that the library rejects, and that has changed nothing. Its `cause` is the
+  error: a `Cause`, which explains each, and which "Errors:" in the docstrings names. Its text names the call and its
+  arguments, as in `play w C3: A stone is on the point.`
+- Texts are ASCII. Komis and scores are in points: floats, each a multiple of 0.5.
+- A game can be copied, pickled and compared, also one of a subclass, with its attributes. It can't be hashed: use
+  `board_hash` or `position_hash` for a table. No other object can be copied or pickled.
+- Only the thread that made an object may use it, or the one that called its `adopt` last; any other gets a
+  RuntimeError. A game from a pickle belongs to the thread that uses it first. Calls hold the interpreter's lock, except
   those of `Games`.
 
 The library is the file libvintsaky.so.1 in this package, or else the one that the variable VINTSAKY_LIBRARY names, or

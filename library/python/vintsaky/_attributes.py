@@ -1,4 +1,4 @@
-"""The attributes that a subclass gives its objects: how a copy and a pickle take them, as those of any object."""
+"""The attributes that a subclass gives its objects: a copy and a pickle take them as they do for any object."""
 from __future__ import annotations
 
 import copyreg
@@ -8,7 +8,7 @@ from ._held import Held
 
 
 def attributes_of(held: Held) -> Any:
-    """The attributes of an object: its `__dict__`, and with it what its `__slots__` have, if anything. None where there
+    """The attributes of an object: its `__dict__`, together with what its `__slots__` have, if anything. None if there
     are none. What the library's own objects have isn't among them."""
     names = set(getattr(copyreg, "_slotnames")(type(held))) - set(Held.__slots__)
     slots = {name: getattr(held, name) for name in sorted(names) if hasattr(held, name)}

@@ -27,7 +27,7 @@ def named(form: str) -> str:
 
 def room_of(given: Any, what: str, shape: Tuple[int, ...], formats: Tuple[str, ...] = ANY) -> Room:
     """A buffer that a call writes into. It is flat, has this shape, or has a row for each item of the first axis.
-    Errors: TypeError where it is none, and ValueError where it can't be written, isn't in C order, or has another
+    Errors: TypeError if it isn't a buffer, and ValueError if it can't be written, isn't in C order, or has another
     format, another shape or another number of items."""
     try:
         view = memoryview(given)
@@ -53,7 +53,7 @@ def room_of(given: Any, what: str, shape: Tuple[int, ...], formats: Tuple[str, .
 
 
 def apart(rooms: Dict[str, Optional[Room]]) -> None:
-    """Errors: ValueError where two buffers have bytes in common."""
+    """Checks that no two buffers overlap. Errors: ValueError if two have bytes in common."""
     places = sorted((room.start, room.end, what) for what, room in rooms.items() if room and room.end > room.start)
     for (_, end, one), (start, _, other) in zip(places, places[1:]):
         if start < end:

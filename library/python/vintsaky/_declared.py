@@ -1,7 +1,7 @@
 """What the library declares: the constants of vintsaky.h, its handles, and the table of its calls.
 
-library/declare writes this module. All names are those of vintsaky.h without the prefix, but the calls', which are
-whole."""
+library/declare writes this module. Names are those of vintsaky.h without the prefix; only calls keep their whole
+names."""
 import ctypes
 from ctypes import POINTER, c_bool, c_char, c_char_p, c_float, c_int32, c_size_t, c_uint8, c_uint32, c_uint64, c_void_p
 from typing import Any, Dict, Tuple
@@ -38,13 +38,13 @@ RESIGN = 65535
 
 
 class GameHandle(ctypes.Structure):
-    """The handle of a game: where it is."""
+    """The handle of a game: its address."""
 
     _fields_ = [("at", c_void_p)]
 
 
 class EngineHandle(ctypes.Structure):
-    """The handle of an engine in steps."""
+    """The handle of a sans-IO engine."""
 
     _fields_ = [("at", c_void_p)]
 
@@ -68,7 +68,7 @@ class RepliesHandle(ctypes.Structure):
 
 
 # Each call of vintsaky.h: the type of its result, and those of its arguments. Texts that are read are c_char_p, bytes
-# c_void_p, and texts that are written POINTER(c_char).
+# are c_void_p, and texts that are written are POINTER(c_char).
 CALLS: Dict[str, Tuple[Any, Tuple[Any, ...]]] = {
     "vintsaky_interface_1": (None, ()),
     "vintsaky_version": (c_uint32, ()),

@@ -1,4 +1,5 @@
-"""Objects of the library, each in memory of its own, and what is looked at before a number or a text goes to a call."""
+"""Objects of the library, each in memory of its own, and the checks of numbers and texts before they are passed to a
+call."""
 from __future__ import annotations
 
 import ctypes
@@ -16,8 +17,8 @@ Bytes = Union[bytes, bytearray, memoryview]
 
 
 class Held(metaclass=BriefABC):
-    """An object of the library. It lives in memory that it keeps, and only the thread that made it may use it, or
-    the one that adopted it last."""
+    """An object of the library. It lives in memory that it keeps, and only the thread that made it may use it, or the
+    one that adopted it last."""
 
     __slots__ = ("_memory", "_handle", "_place", "_thread")
     _kind = ""  # the word for it in the names of its calls
@@ -43,18 +44,18 @@ class Held(metaclass=BriefABC):
         return self._place
 
     def _held_to_copy(self) -> Any:
-        """The handle, for the one call that copies the object. It holds the interpreter's lock, so any thread may make
-        it; without such a lock only the object's own may."""
+        """The handle, for the one call that copies the object. That call holds the interpreter's lock, so any thread
+        may make it; without such a lock only the object's own thread may."""
         has_lock = getattr(sys, "_is_gil_enabled", lambda: True)()
         return self._place if has_lock else self._held()
 
     def adopt(self) -> None:
-        """From now on this thread may use it, and no other one. That which had it is done with it, and something
-        orders the two, as a queue does."""
+        """From now on this thread may use the object, and no other one. The thread that had it must be done with it,
+        and something must order the two, as a queue does."""
         self._thread = get_ident()
 
     def _release(self) -> None:
-        """From now on the object is of the thread that uses it first."""
+        """From now on the object belongs to the thread that uses it first."""
         self._thread = None
 
     def __reduce_ex__(self, protocol: Any) -> NoReturn:
@@ -62,7 +63,7 @@ class Held(metaclass=BriefABC):
 
 
 def integer(value: Any, what: str, wanted: str) -> int:
-    """A number of any size. Errors: TypeError where it is no int, with what is wanted."""
+    """A number of any size. Errors: TypeError if it is no int, with what is wanted."""
     try:
         return operator.index(value)
     except TypeError:
@@ -70,8 +71,8 @@ def integer(value: Any, what: str, wanted: str) -> int:
 
 
 def whole(value: int, what: str, least: int = 0, most: int = 2**32 - 1, cause: Optional[Cause] = None) -> int:
-    """A number from the least to the most. Errors: TypeError where it is no int, and ValueError where it is less or
-    more: Refused with the cause that is given for that."""
+    """A number from the least to the most. Errors: TypeError if it is no int, and ValueError if it is out of range:
+    Refused if an error is given for that."""
     number = integer(value, what, f"no int; use one from {least} to {most}")
     if not least <= number <= most:
         raise wrong(what, f"{shown(value)} is not from {least} to {most}", cause)
@@ -79,21 +80,21 @@ def whole(value: int, what: str, least: int = 0, most: int = 2**32 - 1, cause: O
 
 
 def clamped(number: int) -> int:
-    """The number, where the call's type has it; else the type's greatest, which the call refuses. ctypes would cut
+    """The number if the call's type has it, else the type's largest, which the call rejects. ctypes would truncate
     it."""
     return number if 0 <= number < 2**32 else 2**32 - 1
 
 
 def ascii_of(text: Union[str, bytes], what: str) -> bytes:
-    """The bytes of a text, for a call that takes ASCII: what isn't ASCII becomes such bytes as the call refuses.
-    Errors: TypeError where it is neither str nor bytes."""
+    """The bytes of a text, for a call that takes ASCII: what isn't ASCII becomes bytes that the call rejects. Errors:
+    TypeError if it is neither str nor bytes."""
     if not isinstance(text, (str, bytes)):
         raise TypeError(f"{what}: {shown(text)} is neither str nor bytes")
     return text.encode("utf-8", "surrogatepass") if isinstance(text, str) else text
 
 
 def bytes_of(data: Bytes, what: str = "data") -> bytes:
-    """What is fed or heard. Errors: TypeError where it isn't bytes, a bytearray or a memoryview."""
+    """What is fed to an object. Errors: TypeError if it isn't bytes, a bytearray or a memoryview."""
     if isinstance(data, bytes):
         return data
     if not isinstance(data, (bytearray, memoryview)):

@@ -21,7 +21,7 @@ def _place() -> str:
 
 
 def _load(place: str, kind: Any) -> Any:
-    """The library there, with the types of its calls. Each call of a PyDLL holds the interpreter's lock."""
+    """Loads the library from there, with the types of its calls. Each call of a PyDLL holds the interpreter's lock."""
     try:
         loaded = kind(place)
     except OSError as problem:
@@ -39,12 +39,12 @@ def _load(place: str, kind: Any) -> Any:
 
 
 library: Any = _load(_place(), ctypes.PyDLL)
-unlocked: Any = _load(_place(), ctypes.CDLL)  # its calls let other threads run: those over many games alone are made so
+unlocked: Any = _load(_place(), ctypes.CDLL)  # lets other threads run: only calls over many games are made so
 
 
 def untyped(call: Any) -> Any:
-    """The same call, but that the types of its arguments aren't looked at, which takes most of a call's time. All that
-    it is given has to be of ctypes."""
+    """The same call, except that the types of its arguments aren't checked, which takes most of a call's time. All its
+    arguments have to be ctypes objects."""
     same = library[call.__name__]
     same.restype = call.restype
     return same
@@ -70,11 +70,11 @@ class Told(Numbered):
 
     @property
     def text(self) -> str:
-        """A sentence that says what the cause means."""
+        """A sentence that explains the error."""
         return text_of(library.vintsaky_cause_text, int(self)).decode("ascii")
 
 
 def version() -> Tuple[int, int, int]:
-    """The version of the library that was loaded."""
+    """Returns the version of the library that was loaded."""
     number: int = library.vintsaky_version()
     return number >> 16, number >> 8 & 255, number & 255

@@ -1,49 +1,49 @@
-"""Numbers of the library with what is said of each: why a call is refused, why a side fails, and how a match ends.
+"""Numbers of the library, each with its explanation: why a call is rejected, why a side fails, and how a match ends.
 
-library/declare writes this module. All names are those of vintsaky.h without the prefix."""
+library/declare writes this module. Names are those of vintsaky.h without the prefix."""
 from ._library import Numbered, Told
 
 
 class Cause(Told):
-    """Why a call is refused.
+    """Why a call is rejected: its error.
 
-    DONE: It was done.
-    BAD_COLOUR: The number is no colour and no side: it is neither 1, Black, nor 2, White.
-    BAD_VERTEX: The number is no vertex: a row times 256 and a column, 1 to 25 each, or where the call takes a pass, 0.
-    BAD_RULE: The number is no ko rule: it is neither 1, simple ko, nor 2, positional superko.
-    BAD_SIZE: The size isn't from 1 to 25.
-    BAD_KOMI: The komi isn't from -1,999,999,999 to 1,999,999,999 half points.
-    BAD_TEXT: The text is none that can be read, or that a reply may have.
-    NO_ROOM: The buffer is too short.
-    FULL: The record has 2,000 moves.
+    DONE: No error.
+    BAD_COLOUR: Not a colour or side: use 1 (Black) or 2 (White).
+    BAD_VERTEX: Not a vertex: use 256 times the row plus the column, each 1 to 25, or 0 (a pass) where allowed.
+    BAD_RULE: Not a ko rule: use 1 (simple ko) or 2 (positional superko).
+    BAD_SIZE: The size must be 1 to 25.
+    BAD_KOMI: The komi must be -1,999,999,999 to 1,999,999,999 half points.
+    BAD_TEXT: The text can't be parsed, or isn't allowed in a reply.
+    NO_ROOM: A buffer or array is shorter than the call needs.
+    FULL: The record is full: it has 2,000 moves, the maximum.
     OFF_BOARD: The point isn't on a board of this size.
     OCCUPIED: A stone is on the point.
     SUICIDE: The new stone's chain would have no liberty.
-    KO: The board would be one that the ko rule forbids.
-    NOTHING_TO_UNDO: There is no move to take back.
-    NOT_EMPTY: A stone is on the board, or a move is in the record.
-    BAD_HANDICAP: The size doesn't allow this number of handicap stones, or the number is negative.
-    NO_MOVE: The record has no move of this number.
+    KO: The move would repeat a board that the ko rule forbids.
+    NOTHING_TO_UNDO: The record has no move to undo.
+    NOT_EMPTY: The board and the record must be empty.
+    BAD_HANDICAP: Not a handicap of this size: use 2 to 9 stones on odd sizes from 9, 2 to 4 on 7 and even sizes from 8.
+    NO_MOVE: The record has no move with this number, counted from 0.
     NO_STONE: No stone is on the point.
-    NOT_ASKED: Nothing is asked for that the call hands in.
-    NO_WORD: The line has no word of this number.
+    NOT_ASKED: No such move or answer is being waited for.
+    NO_WORD: The line has no word with this number, counted from 0 after the id.
     NO_ID: The line or the reply has no id.
-    BAD_LENGTH: The name of the command has no byte, or more than 32.
-    BAD_BYTE: A byte of the name is #, or is none of 33 to 126.
-    ONLY_DIGITS: The name has digits alone, as an id.
-    IN_TABLE: The protocol's table has a command of this name.
-    ADDED_BEFORE: A command of this name was added before.
-    TOO_MANY: The engine has 32 own commands.
-    BAD_MAX_MOVES: The limit of moves is not 1 to 2,000.
-    BAD_MAX_RESTARTS: The limit of restarts is more than 1,000.
-    NOT_NEXT: The call is not what the match says next.
-    NOT_OVER: The match is not over.
-    NO_LINE: No line of a command was read, or the last one was too long.
-    BAD_COMMAND: The number is no command: it isn't from 1 to 8.
-    BAD_ID: The id is negative, and not -1, which is none.
-    DOWN: The side was not started or went down, or the match is over.
-    IS_OVER: The match is over.
-    BAD_REASON: The reason isn't 1 to 20 letters (a-z, A-Z) and spaces, or it is that of a forfeit.
+    BAD_LENGTH: A name must have 1 to 32 bytes.
+    BAD_BYTE: A name may have only bytes 33 to 126, except #.
+    ONLY_DIGITS: A name can't have only digits: it would be read as an id.
+    IN_TABLE: The protocol already has a command of this name.
+    ADDED_BEFORE: A custom command of this name was already added.
+    TOO_MANY: The engine already has 32 custom commands, the maximum.
+    BAD_MAX_MOVES: The move limit must be 1 to 2,000.
+    BAD_MAX_RESTARTS: The restart limit must be 0 to 1,000.
+    NOT_NEXT: Not the call that the match expects next.
+    NOT_OVER: The match is not over yet.
+    NO_LINE: No command line was read, or the last one was too long.
+    BAD_COMMAND: Not a command: use 1 to 8.
+    BAD_ID: The id must be 0 to 2,147,483,647, or -1 for none.
+    DOWN: The side isn't up: it was not started or it went down, or the match is over.
+    IS_OVER: The match is already over.
+    BAD_REASON: A reason must be 1 to 20 letters (a-z, A-Z) and spaces, and not that of a forfeit.
     """
 
     DONE = 0
@@ -86,22 +86,22 @@ class Cause(Told):
 
 
 class Loss(Numbered):
-    """Why a side fails by what it writes.
+    """Why a side fails by its output.
 
-    NO_STATUS: What it wrote is no reply: it begins with neither = nor ?. It goes down.
+    NO_STATUS: What it wrote isn't a reply: it begins with neither = nor ?. It goes down.
     OVERLONG: More than 8,192 bytes came since its last reply. It goes down.
-    WRONG_ID: The reply hasn't the id of the oldest unanswered command. It goes down.
-    UNASKED: A reply came where no command is unanswered. It goes down.
-    UNFIT: It failed at a command of its script but a play, or placed another handicap. It is unfit.
+    WRONG_ID: The reply doesn't have the id of the oldest unanswered command. It goes down.
+    UNASKED: A reply came when no command was unanswered. It goes down.
+    UNFIT: It failed at a command of its script other than a play, or placed another handicap. It is unfit.
     REFUSES_PLAY: It refused a play that isn't retaken. It forfeits.
-    KEEPS_MOVE: It didn't take back its move, which the other side refused. The other side forfeits.
+    KEEPS_MOVE: It didn't undo its move, which the other side refused. The other side forfeits.
     NO_MOVE: It failed at a genmove. It forfeits.
     NO_VERTEX: Its answer to a genmove is neither a vertex nor a resignation. It forfeits.
-    FULL: Its move is refused, for the causes of the same names. It forfeits.
-    OFF_BOARD: Its move is refused, for the causes of the same names. It forfeits.
-    OCCUPIED: Its move is refused, for the causes of the same names. It forfeits.
-    SUICIDE: Its move is refused, for the causes of the same names. It forfeits.
-    KO: Its move is refused, for the causes of the same names. It forfeits.
+    FULL: Its move is illegal, by the error of the same name. It forfeits.
+    OFF_BOARD: Its move is illegal, by the error of the same name. It forfeits.
+    OCCUPIED: Its move is illegal, by the error of the same name. It forfeits.
+    SUICIDE: Its move is illegal, by the error of the same name. It forfeits.
+    KO: Its move is illegal, by the error of the same name. It forfeits.
     """
 
     NO_STATUS = 1
@@ -123,17 +123,17 @@ class Loss(Numbered):
 class Ending(Numbered):
     """How a match ended.
 
-    BY_SCORE: by two passes
+    BY_SCORE: two passes ended the game
     BY_RESIGNATION: the side resigned
     BY_LIMIT: the record has as many moves as the match allows
-    BY_REFUSED_PLAY: the side refused a play that isn't retaken, or that the other side didn't take back: it forfeits
-    BY_NO_MOVE: the side failed to answer with a move: it forfeits
-    BY_NO_VERTEX: the side answered with what is no move: it forfeits
-    BY_ILLEGAL_MOVE: the side answered with a move that isn't legal: it forfeits
+    BY_REFUSED_PLAY: the side refused a play that isn't retaken, or that the other side didn't undo: it forfeits
+    BY_NO_MOVE: the side failed at a genmove: it forfeits
+    BY_NO_VERTEX: the side answered a genmove by what is neither a vertex nor a resignation: it forfeits
+    BY_ILLEGAL_MOVE: the side answered a genmove by an illegal move: it forfeits
     BY_UNFIT: the side can't be brought to the record
     BY_ABANDONED: the side went down too often
-    BY_TIME: the side ran out of time: a ruling ended the match
-    BY_RULING: the side lost by a ruling that has a reason
+    BY_TIME: the side lost on time, by a ruling
+    BY_RULING: the side lost by a ruling with a reason
     """
 
     BY_SCORE = 1

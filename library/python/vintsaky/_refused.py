@@ -1,4 +1,4 @@
-"""What is refused, and why; and values, as errors name them."""
+"""What raises Refused, and values as errors name them."""
 from __future__ import annotations
 
 from enum import Enum
@@ -11,8 +11,8 @@ MOST_SHOWN = 60  # characters of a value
 
 
 class Refused(ValueError, metaclass=Brief):
-    """A call is refused, and has changed nothing. `cause` says why. The text names what is refused with its value, and
-    then what is wanted, or else the cause's sentence."""
+    """A call was rejected, and has changed nothing. `cause` is the error. The text names what was rejected with its
+    value, and then what is wanted, or else the error's sentence."""
 
     def __init__(self, cause: Cause, what: str = "", said: str = "") -> None:
         super().__init__(cause, what, said)
@@ -26,30 +26,30 @@ class Refused(ValueError, metaclass=Brief):
 
 
 def shown(value: Any) -> str:
-    """A value as an error names it: as it is written in Python, and cut where that is long."""
+    """A value as an error names it: as it is written in Python, shortened if that is long."""
     if isinstance(value, Enum):
         return value.name
     try:
         text = f"{type(value).__name__}{tuple(value)!r}" if hasattr(value, "_fields") else repr(value)
-    except Exception:  # the author's own, or that of a number with too many digits
+    except Exception:  # one of the author's, or that of a number with too many digits
         return f"a {type(value).__name__}"
     text = text.replace("\n", " ")
     return text if len(text) <= MOST_SHOWN else f"{text[:MOST_SHOWN]}.."
 
 
 def wrong(what: str, said: str, cause: Optional[Cause] = None) -> ValueError:
-    """The error of an argument whose value is wrong: a Refused where there is a cause for it."""
+    """The error for an argument with a wrong value: Refused if there is a `Cause` for it."""
     return ValueError(f"{what}: {said}") if cause is None else Refused(cause, what, said)
 
 
 def done(cause: int, what: str = "") -> None:
-    """Raises Refused where this is a cause, with what is refused."""
+    """Raises Refused if this is an error, with what was rejected."""
     if cause:
         raise Refused(Cause(cause), what)
 
 
 def or_none(cause: int, absent: Cause, value: Any) -> Optional[int]:
-    """The number that was written; None for this cause."""
+    """The number that was written; None for this error."""
     if cause == absent:
         return None
     done(cause)

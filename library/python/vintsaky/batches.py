@@ -1,4 +1,4 @@
-"""Many games in one call, for programs that learn: moves go in, and results and planes come into buffers."""
+"""Many games in one call, for programs that learn: moves go in, and results and planes are written into buffers."""
 from __future__ import annotations
 
 import ctypes
@@ -25,16 +25,16 @@ MOST_NUMBER = 2**32 - 1
 
 
 class Games(metaclass=BriefABC):
-    """So many games of one size, up to 2^20, which are played in one call. Those that begin anew have the komi, the ko
-    rule and the handicap that they had. A game with `limit` moves, 1 to 2,000, is over.
+    """Up to 2^20 games of one size, which are played in one call. A game that begins again keeps its komi, ko rule and
+    handicap. A game with `limit` moves, 1 to 2,000, is over.
 
-    Each is played by turns: after a move it is the other colour's turn, and before the first it is Black's, or White's
-    where handicap stones were placed. A move is a number: the `Game.index` of a point, and size * size for a pass.
+    The colours play in turn: after a move it is the other colour's turn, and before the first it is Black's, or White's
+    if handicap stones were placed. A move is a number: the `Game.index` of a point, and size * size for a pass.
 
-    Buffers are written by the buffer protocol: a bytearray, an `array`, or an array of numpy, in C order. The items of
+    Buffers are written by the buffer protocol: a bytearray, an `array`, or a numpy array, in C order. The items of
     planes and masks are bytes (`B`, or `?`, numpy's bool) or floats of 32 bits (`f`).
 
-    Its calls let other threads run. As long as one runs, each other call on the games is a RuntimeError.
+    Calls let other threads run. While one runs, any other call on these games raises RuntimeError.
 
     >>> games = Games(2, size=3)
     >>> planes = bytearray(2 * 2 * 9)
@@ -72,7 +72,7 @@ class Games(metaclass=BriefABC):
             library.vintsaky_game_copy(ctypes.byref(handle), first._held())
 
     def _place(self, number: int) -> None:
-        """Puts the games into memory of their own, one after the other."""
+        """Places the games in memory of their own, one after the other."""
         align: int = library.vintsaky_game_align()
         bytes_each: int = -(-library.vintsaky_game_bytes() // align) * align
         self._memory = ctypes.create_string_buffer(number * bytes_each + align)
@@ -83,8 +83,8 @@ class Games(metaclass=BriefABC):
 
     @contextmanager
     def _held(self) -> Iterator[Tuple[Any, int]]:
-        """The handles and their number, for a call. Errors: RuntimeError in another thread than its own, and as long as
-        a call runs."""
+        """The handles and their number, for a call. Errors: RuntimeError in another thread than its own, and while a
+        call runs."""
         if not self._lock.acquire(blocking=False):
             raise RuntimeError(BUSY)
         try:
@@ -95,7 +95,7 @@ class Games(metaclass=BriefABC):
             self._lock.release()
 
     def adopt(self) -> None:
-        """From now on this thread may use the games, and no other one. Errors: RuntimeError as long as a call runs."""
+        """From now on this thread may use the games, and no other one. Errors: RuntimeError while a call runs."""
         if not self._lock.acquire(blocking=False):
             raise RuntimeError(BUSY)
         self._thread = get_ident()
@@ -106,16 +106,16 @@ class Games(metaclass=BriefABC):
 
     @property
     def size(self) -> int:
-        """How many columns and rows each board has."""
+        """The number of columns, and of rows, of each board."""
         return self._size
 
     @property
     def limit(self) -> int:
-        """With how many moves a game is over."""
+        """The number of moves with which a game is over."""
         return self._limit
 
     def planes(self, earlier: int = 0) -> int:
-        """How many planes a game has, with so many earlier boards: two for each board."""
+        """Returns how many planes a game has, with this many earlier boards: two for each board."""
         return 2 * (1 + whole(earlier, "earlier", 0, MOST_MOVES))
 
     def step(
@@ -129,17 +129,18 @@ class Games(metaclass=BriefABC):
         earlier: int = 0,
         masks: Any = None,
     ) -> int:
-        """Makes a move in each game, and begins those anew that are over. How many games refused their move. The moves
-        are a list of whole numbers, or an array of one dimension. In this order it writes into the buffers that it has:
+        """Plays a move in each game, and begins again those that are over. Returns how many games rejected their move.
+        The moves are a list of whole numbers, or an array of one dimension. Into the buffers it is given it writes, in
+        order:
 
-        - `causes`, a byte a game: 0, or the number of the `Cause` for which the game alone refused its move, and stays:
-          OFF_BOARD of a number that is no move's, FULL, OCCUPIED, SUICIDE or KO.
-        - `over`, a byte a game: 1 where it ended by two passes, 2 where it has `limit` moves or more, else 0.
-        - `scores`, a float a game: the score in points where it is over, positive where Black leads, else 0. Above 2^23
-          it is rounded to 32 bits.
-        - `planes` and `masks`, of the games that are now there, as `planes_into` and `masks_into` write them.
+        - `causes`, one byte for each game: 0, or the number of the `Cause` for which this game alone rejected its move
+          and is unchanged: OFF_BOARD for a number that is no move's, FULL, OCCUPIED, SUICIDE or KO.
+        - `over`, one byte for each game: 1 if it ended by two passes, 2 if it has `limit` moves or more, else 0.
+        - `scores`, one float for each game: the score in points if it is over, positive if Black leads, else 0. Above
+          2^23 it is rounded to 32 bits.
+        - `planes` and `masks`, of the games that are there afterwards, as `planes_into` and `masks_into` write them.
 
-        Errors: TypeError and ValueError of wrong moves and buffers. Then no move is made."""
+        Errors: TypeError and ValueError for wrong moves and buffers. Then no move is made."""
         each, earlier, numbers = (len(self._handles),), whole(earlier, "earlier", 0, MOST_MOVES), self._numbers(moves)
         rooms = {
             "causes": None if causes is None else room_of(causes, "causes", each, (BYTE,)),
@@ -163,22 +164,22 @@ class Games(metaclass=BriefABC):
     def planes_into(self, planes: Any, earlier: int = 0) -> None:
         """Writes the planes of all games: in C order games, planes, rows from row 1, and columns from A. The first two
         planes have 1 where the colour whose turn it is has a stone, and where the other one has, else 0. Then come the
-        same two of the board a move earlier, for the same colours, and so on. Those of boards before the first one,
+        same two for the board one move earlier, for the same colours, and so on. Planes of boards before the first one,
         which has the handicap stones, are empty."""
         room = room_of(planes, "planes", self._plane_shape(earlier))
         with self._held() as (handles, _):
             self._write_planes(handles, room, earlier)
 
     def masks_into(self, masks: Any) -> None:
-        """Writes the masks of all games: size * size + 1 items a game, 1 where the colour whose turn it is may make the
-        move of that number, else 0. The last one is for a pass, and 1."""
+        """Writes the masks of all games: size * size + 1 items for each game, 1 if the colour whose turn it is may make
+        the move of that number, else 0. The last one is for a pass, and always 1."""
         room = room_of(masks, "masks", self._mask_shape())
         with self._held() as (handles, _):
             self._write_masks(handles, room)
 
     def rollouts(self, seeds: Sequence[int], limit: int = MOST_MOVES) -> List[float]:
-        """The score of a playout of each game by its seed, in points, as `Game.rollout` returns it for the colour whose
-        turn it is. The games stay as they were."""
+        """Returns the score of one playout of each game by its seed, in points, as `Game.rollout` returns it for the
+        colour whose turn it is. The games are unchanged."""
         most = whole(limit, "limit")
         try:
             given = list(seeds)
@@ -194,15 +195,15 @@ class Games(metaclass=BriefABC):
         return [half / 2 for half in halves]
 
     def game(self, number: int) -> Game:
-        """A copy of the game of this number, counted from 0, or from the end, as -1."""
+        """Returns a copy of the game with this number, counted from 0, or from the end, as -1."""
         copied = Game()
         with self._held() as (handles, _):
             library.vintsaky_game_copy(copied._held(), ctypes.byref(handles[self._place_of(number)]))
         return copied
 
     def put(self, number: int, game: Game) -> None:
-        """Makes the game of this number a copy of another one: a new one, say, where a side resigned. Its komi, ko rule
-        and handicap stay where it begins anew. Errors: ValueError where it has another size, or is over."""
+        """Makes the game with this number a copy of another one: of a new one, say, if a side resigned. Its komi, ko
+        rule and handicap stay when it begins again. Errors: ValueError if it has another size, or is over."""
         if not isinstance(game, Game):
             raise TypeError(f"game: {shown(game)} is no Game")
         if game.size != self._size:
@@ -214,12 +215,12 @@ class Games(metaclass=BriefABC):
 
     @property
     def turns(self) -> bytes:
-        """A byte a game: the colour whose turn it is."""
+        """One byte for each game: the colour whose turn it is."""
         with self._held() as (handles, _):
             return bytes(library.vintsaky_game_turn(ctypes.byref(handle)) for handle in handles)
 
     def _place_of(self, number: int) -> int:
-        """The place of a game's number, which may count from the end, as that of any sequence."""
+        """The place of a game's number, which may count from the end, as in any sequence."""
         count = len(self._handles)
         place = integer(number, "number", f"no int; use one from 0 to {count - 1}")
         if not -count <= place < count:
@@ -235,8 +236,8 @@ class Games(metaclass=BriefABC):
         return len(self._handles), self._points + 1
 
     def _numbers(self, moves: Any) -> Any:
-        """The numbers of the moves, as the call takes them: one that is too small or too great for it is its greatest,
-        which is no move either. Errors: TypeError where they are no whole numbers."""
+        """The numbers of the moves, as the call takes them. One that is too small or too large for the call becomes its
+        largest, which is no move either. Errors: TypeError if they are no whole numbers."""
         try:
             given = list(map(operator.index, moves.tolist() if hasattr(moves, "tolist") else moves))
         except TypeError:
@@ -248,13 +249,13 @@ class Games(metaclass=BriefABC):
         return (ctypes.c_uint32 * len(numbers)).from_buffer(numbers)
 
     def _play(self, handles: Any, numbers: Any, causes: Optional[Room]) -> int:
-        """Makes the moves. How many are refused."""
+        """Plays the moves. Returns how many are rejected."""
         count, written = len(handles), causes.items if causes else self._causes
         done(unlocked.vintsaky_games_play(handles, count, numbers, count, written, count))
         return count - bytes(written).count(0)
 
     def _restart(self, handles: Any, over: Optional[Room], scores: Optional[Room]) -> None:
-        """Begins anew what is over."""
+        """Begins the games again that are over."""
         count, ways = len(handles), over.items if over else self._over
         done(unlocked.vintsaky_games_restart(handles, count, self._limit, ways, count, self._scores, count))
         if scores:

@@ -1,4 +1,4 @@
-"""Engines: all but the choice of a move is the library's."""
+"""Engines: the library does all but the choice of a move."""
 from __future__ import annotations
 
 import contextlib
@@ -19,26 +19,26 @@ from .games import Game
 from .lines import CommandLine, bad_reply, words_of
 from .values import AnyChoice, Colour, KoRule, choice_number, rule_number, shown_vertex
 
-PIECE = 4096  # the most bytes that are read at a time
+PIECE = 4096  # bytes that are read at a time, at most
 Method = TypeVar("Method", bound=Callable[..., Any])
 
 
 class Event(IntEnum, metaclass=BriefEnum):
-    """What came of a piece that was fed to an engine in steps."""
+    """What came of a chunk that was fed to a sans-IO engine."""
 
-    MORE = _declared.MORE  # All bytes were used: read on.
-    BLACK = _declared.BLACK  # A move of Black is asked for: call `choose`.
-    WHITE = _declared.WHITE  # A move of White is asked for: call `choose`.
-    OTHER = _declared.OTHER  # A line of another command: look at `line`, and call `answer` or `decline`.
-    REPLY = _declared.REPLY  # A line was answered: write `reply`.
-    ENDED = _declared.ENDED  # The session has ended, by a quit.
+    MORE = _declared.MORE  # All bytes were used: read more.
+    BLACK = _declared.BLACK  # Black's move is waited for: call `choose`.
+    WHITE = _declared.WHITE  # White's move is waited for: call `choose`.
+    OTHER = _declared.OTHER  # A command that isn't in the protocol's table: see `line`; call `answer` or `decline`.
+    REPLY = _declared.REPLY  # A line was answered, also a quit: write `reply`.
+    ENDED = _declared.ENDED  # A quit was answered before: stop.
 
 
 class Steps(Held):
-    """An engine in steps: bytes go in, and replies, or the colour for which a move is asked, come out.
+    """A sans-IO engine: you pass it the bytes that arrived, and it returns replies or asks for a colour's move.
 
-    What is refused raises Refused, and the engine stays as it was. While it waits for a choice or an answer it uses no
-    byte, and `feed` returns the same event.
+    A call that is rejected raises Refused, and the engine is unchanged. While it waits for a choice or an answer it
+    uses no byte, and `feed` returns the same event.
 
     >>> steps = Steps()
     >>> steps.feed(b"1 genmove b\\n2 name\\n")
@@ -59,19 +59,19 @@ class Steps(Held):
         self.begin(rule)
 
     def begin(self, rule: KoRule = KoRule.SIMPLE) -> None:
-        """Begins anew. Causes: BAD_RULE."""
+        """Resets the engine. Errors: BAD_RULE."""
         done(library.vintsaky_engine_begin(self._held(), rule_number(rule)))
 
     def feed(self, data: Bytes) -> Tuple[int, Event]:
-        """Takes the next piece, up to and with the newline of the first line that has a word. How many bytes were used,
-        and what came of them."""
+        """Takes the next chunk, up to and including the newline of the first line that has a word. Returns how many
+        bytes were used, and what came of them."""
         data, used = bytes_of(data), ctypes.c_size_t()
         event = library.vintsaky_engine_feed(self._held(), data, len(data), ctypes.byref(used))
         return used.value, Event(event)
 
     @property
     def wait(self) -> Event:
-        """What is waited for: BLACK, WHITE, OTHER, or MORE where it is nothing."""
+        """What the engine waits for: BLACK, WHITE or OTHER; MORE if it waits for nothing."""
         return Event(library.vintsaky_engine_wait(self._held()))
 
     @property
@@ -82,12 +82,12 @@ class Steps(Held):
 
     @property
     def reply(self) -> bytes:
-        """The last reply: no bytes before the first."""
+        """The last reply: empty before the first."""
         return text_of(library.vintsaky_engine_reply, self._held())
 
     @property
     def line(self) -> Optional[CommandLine]:
-        """The line that is waited with, or None."""
+        """The command line for which a choice or an answer is waited for, or None."""
         place, number = self._held(), ctypes.c_uint32()
         if self.wait is Event.MORE:
             return None
@@ -102,61 +102,58 @@ class Steps(Held):
         return game
 
     def choose(self, choice: AnyChoice) -> None:
-        """Makes the choice that is asked for: a vertex, RESIGN, or the text of either. Causes: BAD_VERTEX, NOT_ASKED,
-        OFF_BOARD, OCCUPIED, SUICIDE or KO; the choice is still asked for."""
+        """Supplies the choice that the engine waits for: a vertex, RESIGN, or the text of either. Errors: BAD_VERTEX,
+        NOT_ASKED, OFF_BOARD, OCCUPIED, SUICIDE or KO; the engine still waits for the choice."""
         number = choice_number(choice)
         cause = library.vintsaky_engine_choose(self._held(), number)
         if cause:
             raise Refused(Cause(cause), f"choose {shown_vertex(number)}")
 
     def answer(self, text: Union[str, bytes] = "", ok: bool = True) -> None:
-        """Answers the line of another command: by a success, or by a failure. Causes: NOT_ASKED, or BAD_TEXT where no
-        reply may have the text."""
+        """Answers a command that isn't in the protocol's table: by a success, or by a failure. Errors: NOT_ASKED, or
+        BAD_TEXT if the text isn't allowed in a reply."""
         data = ascii_of(text, "text")
         cause = library.vintsaky_engine_answer(self._held(), int(bool(ok)), data, len(data))
         if cause:
             raise bad_reply(text) if cause == Cause.BAD_TEXT else Refused(Cause(cause), f"answer {shown(text)}")
 
     def decline(self) -> None:
-        """Answers the line of another command by `unknown command`. Causes: NOT_ASKED."""
+        """Answers a command that isn't in the protocol's table by `unknown command`. Errors: NOT_ASKED."""
         done(library.vintsaky_engine_decline(self._held()), "decline")
 
     def set_name(self, name: Union[str, bytes]) -> None:
-        """Answers name by this text from now on. Causes: BAD_TEXT where it has more than 200 bytes, or no reply may
-        have it."""
+        """Sets the answer to `name`. Errors: BAD_TEXT if it has more than 200 bytes, or isn't allowed in a reply."""
         data = ascii_of(name, "name")
         if library.vintsaky_engine_set_name(self._held(), data, len(data)):
             raise bad_reply(name, "name", 200)
 
     def set_version(self, version: Union[str, bytes]) -> None:
-        """Answers version by this text from now on. Causes: as those of `set_name`."""
+        """Sets the answer to `version`. Errors: those of `set_name`."""
         data = ascii_of(version, "version")
         if library.vintsaky_engine_set_version(self._held(), data, len(data)):
             raise bad_reply(version, "version", 200)
 
     def add_command(self, name: Union[str, bytes]) -> None:
-        """Adds a command of the author's own. Causes: BAD_LENGTH, BAD_BYTE, ONLY_DIGITS, IN_TABLE, ADDED_BEFORE or
-        TOO_MANY."""
+        """Adds a custom command. Errors: BAD_LENGTH, BAD_BYTE, ONLY_DIGITS, IN_TABLE, ADDED_BEFORE or TOO_MANY."""
         data = ascii_of(name, "name")
         done(library.vintsaky_engine_add_command(self._held(), data, len(data)), f"add_command {shown(name)}")
 
 
 class Failure(Exception, metaclass=Brief):
-    """An own command fails: its reply is a failure with this text."""
+    """Raised by a custom command that fails: its reply is a failure with this text."""
 
 
 def command(name: str) -> Callable[[Method], Method]:
-    """Marks a method of an Engine as the answer to a command of the author's own, of this name.
+    """Marks a method of an Engine as the answer to a custom command of this name.
 
-    The method gets the words after the name, a list of str, and returns the text of the reply, or None for an empty
-    one. Where it raises Failure, the reply is a failure with that text. No own command changes the game.
+    The method gets the arguments after the name, a list of str, and returns the text of the reply, or None for an empty
+    one. If it raises Failure, the reply is a failure with that text. No custom command changes the game.
 
-    A text has at most 2,000 bytes, each a newline or 32 to 126. No two newlines follow each other, and it begins and
-    ends with neither a space nor a newline. Where it is another one, or no text at all, the reply is a failure, a line
-    on standard error names the command and says what is wrong, and the engine serves on. What else the method raises
-    comes out of `serve`.
+    The text may have up to 2,000 bytes, each a newline or one of 32 to 126, without two newlines in a row, and without
+    a space or newline at its beginning or end. If it isn't such a text, the reply is a failure, a line on standard
+    error names the command and says what is wrong, and the engine goes on. Any other exception comes out of `serve`.
 
-    Errors: TypeError where the name is no str, as after `@command` without a name."""
+    Errors: TypeError if the name is no str, as after `@command` without a name."""
     if not isinstance(name, str):
         raise TypeError(f"name: {shown(name)} is no str; a command has a name, as @command(\"NAME\")")
 
@@ -168,7 +165,7 @@ def command(name: str) -> Callable[[Method], Method]:
 
 
 class Engine(metaclass=BriefABC):
-    """An engine of one's own: a class that says what it chooses.
+    """An engine of your own: a class that chooses the moves.
 
     `name` and `version` are its answers to these commands, at most 200 bytes each, and `rule` is its ko rule. A class
     or an object sets them before it serves.
@@ -194,31 +191,30 @@ class Engine(metaclass=BriefABC):
     _steps: Optional[Steps] = None
 
     def choose(self, game: Game, colour: Colour) -> AnyChoice:
-        """What the engine plays: a legal Point, PASS or RESIGN, or the text of one. The game is a copy, on which it may
-        play as it likes: up to 2,000 moves, those that it has among them. Then `play` raises Refused, with FULL.
+        """Returns what the engine plays: a legal Point, PASS or RESIGN, or the text of one. The game is a copy, on
+        which it may play as it likes: up to 2,000 moves with those of the game, then `play` raises Refused, with FULL.
 
-        Where it raises an exception, or its choice isn't lawful, that comes out of `serve`, and the genmove isn't
-        answered."""
+        An exception that it raises, or that its choice causes, comes out of `serve`, and the genmove isn't answered."""
         raise NotImplementedError(f"{type(self).__name__} has no method choose(self, game, colour)")
 
     @property
     def game(self) -> Game:
-        """A copy of the game as it is, for an own command, say. Errors: RuntimeError where the engine doesn't serve."""
+        """A copy of the current game, for a custom command, say. Errors: RuntimeError if the engine isn't serving."""
         if self._steps is None:
             raise RuntimeError(f"{type(self).__name__} doesn't serve")
         return self._steps.game
 
     def serve(self, source: Any = None, sink: Any = None) -> None:
-        """Answers the commands that are read from `source` by replies that are written to `sink`, until a quit was
-        answered or the input ends. Both are binary files. Each piece is read as it comes, and each reply flushed.
+        """Reads commands from `source` and writes the replies to `sink`, until it has answered a quit or the input
+        ends. Both are binary files. Each chunk is read as it comes, and each reply is flushed.
 
-        Without them they are standard input and standard output. As long as it serves, these are its own: what else is
-        written to standard output, by `print` or by a process that is started, goes to standard error. What else reads
-        standard input finds it empty.
+        By default they are standard input and standard output. While the engine serves, these are its own: anything
+        else that is written to standard output, by `print` or by a process that it starts, goes to standard error, and
+        anything else that reads standard input finds it empty.
 
-        Errors: what `choose` or an own command raises, but Failure, Refused or TypeError of a choice that may not be,
-        and what the files raise. Nothing is written then; the reply to each earlier line was. A name or an own command
-        that may not be is a ValueError at once."""
+        Errors: what `choose` or a custom command raises, except Failure; Refused or TypeError for a choice that isn't
+        allowed; and what the files raise. Nothing is written then; the earlier lines have their replies. A name or a
+        custom command that isn't allowed is a ValueError at once."""
         with contextlib.ExitStack() as stack:
             if source is None or sink is None:
                 standard = stack.enter_context(standard_streams())
@@ -231,7 +227,7 @@ class Engine(metaclass=BriefABC):
                 self._steps = None
 
     def _started(self) -> Steps:
-        """An engine in steps of this name and version, with the own commands."""
+        """A sans-IO engine of this name and version, with the custom commands."""
         steps = Steps(self.rule)
         steps.set_name(self.name)
         steps.set_version(self.version)
@@ -239,11 +235,11 @@ class Engine(metaclass=BriefABC):
             try:
                 steps.add_command(name)
             except Refused as refused:
-                raise Refused(refused.cause, f"there can't be an own command {shown(name)}") from None
+                raise Refused(refused.cause, f"custom command {shown(name)}") from None
         return steps
 
     def _commands(self) -> Dict[str, str]:
-        """The own commands: the name of each, and that of its method, those of a base class first."""
+        """The custom commands: the name of each, and that of its method, those of a base class first."""
         found: Dict[str, str] = {}
         for kind in reversed(type(self).__mro__):
             for attribute, value in vars(kind).items():
@@ -269,7 +265,7 @@ class Engine(metaclass=BriefABC):
                     return
 
     def _answer_other(self, steps: Steps, commands: Dict[str, str]) -> None:
-        """Answers a line that isn't the library's: by an own command, or as unknown."""
+        """Answers a command that isn't the library's: by a custom command, or as unknown."""
         line = steps.line
         words: List[str] = list(line.words) if line else []
         if not words or words[0] not in commands:
@@ -283,7 +279,7 @@ class Engine(metaclass=BriefABC):
             steps.answer("the answer is wrong", ok=False)
 
     def _said(self, method: str, words: List[str]) -> Tuple[Any, bool]:
-        """What an own command answers by its method, and whether that is a success."""
+        """What a custom command answers by its method, and whether that is a success."""
         try:
             text = getattr(self, method)(words)
         except Failure as failure:
@@ -292,7 +288,7 @@ class Engine(metaclass=BriefABC):
 
 
 def tell(line: str) -> None:
-    """Writes a line to standard error, where that takes one."""
+    """Writes a line to standard error, if that accepts one."""
     with contextlib.suppress(OSError, ValueError):
         if sys.stderr is not None:
             print(line, file=sys.stderr, flush=True)
@@ -307,7 +303,7 @@ def read_some(source: Any) -> bytes:
 
 
 def write_whole(sink: Any, data: bytes) -> None:
-    """Writes all of the bytes, and flushes them."""
+    """Writes all the bytes, and flushes them."""
     left = memoryview(data)
     while left:
         count = sink.write(left)
@@ -319,7 +315,7 @@ def write_whole(sink: Any, data: bytes) -> None:
 
 @contextlib.contextmanager
 def standard_streams() -> Iterator[Tuple[Any, Any]]:
-    """Standard input and output as files of their own. As long as they are open, standard output is standard error, and
+    """Standard input and output as files of their own. While they are open, standard output is standard error, and
     standard input is empty. What `print` had written and not flushed goes to standard error too."""
     with contextlib.ExitStack() as stack:
         source, sink = (stack.enter_context(own_stream(number, mode)) for number, mode in ((0, "rb"), (1, "wb")))
@@ -335,11 +331,11 @@ def standard_streams() -> Iterator[Tuple[Any, Any]]:
 
 
 def own_stream(number: int, mode: str) -> Any:
-    """A standard stream as a file of another number, which no process that is started has."""
+    """A standard stream as a file of another number, which no process that is started inherits."""
     return os.fdopen(fcntl.fcntl(number, fcntl.F_DUPFD_CLOEXEC, 3), mode, buffering=0)
 
 
 def flush_standard_output(output: Any) -> None:
-    """Flushes what was written to it, where there is one."""
+    """Flushes what was written to it, if there is one."""
     if output is not None:
         output.flush()

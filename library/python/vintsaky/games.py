@@ -31,16 +31,16 @@ class _Chain(NamedTuple):
 
 
 class Chain(_Chain, metaclass=BriefABC):
-    """How many stones a chain has, and how many liberties."""
+    """How many stones and how many liberties a chain has."""
 
     __slots__ = ()
 
 
 class Game(Held):
-    """A game: its board, its record, its komi and its ko rule. Colours and vertices may be given as their texts.
+    """A game: its board, its record, its komi and its ko rule. Colours and vertices may be given as text.
 
-    What is refused raises Refused, and the game stays as it was. Of a text that spells no colour or no vertex the cause
-    is BAD_TEXT.
+    A call that is rejected raises Refused and leaves the game unchanged: with BAD_TEXT if a text spells no colour or
+    vertex.
 
     >>> game = Game(size=5, komi=0.5)
     >>> game.play("b", "C3")
@@ -62,7 +62,7 @@ class Game(Held):
         self.begin(size, komi, rule)
 
     def begin(self, size: int = 19, komi: Komi = 0, rule: KoRule = KoRule.SIMPLE) -> None:
-        """Begins anew, on an empty board. Causes: BAD_RULE, BAD_SIZE or BAD_KOMI."""
+        """Resets the game to an empty board. Errors: BAD_RULE, BAD_SIZE or BAD_KOMI."""
         numbers = rule_number(rule), size_number(size), half_points(komi)
         done(library.vintsaky_game_begin(self._held(), *numbers))
 
@@ -75,9 +75,9 @@ class Game(Held):
         rule: KoRule = KoRule.SIMPLE,
         handicap: int = 0,
     ) -> Kind:
-        """A game with these moves, each a colour and a vertex, as `play` takes them. `handicap` says how many stones
-        are placed before, or 0. Of a subclass `__init__` is called with the size, the komi and the rule by their names.
-        Causes: as of `begin`, `place_handicap` and `play`, with the number of the move, from 1.
+        """Returns a game with these moves, each a colour and a vertex, as `play` takes them. `handicap` is the number
+        of stones that are placed before, or 0. For a subclass, `__init__` is called with the size, the komi and the
+        rule by their names. Errors: those of `begin`, `place_handicap` and `play`, with the move's number, from 1.
 
         >>> game = Game.from_moves([("b", "C3"), ("w", "pass")], size=5)
         >>> Game.from_moves(game.moves, size=5) == game
@@ -93,12 +93,12 @@ class Game(Held):
         return game
 
     def copy(self: Kind) -> Kind:
-        """A copy: a game of its own. That of a subclass has the same attributes, and its `__init__` isn't called. To
-        hand it to another thread, have that one call its `adopt`."""
+        """Returns an independent copy. A subclass's copy has the same attributes, and its `__init__` isn't called. To
+        pass it to another thread, have that thread call its `adopt`."""
         return self.__copy__()
 
     def become(self, other: Game) -> None:
-        """Becomes a copy of another game. Of itself it stays as it was."""
+        """Makes this game a copy of another one. A copy of itself is unchanged."""
         if not isinstance(other, Game):
             raise TypeError(f"other: {shown(other)} is no Game")
         if other is not self:
@@ -142,7 +142,7 @@ class Game(Held):
 
     @property
     def size(self) -> int:
-        """How many columns and rows the board has."""
+        """The number of columns, and of rows, of the board."""
         size: int = library.vintsaky_game_size(self._held())
         return size
 
@@ -154,7 +154,7 @@ class Game(Held):
     @property
     def komi(self) -> float:
         """The komi in points, a multiple of 0.5, which a float has exactly. It can be set to an int, a float or a
-        Fraction; board and record stay. Causes: BAD_KOMI."""
+        Fraction; board and record are unchanged. Errors: BAD_KOMI."""
         halves: int = library.vintsaky_game_komi(self._held())
         return halves / 2
 
@@ -164,12 +164,12 @@ class Game(Held):
 
     @property
     def handicap(self) -> int:
-        """How many handicap stones were placed, or 0."""
+        """The number of handicap stones that were placed, or 0."""
         stones: int = library.vintsaky_game_handicap(self._held())
         return stones
 
     def place_handicap(self, stones: int) -> None:
-        """Puts handicap stones on their fixed points. Causes: NOT_EMPTY or BAD_HANDICAP."""
+        """Places handicap stones on their fixed points. Errors: NOT_EMPTY or BAD_HANDICAP."""
         number = integer(stones, "stones", "no int; use one from 2 to 9")
         cause = library.vintsaky_game_place_handicap(self._held(), clamped(number))
         if cause == Cause.BAD_HANDICAP:
@@ -183,24 +183,24 @@ class Game(Held):
 
     @property
     def turn(self) -> Colour:
-        """The colour whose turn it is: the other one than that of the last move. Without a move it is Black, or White
-        where handicap stones were placed."""
+        """The colour whose turn it is: the one that didn't make the last move. Before the first move it is Black, or
+        White if handicap stones were placed."""
         return Colour(library.vintsaky_game_turn(self._held()))
 
     def play(self, colour: AnyColour, vertex: AnyVertex) -> None:
-        """Makes a move. Causes: BAD_COLOUR, BAD_VERTEX, FULL, OFF_BOARD, OCCUPIED, SUICIDE or KO."""
+        """Plays a move. Errors: BAD_COLOUR, BAD_VERTEX, FULL, OFF_BOARD, OCCUPIED, SUICIDE or KO."""
         number, point = colour_number(colour), vertex_number(vertex)
         cause = library.vintsaky_game_play(self._held(), number, point)
         if cause:
             raise Refused(Cause(cause), f"play {Colour(number)} {shown_vertex(point)}")
 
     def undo(self) -> None:
-        """Takes back the last move. Causes: NOTHING_TO_UNDO."""
+        """Undoes the last move. Errors: NOTHING_TO_UNDO."""
         done(library.vintsaky_game_undo(self._held()), "undo")
 
     def why_not(self, colour: AnyColour, vertex: AnyVertex) -> Optional[Cause]:
-        """Why a colour may not make a move next: OFF_BOARD, OCCUPIED, SUICIDE or KO; None where it may. Whether the
-        record has room isn't looked at. Causes: BAD_COLOUR or BAD_VERTEX."""
+        """Returns why a colour may not make a move next: OFF_BOARD, OCCUPIED, SUICIDE or KO; None if it may, even if
+        the record is full. Errors: BAD_COLOUR or BAD_VERTEX."""
         cause = library.vintsaky_game_legal(self._held(), colour_number(colour), vertex_number(vertex))
         if not cause:
             return None
@@ -209,16 +209,16 @@ class Game(Held):
         raise Refused(Cause(cause))
 
     def legal(self, colour: AnyColour, vertex: AnyVertex) -> bool:
-        """Whether a colour may make a move next, as `why_not` says why not."""
+        """Whether a colour may make a move next. If not, `why_not` says why."""
         return self.why_not(colour, vertex) is None
 
     def legal_points(self, colour: AnyColour) -> List[Point]:
-        """The points on which a colour may play next, row by row from A1. The number of moves doesn't count, though a
-        full record takes no more. Causes: BAD_COLOUR."""
+        """Returns the points where a colour may play next, row by row from A1, even if the record is full. Errors:
+        BAD_COLOUR."""
         return self._points_of(library.vintsaky_game_legal_points, colour_number(colour))
 
     def _points_of(self, call: Any, number: int, what: str = "") -> List[Point]:
-        """The points that this call lists for a number, which may be refused: a point, where the call is named."""
+        """The points that this call lists for a number. If it rejects a point, the error names the call."""
         points, count = (ctypes.c_uint32 * MOST_POINTS)(), ctypes.c_size_t()
         cause = call(self._held(), number, points, MOST_POINTS, ctypes.byref(count))
         if cause:
@@ -227,14 +227,13 @@ class Game(Held):
 
     @property
     def taken(self) -> List[Point]:
-        """The points whose stones the last move took, row by row from A1."""
+        """The points whose stones the last move captured, row by row from A1."""
         points = (ctypes.c_uint32 * MOST_POINTS)()
         count: int = library.vintsaky_game_taken_by_last_move(self._held(), points, MOST_POINTS)
         return [POINTS[point] for point in points[:count]]
 
     def __getitem__(self, point: AnyVertex) -> Optional[Colour]:
-        """The colour of the stone on a point; None where there is none. Causes: BAD_VERTEX, also of a pass, or
-        OFF_BOARD."""
+        """The colour of the stone on a point, or None. Errors: BAD_VERTEX, also for a pass, or OFF_BOARD."""
         colour = ctypes.c_uint32()
         number = vertex_number(point, "point")
         cause = library.vintsaky_game_stone_at(self._held(), number, ctypes.byref(colour))
@@ -242,11 +241,11 @@ class Game(Held):
             raise refused_point(cause, "point", number)
         return Colour(colour.value) if colour.value else None
 
-    __iter__ = None  # board and record are both there: `legal_points` and `moves` are what can be gone through
+    __iter__ = None  # a game has both a board and a record: iterate over `legal_points` or `moves`
     __contains__ = None
 
     def chain(self, point: AnyVertex) -> Chain:
-        """The chain of the stone on a point. Causes: BAD_VERTEX, also of a pass, OFF_BOARD or NO_STONE."""
+        """Returns the chain of the stone on a point. Errors: BAD_VERTEX, also for a pass, OFF_BOARD or NO_STONE."""
         stones, liberties = ctypes.c_uint32(), ctypes.c_uint32()
         number = vertex_number(point, "point")
         cause = library.vintsaky_game_chain(self._held(), number, ctypes.byref(stones), ctypes.byref(liberties))
@@ -255,18 +254,18 @@ class Game(Held):
         return Chain(stones.value, liberties.value)
 
     def chain_points(self, point: AnyVertex) -> List[Point]:
-        """The stones of the chain on a point, row by row from A1. Causes: as of `chain`."""
+        """Returns the stones of the chain on a point, row by row from A1. Errors: those of `chain`."""
         number = vertex_number(point, "point")
         return self._points_of(library.vintsaky_game_chain_points, number, "chain_points")
 
     def chain_liberties(self, point: AnyVertex) -> List[Point]:
-        """The liberties of the chain on a point, row by row from A1. Causes: as of `chain`."""
+        """Returns the liberties of the chain on a point, row by row from A1. Errors: those of `chain`."""
         number = vertex_number(point, "point")
         return self._points_of(library.vintsaky_game_chain_liberties, number, "chain_liberties")
 
     def index(self, point: AnyVertex) -> int:
-        """The index of a point, for lists with a value for each point of the board. It is counted from 0 in the board's
-        order: row by row from A1. Causes: BAD_VERTEX, also of a pass, or OFF_BOARD.
+        """Returns the index of a point, for lists with one value for each point. It is counted from 0 in board order:
+        row by row from A1. Errors: BAD_VERTEX, also for a pass, or OFF_BOARD.
 
         >>> Game(5).index("A2")
         5
@@ -279,7 +278,7 @@ class Game(Held):
         return index.value
 
     def point(self, index: int) -> Point:
-        """The point of an index. Causes: OFF_BOARD where the board has no more points than the index says."""
+        """Returns the point with an index. Errors: OFF_BOARD if the board has no such index."""
         vertex = ctypes.c_uint32()
         number = whole(index, "index", 0, self.size**2 - 1, Cause.OFF_BOARD)
         done(library.vintsaky_game_point_at(self._held(), number, ctypes.byref(vertex)))
@@ -287,7 +286,7 @@ class Game(Held):
 
     @property
     def board(self) -> bytes:
-        r"""A byte for each point of the board, in its order: the colour of the stone there, and 0 where there is none.
+        r"""One byte for each point, in board order: the colour of its stone, or 0 if it is empty.
 
         >>> game = Game(size=2)
         >>> game.play("w", "B1")
@@ -299,30 +298,29 @@ class Game(Held):
         return bytes(stones[:count])
 
     def legal_mask(self, colour: AnyColour) -> bytes:
-        """A byte for each point of the board, in its order: 1 where a colour may play next, and 0 where it may not. The
-        number of moves doesn't count, though a full record takes no more. Causes: BAD_COLOUR."""
+        """Returns one byte for each point, in board order: 1 where a colour may play next, even if the record is full,
+        else 0. Errors: BAD_COLOUR."""
         marks, count = (ctypes.c_uint8 * MOST_POINTS)(), ctypes.c_size_t()
         number = colour_number(colour)
         done(library.vintsaky_game_legal_mask(self._held(), number, marks, MOST_POINTS, ctypes.byref(count)))
         return bytes(marks[: count.value])
 
     def board_into(self, board: Any) -> None:
-        """Writes the same bytes as `board` into a buffer of size * size bytes (format `B`)."""
+        """Writes what `board` returns into a buffer of size * size bytes (format `B`)."""
         room = room_of(board, "board", (self.size, self.size), (BYTE,))
         library.vintsaky_game_board(self._held(), room.items, len(room.items))
 
     def legal_into(self, colour: AnyColour, mask: Any) -> None:
-        """Writes the same bytes as `legal_mask` into a buffer of size * size bytes (format `B` or `?`). Causes:
-        BAD_COLOUR."""
+        """Writes what `legal_mask` returns into a buffer of size * size bytes (`B` or `?`). Errors: BAD_COLOUR."""
         room = room_of(mask, "mask", (self.size, self.size), (BYTE, FLAG))
         number, count = colour_number(colour), ctypes.c_size_t()
         size = len(room.items)
         done(library.vintsaky_game_legal_mask(self._held(), number, room.items, size, ctypes.byref(count)))
 
     def is_own_eye(self, colour: AnyColour, point: AnyVertex) -> bool:
-        """Whether a point is an own eye of a colour, which a playout doesn't fill. It is empty, and has only stones of
-        the colour beside it. The other colour has a stone on at most one of its diagonals, and on none where the point
-        is on the edge. Causes: BAD_COLOUR, BAD_VERTEX, also of a pass, or OFF_BOARD."""
+        """Whether a point is an own eye of a colour, which a playout doesn't fill. An own eye is empty, and all its
+        neighbours are stones of the colour. The other colour has a stone on at most one of its diagonals, and on none
+        if the point is on the edge. Errors: BAD_COLOUR, BAD_VERTEX, also for a pass, or OFF_BOARD."""
         holds = ctypes.c_uint32()
         number, vertex = colour_number(colour), vertex_number(point, "point")
         cause = library.vintsaky_game_is_own_eye(self._held(), number, vertex, ctypes.byref(holds))
@@ -331,55 +329,55 @@ class Game(Held):
         return bool(holds.value)
 
     def ko_point(self, colour: AnyColour) -> Optional[Point]:
-        """The empty point on which a play of this colour would bring back the board before the last move; None where
-        there is none. Causes: BAD_COLOUR."""
+        """Returns the empty point where a play of this colour would bring back the board before the last move; None if
+        there is none. Errors: BAD_COLOUR."""
         vertex = ctypes.c_uint32()
         done(library.vintsaky_game_ko_point(self._held(), colour_number(colour), ctypes.byref(vertex)))
         return POINTS[vertex.value] if vertex.value else None
 
     def position_hash(self, colour: AnyColour) -> int:
-        """A hash of the position with a colour to move: of the board, its size, that colour, and its ko point.
-        Positions that are equal in these have equal hashes. So different ones show a difference, and equal ones show
-        nothing. It leaves out the komi, the ko rule, whether the last move was a pass, and the record that positional
-        ko asks. Causes: BAD_COLOUR."""
+        """Returns a hash of the position with a colour to move: of the board, its size, that colour and its ko point.
+        Positions that are equal in these have equal hashes. So different hashes show a difference; equal hashes show
+        nothing. The hash leaves out the komi, the ko rule, whether the last move was a pass, and the record, on which
+        positional superko depends. Errors: BAD_COLOUR."""
         number = ctypes.c_uint64()
         done(library.vintsaky_game_position_hash(self._held(), colour_number(colour), ctypes.byref(number)))
         return number.value
 
     def playout(self, colour: AnyColour, seed: int, limit: int = 2000) -> None:
-        """Plays on at random, a colour first and then both in turn. Each plays a point that is drawn from those on
-        which it may play and that are no own eyes of it, and passes where there is none. It ends after two passes, also
-        of the record before, after so many moves as the limit says, or where the record has 2,000. All draws are those
-        of the seed of 64 bits: the same game, colour, seed and limit make the same moves. Causes: BAD_COLOUR."""
+        """Plays on at random, a colour first and then both in turn. Each plays a random point of those where it may
+        play and that aren't own eyes of it, and passes if there is none. The playout ends after two passes in a row,
+        counting those made before it, after `limit` moves, or when the record has 2,000. The same game, colour, seed
+        (of 64 bits) and limit always make the same moves. Errors: BAD_COLOUR."""
         number, seed, limit = colour_number(colour), whole(seed, "seed", 0, MOST_WORD), whole(limit, "limit")
         done(library.vintsaky_game_playout(self._held(), number, seed, limit))
 
     def rollout(self, colour: AnyColour, seed: int, limit: int = 2000) -> float:
-        """The score after such a playout, in points. The game stays as it was. Causes: BAD_COLOUR."""
+        """Returns the score after such a playout, in points. The game is unchanged. Errors: BAD_COLOUR."""
         number, seed, limit = colour_number(colour), whole(seed, "seed", 0, MOST_WORD), whole(limit, "limit")
         halves = ctypes.c_int32()
         done(library.vintsaky_game_rollout(self._held(), number, seed, limit, ctypes.byref(halves)))
         return halves.value / 2
 
     def random_move(self, colour: AnyColour, word: int) -> Vertex:
-        """The move that a word of 64 bits chooses for a colour: of the n points on which it may play next and that are
-        no own eyes of it, number `word` mod n, counted from 0 in the board's order. PASS where there is none. The first
-        2^64 mod n of them are chosen by one word more than the others: the choice is even but for one word in 2^64 / n.
-        The number of moves doesn't count, though a full record takes no more. Causes: BAD_COLOUR."""
+        """Returns the move that a random word of 64 bits chooses for a colour, even if the record is full. Of the n
+        points where it may play next and that aren't own eyes of it, this is number `word` mod n, counted from 0 in
+        board order, or PASS if there are none. The choice is even except for one word in 2^64 / n: each of the first
+        2^64 mod n points is chosen by one word more than the others. Errors: BAD_COLOUR."""
         vertex = ctypes.c_uint32()
         number, word = colour_number(colour), whole(word, "word", 0, MOST_WORD)
         done(library.vintsaky_game_random_move(self._held(), number, word, ctypes.byref(vertex)))
         return VERTICES[vertex.value]
 
     def captured(self, colour: AnyColour) -> int:
-        """How many stones a colour has taken. Causes: BAD_COLOUR."""
+        """Returns how many stones a colour has captured. Errors: BAD_COLOUR."""
         stones = ctypes.c_uint32()
         done(library.vintsaky_game_captured(self._held(), colour_number(colour), ctypes.byref(stones)))
         return stones.value
 
     @property
     def score(self) -> float:
-        """The score in points, a multiple of 0.5, positive where Black leads. Every stone counts as alive."""
+        """The area score in points after komi, every stone alive: a multiple of 0.5, positive if Black leads."""
         halves: int = library.vintsaky_game_score(self._held())
         return halves / 2
 
@@ -391,8 +389,8 @@ class Game(Held):
 
     @property
     def board_hash(self) -> int:
-        """A hash of the board and its size: equal boards of one size have equal hashes. So different ones show that
-        size or board differs, and equal ones show nothing."""
+        """A hash of the board and its size. Equal boards of one size have equal hashes. So different hashes show that
+        board or size differ; equal hashes show nothing."""
         number: int = library.vintsaky_game_hash(self._held())
         return number
 
@@ -404,11 +402,11 @@ class Game(Held):
         return f"<vintsaky.Game of size {self.size} with {len(self.moves)} moves>"
 
 
-# ---- what makes games of games
+# ---- how games are made
 
 
 def play_numbered(play: Callable[[Any, Any], None], number: int, move: Any) -> None:
-    """Plays the move of this number, which an error names."""
+    """Plays the move with this number, which an error names."""
     try:
         colour, vertex = move
     except (TypeError, ValueError):
@@ -422,15 +420,15 @@ def play_numbered(play: Callable[[Any, Any], None], number: int, move: Any) -> N
 
 
 def placed(kind: Type[Kind]) -> Kind:
-    """A new game of this class, of which neither `__new__` nor `__init__` is called."""
+    """A new game of this class, for which neither `__new__` nor `__init__` is called."""
     game = object.__new__(kind)
     Held.__init__(game)
     return game
 
 
 def unpickled(kind: Any, size: Any, komi: Any, rule: Any, handicap: Any, moves: Any) -> Any:
-    """The game of a pickle, in which all is looked at: it is played anew, and is of the thread that uses it first.
-    Errors: UnpicklingError where there can't be such a game."""
+    """The game of a pickle. Everything in it is checked: the game is played again, and belongs to the thread that uses
+    it first. Errors: UnpicklingError if there can't be such a game."""
     if not (isinstance(kind, type) and issubclass(kind, Game) and isinstance(moves, str)):
         raise UnpicklingError(f"the pickle of a Game is damaged: {shown(kind)} is no Game, or {shown(moves)} no moves")
     game, known = placed(kind), moves_by_text()

@@ -1,4 +1,4 @@
-"""Command lines and replies: their readers, which take bytes in any cuts, and how they are written."""
+"""Command lines and replies: their readers, which take bytes in any chunks, and how to write them."""
 from __future__ import annotations
 
 import ctypes
@@ -17,14 +17,14 @@ LONGEST_INT = 2**31 - 1
 
 
 class LineEvent(IntEnum, metaclass=BriefEnum):
-    """What came of a piece that was fed to a reader of command lines, where it isn't 0."""
+    """What came of a chunk that was fed to a reader of command lines, if it isn't 0."""
 
     LINE = _declared.LINE
     TOO_LONG = _declared.TOO_LONG
 
 
 class ReplyEvent(IntEnum, metaclass=BriefEnum):
-    """What came of a piece that was fed to a reader of replies, where it isn't 0: a reply, or why there is none."""
+    """What came of a chunk that was fed to a reader of replies, if it isn't 0: a reply, or why there is none."""
 
     READ = _declared.READ
     NO_REPLY = _declared.NO_REPLY
@@ -51,8 +51,8 @@ class _CommandLine(NamedTuple):
 
 
 class CommandLine(_CommandLine, metaclass=BriefABC):
-    """A command line: its id, if it has one, and its words, the command's name first. Of a line that is too long only
-    that is known. Bytes of a word that aren't UTF-8 are what `os.fsencode` gives back."""
+    """A command line: its id, if it has one, and its words, the command's name first. If a line is too long, only
+    `too_long` is set. Bytes of a word that aren't UTF-8 are what `os.fsencode` gives back."""
 
     __slots__ = ()
 
@@ -70,7 +70,7 @@ class Reply(_Reply, metaclass=BriefABC):
 
 
 def words_of(call: Any, place: Any) -> Tuple[str, ...]:
-    """The words that this call writes one by one."""
+    """The words that this call writes, one by one."""
     words: List[str] = []
     room = 1024  # a line has at most 1,000 bytes
     text, count = ctypes.create_string_buffer(room), ctypes.c_size_t()
@@ -97,7 +97,7 @@ class CommandLines(Held):
     _handle_type = _declared.LinesHandle
 
     def feed(self, data: Bytes) -> List[CommandLine]:
-        """Takes the next piece. Returns the lines that it ends, in their order."""
+        """Takes the next chunk. Returns the lines that it ends, in order."""
         data, used = bytes_of(data), ctypes.c_size_t()
         lines: List[CommandLine] = []
         while data:
@@ -136,11 +136,11 @@ class Replies(Held):
 
     @property
     def fault(self) -> Optional[ReplyEvent]:
-        """NO_REPLY or LONG_REPLY, once such bytes came. Nothing is read any more then."""
+        """NO_REPLY or LONG_REPLY, once such bytes came. From then on nothing is read."""
         return self._fault
 
     def feed(self, data: Bytes) -> List[Reply]:
-        """Takes the next piece. Returns the replies that it ends, in their order, up to a fault."""
+        """Takes the next chunk. Returns the replies that it ends, in order, up to a fault."""
         data, used = bytes_of(data), ctypes.c_size_t()
         replies: List[Reply] = []
         while data and self._fault is None:
@@ -160,12 +160,12 @@ class Replies(Held):
 
 
 def id_number(id: Optional[int]) -> int:
-    """The number of an id, which is -1 for none. Causes: BAD_ID."""
+    """The number of an id: -1 for none. Errors: BAD_ID."""
     return -1 if id is None else whole(id, "id", 0, LONGEST_INT, Cause.BAD_ID)
 
 
 def command_number(command: int) -> Command:
-    """The command of a number. Causes: BAD_COMMAND."""
+    """The command of a number. Errors: BAD_COMMAND."""
     number = integer(command, "command", "no Command")
     if number not in list(Command):
         raise Refused(Cause.BAD_COMMAND, "command", f"{shown(command)} is no Command")
@@ -182,7 +182,7 @@ TAKEN = {
 
 
 def arguments_of(kind: Command, arguments: Tuple[Any, ...]) -> Tuple[int, int]:
-    """The two numbers that a call takes as a command's arguments: 0 for what isn't there."""
+    """The two numbers that a call takes as a command's arguments: 0 for each that it doesn't have."""
     taken = TAKEN.get(kind, "none")
     if len(arguments) != (0 if taken == "none" else taken.count(" and ") + 1):
         given = "1 argument is" if len(arguments) == 1 else f"{len(arguments)} arguments are"
@@ -199,9 +199,9 @@ def arguments_of(kind: Command, arguments: Tuple[Any, ...]) -> Tuple[int, int]:
 
 
 def write_command(command: Command, *arguments: Any, id: Optional[int] = None) -> bytes:
-    """The line of a command, with its newline. Its arguments are the size of BOARDSIZE, the komi of KOMI, the number of
-    stones of FIXED_HANDICAP, the colour and the vertex of PLAY, and the colour of GENMOVE. Causes: BAD_ID, BAD_COMMAND,
-    BAD_SIZE, BAD_KOMI, BAD_HANDICAP, BAD_COLOUR or BAD_VERTEX.
+    """Returns the line of a command, with its newline. Its arguments are the size of BOARDSIZE, the komi of KOMI, the
+    number of stones of FIXED_HANDICAP, the colour and the vertex of PLAY, and the colour of GENMOVE. Errors: BAD_ID,
+    BAD_COMMAND, BAD_SIZE, BAD_KOMI, BAD_HANDICAP, BAD_COLOUR or BAD_VERTEX.
 
     >>> write_command(Command.PLAY, "b", "D4", id=5)
     b'5 play b D4\\n'
@@ -211,13 +211,13 @@ def write_command(command: Command, *arguments: Any, id: Optional[int] = None) -
 
 
 def bad_reply(text: Union[str, bytes], what: str = "text", most: int = 2000) -> Refused:
-    """What is refused of a text that no reply may have, or that is too long."""
+    """The error for a text that isn't allowed in a reply, or is too long."""
     said = f"{shown(text)} may be in no reply; a reply's text has at most {most} bytes, each a newline or 32 to 126, "
     return Refused(Cause.BAD_TEXT, what, f"{said}no empty line, and no space or newline at its ends")
 
 
 def write_reply(text: Union[str, bytes] = "", ok: bool = True, id: Optional[int] = None) -> bytes:
-    """A reply: a success, or a failure. Causes: BAD_ID, or BAD_TEXT where no reply may have the text.
+    """Returns a reply: a success, or a failure. Errors: BAD_ID, or BAD_TEXT if the text isn't allowed in a reply.
 
     >>> write_reply("D4", id=7), write_reply("no", ok=False)
     (b'=7 D4\\n\\n', b'? no\\n\\n')

@@ -1,4 +1,5 @@
-"""The controller of a match between two engines. It starts no process: it is told what happened, and says what's next."""
+"""The controller of a match between two engines. It starts no process: you report what happened, and it says what to do
+next."""
 from __future__ import annotations
 
 import ctypes
@@ -16,21 +17,21 @@ from .games import Game
 from .values import AnyColour, Colour, Komi, colour_number, half_points, size_number, written
 
 COMMAND_ROOM = 128  # a command has at most 64 bytes
-WROTE_ROOM = 128  # of what a side wrote at most 80 bytes are shown
+WROTE_ROOM = 128  # at most 80 bytes of a side's output are shown
 
 
 class Next(IntEnum, metaclass=BriefEnum):
-    """What is to be done next."""
+    """What to do next."""
 
     START = _declared.START  # Start this side's engine, and call `started`.
-    SEND = _declared.SEND  # Call `send`, and write to this side's engine what it returns.
-    WAIT = _declared.WAIT  # Read what this side's engine writes, and call `hear` or `report`.
+    SEND = _declared.SEND  # Call `send`, and write what it returns to this side's engine.
+    WAIT = _declared.WAIT  # Read this side's output, and call `hear` or `report`.
     OVER = _declared.OVER  # The match is over.
 
 
 @dataclass(frozen=True)
 class Action(metaclass=Brief):
-    """What is to be done next, and with which side."""
+    """What to do next, and with which side."""
 
     kind: Next
     side: Optional[Colour]
@@ -38,7 +39,7 @@ class Action(metaclass=Brief):
 
 @dataclass(frozen=True)
 class Owed(metaclass=Brief):
-    """What a side owes: how many commands it hasn't answered, the oldest of them, as it was sent, and the first 80
+    """What a side owes: how many commands it hasn't answered; the oldest of them, as it was sent; and the first 80
     bytes that it wrote since its last whole reply."""
 
     unanswered: int
@@ -48,8 +49,8 @@ class Owed(metaclass=Brief):
 
 @dataclass(frozen=True)
 class Report(metaclass=Brief):
-    """What came of the bytes that a side wrote: why it fails, if it does; which retake of its number of a move it is,
-    1 to 3, where it refused a play that is retaken, else 0; and what it owed at the loss, or else at the retake."""
+    """What came of a side's output: why it fails, if it does; which retake of this move number it is, 1 to 3, if the
+    side refused a play that is retaken, else 0; and what it owed at the loss, or else at the retake."""
 
     loss: Optional[Loss]
     retake: int
@@ -58,8 +59,8 @@ class Report(metaclass=Brief):
 
 @dataclass(frozen=True)
 class Status(metaclass=Brief):
-    """How many commands a side has confirmed of those that bring it to the record, how many it hasn't answered, and
-    whether a genmove is among them."""
+    """How many of the commands that bring a side to the record it has confirmed, how many commands it hasn't answered,
+    and whether a genmove is among these."""
 
     confirmed: int
     unanswered: int
@@ -68,8 +69,8 @@ class Status(metaclass=Brief):
 
 @dataclass(frozen=True)
 class Verdict(metaclass=Brief):
-    """How a match ended, the score in points where it ended by one, and the reason where a ruling has one. `side` is
-    who resigned, forfeited, is unfit, was abandoned or lost by a ruling: never who won."""
+    """How a match ended, the score in points if it ended by one, and the reason if a ruling has one. `side` is the one
+    that resigned, forfeited, is unfit, was abandoned or lost by a ruling: never the one that won."""
 
     ending: Ending
     side: Optional[Colour]
@@ -78,7 +79,7 @@ class Verdict(metaclass=Brief):
 
     @property
     def winner(self) -> Optional[Colour]:
-        """Who won: by the score, or since the other side resigned, forfeited or lost by a ruling. Else None.
+        """The winner: by the score, or because the other side resigned, forfeited or lost by a ruling. Else None.
 
         >>> Verdict(Ending.BY_RESIGNATION, Colour.BLACK, None).winner
         <Colour.WHITE: 2>
@@ -91,12 +92,12 @@ class Verdict(metaclass=Brief):
 
 
 def side_number(side: AnyColour) -> int:
-    """The number of a side. Causes: BAD_COLOUR, or BAD_TEXT of a text."""
+    """The number of a side. Errors: BAD_COLOUR, or BAD_TEXT for text."""
     return colour_number(side, "side")
 
 
 class OwedRoom:
-    """Where a call writes what a side owes."""
+    """Buffers into which a call writes what a side owes."""
 
     def __init__(self) -> None:
         self.unanswered = ctypes.c_uint32()
@@ -115,10 +116,10 @@ class OwedRoom:
 
 
 class Match(Held):
-    """A match between two engines that are not started yet. Sides may be given as the texts of their colours.
+    """A match between two engines that aren't started yet. Sides may be given as the text of their colours.
 
-    What is refused raises Refused, and the match stays as it was: BAD_COLOUR of a side that is none, and what each
-    method names. The defaults aren't those of twogtp: these are a komi of 6.5, 1,000 moves and 2 restarts.
+    A call that is rejected raises Refused, and the match is unchanged: BAD_COLOUR for a side that is none, and what
+    each method names. The defaults aren't those of twogtp, which are a komi of 6.5, 1,000 moves and 2 restarts.
 
     >>> match = Match(size=9, komi=6.5)
     >>> match.next()
@@ -142,7 +143,7 @@ class Match(Held):
     def begin(
         self, size: int = 19, komi: Komi = 0, handicap: int = 0, max_moves: int = 2000, max_restarts: int = 0
     ) -> None:
-        """Begins anew. Causes: BAD_SIZE, BAD_KOMI, BAD_HANDICAP, BAD_MAX_MOVES or BAD_MAX_RESTARTS."""
+        """Begins again. Errors: BAD_SIZE, BAD_KOMI, BAD_HANDICAP, BAD_MAX_MOVES or BAD_MAX_RESTARTS."""
         numbers = [
             integer(handicap, "handicap", "no int; use 0, or one from 2 to 9"),
             integer(max_moves, "max_moves", "no int; use one from 1 to 2000"),
@@ -159,19 +160,19 @@ class Match(Held):
             raise Refused(Cause(cause), *said[Cause(cause)])
 
     def next(self) -> Action:
-        """What is to be done next."""
+        """Returns what to do next."""
         side = ctypes.c_uint32()
         kind = library.vintsaky_match_next(self._held(), ctypes.byref(side))
         return Action(Next(kind), Colour(side.value) if side.value else None)
 
     def started(self, side: AnyColour) -> None:
-        """The side was started, or its start failed: then `lost` comes next. Causes: NOT_NEXT where its start isn't
-        what is next."""
+        """Reports that the side was started. If its start fails, call `lost` next. Errors: NOT_NEXT if that isn't
+        next."""
         number = side_number(side)
         done(library.vintsaky_match_started(self._held(), number), f"started {Colour(number)}")
 
     def send(self, side: AnyColour) -> bytes:
-        """The next command for the side, which counts as sent. Causes: NOT_NEXT where that isn't what is next."""
+        """Returns the next command for the side, which counts as sent. Errors: NOT_NEXT if that isn't next."""
         text, count = ctypes.create_string_buffer(COMMAND_ROOM), ctypes.c_size_t()
         number = side_number(side)
         cause = library.vintsaky_match_send(self._held(), number, text, COMMAND_ROOM, ctypes.byref(count))
@@ -179,14 +180,14 @@ class Match(Held):
         return text.raw[: count.value]
 
     def hear(self, side: AnyColour, data: Bytes) -> Optional[Loss]:
-        """Hears what the side wrote, in any pieces. Why the side fails by it, or None. After the end of the match, also
-        by a ruling, nothing is heard."""
+        """Takes the side's output, in any chunks. Returns why the side fails by it, or None. Once the match is over,
+        also by a ruling, output is ignored."""
         data, number, loss = bytes_of(data), side_number(side), ctypes.c_uint32()
         done(library.vintsaky_match_hear(self._held(), number, data, len(data), ctypes.byref(loss)))
         return Loss(loss.value) if loss.value else None
 
     def report(self, side: AnyColour, data: Bytes) -> Report:
-        """Hears what the side wrote as `hear` does, and says more of what came of it."""
+        """Takes the side's output as `hear` does, and returns more about it."""
         data, number, room = bytes_of(data), side_number(side), OwedRoom()
         loss, retake = ctypes.c_uint32(), ctypes.c_uint32()
         written_to = (ctypes.byref(loss), ctypes.byref(retake), *room.arguments())
@@ -195,51 +196,51 @@ class Match(Held):
         return Report(Loss(loss.value) if loss.value else None, retake.value, room.owed() if happened else None)
 
     def owed(self, side: AnyColour) -> Owed:
-        """What the side owes. Causes: DOWN where it wasn't started or went down, or the match is over."""
+        """Returns what the side owes. Errors: DOWN if it wasn't started or went down, or the match is over."""
         room, number = OwedRoom(), side_number(side)
         done(library.vintsaky_match_owed(self._held(), number, *room.arguments()), f"owed {Colour(number)}")
         return room.owed()
 
     def status(self, side: AnyColour) -> Status:
-        """How far the side is. Causes: DOWN where it wasn't started or went down."""
+        """Returns how far the side is. Errors: DOWN if it wasn't started or went down."""
         confirmed, unanswered, asked = ctypes.c_uint32(), ctypes.c_uint32(), ctypes.c_uint32()
         places, number = (ctypes.byref(confirmed), ctypes.byref(unanswered), ctypes.byref(asked)), side_number(side)
         done(library.vintsaky_match_status(self._held(), number, *places), f"status {Colour(number)}")
         return Status(confirmed.value, unanswered.value, bool(asked.value))
 
     def lost(self, side: AnyColour) -> None:
-        """The side is gone: its output ended, or a read or a write failed. Where its start failed, this comes after
-        `started`. After a loss that is heard it isn't needed, and after a ruling nothing changes."""
+        """Reports that the side is gone: its output ended, or a read or a write failed. If its start failed, call this
+        after `started`. After a loss that `hear` returned it isn't needed, and after a ruling nothing changes."""
         done(library.vintsaky_match_lost(self._held(), side_number(side)))
 
     def in_step(self, side: AnyColour) -> bool:
-        """Whether the side is up, owes nothing, and has confirmed all that brings it to the record."""
+        """Whether the side is in step: up, owing no answer, with all commands confirmed that bring it to the record."""
         holds = ctypes.c_uint32()
         done(library.vintsaky_match_in_step(self._held(), side_number(side), ctypes.byref(holds)))
         return bool(holds.value)
 
     def restarts(self, side: AnyColour) -> int:
-        """How often the side was started again."""
+        """Returns how often the side was restarted."""
         restarts = ctypes.c_uint32()
         done(library.vintsaky_match_restarts(self._held(), side_number(side), ctypes.byref(restarts)))
         return restarts.value
 
     def retakes(self, number: int) -> int:
-        """How many refusals of the move of this number, counted from 1, were met by a retake: 3 at most."""
+        """Returns how often the move of this number, counted from 1, was retaken because it was refused: at most 3."""
         retakes: int = library.vintsaky_match_retakes(self._held(), whole(number, "number"))
         return retakes
 
     def adjudicate(self, side: AnyColour, reason: str = "") -> None:
-        """Ends the match by a ruling: the side loses, for time where there is no reason. A reason has 1 to 20 letters, a
-        to z or A to Z, and spaces, and is none of "refused play", "no move", "no vertex" and "illegal move". After that
-        nothing changes the match but `begin`. Causes: IS_OVER where it is over, BAD_REASON."""
+        """Ends the match by a ruling: the side loses, on time if there is no reason. A reason has 1 to 20 letters, a to
+        z or A to Z, and spaces, and is none of "refused play", "no move", "no vertex" and "illegal move". After that
+        only `begin` changes the match. Errors: IS_OVER if it is over, BAD_REASON."""
         text, number = ascii_of(reason, "reason"), side_number(side)
         cause = library.vintsaky_match_adjudicate(self._held(), number, text, len(text))
         done(cause, f"reason {shown(reason)}" if cause == Cause.BAD_REASON else f"adjudicate {Colour(number)}")
 
     @property
     def taking_back(self) -> Optional[Colour]:
-        """The side whose last move is to be taken back, because the other side refused it."""
+        """The side whose last move is to be undone because the other side refused it, or None."""
         side = library.vintsaky_match_taking_back(self._held())
         return Colour(side) if side else None
 
@@ -264,11 +265,11 @@ class Match(Held):
         return game
 
     def result(self, number: int = 1) -> str:
-        """The line of the match, as the game of this number. Causes: NOT_OVER."""
+        """Returns the result line of the match, as the game of this number. Errors: NOT_OVER."""
         line = library.vintsaky_match_result
         return written(line, self._held(), whole(number, "number"), what=f"result {number}")
 
     @property
     def record(self) -> str:
-        """The vertices of the moves, with single spaces between them."""
+        """The vertices of the moves, separated by single spaces."""
         return text_of(library.vintsaky_match_record, self._held()).decode("ascii")

@@ -45,8 +45,7 @@ def moves_by_text() -> Dict[str, Move]:
 
 
 class Moves(Sequence[Move], metaclass=BriefABC):
-    """The moves of a game's record. It shows the game as it is when it is looked at; a loop goes through the moves that
-    there are when it begins."""
+    """The current moves of a game's record. A loop goes over the moves that there are when it begins."""
 
     __slots__ = ("_game",)
 
@@ -77,7 +76,7 @@ class Moves(Sequence[Move], metaclass=BriefABC):
         return iter(self._made(range(len(self))))
 
     def _made(self, numbers: range) -> List[Move]:
-        """The moves of these numbers, each by one call, whose arguments are made once."""
+        """The moves with these numbers, each by one call, whose arguments are made once."""
         number, colour, vertex = ctypes.c_size_t(), ctypes.c_uint32(), ctypes.c_uint32()
         arguments = self._game._held(), number, ctypes.byref(colour), ctypes.byref(vertex)
         moves: List[Move] = []

@@ -29,7 +29,7 @@ class Colour(IntEnum, metaclass=BriefEnum):
 
     @property
     def text(self) -> str:
-        """As the protocol spells it: b or w."""
+        """The colour as the protocol spells it: b or w."""
         return COLOUR_TEXTS[self]
 
     def __str__(self) -> str:
@@ -44,7 +44,7 @@ WHITE = Colour.WHITE
 
 
 class KoRule(IntEnum, metaclass=BriefEnum):
-    """The boards that a play may not bring back: the one before the last move, or each one of the game."""
+    """The boards that a play may not bring back: the one before the last move, or (POSITIONAL) any earlier one."""
 
     SIMPLE = _declared.SIMPLE
     POSITIONAL = _declared.POSITIONAL
@@ -56,7 +56,7 @@ class _Point(NamedTuple):
 
 
 class Point(_Point, metaclass=BriefABC):
-    """A point: its column and its row, both from 1 to 25, counted from the lower left corner. Its str is its text.
+    """A point: its column and its row, both from 1 to 25, counted from the lower left corner. `str` returns its text.
 
     >>> str(Point(4, 16))
     'D16'
@@ -68,7 +68,7 @@ class Point(_Point, metaclass=BriefABC):
         return written(library.vintsaky_vertex_text, _point_number(self))
 
     def neighbours(self, size: int) -> List[Point]:
-        """The points of a board of this size that are next to it in its row or its column. Causes: BAD_SIZE.
+        """Returns the neighbours of the point on a board of this size. Errors: BAD_SIZE.
 
         >>> [str(point) for point in Point(1, 3).neighbours(5)]
         ['A2', 'B3', 'A4']
@@ -80,9 +80,9 @@ class Point(_Point, metaclass=BriefABC):
         return [point for point in beside if 1 <= point.column <= size and 1 <= point.row <= size]
 
     def turned(self, size: int, symmetry: int) -> Point:
-        """Where the point comes by a symmetry of a board of this size. 0 to 3 are quarter turns to the left, so many; 4
-        to 7 change left and right first, and then are symmetry - 4 such turns. Causes: BAD_VERTEX, BAD_SIZE or
-        OFF_BOARD. A ValueError where the symmetry isn't from 0 to 7.
+        """Returns where a symmetry of a board of this size puts the point. 0 to 3 are that many quarter turns to the
+        left; 4 to 7 swap left and right first, and then make symmetry - 4 such turns. Errors: BAD_VERTEX, BAD_SIZE or
+        OFF_BOARD; ValueError if the symmetry isn't from 0 to 7.
 
         >>> [str(Point(1, 2).turned(9, symmetry)) for symmetry in range(8)]
         ['A2', 'H1', 'J8', 'B9', 'J2', 'H9', 'A8', 'B1']
@@ -98,7 +98,7 @@ class Point(_Point, metaclass=BriefABC):
 
 
 class NoPoint(Enum, metaclass=BriefEnum):
-    """What is chosen in place of a point. Only an engine resigns."""
+    """A choice that isn't a point. Only an engine resigns."""
 
     PASS = "pass"
     RESIGN = "resign"
@@ -121,7 +121,7 @@ VERTICES: Dict[int, Vertex] = {_declared.PASS: PASS, **POINTS}
 
 
 def written(call: Any, *arguments: Any, what: str = "") -> str:
-    """The text that this call writes with its length, which may be refused: then `what` is."""
+    """The text that this call writes with its length. If it is rejected, the error names `what`."""
     room = 256
     while True:
         text = ctypes.create_string_buffer(room)
@@ -143,7 +143,7 @@ MOST_KOMI = 999_999_999.5  # points
 
 
 def colour_number(colour: AnyColour, what: str = "colour") -> int:
-    """The number of a colour, which may be given as its text. Causes: BAD_COLOUR, or BAD_TEXT of a text."""
+    """The number of a colour, which may be given as text. Errors: BAD_COLOUR, or BAD_TEXT for text."""
     if type(colour) is Colour:
         return colour
     if isinstance(colour, (str, bytes)):
@@ -155,9 +155,9 @@ def colour_number(colour: AnyColour, what: str = "colour") -> int:
 
 
 def vertex_number(vertex: AnyChoice, what: str = "vertex") -> int:
-    """The number of a vertex, which may be given as its text. It is called a vertex or a point in errors. Causes:
-    BAD_VERTEX, or BAD_TEXT of a text."""
-    if type(vertex) is Point:  # the quickest, since it comes most often
+    """The number of a vertex, which may be given as text. Errors call it a vertex, a point or a choice. Errors:
+    BAD_VERTEX, or BAD_TEXT for text."""
+    if type(vertex) is Point:  # the fastest way, since this comes most often
         column, row = vertex
         if type(column) is int and type(row) is int and 1 <= column <= 25 and 1 <= row <= 25:
             return row << 8 | column
@@ -175,7 +175,7 @@ def vertex_number(vertex: AnyChoice, what: str = "vertex") -> int:
 
 
 def _point_number(point: Tuple[Any, Any], what: str = "") -> int:
-    """The number of a column and a row."""
+    """The number of the point at a column and a row."""
     named = f"{what}: {shown(point)}" if what else shown(point)
     for name, value in zip(("column", "row"), point):
         if not hasattr(type(value), "__index__"):
@@ -188,7 +188,7 @@ def _point_number(point: Tuple[Any, Any], what: str = "") -> int:
 
 
 def choice_number(choice: AnyChoice) -> int:
-    """The number of a choice: of a vertex, or of a resignation."""
+    """The number of a choice: a vertex, or a resignation."""
     text = choice.decode("ascii", "replace") if isinstance(choice, bytes) else choice
     if choice is RESIGN or isinstance(text, str) and text.lower() == "resign":
         return _declared.RESIGN
@@ -196,24 +196,24 @@ def choice_number(choice: AnyChoice) -> int:
 
 
 def shown_vertex(number: int) -> str:
-    """The vertex of a number, or the resignation, as the protocol spells it."""
+    """The vertex of a number, or a resignation, as the protocol spells it."""
     return str(VERTICES.get(number, RESIGN))
 
 
 def refused_point(cause: int, call: str, number: int) -> Refused:
-    """What is refused of a point, by a call of this name."""
+    """The error for a point that a call of this name rejects."""
     if cause == Cause.BAD_VERTEX:
         return Refused(Cause.BAD_VERTEX, "point", f"PASS is no point; {USED['point']}")
     return Refused(Cause(cause), f"{call} {shown_vertex(number)}")
 
 
 def size_number(size: int) -> int:
-    """The size of a board. Causes: BAD_SIZE."""
+    """The size of a board. Errors: BAD_SIZE."""
     return whole(size, "size", 1, 25, Cause.BAD_SIZE)
 
 
 def rule_number(rule: int) -> int:
-    """The number of a ko rule. Causes: BAD_RULE."""
+    """The number of a ko rule. Errors: BAD_RULE."""
     wanted = "no ko rule; use KoRule.SIMPLE or KoRule.POSITIONAL"
     number = integer(rule, "rule", wanted)
     if number not in (_declared.SIMPLE, _declared.POSITIONAL):
@@ -227,7 +227,7 @@ def symmetry_number(symmetry: int) -> int:
 
 
 def inverse_symmetry(symmetry: int) -> int:
-    """The symmetry that undoes this one: after both, in either order, each point is where it was.
+    """Returns the symmetry that undoes this one: after both, in either order, each point is where it was.
 
     >>> Point(1, 2).turned(9, 1).turned(9, inverse_symmetry(1)) == Point(1, 2)
     True
@@ -237,10 +237,10 @@ def inverse_symmetry(symmetry: int) -> int:
 
 
 def symmetry_map(size: int, symmetry: int) -> Tuple[int, ...]:
-    """For each point of the turned board, in the board's order, the index that it had before. So the plane of a turned
-    board is `[plane[index] for index in symmetry_map(size, symmetry)]`. An index that says where something is, as that
-    of a move, becomes `symmetry_map(size, inverse_symmetry(symmetry))[index]`. Causes: BAD_SIZE. A ValueError where the
-    symmetry isn't from 0 to 7.
+    """Returns for each point of the turned board, in board order, the index that it had before. So the plane of a
+    turned board is `[plane[index] for index in symmetry_map(size, symmetry)]`. An index that says where something is,
+    such as a move, becomes `symmetry_map(size, inverse_symmetry(symmetry))[index]`. Errors: BAD_SIZE; ValueError if the
+    symmetry isn't 0 to 7.
 
     >>> symmetry_map(2, 1)  # A1, whose index is 0, comes to B1
     (2, 0, 3, 1)
@@ -250,14 +250,14 @@ def symmetry_map(size: int, symmetry: int) -> Tuple[int, ...]:
 
 @lru_cache(maxsize=None)
 def _map(size: int, symmetry: int) -> Tuple[int, ...]:
-    """The index to which each point of the board comes."""
+    """The index to which each point of the board moves."""
     board = range(1, size + 1)
     turned = [Point(column, row).turned(size, symmetry) for row in board for column in board]
     return tuple((row - 1) * size + column - 1 for column, row in turned)
 
 
 def _read(call: Any, number: Any, text: Union[str, bytes], what: str, wanted: str) -> int:
-    """The number that this call reads from a text."""
+    """The number that this call reads from text."""
     data = ascii_of(text, what)
     if call(data, len(data), ctypes.byref(number)):
         raise Refused(Cause.BAD_TEXT, what, f"{shown(text)} is {wanted}")
@@ -266,7 +266,7 @@ def _read(call: Any, number: Any, text: Union[str, bytes], what: str, wanted: st
 
 
 def read_colour(text: Union[str, bytes]) -> Colour:
-    """The colour that a text spells: b, w, black or white, in small or capital letters.
+    """Reads a colour: b, w, black or white, in upper or lower case or a mix of both.
 
     >>> read_colour("White").other
     <Colour.BLACK: 1>
@@ -276,7 +276,7 @@ def read_colour(text: Union[str, bytes]) -> Colour:
 
 
 def read_vertex(text: Union[str, bytes]) -> Vertex:
-    """The vertex that a text spells, as the protocol does.
+    """Reads a vertex as the protocol spells it.
 
     >>> read_vertex("j9"), read_vertex("pass")
     (Point(column=9, row=9), <NoPoint.PASS: 'pass'>)
@@ -286,13 +286,13 @@ def read_vertex(text: Union[str, bytes]) -> Vertex:
 
 
 def vertex_text(vertex: AnyVertex) -> str:
-    """A vertex, as the protocol spells it."""
+    """Returns a vertex as the protocol spells it."""
     return written(library.vintsaky_vertex_text, vertex_number(vertex))
 
 
 def half_points(komi: Komi, what: str = "komi") -> int:
-    """A komi in points as half points. Errors: TypeError where it is no number, ValueError where it is no multiple of
-    0.5, and Refused, with BAD_KOMI, where it is more or less than a komi may be."""
+    """A komi in points as half points. Errors: TypeError if it is no number, ValueError if it is no multiple of 0.5,
+    and Refused with BAD_KOMI if it is out of range."""
     if not isinstance(komi, (int, float, Fraction)):
         raise TypeError(f"{what}: {shown(komi)} is a {type(komi).__name__}, and no int, float or Fraction")
     endless = isinstance(komi, float) and math.isinf(komi)
@@ -304,7 +304,7 @@ def half_points(komi: Komi, what: str = "komi") -> int:
 
 
 def read_komi(text: Union[str, bytes]) -> float:
-    """The komi that a text spells, in points.
+    """Reads a komi, in points.
 
     >>> read_komi("+6.50")
     6.5
@@ -314,7 +314,7 @@ def read_komi(text: Union[str, bytes]) -> float:
 
 
 def komi_text(komi: Komi) -> str:
-    """A komi, as the protocol spells it.
+    """Returns a komi as the protocol spells it.
 
     >>> komi_text(7), komi_text(-0.5)
     ('7', '-0.5')

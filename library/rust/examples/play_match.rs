@@ -1,11 +1,11 @@
-//! A tournament program: plays two commands against each other. Usage: play_match SIZE HALF_KOMI BLACK WHITE
+//! A tournament program: plays two engines against each other. Usage: play_match SIZE HALF_KOMI BLACK WHITE
 
 use std::error::Error;
 use std::io::{self, ErrorKind, Read, Write};
 use std::process::{Child, Command, Stdio};
 use vintsaky::{Action, Colour, Komi, Match, Setup};
 
-/// A side: the command of its engine, and the engine that runs.
+/// A side: the command of its engine, and the running engine.
 struct Side<'a>(&'a str, Option<Child>);
 
 impl Side<'_> {
@@ -20,7 +20,7 @@ impl Side<'_> {
         pipe.ok_or(ErrorKind::BrokenPipe)?.write_all(line.as_bytes())
     }
 
-    /// Hears what the engine wrote. The end of it is an error.
+    /// Reads the engine's output. Its end is an error.
     fn hear(&mut self, played: &mut Match, side: Colour) -> io::Result<()> {
         let mut buffer = [0; 4096];
         let pipe = self.1.as_mut().and_then(|engine| engine.stdout.as_mut());

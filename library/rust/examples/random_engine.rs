@@ -1,11 +1,11 @@
-//! An engine that plays a random legal point, but none of its own eyes: all but the choice is the library.
+//! An engine that plays a random legal point that isn't an own eye: the library does everything but choose the move.
 //!
 //! usage: random_engine [SEED]
 
 use std::io::{stdin, stdout};
 use vintsaky::{Choice, Colour, Game, Player, Point, ServeError, Vertex, serve};
 
-/// The engine, by the state of its generator, which is never 0.
+/// The engine: the state of its random generator, which is never 0.
 struct Random(u64);
 
 impl Random {

@@ -1,6 +1,6 @@
 //! An engine that searches by UCT: a tree of moves, each with a copy of the game, and random playouts by the library.
 //!
-//! usage: uct_engine [PLAYOUTS [SEED]]: so many playouts for each choice, else 1000
+//! usage: uct_engine [PLAYOUTS [SEED]]: PLAYOUTS playouts for each choice, 1000 by default
 
 use std::env::args;
 use std::io::{stdin, stdout};
@@ -13,11 +13,11 @@ const MOST_NODES: usize = 1 << 20;
 struct Node {
     /// The move that leads here.
     made: Move,
-    /// The game after it, from the first visit on.
+    /// The game after that move, from the first visit on.
     game: Option<Game>,
     /// The nodes after this one, from the second visit on.
     next: Range<usize>,
-    /// The playouts through this node, and those of them that its colour won; half of a draw.
+    /// The playouts through this node, and how many of them its colour won; a draw counts half.
     visits: f64,
     wins: f64,
 }
@@ -27,12 +27,12 @@ impl Node {
         Node { made: Move { colour, vertex }, game: None, next: 0..0, visits: 0.0, wins: 0.0 }
     }
 
-    /// How much it promises: its share of wins, and more where it has few visits.
+    /// How promising it is: its share of wins, and more if it has few visits.
     fn promise(&self, log_above: f64) -> f64 {
         if self.visits == 0.0 { f64::INFINITY } else { self.wins / self.visits + (log_above / self.visits).sqrt() }
     }
 
-    /// What a playout from here is worth to the colour that made the move: 1 for a win, half of that for a draw.
+    /// The value of a playout from here to the colour that made the move: 1 for a win, 1/2 for a draw.
     fn play_out(&self, seed: u64) -> f64 {
         let game = self.game.as_ref().expect("a node that is visited has its game");
         match game.rollout(self.made.colour.other(), seed, u32::MAX).half_points() {
@@ -42,7 +42,7 @@ impl Node {
     }
 }
 
-/// The engine: its tree, how many playouts it makes for a choice, and the seed of the last one.
+/// The engine: its tree, how many playouts it makes for a choice, and the seed of the last playout.
 struct Uct {
     nodes: Vec<Node>,
     playouts: u32,
@@ -50,7 +50,8 @@ struct Uct {
 }
 
 impl Uct {
-    /// Adds the moves after a node, where the game goes on and there is room: a pass, and legal points but own eyes.
+    /// Adds the moves after a node, if the game isn't over and there is space: a pass, and legal points except own
+    /// eyes.
     fn expand(&mut self, at: usize) {
         let Node { made, game: Some(game), .. } = &self.nodes[at] else { return };
         let (first, colour) = (self.nodes.len(), made.colour.other());
@@ -64,14 +65,14 @@ impl Uct {
         self.nodes[at].next = first..self.nodes.len();
     }
 
-    /// The node after this one that promises most: none where it has none.
+    /// The most promising node after this one, if there is any.
     fn most_promising(&self, at: usize) -> Option<usize> {
         let log_above = self.nodes[at].visits.ln();
         let promise = |next: &usize| self.nodes[*next].promise(log_above);
         self.nodes[at].next.clone().max_by(|one, two| promise(one).total_cmp(&promise(two)))
     }
 
-    /// Makes a playout below a node, which has its game. What it is worth to the node's colour.
+    /// Makes a playout below a node, which has its game. Returns its value to the node's colour.
     fn visit(&mut self, at: usize) -> f64 {
         if self.nodes[at].visits > 0.0 && self.nodes[at].next.is_empty() {
             self.expand(at);
@@ -79,7 +80,7 @@ impl Uct {
         let worth = if let Some(next) = self.most_promising(at) {
             if self.nodes[next].game.is_none() {
                 let mut game = self.nodes[at].game.clone().expect("a node that is visited has its game");
-                // Where the record is full, the game stays, and its playouts make no move.
+                // If the record is full, the game is unchanged, and its playouts make no move.
                 let _ = game.play(self.nodes[next].made.colour, self.nodes[next].made.vertex);
                 self.nodes[next].game = Some(game);
             }
@@ -95,7 +96,7 @@ impl Uct {
 }
 
 impl Player for Uct {
-    /// The choice that was visited most, and of several the one that won most.
+    /// The choice that was visited most; of several, the one that won most.
     fn choose(&mut self, game: &Game, colour: Colour) -> Choice {
         self.nodes = vec![Node { game: Some(game.clone()), ..Node::new(Vertex::Pass, colour.other()) }];
         for _ in 0..self.playouts {

@@ -1,4 +1,4 @@
-//! An engine of the protocol, in steps.
+//! A sans-IO engine of the protocol.
 
 use std::fmt;
 use std::marker::PhantomData;
@@ -12,18 +12,18 @@ use crate::refusal::Refusal;
 use crate::texts;
 use crate::values::{Choice, Colour, KoRule};
 
-/// What came of bytes that an engine was fed.
+/// What came of bytes that were fed to an engine.
 #[derive(Clone, Copy, Debug, PartialEq, Eq, Hash)]
 pub enum Fed {
-    /// All bytes were used, and no line came: read on.
+    /// All bytes were used, and no line ended: read more.
     More,
-    /// A line was answered: write the [reply](Engine::reply).
+    /// A line was answered, also a `quit`: write the [reply](Engine::reply).
     Reply,
-    /// A choice for this colour is asked for: make it by [`Engine::choose`], and write the reply.
+    /// A choice for this colour is waited for: supply it by [`Engine::choose`], then write the reply.
     Asked(Colour),
-    /// A line of a command that isn't the library's: answer or decline it, and write the reply.
+    /// A command that isn't in the protocol's table: answer or decline it, then write the reply.
     Other,
-    /// The session has ended, by a `quit`.
+    /// A `quit` was answered before: stop.
     Ended,
 }
 
@@ -44,7 +44,7 @@ impl Fed {
 pub enum Wait {
     /// A choice for this colour.
     Choice(Colour),
-    /// An answer to a line of a command that isn't the library's.
+    /// An answer to a command that isn't in the protocol's table.
     Answer,
 }
 
@@ -58,8 +58,9 @@ impl Wait {
     }
 }
 
-/// An engine of the Go Text Protocol, in steps: it reads lines, keeps the game and writes replies, and asks its caller
-/// for what it chooses. [`serve`](crate::serve) does all of it for a [`Player`](crate::Player).
+/// A sans-IO engine of the Go Text Protocol. Its caller passes it the bytes that arrived, supplies its moves and writes
+/// its replies; the engine parses lines, keeps the game and makes the replies. [`serve`](crate::serve) does all of that
+/// for a [`Player`](crate::Player).
 ///
 /// ```
 /// use vintsaky::{Choice, Colour, Engine, Fed, Refusal, Vertex};
@@ -75,7 +76,7 @@ impl Wait {
 /// # Ok::<(), Refusal>(())
 /// ```
 ///
-/// An engine may go to another thread:
+/// An engine may move to another thread:
 ///
 /// ```
 /// let engine = vintsaky::Engine::new();
@@ -87,55 +88,56 @@ pub struct Engine {
 }
 
 impl Engine {
-    /// An engine by simple ko that was given nothing.
+    /// Returns an engine under simple ko that has received nothing.
     pub fn new() -> Self {
         Self { inner: Box::new(Steps::new(KoRule::Simple.inner())), _not_sync: PhantomData }
     }
 
-    /// Begins the engine anew, under a ko rule.
+    /// Resets the engine, under a ko rule.
     pub fn begin(&mut self, rule: KoRule) {
         *self.inner = Steps::new(rule.inner());
     }
 
-    /// Whether the session has ended, by a `quit`.
+    /// Returns whether the session has ended, by a `quit`.
     pub fn is_ended(&self) -> bool {
         self.inner.ended()
     }
 
-    /// Takes the next bytes up to the end of a line that is to be answered, or all of them. Returns what came of them,
-    /// and how many were used. While something is waited for, none is used.
+    /// Takes the next chunk, up to the end of a line that needs an answer, or all of it. Returns what came of it, and
+    /// how many bytes were used. While the engine waits for something, none is used.
     pub fn feed(&mut self, bytes: &[u8]) -> (Fed, usize) {
         let fed = self.inner.feed(bytes);
         (Fed::of(fed.event), fed.used)
     }
 
-    /// What is waited for: nothing where none.
+    /// Returns what the engine waits for, if anything.
     pub fn wait(&self) -> Option<Wait> {
         Wait::of(self.inner.wait())
     }
 
-    /// Makes the choice that is asked for.
+    /// Supplies the choice that the engine waits for.
     ///
     /// # Errors
     ///
-    /// [`Refusal::NotAsked`], or else [`Refusal::OffBoard`], [`Refusal::Occupied`],
-    /// [`Refusal::Suicide`] or [`Refusal::Ko`]. A choice that was asked for is still asked for.
+    /// [`Refusal::NotAsked`], or else [`Refusal::OffBoard`], [`Refusal::Occupied`], [`Refusal::Suicide`] or
+    /// [`Refusal::Ko`]. The engine still waits for a choice if it did before.
     pub fn choose(&mut self, choice: impl Into<Choice>) -> Result<(), Refusal> {
         self.inner.choose(choice.into().inner()).map_err(Refusal::of_choice)
     }
 
-    /// Answers the line of another command: by a success with this text, or a failure.
+    /// Answers a command that isn't in the protocol's table: by a success or a failure with this text.
     ///
     /// # Errors
     ///
-    /// [`Refusal::NotAsked`], or else [`Refusal::BadText`] where no reply may have the text: it has more than 2,000
-    /// bytes, a byte that is neither a newline nor 32 to 126, an empty line, or a space or a newline at an end.
+    /// [`Refusal::NotAsked`], or else [`Refusal::BadText`] if the text isn't allowed in a reply: it has more than 2,000
+    /// bytes, a byte that is neither a newline nor 32 to 126, an empty line, or a space or newline at its beginning or
+    /// end.
     pub fn answer(&mut self, answer: Result<&str, &str>) -> Result<(), Refusal> {
         let (Ok(text) | Err(text)) = answer;
         self.inner.answer(answer.is_ok(), text.as_bytes()).map_err(Refusal::of_answer)
     }
 
-    /// Answers the line of another command by a failure: `unknown command`.
+    /// Answers a command that isn't in the protocol's table by a failure: `unknown command`.
     ///
     /// # Errors
     ///
@@ -144,68 +146,68 @@ impl Engine {
         self.inner.decline().map_err(Refusal::of_answer)
     }
 
-    /// Answers `name` by this text from now on.
+    /// Sets the text that answers `name` from now on.
     ///
     /// # Errors
     ///
-    /// [`Refusal::BadText`] where it has more than 200 bytes, or no reply may have it.
+    /// [`Refusal::BadText`] if it has more than 200 bytes, or isn't allowed in a reply.
     pub fn set_name(&mut self, text: &str) -> Result<(), Refusal> {
         self.inner.set_name(text.as_bytes()).map_err(|_no_title| Refusal::BadText)
     }
 
-    /// Answers `version` by this text from now on.
+    /// Sets the text that answers `version` from now on.
     ///
     /// # Errors
     ///
-    /// As those of [`set_name`](Self::set_name).
+    /// Those of [`set_name`](Self::set_name).
     pub fn set_version(&mut self, text: &str) -> Result<(), Refusal> {
         self.inner.set_version(text.as_bytes()).map_err(|_no_title| Refusal::BadText)
     }
 
-    /// Adds a command of the author's own, which `known_command` and `list_commands` then name.
+    /// Adds a custom command, which `known_command` and `list_commands` then report.
     ///
     /// # Errors
     ///
     /// [`Refusal::BadLength`], [`Refusal::BadByte`], [`Refusal::OnlyDigits`], [`Refusal::InTable`],
-    /// [`Refusal::AddedBefore`] or [`Refusal::TooMany`], the first of these that holds.
+    /// [`Refusal::AddedBefore`] or [`Refusal::TooMany`], the first of these that applies.
     pub fn add_command(&mut self, name: &str) -> Result<(), Refusal> {
         self.inner.add_command(name.as_bytes()).map_err(Refusal::of_command)
     }
 
-    /// A copy of the engine's game.
+    /// Returns a copy of the engine's game.
     pub fn game(&self) -> Game {
         Game::copy_of(self.inner.game())
     }
 
-    /// Copies the engine's game into one that is there already.
+    /// Copies the engine's game into an existing one.
     pub fn copy_game(&self, game: &mut Game) {
         game.copy(self.inner.game());
     }
 
-    /// The last reply, with its two newlines: empty before the first.
+    /// Returns the last reply, with its two newlines: empty before the first.
     pub fn reply(&self) -> String {
         texts::string_of(self.reply_bytes())
     }
 
-    /// A word of the line that is waited for, counted from 0 after the id.
+    /// Returns a word of the line for which a choice or an answer is waited for, counted from 0 after the id.
     ///
     /// # Errors
     ///
-    /// [`Refusal::NotAsked`] where no line is waited for, or else [`Refusal::NoWord`].
+    /// [`Refusal::NotAsked`] if nothing is waited for, or else [`Refusal::NoWord`].
     pub fn word(&self, number: usize) -> Result<Vec<u8>, Refusal> {
         self.line()?.word(number).map(<[u8]>::to_vec).ok_or(Refusal::NoWord)
     }
 
-    /// The words of the line that is waited for, after the id. There are none where no line is.
+    /// Returns the words of that line, after the id: none if nothing is waited for.
     pub fn words(&self) -> impl Iterator<Item = Vec<u8>> + '_ {
         (0..).map_while(|number| self.word(number).ok())
     }
 
-    /// The id of the line that is waited for.
+    /// Returns the id of that line.
     ///
     /// # Errors
     ///
-    /// [`Refusal::NotAsked`] where no line is waited for, or else [`Refusal::NoId`].
+    /// [`Refusal::NotAsked`] if nothing is waited for, or else [`Refusal::NoId`].
     pub fn id(&self) -> Result<u32, Refusal> {
         self.line()?.id().ok_or(Refusal::NoId)
     }
@@ -215,7 +217,7 @@ impl Engine {
         self.inner.reply()
     }
 
-    /// The line that is waited for.
+    /// The line for which a choice or an answer is waited for.
     fn line(&self) -> Result<&CommandLine, Refusal> {
         self.inner.line().ok_or(Refusal::NotAsked)
     }

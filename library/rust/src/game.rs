@@ -13,10 +13,10 @@ use crate::refusal::Refusal;
 use crate::texts;
 use crate::values::{Colour, KoRule, Komi, Move, Point, Score, Vertex, checked_size};
 
-/// The size of a game that was given none.
+/// The size of a game by default.
 const FIRST_SIZE: u32 = 19;
 
-/// A game of Go: its ko rule, its size, its komi, its board and the record of its moves. Any colour may move at any
+/// A game of Go: its ko rule, its size, its komi, its board and the record of its moves. Either colour may move at any
 /// time. All stones count as alive, and the score is by area.
 ///
 /// Its text is the board:
@@ -30,14 +30,14 @@ const FIRST_SIZE: u32 = 19;
 /// # Ok::<(), Refusal>(())
 /// ```
 ///
-/// A game may go to another thread:
+/// A game may move to another thread:
 ///
 /// ```
 /// let game = vintsaky::Game::new();
 /// assert_eq!(std::thread::spawn(move || game.size()).join().ok(), Some(19));
 /// ```
 ///
-/// But two threads don't share one:
+/// But two threads can't share one:
 ///
 /// ```compile_fail,E0277
 /// let game = vintsaky::Game::new();
@@ -50,41 +50,41 @@ pub struct Game {
     _not_sync: NotSync,
 }
 
-/// A chain, by what it has.
+/// What a chain has.
 #[derive(Clone, Copy, Debug, PartialEq, Eq, Hash)]
 pub struct Chain {
     /// How many stones.
     pub stones: u32,
-    /// How many empty points are beside them.
+    /// How many liberties.
     pub liberties: u32,
 }
 
 impl Game {
-    /// A game of size 19, without komi, by simple ko.
+    /// Returns a game of size 19, without komi, under simple ko.
     pub fn new() -> Self {
         Self::with(KoRule::Simple, FIRST_SIZE, Komi::default()).expect("19 is a size")
     }
 
-    /// A game by these rules.
+    /// Returns a game with this ko rule, size and komi.
     ///
     /// # Errors
     ///
-    /// [`Refusal::BadSize`] where the size isn't from 1 to 25.
+    /// [`Refusal::BadSize`] if the size isn't from 1 to 25.
     pub fn with(rule: KoRule, size: u32, komi: Komi) -> Result<Self, Refusal> {
         Ok(Self::of(go_board::Game::with_rule(checked_size(size)?, komi.inner(), rule.inner())))
     }
 
-    /// Begins the game anew, on an empty board.
+    /// Resets the game to an empty board, with this ko rule, size and komi.
     ///
     /// # Errors
     ///
-    /// [`Refusal::BadSize`] where the size isn't from 1 to 25.
+    /// [`Refusal::BadSize`] if the size isn't from 1 to 25.
     pub fn begin(&mut self, rule: KoRule, size: u32, komi: Komi) -> Result<(), Refusal> {
         *self.inner = go_board::Game::with_rule(checked_size(size)?, komi.inner(), rule.inner());
         Ok(())
     }
 
-    /// Makes a move.
+    /// Plays a move.
     ///
     /// ```
     /// use vintsaky::{Colour, Game, Point, Refusal, Vertex};
@@ -103,7 +103,7 @@ impl Game {
         self.inner.play(colour.inner(), vertex.into().inner()).map_err(Refusal::of_play)
     }
 
-    /// Whether a colour may make a move next. It isn't looked at whether the record has room.
+    /// Checks whether a colour may make a move next, even if the record is full.
     ///
     /// # Errors
     ///
@@ -113,21 +113,21 @@ impl Game {
         fault.map_or(Ok(()), |fault| Err(Refusal::of_play(fault)))
     }
 
-    /// Takes back the last move.
+    /// Undoes the last move.
     ///
     /// # Errors
     ///
-    /// [`Refusal::NothingToUndo`] where the record has no move.
+    /// [`Refusal::NothingToUndo`] if the record has no move.
     pub fn undo(&mut self) -> Result<(), Refusal> {
         self.inner.undo().map(|_last| ()).map_err(|_none| Refusal::NothingToUndo)
     }
 
-    /// Sets the komi. The board and the record stay.
+    /// Sets the komi. The board and the record are unchanged.
     pub fn set_komi(&mut self, komi: Komi) {
         self.inner.set_komi(komi.inner());
     }
 
-    /// Puts handicap stones on their fixed points.
+    /// Places handicap stones on their fixed points.
     ///
     /// # Errors
     ///
@@ -136,28 +136,28 @@ impl Game {
         self.inner.place_handicap(stones).map(|_points| ()).map_err(Refusal::of_handicap)
     }
 
-    /// The ko rule.
+    /// Returns the ko rule.
     pub fn rule(&self) -> KoRule {
         KoRule::of(self.inner.rule())
     }
 
-    /// The size of the board, from 1 to 25.
+    /// Returns the size of the board, 1 to 25.
     pub fn size(&self) -> u32 {
         self.inner.size().get()
     }
 
-    /// The komi.
+    /// Returns the komi.
     pub fn komi(&self) -> Komi {
         Komi::of(self.inner.komi())
     }
 
-    /// How many handicap stones were placed, or 0.
+    /// Returns the number of handicap stones that were placed, or 0.
     pub fn handicap(&self) -> u32 {
         self.inner.handicap()
     }
 
-    /// The colour whose turn it is: the other one than that of the last move. Without a move that is Black, or White
-    /// where handicap stones were placed.
+    /// Returns the colour whose turn it is: the one that didn't make the last move. Before the first move it is Black,
+    /// or White if handicap stones were placed.
     pub fn turn(&self) -> Colour {
         match self.inner.moves().last() {
             Some(last) => Colour::of(last.colour.other()),
@@ -166,33 +166,33 @@ impl Game {
         }
     }
 
-    /// How many moves the record has.
+    /// Returns the number of moves in the record.
     pub fn length(&self) -> usize {
         self.inner.moves().len()
     }
 
-    /// The score by area, after the komi.
+    /// Returns the area score, after komi.
     pub fn score(&self) -> Score {
         Score::of(self.inner.score())
     }
 
-    /// Whether the last two moves are passes.
+    /// Returns whether the last two moves are passes.
     pub fn is_finished(&self) -> bool {
         self.inner.finished()
     }
 
-    /// A hash of the board and its size: equal boards of one size have equal hashes. So different ones show that size
-    /// or board differs, and equal ones show nothing.
+    /// Returns a hash of the board and its size. Equal boards of one size have equal hashes. So different hashes show
+    /// that board or size differ; equal hashes show nothing.
     pub fn board_hash(&self) -> u64 {
         self.inner.board_hash()
     }
 
-    /// How many stones a colour has taken.
+    /// Returns how many stones a colour has captured.
     pub fn captured(&self, colour: Colour) -> u32 {
         self.inner.captured(colour.inner())
     }
 
-    /// The colour of the stone on a point: none where it is empty.
+    /// Returns the colour of the stone on a point, or `None` if it is empty.
     ///
     /// # Errors
     ///
@@ -201,7 +201,7 @@ impl Game {
         Ok(self.inner.at(self.on_board(point)?).map(Colour::of))
     }
 
-    /// The chain of the stone on a point.
+    /// Returns the chain of the stone on a point.
     ///
     /// # Errors
     ///
@@ -211,8 +211,8 @@ impl Game {
         Ok(Chain { stones: chain.stones, liberties: chain.liberties })
     }
 
-    /// The points on which a colour may play next, row by row from A1. They are those of the game as it is now. The
-    /// number of moves doesn't count, though a full record takes no more.
+    /// Returns the points where a colour may play next in the current game, row by row from A1, even if the record is
+    /// full.
     ///
     /// ```
     /// use vintsaky::{Colour, Game, Komi, KoRule, Refusal};
@@ -221,7 +221,7 @@ impl Game {
     /// for point in game.legal_points(Colour::Black).take(3) {
     ///     game.play(Colour::Black, point)?;
     /// }
-    /// // Black's last point would be suicide, and White takes all by it.
+    /// // Black's last point would be suicide, and White captures all by it.
     /// assert_eq!(game.legal_points(Colour::Black).count(), 0);
     /// assert_eq!(game.legal_points(Colour::White).next(), Some("B2".parse()?));
     /// # Ok::<(), Refusal>(())
@@ -230,17 +230,17 @@ impl Game {
         listed(Point::of, |points| self.inner.legal_points_into(colour.inner(), points))
     }
 
-    /// The points whose stones the last move took, row by row from A1.
+    /// Returns the points whose stones the last move captured, row by row from A1.
     pub fn taken_by_last_move(&self) -> impl ExactSizeIterator<Item = Point> + DoubleEndedIterator + use<> {
         listed(Point::of, |points| self.inner.taken_by_last_move_into(points))
     }
 
-    /// A move of the record, counted from 0: none where the record has no such move.
+    /// Returns a move of the record, counted from 0, or `None` if the record has no such move.
     pub fn made(&self, number: usize) -> Option<Move> {
         self.inner.moves().get(number).copied().map(Move::of)
     }
 
-    /// The moves of the record, the first one first.
+    /// Returns the moves of the record, in order.
     ///
     /// ```
     /// use vintsaky::{Colour, Game, Refusal, Vertex};
@@ -256,7 +256,7 @@ impl Game {
         self.inner.moves().iter().copied().map(Move::of)
     }
 
-    /// The point, where the board has it.
+    /// The point, if it is on the board.
     fn on_board(&self, point: Point) -> Result<go_base::Point, Refusal> {
         let point = point.inner();
         point.on(self.inner.size()).then_some(point).ok_or(Refusal::OffBoard)
@@ -266,7 +266,7 @@ impl Game {
         Self { inner: Box::new(game), _not_sync: PhantomData }
     }
 
-    /// Becomes a copy of a game, and takes no memory.
+    /// Becomes a copy of a game, and allocates no memory.
     pub(crate) fn copy(&mut self, game: &go_board::Game) {
         self.inner.copy_from(game);
     }
@@ -288,7 +288,7 @@ impl Clone for Game {
         Self::copy_of(&self.inner)
     }
 
-    /// Becomes a copy of another game, and takes no memory.
+    /// Becomes a copy of another game, and allocates no memory.
     fn clone_from(&mut self, other: &Self) {
         self.copy(&other.inner);
     }

@@ -1,7 +1,7 @@
 //! The rules of Go, the controller of a match, and engines of the Go Text Protocol (GTP), over crates that are proved.
 //!
 //! - [`Game`] has the rules: moves, legality, undo, captures and the score.
-//! - [`serve`] and [`Player`] make an engine of whoever chooses moves. [`Engine`] is the same in steps.
+//! - [`serve`] and [`Player`] make an engine from anything that chooses moves. [`Engine`] is a sans-IO engine.
 //! - [`Match`] is the controller between two engines.
 //! - [`CommandLines`] and [`Replies`] read the protocol's lines; [`Command`] and [`reply`] write them.
 //!
@@ -18,8 +18,8 @@
 //! }
 //! ```
 //!
-//! No call panics, whatever it is given. The types are `Send` and not `Sync`: an object may go to another thread, and
-//! one thread at a time has it.
+//! No call panics, whatever its arguments. The types are `Send` and not `Sync`: an object may move to another thread,
+//! and only one thread at a time has it.
 
 #![deny(missing_docs)]
 #![forbid(unsafe_code)]
@@ -48,13 +48,14 @@ pub use refusal::Refusal;
 pub use values::{Choice, Colour, KoRule, Komi, Move, Point, Score, Vertex};
 pub use writers::{Command, reply};
 
-/// The version of the library that this crate is made for, as [`version`] returns that of the library it has.
+/// The version of the library that this crate is made for, in the form in which [`version`] returns that of the library
+/// it has.
 pub const VERSION: u32 = 0x010000;
 
-/// The version of the library: 65536 times the first number, 256 times the second, and the third.
+/// Returns the version of the library: 65536 times the first number, plus 256 times the second, plus the third.
 pub fn version() -> u32 {
     vintsaky_calls::library::version()
 }
 
-/// What keeps a type from being `Sync`, and leaves it `Send`.
+/// Keeps a type from being `Sync`, and leaves it `Send`.
 type NotSync = PhantomData<Cell<()>>;

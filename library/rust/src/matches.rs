@@ -13,7 +13,7 @@ use crate::refusal::Refusal;
 use crate::texts;
 use crate::values::{Colour, Komi, checked_size};
 
-/// What a match is about.
+/// The settings of a match.
 #[derive(Clone, Copy, Debug, PartialEq, Eq, Hash)]
 pub struct Setup {
     /// The size of the board, from 1 to 25.
@@ -22,9 +22,9 @@ pub struct Setup {
     pub komi: Komi,
     /// The number of handicap stones, or 0.
     pub handicap: u32,
-    /// How many moves the record may have, from 1 to 2,000.
+    /// The move limit, from 1 to 2,000.
     pub max_moves: u32,
-    /// How often a side may be started again, from 0 to 1,000.
+    /// The restart limit of each side, from 0 to 1,000.
     pub max_restarts: u32,
 }
 
@@ -37,14 +37,14 @@ impl Setup {
 }
 
 impl Default for Setup {
-    /// Size 19, no komi, no handicap, 2,000 moves at most, and no restart.
+    /// Size 19, no komi, no handicap, at most 2,000 moves, and no restart.
     fn default() -> Self {
         Self { size: 19, komi: Komi::default(), handicap: 0, max_moves: 2000, max_restarts: 0 }
     }
 }
 
-/// A match between two engines, whose controller it is. It starts no process and reads nothing: it says what is to be done
-/// next, and hears what came of it.
+/// The controller of a match between two engines. It starts no process and reads nothing: it says what to do next, and
+/// you report what came of it.
 ///
 /// ```
 /// use vintsaky::{Action, Colour, Match, Refusal};
@@ -56,14 +56,14 @@ impl Default for Setup {
 ///     let line = held.send(Colour::Black)?;
 ///     assert!(line.ends_with('\n'));
 /// }
-/// // Black can't be reached, and may not be started again.
+/// // Black can't be reached, and may not be restarted.
 /// held.lost(Colour::Black);
 /// assert_eq!(held.next_action(), Action::Over);
 /// assert_eq!(held.result(1)?, "game 1: abandoned black moves 0 restarts 0 0");
 /// # Ok::<(), Refusal>(())
 /// ```
 ///
-/// A match may go to another thread:
+/// A match may move to another thread:
 ///
 /// ```
 /// let held = vintsaky::Match::new();
@@ -76,33 +76,33 @@ pub struct Match {
 }
 
 impl Match {
-    /// A match of the default [`Setup`], whose engines are not started yet.
+    /// Returns a match with the default [`Setup`], whose engines aren't started yet.
     pub fn new() -> Self {
         Self::with(Setup::default()).expect("the default setup is one")
     }
 
-    /// A match about this, whose engines are not started yet.
+    /// Returns a match with this setup, whose engines aren't started yet.
     ///
     /// # Errors
     ///
-    /// As those of [`begin`](Self::begin).
+    /// Those of [`begin`](Self::begin).
     pub fn with(setup: Setup) -> Result<Self, Refusal> {
         let inner = Box::new(RefereedMatch::new(setup.inner()?));
         Ok(Self { inner, _not_sync: PhantomData })
     }
 
-    /// Begins a match anew, between two engines that are not started yet.
+    /// Begins a match again, between two engines that aren't started yet.
     ///
     /// # Errors
     ///
     /// [`Refusal::BadSize`], [`Refusal::BadHandicap`], [`Refusal::BadMaxMoves`] or [`Refusal::BadMaxRestarts`], the
-    /// first of these that holds.
+    /// first of these that applies.
     pub fn begin(&mut self, setup: Setup) -> Result<(), Refusal> {
         *self.inner = RefereedMatch::new(setup.inner()?);
         Ok(())
     }
 
-    /// What is to be done next. Ask each time. After a ruling the match is over.
+    /// Returns what to do next. Call it before each step. After a ruling the match is over.
     pub fn next_action(&self) -> Action {
         self.inner.next().map_or(Action::Over, Action::of)
     }
@@ -112,39 +112,39 @@ impl Match {
         (self.next_action() == action).then_some(()).ok_or(Refusal::NotNext)
     }
 
-    /// A side's engine was started; also where it couldn't be, and [`lost`](Self::lost) comes next.
+    /// Reports that a side's engine was started. If it couldn't be started, call this and then [`lost`](Self::lost).
     ///
     /// # Errors
     ///
-    /// [`Refusal::NotNext`] where its start isn't what is next.
+    /// [`Refusal::NotNext`] if its start isn't what is next.
     pub fn started(&mut self, side: Colour) -> Result<(), Refusal> {
         self.is_next(Action::Start(side))?;
         self.inner.started(side.inner());
         Ok(())
     }
 
-    /// The next command for a side, with its newline. It counts as sent.
+    /// Returns the next command for a side, with its newline. It counts as sent.
     ///
     /// # Errors
     ///
-    /// [`Refusal::NotNext`] where that isn't what is next.
+    /// [`Refusal::NotNext`] if that isn't what is next.
     pub fn send(&mut self, side: Colour) -> Result<String, Refusal> {
         self.is_next(Action::Send(side))?;
         Ok(texts::string_of(&self.inner.send(side.inner())))
     }
 
-    /// Hears what a side wrote, in any pieces. Returns why the side fails by it, where it does. After the end of the match,
-    /// also by a ruling, nothing is heard.
+    /// Takes a side's output, in any chunks. Returns why the side fails by it, if it does. Once the match is over, also
+    /// by a ruling, output is ignored.
     pub fn hear(&mut self, side: Colour, bytes: &[u8]) -> Option<Loss> {
         self.inner.hear_reporting(side.inner(), bytes).loss.as_ref().map(Loss::of)
     }
 
-    /// Hears what a side wrote as [`hear`](Self::hear) does, and reports more of it.
+    /// Takes a side's output as [`hear`](Self::hear) does, and reports more about it.
     pub fn hear_reporting(&mut self, side: Colour, bytes: &[u8]) -> Report {
         Report::of(&self.inner.hear_reporting(side.inner(), bytes))
     }
 
-    /// What a side owes.
+    /// Returns what a side owes.
     ///
     /// # Errors
     ///
@@ -153,41 +153,42 @@ impl Match {
         self.inner.owed(side.inner()).as_ref().map(Owed::of).ok_or(Refusal::Down)
     }
 
-    /// How far a side is. It doesn't matter whether the match is over.
+    /// Returns how far a side is. It doesn't matter whether the match is over.
     ///
     /// # Errors
     ///
-    /// [`Refusal::Down`] where the side was not started or went down.
+    /// [`Refusal::Down`] if the side was not started or went down.
     pub fn status(&self, side: Colour) -> Result<Status, Refusal> {
         Status::of(self.inner.played().status(side.inner())).ok_or(Refusal::Down)
     }
 
-    /// A side is gone: it can't be started, written to or read any more. After a ruling nothing changes.
+    /// Reports that a side is gone: it can't be started, written to or read any more. After a ruling nothing changes.
     pub fn lost(&mut self, side: Colour) {
         self.inner.lost(side.inner());
     }
 
-    /// Whether a side is in step: it has confirmed all that brings it to the record.
+    /// Returns whether a side is in step: it is up, owes no answer, and has confirmed all commands that bring it to the
+    /// record.
     pub fn is_in_step(&self, side: Colour) -> bool {
         self.inner.played().in_step(side.inner())
     }
 
-    /// How often a side was started again.
+    /// Returns how often a side was restarted.
     pub fn restarts(&self, side: Colour) -> u32 {
         self.inner.played().restarts(side.inner())
     }
 
-    /// How many refusals of the move of this number, counted from 1, were met by a retake: 3 at most.
+    /// Returns how often the move of this number, counted from 1, was retaken because it was refused: at most 3.
     pub fn retakes(&self, number: u32) -> u32 {
         self.inner.played().retakes(number)
     }
 
-    /// The side whose last move is to be taken back, because the other side refused it.
+    /// Returns the side whose last move is to be undone because the other side refused it, if any.
     pub fn taking_back(&self) -> Option<Colour> {
         self.inner.played().taking_back().map(Colour::of)
     }
 
-    /// How the match ended.
+    /// Returns how the match ended.
     ///
     /// # Errors
     ///
@@ -197,9 +198,9 @@ impl Match {
         ruled.or(self.inner.verdict().map(Verdict::of)).ok_or(Refusal::NotOver)
     }
 
-    /// Ends a match that isn't over: the side loses. Where the reason is empty, it loses for time. Else the reason is of 1
-    /// to 20 letters and spaces, and none of `refused play`, `no move`, `no vertex` and `illegal move`. After that nothing
-    /// changes the match but [`begin`](Self::begin).
+    /// Ends a match that isn't over: the side loses. An empty reason means that it loses on time. Otherwise the reason
+    /// has 1 to 20 letters and spaces, and is none of `refused play`, `no move`, `no vertex` and `illegal move`. After
+    /// that only [`begin`](Self::begin) changes the match.
     ///
     /// ```
     /// use vintsaky::{Colour, Match, Refusal, Verdict};
@@ -218,22 +219,22 @@ impl Match {
         self.inner.adjudicate(side.inner(), reason.as_bytes()).map_err(Refusal::of_ruling)
     }
 
-    /// The reason of the ruling that ended the match: empty where the side lost for time, and where there is no ruling.
+    /// Returns the reason of the ruling that ended the match: empty if the side lost on time, or if there is no ruling.
     pub fn reason(&self) -> String {
         texts::string_of(self.inner.reason())
     }
-    /// A copy of the match's game.
+    /// Returns a copy of the match's game.
     pub fn game(&self) -> Game {
         Game::copy_of(self.inner.played().game())
     }
 
-    /// Copies the match's game into one that is there already.
+    /// Copies the match's game into an existing one.
     pub fn copy_game(&self, game: &mut Game) {
         game.copy(self.inner.played().game());
     }
 
-    /// The line of a match that is over, with this number: that of `twogtp`. Where Black loses by a ruling, its verdict is
-    /// `W+T`, or `W+F(REASON)` where there is a reason.
+    /// Returns the result line of a match that is over, as `twogtp` prints it for the game with this number. If Black
+    /// loses by a ruling, the verdict is `W+T`, or `W+F(REASON)` if there is a reason.
     ///
     /// # Errors
     ///
@@ -242,7 +243,7 @@ impl Match {
         result_line(number, &self.inner).map(|line| texts::string_of(&line)).ok_or(Refusal::NotOver)
     }
 
-    /// The moves of the match: their vertices, with a space between any two.
+    /// Returns the moves of the match: their vertices, separated by single spaces.
     pub fn record(&self) -> String {
         texts::string_of(&record_line(self.inner.played()))
     }

@@ -1,4 +1,4 @@
-//! What a match says: what is next, why a side fails, and how it ended.
+//! What a match reports: what is next, why a side fails, and how it ended.
 
 use std::fmt;
 
@@ -10,14 +10,14 @@ use gtp_wire::write_command;
 use crate::texts;
 use crate::values::{Colour, Score};
 
-/// What is to be done next in a match.
+/// What to do next in a match.
 #[derive(Clone, Copy, Debug, PartialEq, Eq, Hash)]
 pub enum Action {
-    /// Start this side's engine, and say so by [`Match::started`](crate::Match::started).
+    /// Start this side's engine, and report that by [`Match::started`](crate::Match::started).
     Start(Colour),
-    /// Send this side a command, which [`Match::send`](crate::Match::send) returns.
+    /// Send this side the command that [`Match::send`](crate::Match::send) returns.
     Send(Colour),
-    /// Wait for what this side writes, and hand it to [`Match::hear`](crate::Match::hear).
+    /// Wait for this side's output, and pass it to [`Match::hear`](crate::Match::hear).
     Wait(Colour),
     /// Nothing: the match is over.
     Over,
@@ -34,29 +34,29 @@ impl Action {
     }
 }
 
-/// Why a side fails by what it wrote.
+/// Why a side fails by its output.
 #[derive(Clone, Copy, Debug, PartialEq, Eq, Hash)]
 #[non_exhaustive]
 pub enum Loss {
-    /// What it wrote is no reply: it begins with neither `=` nor `?`. It goes down.
+    /// What it wrote isn't a reply: it begins with neither `=` nor `?`. It goes down.
     NoStatus,
     /// More than 8,192 bytes came since its last reply. It goes down.
     Overlong,
-    /// The reply hasn't the id of the oldest unanswered command. It goes down.
+    /// The reply doesn't have the id of the oldest unanswered command. It goes down.
     WrongId,
-    /// A reply came where no command is unanswered. It goes down.
+    /// A reply came when no command was unanswered. It goes down.
     Unasked,
-    /// It failed at a command that brings it to the record, or placed another handicap. It is unfit.
+    /// It failed at a command of its script other than a play, or placed another handicap. It is unfit.
     Unfit,
     /// It refused a play that isn't retaken. It forfeits.
     RefusesPlay,
-    /// It didn't take back its move, which the other side refused. The other side forfeits.
+    /// It didn't undo its move, which the other side refused. The other side forfeits.
     KeepsMove,
     /// It failed at a genmove. It forfeits.
     NoMove,
     /// Its answer to a genmove is neither a vertex nor a resignation. It forfeits.
     NoVertex,
-    /// The record has no room for its move. It forfeits.
+    /// The record is full, so that its move can't be added. It forfeits.
     Full,
     /// Its move is off the board. It forfeits.
     OffBoard,
@@ -64,7 +64,7 @@ pub enum Loss {
     Occupied,
     /// Its move is suicide. It forfeits.
     Suicide,
-    /// Its move is ko. It forfeits.
+    /// Its move is forbidden by the ko rule. It forfeits.
     Ko,
     /// A loss of another release, by its number. No call of this crate returns it.
     Unknown(u32),
@@ -130,7 +130,7 @@ impl fmt::Display for Loss {
 pub struct Owed {
     /// How many commands it hasn't answered.
     pub unanswered: u32,
-    /// The oldest of these, as it was sent: empty where there is none.
+    /// The oldest of these, as it was sent: empty if there is none.
     pub command: String,
     /// The first 80 bytes that it wrote since its last whole reply.
     pub wrote: Vec<u8>,
@@ -144,14 +144,14 @@ impl Owed {
     }
 }
 
-/// What is reported of bytes that a side wrote.
+/// What is reported of a side's output.
 #[derive(Clone, Debug, Default, PartialEq, Eq, Hash)]
 pub struct Report {
-    /// Why the side fails by them, where it does.
+    /// Why the side fails by it, if it does.
     pub loss: Option<Loss>,
-    /// Where the side refused a play that is retaken: which retake of its number it is, 1 to 3.
+    /// If the side refused a play that is retaken: which retake of this move number it is, 1 to 3.
     pub retake: Option<u32>,
-    /// What the side owed, where there is a loss or a retake.
+    /// What the side owed, if there is a loss or a retake.
     pub owed: Option<Owed>,
 }
 
@@ -166,7 +166,7 @@ impl Report {
 /// How far a side is.
 #[derive(Clone, Copy, Debug, PartialEq, Eq, Hash)]
 pub struct Status {
-    /// How many commands it has confirmed of those that bring it to the record.
+    /// How many of the commands that bring it to the record it has confirmed.
     pub confirmed: u32,
     /// How many commands it hasn't answered.
     pub unanswered: u32,
@@ -175,7 +175,7 @@ pub struct Status {
 }
 
 impl Status {
-    /// How far a side is that is up.
+    /// How far a side is, if it is up.
     pub(crate) fn of(status: gtp_match::Status) -> Option<Self> {
         match status {
             gtp_match::Status::Down => None,
@@ -187,25 +187,25 @@ impl Status {
 /// How a match ended.
 #[derive(Clone, Copy, Debug, PartialEq, Eq, Hash)]
 pub enum Verdict {
-    /// By two passes, with this score.
+    /// Two passes ended the game, with this score.
     Score(Score),
     /// This side resigned.
     Resignation(Colour),
     /// The record has as many moves as the match allows.
     Limit,
-    /// This side refused a play that isn't retaken, or that the other side didn't take back: it forfeits.
+    /// This side refused a play that isn't retaken, or that the other side didn't undo: it forfeits.
     RefusedPlay(Colour),
-    /// This side failed to answer with a move: it forfeits.
+    /// This side failed at a genmove: it forfeits.
     NoMove(Colour),
-    /// This side answered with what is no move: it forfeits.
+    /// This side answered a genmove by what is neither a vertex nor a resignation: it forfeits.
     NoVertex(Colour),
-    /// This side answered with a move that isn't legal: it forfeits.
+    /// This side answered a genmove by an illegal move: it forfeits.
     IllegalMove(Colour),
     /// This side can't be brought to the record.
     Unfit(Colour),
     /// This side went down too often.
     Abandoned(Colour),
-    /// This side ran out of time: a ruling ended the match.
+    /// This side lost on time, by a ruling.
     Time(Colour),
     /// This side lost by a ruling, whose reason [`Match::reason`](crate::Match::reason) returns.
     Ruling(Colour),
@@ -239,7 +239,7 @@ impl Verdict {
         }
     }
 
-    /// Who won: none where nobody did.
+    /// Returns the winner, if there is one.
     pub fn winner(self) -> Option<Colour> {
         match self {
             Self::Score(score) => score.leader(),

@@ -1,4 +1,4 @@
-//! An author's engine, and the session that it serves.
+//! Players, and the sessions that serve them.
 
 use std::error::Error;
 use std::fmt;
@@ -9,11 +9,11 @@ use crate::game::Game;
 use crate::refusal::Refusal;
 use crate::values::{Choice, Colour, KoRule};
 
-/// How many bytes of the input are read at once.
+/// How many bytes of the input are read at a time.
 const PIECE: usize = 4096;
 
-/// An engine of its author's: what it chooses, and what it says of itself. A closure that chooses is one too, by simple
-/// ko.
+/// An engine's author writes one of these: what it chooses, and its name, version and custom commands. A closure that
+/// chooses is a player too, under simple ko.
 ///
 /// ```
 /// use vintsaky::{Choice, Colour, Game, Player, Vertex};
@@ -48,27 +48,26 @@ const PIECE: usize = 4096;
 /// # Ok::<(), vintsaky::ServeError>(())
 /// ```
 pub trait Player {
-    /// Chooses for a colour. The game is a copy of the session's.
+    /// Chooses for a colour. The game is a copy of the session's game.
     fn choose(&mut self, game: &Game, colour: Colour) -> Choice;
 
-    /// The name of the engine, at most 200 bytes.
+    /// Returns the name of the engine, at most 200 bytes.
     fn name(&self) -> &str {
         "stepgo"
     }
 
-    /// The version of the engine, at most 200 bytes.
+    /// Returns the version of the engine, at most 200 bytes.
     fn version(&self) -> &str {
         "1.0"
     }
 
-    /// The names of the commands that [`command`](Self::command) answers, at most 32. `known_command` and
-    /// `list_commands` have them.
+    /// Returns the names of the custom commands that [`command`](Self::command) answers, at most 32. `known_command`
+    /// and `list_commands` report them.
     fn commands(&self) -> &[&str] {
         &[]
     }
 
-    /// The ko rule of the session's game: simple ko, where the player doesn't say another. It is asked for once, before
-    /// anything is read.
+    /// Returns the ko rule of the session's game: simple ko by default. It is called once, before anything is read.
     ///
     /// ```
     /// use vintsaky::{Choice, Colour, Game, KoRule, Player};
@@ -85,7 +84,7 @@ pub trait Player {
     ///     }
     /// }
     ///
-    /// // Black's stone on A2 would take White's, and make the board of the second move again.
+    /// // Black's stone on A2 would capture White's, and make the board of the second move again.
     /// let input = "boardsize 2\nplay b A1\nplay b A2\nplay w B1\nplay w B2\nplay b A1\n7 genmove b\n";
     /// let mut written = Vec::new();
     /// vintsaky::serve(&mut Last, input.as_bytes(), &mut written)?;
@@ -96,9 +95,9 @@ pub trait Player {
         KoRule::default()
     }
 
-    /// Answers a command that isn't the library's, by a success or a failure with a text; or declines it, and the reply
-    /// is a failure: `unknown command`. The words are those after the id, and there may be none. What isn't UTF-8 in
-    /// them is U+FFFD.
+    /// Answers a command that isn't in the protocol's table, by a success or a failure with a text; or declines it by
+    /// `None`, and the reply is a failure: `unknown command`. The words are those after the id, the command's name
+    /// first; there may be none. Bytes that aren't UTF-8 become U+FFFD.
     fn command(&mut self, _game: &Game, _words: &[&str]) -> Option<Result<String, String>> {
         None
     }
@@ -110,30 +109,30 @@ impl<F: FnMut(&Game, Colour) -> Choice> Player for F {
     }
 }
 
-/// Why a session broke off.
+/// Why a session broke off: its error.
 #[derive(Debug)]
 #[non_exhaustive]
 pub enum ServeError {
     /// The input can't be read, or the output can't be written.
     Io(io::Error),
-    /// The player's choice isn't lawful. Nothing was written for the command.
+    /// The player's choice isn't allowed. The command has no reply.
     Choice {
         /// What it chose.
         choice: Choice,
-        /// For whom.
+        /// The colour that it chose for.
         colour: Colour,
-        /// Why it is refused.
+        /// Why it is rejected.
         refusal: Refusal,
     },
-    /// No reply may have the text of the player's answer. Nothing was written for the command.
+    /// The text of the player's answer isn't allowed in a reply. The command has no reply.
     Answer(String),
-    /// The player's name or version is none that a reply may have. Nothing was read.
+    /// The player's name or version isn't allowed in a reply. Nothing was read.
     Title(String),
-    /// A command of the player's own can't be added. Nothing was read.
+    /// A custom command of the player can't be added. Nothing was read.
     Command {
-        /// What it is called.
+        /// Its name.
         name: String,
-        /// Why it is refused.
+        /// Why it is rejected.
         refusal: Refusal,
     },
 }
@@ -166,7 +165,8 @@ impl From<io::Error> for ServeError {
     }
 }
 
-/// Answers the commands that come by the input, up to and with a `quit`, or to its end. Each reply is flushed.
+/// Reads commands from the input and writes the replies to the output, until it has answered a `quit` or the input
+/// ends. Each reply is flushed.
 ///
 /// ```no_run
 /// use std::io::{stdin, stdout};
@@ -182,7 +182,7 @@ impl From<io::Error> for ServeError {
 ///
 /// # Errors
 ///
-/// A [`ServeError`], which says why the session broke off. A command for which it breaks off has no reply.
+/// A [`ServeError`], which says why the session broke off. The command at which it breaks off has no reply.
 pub fn serve<P>(player: &mut P, mut input: impl Read, mut output: impl Write) -> Result<(), ServeError>
 where
     P: Player + ?Sized,
@@ -210,7 +210,7 @@ where
     Ok(())
 }
 
-/// An engine by the player's ko rule, which says of itself what the player does.
+/// An engine with the player's ko rule, name, version and custom commands.
 fn engine_of<P: Player + ?Sized>(player: &P) -> Result<Engine, ServeError> {
     let mut engine = Engine::new();
     engine.begin(player.rule());
@@ -222,7 +222,7 @@ fn engine_of<P: Player + ?Sized>(player: &P) -> Result<Engine, ServeError> {
     Ok(engine)
 }
 
-/// Hands in what the player chooses or answers, where that is asked for. The player sees the game as a copy.
+/// Supplies what the player chooses or answers, if the engine waits for that. The player gets a copy of the game.
 fn answer<P>(player: &mut P, engine: &mut Engine, game: &mut Game, came: Fed) -> Result<(), ServeError>
 where
     P: Player + ?Sized,

@@ -8,18 +8,18 @@ use gtp_wire::{CommandLine, Line, LineReader, Reply, ReplyFault, ReplyReader};
 use crate::NotSync;
 use crate::refusal::Refusal;
 
-/// What came of bytes that a reader of command lines was fed.
+/// What came of bytes that were fed to a reader of command lines.
 #[derive(Clone, Copy, Debug, PartialEq, Eq, Hash)]
 pub enum LineEvent {
-    /// All bytes were used, and no line came: read on.
+    /// All bytes were used, and no line ended: read more.
     More,
     /// A command line came: its id and its words can be read.
     Line,
-    /// A line came whose words are too long: together, with a space between any two, more than 1,000 bytes.
+    /// A line came whose words are too long: together, with a space between any two, they have more than 1,000 bytes.
     TooLong,
 }
 
-/// A reader of the command lines that a controller writes. It passes over lines without a word, comments and control
+/// A reader of the command lines that a controller writes. It skips lines without a word, comments and control
 /// characters.
 ///
 /// ```
@@ -33,19 +33,19 @@ pub enum LineEvent {
 /// ```
 pub struct CommandLines {
     reader: Box<LineReader>,
-    /// The line that was read last: one that is too long before the first.
+    /// The line that was read last. Before the first it is one that is too long.
     last: Box<Line>,
     _not_sync: NotSync,
 }
 
 impl CommandLines {
-    /// A reader that was given nothing.
+    /// Returns a reader that has received nothing.
     pub fn new() -> Self {
         Self { reader: Box::default(), last: Box::new(Line::TooLong), _not_sync: PhantomData }
     }
 
-    /// Takes the next bytes up to and with the newline that ends a line, or all of them. Returns what came of them, and
-    /// how many were used.
+    /// Takes the next chunk, up to and including the newline that ends a line with a word, or all of it. Returns what
+    /// came of it, and how many bytes were used.
     pub fn feed(&mut self, bytes: &[u8]) -> (LineEvent, usize) {
         let read = self.reader.feed_into(bytes, &mut self.last);
         let came = match *self.last {
@@ -64,7 +64,7 @@ impl CommandLines {
         }
     }
 
-    /// The id of the command line that was read last.
+    /// Returns the id of the command line that was read last.
     ///
     /// # Errors
     ///
@@ -73,7 +73,7 @@ impl CommandLines {
         self.line()?.id().ok_or(Refusal::NoId)
     }
 
-    /// A word of the command line that was read last, counted from 0 after the id.
+    /// Returns a word of the command line that was read last, counted from 0 after the id.
     ///
     /// # Errors
     ///
@@ -82,7 +82,7 @@ impl CommandLines {
         self.line()?.word(number).map(<[u8]>::to_vec).ok_or(Refusal::NoWord)
     }
 
-    /// The words of the command line that was read last, after the id. There are none where no line was.
+    /// Returns the words of the command line that was read last, after the id: none if no line was read.
     pub fn words(&self) -> impl Iterator<Item = Vec<u8>> + '_ {
         (0..).map_while(|number| self.word(number).ok())
     }
@@ -100,16 +100,16 @@ impl fmt::Debug for CommandLines {
     }
 }
 
-/// What came of bytes that a reader of replies was fed.
+/// What came of bytes that were fed to a reader of replies.
 #[derive(Clone, Copy, Debug, PartialEq, Eq, Hash)]
 pub enum ReplyEvent {
-    /// All bytes were used, and no reply came: read on.
+    /// All bytes were used, and no reply ended: read more.
     More,
     /// A reply came: whether it is a success, its id and its text can be read.
     Reply,
-    /// What came is no reply.
+    /// The bytes aren't a reply.
     NoReply,
-    /// What came is too long for a reply.
+    /// More than 8,192 bytes came since the last reply.
     TooLong,
 }
 
@@ -127,19 +127,19 @@ pub enum ReplyEvent {
 /// ```
 pub struct Replies {
     reader: Box<ReplyReader>,
-    /// The reply that was read last: a failure without an id and a text before the first.
+    /// The reply that was read last. Before the first it is a failure without id and text.
     last: Box<Reply>,
     _not_sync: NotSync,
 }
 
 impl Replies {
-    /// A reader that was given nothing.
+    /// Returns a reader that has received nothing.
     pub fn new() -> Self {
         Self { reader: Box::new(ReplyReader::new()), last: Box::default(), _not_sync: PhantomData }
     }
 
-    /// Takes the next bytes up to and with the byte that ends a reply or shows a fault, or all of them. Returns what
-    /// came of them, and how many were used.
+    /// Takes the next chunk, up to and including the byte that ends a reply or shows a fault, or all of it. Returns
+    /// what came of it, and how many bytes were used.
     pub fn feed(&mut self, bytes: &[u8]) -> (ReplyEvent, usize) {
         let read = self.reader.feed_into(bytes, &mut self.last);
         let came = match read.got {
@@ -151,17 +151,17 @@ impl Replies {
         (came, read.used)
     }
 
-    /// Whether the reply that was read last is a success.
+    /// Returns whether the reply that was read last is a success: false before the first.
     pub fn is_ok(&self) -> bool {
         self.last.ok
     }
 
-    /// The id of the reply that was read last: none where it has none.
+    /// Returns the id of the reply that was read last, if it has one.
     pub fn id(&self) -> Option<u32> {
         self.last.id
     }
 
-    /// The text of the reply that was read last.
+    /// Returns the text of the reply that was read last: empty before the first.
     pub fn text(&self) -> Vec<u8> {
         self.last.text.to_vec()
     }

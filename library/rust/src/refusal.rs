@@ -1,4 +1,4 @@
-//! Why a call is refused.
+//! Why a call is rejected.
 
 use std::error::Error;
 use std::fmt;
@@ -11,15 +11,15 @@ use vintsaky_calls::library::cause_text;
 
 use crate::texts;
 
-/// More bytes than the text of a cause has.
+/// More bytes than the text of any error has.
 const TEXT_ROOM: usize = 256;
 
-/// Makes the enum of causes from a row a cause: its name, its number, and what it means.
+/// Makes the enum of errors from one row for each: its name, its number, and its meaning.
 macro_rules! causes {
     ($($name:ident = $number:literal $meaning:literal,)*) => {
-        /// Why a call is refused. Its object is then as it was.
+        /// Why a call is rejected: its error. Its object is then unchanged.
         ///
-        /// Its text is the library's own:
+        /// Its text is that of the library:
         ///
         /// ```
         /// use vintsaky::{Colour, Game, Refusal, Vertex};
@@ -35,12 +35,12 @@ macro_rules! causes {
         #[non_exhaustive]
         pub enum Refusal {
             $(#[doc = $meaning] $name,)*
-            /// A cause of another release, by its number. No call of this crate is refused for it.
+            /// An error of another release, by its number. No call of this crate returns it.
             Unknown(u32),
         }
 
         impl Refusal {
-            /// The number of the cause, as `vintsaky.h` has it.
+            /// Returns the number of the error, as in `vintsaky.h`.
             pub fn number(self) -> u32 {
                 match self {
                     $(Self::$name => $number,)*
@@ -51,13 +51,13 @@ macro_rules! causes {
     };
 }
 
-// The rows, of which the macro makes the enum.
+// The rows from which the macro makes the enum.
 mod causes;
 
 pub use causes::Refusal;
 
 impl Refusal {
-    /// Why a move is refused.
+    /// Why a move is illegal.
     pub(crate) fn of_play(fault: PlayFault) -> Self {
         match fault {
             PlayFault::Full => Self::Full,
@@ -68,7 +68,7 @@ impl Refusal {
         }
     }
 
-    /// Why handicap stones are refused.
+    /// Why handicap stones are rejected.
     pub(crate) fn of_handicap(fault: HandicapFault) -> Self {
         match fault {
             HandicapFault::NotEmpty => Self::NotEmpty,
@@ -76,7 +76,7 @@ impl Refusal {
         }
     }
 
-    /// Why a choice is refused.
+    /// Why a choice is rejected.
     pub(crate) fn of_choice(fault: ChoiceFault) -> Self {
         match fault {
             ChoiceFault::NotAsked => Self::NotAsked,
@@ -84,7 +84,7 @@ impl Refusal {
         }
     }
 
-    /// Why an answer is refused.
+    /// Why an answer is rejected.
     pub(crate) fn of_answer(fault: AnswerFault) -> Self {
         match fault {
             AnswerFault::NotAsked => Self::NotAsked,
@@ -92,7 +92,7 @@ impl Refusal {
         }
     }
 
-    /// Why a command isn't added.
+    /// Why a custom command is rejected.
     pub(crate) fn of_command(fault: CommandFault) -> Self {
         match fault {
             CommandFault::BadLength => Self::BadLength,
@@ -104,7 +104,7 @@ impl Refusal {
         }
     }
 
-    /// Why a setup is refused.
+    /// Why a setup is rejected.
     pub(crate) fn of_setup(fault: SetupFault) -> Self {
         match fault {
             SetupFault::Handicap => Self::BadHandicap,
@@ -113,7 +113,7 @@ impl Refusal {
         }
     }
 
-    /// Why a ruling is refused.
+    /// Why a ruling is rejected.
     pub(crate) fn of_ruling(fault: RulingFault) -> Self {
         match fault {
             RulingFault::Over => Self::IsOver,

@@ -7,7 +7,7 @@ pub(crate) fn string_of(text: &[u8]) -> String {
     String::from_utf8_lossy(text).into_owned()
 }
 
-/// Writes the text, as wide as the formatter asks for.
+/// Writes the text, padded to the width that the formatter asks for.
 pub(crate) fn pad(out: &mut fmt::Formatter<'_>, text: &[u8]) -> fmt::Result {
     out.pad(&String::from_utf8_lossy(text))
 }

@@ -1,5 +1,5 @@
-//! Colours, points, vertices, komis and moves. Each is made `of` an inner value, that of its name in the proved crates,
-//! and returns it by `inner`.
+//! Colours, points, vertices, komis and moves. Each is made by `of` from the value of its name in the proved crates,
+//! which `inner` returns.
 
 use std::cmp::Ordering;
 use std::fmt;
@@ -24,14 +24,14 @@ use crate::texts;
 /// ```
 #[derive(Clone, Copy, Debug, PartialEq, Eq, Hash, PartialOrd, Ord)]
 pub enum Colour {
-    /// Black, who moves first where there is no handicap.
+    /// Black, who moves first if there is no handicap.
     Black,
     /// White.
     White,
 }
 
 impl Colour {
-    /// The other colour.
+    /// Returns the other colour.
     pub fn other(self) -> Self {
         match self {
             Self::Black => Self::White,
@@ -63,7 +63,7 @@ impl fmt::Display for Colour {
 impl FromStr for Colour {
     type Err = Refusal;
 
-    /// Reads `b`, `w`, `black` or `white`, where each letter may be small or capital.
+    /// Reads `b`, `w`, `black` or `white`, in upper or lower case or a mix of both.
     fn from_str(text: &str) -> Result<Self, Refusal> {
         go_base::Colour::read(text.as_bytes()).map(Self::of).ok_or(Refusal::BadText)
     }
@@ -83,24 +83,24 @@ impl FromStr for Colour {
 pub struct Point(go_base::Point);
 
 impl Point {
-    /// The point of a column and a row: none where one of them isn't from 1 to 25.
+    /// Returns the point at a column and a row, or `None` if one of them isn't from 1 to 25.
     #[inline]
     pub fn new(column: u32, row: u32) -> Option<Self> {
         go_base::Point::new(column, row).map(Self)
     }
 
-    /// The column, from 1 to 25.
+    /// Returns the column, 1 to 25.
     pub fn column(self) -> u32 {
         self.0.column()
     }
 
-    /// The row, from 1 to 25.
+    /// Returns the row, 1 to 25.
     pub fn row(self) -> u32 {
         self.0.row()
     }
 
-    /// The points that share a side with this one: below, to the left, to the right and above, as far as they are on
-    /// a board of size 25.
+    /// Returns the neighbours of this point: below, to the left, to the right and above, as far as they are on a board
+    /// of size 25.
     pub fn neighbours(self) -> impl Iterator<Item = Self> {
         let (column, row) = (self.column(), self.row());
         let places = [(column, row - 1), (column - 1, row), (column + 1, row), (column, row + 1)];
@@ -154,7 +154,7 @@ impl fmt::Display for Point {
 impl FromStr for Point {
     type Err = Refusal;
 
-    /// Reads a point as the protocol spells it: a letter but I, small or capital, and a row.
+    /// Reads a point as the protocol spells it: a letter other than I, in upper or lower case, and a row number.
     fn from_str(text: &str) -> Result<Self, Refusal> {
         match text.parse()? {
             Vertex::At(point) => Ok(point),
@@ -211,7 +211,7 @@ impl fmt::Display for Vertex {
 impl FromStr for Vertex {
     type Err = Refusal;
 
-    /// Reads a vertex as the protocol spells it, where each letter may be small or capital.
+    /// Reads a vertex as the protocol spells it, in upper or lower case.
     fn from_str(text: &str) -> Result<Self, Refusal> {
         go_base::Vertex::read(text.as_bytes()).map(Self::of).ok_or(Refusal::BadText)
     }
@@ -250,7 +250,7 @@ impl fmt::Display for Choice {
     }
 }
 
-/// A komi, in half points: more than 0 where it is White's.
+/// A komi, in half points: positive if White gets it.
 ///
 /// ```
 /// use vintsaky::Komi;
@@ -265,10 +265,10 @@ impl fmt::Display for Choice {
 pub struct Komi(i32);
 
 impl Komi {
-    /// How many half points a komi has at most, and as many below 0.
+    /// The most half points of a komi, positive or negative.
     pub const MOST_HALF_POINTS: i32 = 1_999_999_999;
 
-    /// The komi of this many half points: none where there are too many.
+    /// Returns the komi of this many half points, or `None` if there are too many.
     pub fn new(half_points: i32) -> Option<Self> {
         (-Self::MOST_HALF_POINTS..=Self::MOST_HALF_POINTS).contains(&half_points).then_some(Self(half_points))
     }
@@ -302,13 +302,13 @@ impl FromStr for Komi {
     }
 }
 
-/// Which boards a play may not make again.
+/// The boards that a play may not bring back.
 #[derive(Clone, Copy, Debug, Default, PartialEq, Eq, Hash, PartialOrd, Ord)]
 pub enum KoRule {
     /// Simple ko: the board before the last move.
     #[default]
     Simple,
-    /// Positional superko: each board that was in the game.
+    /// Positional superko: any earlier board of the game.
     Positional,
 }
 
@@ -328,12 +328,12 @@ impl KoRule {
     }
 }
 
-/// A move: who made it, and where.
+/// A move: its colour and its vertex.
 #[derive(Clone, Copy, Debug, PartialEq, Eq, Hash, PartialOrd, Ord)]
 pub struct Move {
-    /// Who made it.
+    /// The colour that made it.
     pub colour: Colour,
-    /// Where.
+    /// The vertex.
     pub vertex: Vertex,
 }
 
@@ -367,17 +367,17 @@ impl fmt::Display for Move {
 pub struct Score(i32);
 
 impl Score {
-    /// The score of these half points, positive where Black leads.
+    /// The score of these half points, positive if Black leads.
     pub(crate) fn of(half_points: i32) -> Self {
         Self(half_points)
     }
 
-    /// The half points, positive where Black leads.
+    /// Returns the half points, positive if Black leads.
     pub fn half_points(self) -> i32 {
         self.0
     }
 
-    /// Who leads: none where nobody does.
+    /// Returns the colour that leads, or `None` if neither does.
     pub fn leader(self) -> Option<Colour> {
         match self.0 {
             0 => None,
@@ -393,7 +393,7 @@ impl fmt::Display for Score {
     }
 }
 
-/// The size of a board, where it is from 1 to 25.
+/// The size of a board, if it is from 1 to 25.
 pub(crate) fn checked_size(size: u32) -> Result<Size, Refusal> {
     Size::new(size).ok_or(Refusal::BadSize)
 }

@@ -1,4 +1,4 @@
-//! Lines that are written: commands and replies.
+//! Writing commands and replies.
 
 use gtp_wire::{is_reply_text, write_command, write_reply};
 
@@ -6,7 +6,7 @@ use crate::refusal::Refusal;
 use crate::texts;
 use crate::values::{Colour, Komi, Move, Vertex, checked_size};
 
-/// The greatest int of the protocol.
+/// The largest int of the protocol.
 const MOST_INT: u32 = 2_147_483_647;
 
 /// A command that a controller sends.
@@ -41,12 +41,12 @@ pub enum Command {
 }
 
 impl Command {
-    /// The line of the command, with its newline.
+    /// Returns the line of the command, with its newline.
     ///
     /// # Errors
     ///
-    /// [`Refusal::BadId`] where the id is more than 2,147,483,647; or else [`Refusal::BadSize`] where the size isn't
-    /// from 1 to 25, or [`Refusal::BadHandicap`] where the number of stones is more than 2,147,483,647.
+    /// [`Refusal::BadId`] if the id is more than 2,147,483,647; or else [`Refusal::BadSize`] if the size isn't from 1
+    /// to 25, or [`Refusal::BadHandicap`] if the number of stones is more than 2,147,483,647.
     pub fn line(self, id: Option<u32>) -> Result<String, Refusal> {
         let id = checked_id(id)?;
         Ok(texts::string_of(&write_command(id, &self.inner()?)))
@@ -67,7 +67,7 @@ impl Command {
     }
 }
 
-/// A reply with its two newlines: a success with this text, or a failure.
+/// Returns a reply with its two newlines: a success or a failure with this text.
 ///
 /// ```
 /// assert_eq!(vintsaky::reply(Some(2), Ok("D4")), Ok("=2 D4\n\n".to_string()));
@@ -76,8 +76,8 @@ impl Command {
 ///
 /// # Errors
 ///
-/// [`Refusal::BadId`] where the id is more than 2,147,483,647; or else [`Refusal::BadText`] where no reply may have the
-/// text, as [`Engine::answer`](crate::Engine::answer) says it.
+/// [`Refusal::BadId`] if the id is more than 2,147,483,647; or else [`Refusal::BadText`] if the text isn't allowed in a
+/// reply, as [`Engine::answer`](crate::Engine::answer) explains.
 pub fn reply(id: Option<u32>, answer: Result<&str, &str>) -> Result<String, Refusal> {
     let id = checked_id(id)?;
     let (Ok(text) | Err(text)) = answer;
@@ -87,7 +87,7 @@ pub fn reply(id: Option<u32>, answer: Result<&str, &str>) -> Result<String, Refu
     Ok(texts::string_of(&write_reply(answer.is_ok(), id, text.as_bytes())))
 }
 
-/// The id, where it is an int of the protocol or none.
+/// The id, if it is an int of the protocol or none.
 fn checked_id(id: Option<u32>) -> Result<Option<u32>, Refusal> {
     if id.is_some_and(|id| id > MOST_INT) { Err(Refusal::BadId) } else { Ok(id) }
 }

@@ -6,7 +6,7 @@ function does, and the proof that it meets its contract, is behind its contract.
 - its sources, without tests, comments, the bodies of functions, their attributes for the prover, and the private functions that none of
   the rest names. A body stays where it might be read: of a `const fn`, in a trait, in a macro, and in any other layout than that of
   `rt fmt`, which the gate wants.
-- its definitions (specs/), whole;
+- its definitions (specs/), without comments;
 - of its proofs/ each file to which a module's name leads from all this, or from the crate itself. Where a name leads to no file, all of
   proofs/ counts.
 
@@ -23,6 +23,8 @@ HEAD = re.compile(r"( *)(pub |pub\([^)]*\) )?(?:unsafe )?(?:extern \"C\" )?fn (\
 FOR_THE_PROVER = re.compile(r" *#\[tactic\(.*\)\]$")
 MODULE = re.compile(r"^(?:pub )?mod [\w-]+$", re.M)  # a line that says only that a file is there
 OF_STD = {"Clone", "Copy", "Debug", "Default", "Drop", "Eq", "Hash", "Ord", "PartialEq", "PartialOrd"}  # traits
+READ_NO_COMMENT = OF_STD | {"Error"}  # thiserror's reads `#[error(..)]`
+COMMENT_OF_SPECS = re.compile(r" *--( |$)")
 WRITTEN = ("Answers", "Invariants", "Proof")  # the files of a function's folder in proofs/
 
 
@@ -37,14 +39,14 @@ def is_of_function(lines, at):
 
 def code_of(text):
     """The lines of a source that are neither blank nor a comment. Comments stay where one could be part of something else: in a file that
-    has a macro or a text over several lines. In one that derives more than std's traits those stay that a derive may read."""
+    has a macro or a text over several lines. In one that derives traits whose derive may read comments, those stay that it may read."""
     lines = text.split("\n")
     code = [line for line in lines if line.strip() and not line.lstrip().startswith("//")]
     has_long_text = any(re.sub(r"\\.|'\"'", "", line).count('"') % 2 for line in code)
     if has_long_text or "/*" in text or "macro_rules!" in text:
         return lines
     derived = {word for words in re.findall(r"derive\(([^)]*)\)", text) for word in re.findall(r"\w+", words)}
-    if derived <= OF_STD:
+    if derived <= READ_NO_COMMENT:
         return code
     return [line for at, line in enumerate(lines) if line.strip() and not line.lstrip().startswith("//")
             or line.lstrip().startswith("///") and not is_of_function(lines, at)]
@@ -131,13 +133,18 @@ def is_of_tests(path):
     return path.parts[:2] in (("src", "tests"), ("src", "tests.rt"))
 
 
+def without_comments(text):
+    """A file of definitions or of proofs without the lines that are comments."""
+    return "\n".join(line for line in text.split("\n") if not COMMENT_OF_SPECS.match(line))
+
+
 def files_of(crate):
-    """The files that a crate's proof is made from, by their path in its folder, without the comments of its sources."""
+    """The files that a crate's proof is made from, by their path in its directory, without comments."""
     found = {}
     for path in sorted(path for part in ("src", "specs", "proofs") for path in (crate / part).rglob("*") if path.is_file()):
         inner, text = path.relative_to(crate), path.read_text()
         if not is_of_tests(inner):
-            found[inner] = "\n".join(code_of(text)) if path.suffix == ".rt" else text
+            found[inner] = "\n".join(code_of(text)) if path.suffix == ".rt" else without_comments(text)
     return found
 
 

@@ -1,8 +1,8 @@
 """The line `tried: SUM` of a file of edits: the sum of all that its crate's edits were last tried on.
 
-It is of all that could make a check of one come out otherwise: the crate's own sources (without tests and comments), definitions and
-proofs; what a check reads of the crates below it (contracts.py); its edits; the rows of crates.txt; HANDLES; the modules here that
-decide; and the kit's logic.
+It is of all that could change the outcome of a check of one: the crate's own sources (without tests), definitions and proofs, all of
+them without comments; what a check reads of the crates below it (contracts.py); its edits; the rows of crates.txt; HANDLES; the
+modules here that decide; and the kit's logic.
 """
 from __future__ import annotations
 

@@ -1,4 +1,4 @@
-"""The match program: what README.md and docs/controller.md say of `twogtp`, with engines in memory."""
+"""The match program: what README.md, docs/matches.md and docs/controller.md say of `twogtp`, with engines in memory."""
 import re
 from collections import Counter, namedtuple
 

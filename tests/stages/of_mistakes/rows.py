@@ -91,6 +91,59 @@ START = [
          errors=NO_LIBRARY * 3, why=ended("exit status 127", said=NO_LIBRARY), hastens="exit status 127"),
 ]
 
+# An engine that is gone is started again, twice. After the game nothing is asked of it but to quit: the line is there by then.
+# The move that ends a match isn't sent to the other side. One that closes its input passes, and White plays A1, B1 and C1: none of them
+# can be written, and nothing is read of an engine after that. One that closes its output may be about to end, so it has some 200
+# milliseconds for that: how it ends then is shown, or that it ran on.
+END = [
+    Case("it crashes at its start", ABANDONED, 1,
+         made=polite("resource.setrlimit(resource.RLIMIT_CORE, (0, 0))\nos.kill(os.getpid(), signal.SIGSEGV)"),
+         why=ended("signal 11"), hastens="signal 11"),
+    Case("it crashes at genmove", ABANDONED, 1, made=polite("""\
+resource.setrlimit(resource.RLIMIT_CORE, (0, 0))
+at["genmove"] = lambda: os.kill(os.getpid(), signal.SIGSEGV)"""),
+         why=ended("signal 11", GENMOVE)),
+    Case("it is killed from outside at genmove", ABANDONED, 1, made=polite('''\
+at["genmove"] = lambda: os.system(f"kill -KILL {os.getpid()}")'''), why=ended("signal 9", GENMOVE)),
+    Case("it ends silently at genmove", ABANDONED, 1, made=polite('at["genmove"] = sys.exit'), why=ended("exit status 0", GENMOVE)),
+    Case("it closes its input after each of its moves", "game 1: abandoned black moves 6 restarts 2 0", 1, made=polite("""\
+def passes_and_closes():
+    os.close(0)
+    write(plain(words[0], "=", "pass"))
+    time.sleep(1000)
+
+at["genmove"] = passes_and_closes"""), other=PLAYS,
+         why="".join(explained(f'1 unanswered, "{id} play w {vertex}": writing failed, but it ran on; nothing of it was read')
+                     for id, vertex in ((5, "A1"), (7, "B1"), (9, "C1")))),
+    Case("it closes its output at its start, and sleeps", ABANDONED, 1, made=polite("os.close(1)\ntime.sleep(1000)"), why=ran_on()),
+    Case("it closes its output at genmove, and reads on", ABANDONED, 1, made=polite('at["genmove"] = lambda: os.close(1)'),
+         why=ran_on(GENMOVE)),
+    Case("it closes its output in the middle of an answer", ABANDONED, 1, made=polite("""\
+def begins_and_closes():
+    write("=4 D")
+    os.close(1)
+
+at["genmove"] = begins_and_closes"""), why=ran_on(GENMOVE, "=4 D")),
+    Case("it closes its output at genmove, and soon ends with a status", ABANDONED, 1, made=polite("""\
+def closes_and_ends():
+    os.close(1)
+    time.sleep(0.05)
+    os._exit(7)
+
+at["genmove"] = closes_and_ends"""), why=ended("exit status 7", GENMOVE)),
+    Case("it closes its output at genmove, and a signal soon ends it", ABANDONED, 1, made=polite("""\
+def closes_and_ends():
+    os.close(1)
+    time.sleep(0.05)
+    os.kill(os.getpid(), signal.SIGTERM)
+
+at["genmove"] = closes_and_ends"""), why=ended("signal 15", GENMOVE)),
+    Case("it ends without an answer to quit", PLAYED, 0, made=polite('at["quit"] = sys.exit'), side="white"),
+    Case("it hangs on quit", PLAYED, WAITS, made=polite('at["quit"] = lambda: time.sleep(1000)'), sent=SETUP + "4 genmove b\nquit\n"),
+    Case("it hangs on quit, as White", PLAYED, WAITS, made=polite('at["quit"] = lambda: time.sleep(1000)'), side="white",
+         sent=SETUP + "4 play b pass\n5 genmove w\nquit\n"),
+]
+
 # A line that begins with neither `=` nor `?` puts the side down. So does a reply whose id is missing, or another than that of the
 # oldest unanswered command. The text of the answer to `genmove` is one word; there are no comments. A line after the answer comes with
 # it: the move counts, and the side goes down. Its next process is sent the move, and so moves 1, 3 and 5 are made. Of what is no
@@ -119,23 +172,6 @@ form = lambda id, status, text: plain(id, status, text) + ("playouts 1000\\n" if
          why=lost(GENMOVE, NO_POINT, r"=4 D4 # the best of 1000\n\n")),
     Case("a second line in the answer to genmove", NO_VERTEX, 0, made=answers("genmove", "=", "D4\nwinrate 55%"),
          why=lost(GENMOVE, NO_POINT, r"=4 D4\nwinrate 55%\n\n")),
-]
-
-# A reply ends with two newlines. Until it does, the match waits. Up to eight commands of the script are sent without waiting, and of
-# these there are three, so all three are sent to an engine of whose replies none is heard.
-FORM = [
-    Case("one newline after a reply", "", WAITS, made=formed("plain(id, status, text)[:-1]"), sent=SETUP),
-    Case("replies ended by CR alone", "", WAITS, made=formed('plain(id, status, text).replace("\\n", "\\r")'), sent=SETUP),
-    Case("buffered output", "", WAITS, made=polite("write = sys.stdout.write"), sent=SETUP),
-    Case("it hangs at its start", "", WAITS, made=polite('note("started\\n")\ntime.sleep(1000)'), sent="started\n"),
-    Case("it hangs at genmove", "", WAITS, made=polite('at["genmove"] = lambda: time.sleep(1000)'), sent=SETUP + "4 genmove b\n"),
-    Case("it hangs at genmove, as White", "", WAITS, made=polite('at["genmove"] = lambda: time.sleep(1000)'), side="white",
-         sent=SETUP + "4 play b pass\n5 genmove w\n"),
-    Case("replies ended by CR LF", PLAYED, 0, made=formed('plain(id, status, text).replace("\\n", "\\r\\n")')),
-    Case("a banner on the standard error", PLAYED, 0, made=polite('sys.stderr.write("My Engine 1.0\\n")'), errors="My Engine 1.0\n",
-         why="My Engine 1.0\n"),
-    Case("it ends on quit without a reply", PLAYED, 0, made=polite('at["quit"] = sys.exit')),
-    Case("it is slow to quit", PLAYED, 0, made=polite('at["quit"] = lambda: time.sleep(1) or ("=", "")')),
 ]
 
 # A command of the script that fails makes the side unfit, and so does a handicap that isn't placed on the points of the table, which
@@ -200,57 +236,21 @@ form = lambda id, status, text: plain(id, status, text) + ("playouts 1000\\n" if
          why=retaken(4, "pass", 1) + lost('1 unanswered, "5 undo"', KEPT_MOVE, r"?5 unknown command\n\n")),
 ]
 
-# An engine that is gone is started again, twice. After the game nothing is asked of it but to quit: the line is there by then.
-# The move that ends a match isn't sent to the other side. One that closes its input passes, and White plays A1, B1 and C1: none of them
-# can be written, and nothing is read of an engine after that. One that closes its output may be about to end, so it has some 200
-# milliseconds for that: how it ends then is shown, or that it ran on.
-END = [
-    Case("it crashes at its start", ABANDONED, 1,
-         made=polite("resource.setrlimit(resource.RLIMIT_CORE, (0, 0))\nos.kill(os.getpid(), signal.SIGSEGV)"),
-         why=ended("signal 11"), hastens="signal 11"),
-    Case("it crashes at genmove", ABANDONED, 1, made=polite("""\
-resource.setrlimit(resource.RLIMIT_CORE, (0, 0))
-at["genmove"] = lambda: os.kill(os.getpid(), signal.SIGSEGV)"""),
-         why=ended("signal 11", GENMOVE)),
-    Case("it is killed from outside at genmove", ABANDONED, 1, made=polite('''\
-at["genmove"] = lambda: os.system(f"kill -KILL {os.getpid()}")'''), why=ended("signal 9", GENMOVE)),
-    Case("it ends silently at genmove", ABANDONED, 1, made=polite('at["genmove"] = sys.exit'), why=ended("exit status 0", GENMOVE)),
-    Case("it closes its input after each of its moves", "game 1: abandoned black moves 6 restarts 2 0", 1, made=polite("""\
-def passes_and_closes():
-    os.close(0)
-    write(plain(words[0], "=", "pass"))
-    time.sleep(1000)
-
-at["genmove"] = passes_and_closes"""), other=PLAYS,
-         why="".join(explained(f'1 unanswered, "{id} play w {vertex}": writing failed, but it ran on; nothing of it was read')
-                     for id, vertex in ((5, "A1"), (7, "B1"), (9, "C1")))),
-    Case("it closes its output at its start, and sleeps", ABANDONED, 1, made=polite("os.close(1)\ntime.sleep(1000)"), why=ran_on()),
-    Case("it closes its output at genmove, and reads on", ABANDONED, 1, made=polite('at["genmove"] = lambda: os.close(1)'),
-         why=ran_on(GENMOVE)),
-    Case("it closes its output in the middle of an answer", ABANDONED, 1, made=polite("""\
-def begins_and_closes():
-    write("=4 D")
-    os.close(1)
-
-at["genmove"] = begins_and_closes"""), why=ran_on(GENMOVE, "=4 D")),
-    Case("it closes its output at genmove, and soon ends with a status", ABANDONED, 1, made=polite("""\
-def closes_and_ends():
-    os.close(1)
-    time.sleep(0.05)
-    os._exit(7)
-
-at["genmove"] = closes_and_ends"""), why=ended("exit status 7", GENMOVE)),
-    Case("it closes its output at genmove, and a signal soon ends it", ABANDONED, 1, made=polite("""\
-def closes_and_ends():
-    os.close(1)
-    time.sleep(0.05)
-    os.kill(os.getpid(), signal.SIGTERM)
-
-at["genmove"] = closes_and_ends"""), why=ended("signal 15", GENMOVE)),
-    Case("it ends without an answer to quit", PLAYED, 0, made=polite('at["quit"] = sys.exit'), side="white"),
-    Case("it hangs on quit", PLAYED, WAITS, made=polite('at["quit"] = lambda: time.sleep(1000)'), sent=SETUP + "4 genmove b\nquit\n"),
-    Case("it hangs on quit, as White", PLAYED, WAITS, made=polite('at["quit"] = lambda: time.sleep(1000)'), side="white",
-         sent=SETUP + "4 play b pass\n5 genmove w\nquit\n"),
+# A reply ends with two newlines. Until it does, the match waits. Up to eight commands of the script are sent without waiting, and of
+# these there are three, so all three are sent to an engine of whose replies none is heard.
+FORM = [
+    Case("one newline after a reply", "", WAITS, made=formed("plain(id, status, text)[:-1]"), sent=SETUP),
+    Case("replies ended by CR alone", "", WAITS, made=formed('plain(id, status, text).replace("\\n", "\\r")'), sent=SETUP),
+    Case("buffered output", "", WAITS, made=polite("write = sys.stdout.write"), sent=SETUP),
+    Case("it hangs at its start", "", WAITS, made=polite('note("started\\n")\ntime.sleep(1000)'), sent="started\n"),
+    Case("it hangs at genmove", "", WAITS, made=polite('at["genmove"] = lambda: time.sleep(1000)'), sent=SETUP + "4 genmove b\n"),
+    Case("it hangs at genmove, as White", "", WAITS, made=polite('at["genmove"] = lambda: time.sleep(1000)'), side="white",
+         sent=SETUP + "4 play b pass\n5 genmove w\n"),
+    Case("replies ended by CR LF", PLAYED, 0, made=formed('plain(id, status, text).replace("\\n", "\\r\\n")')),
+    Case("a banner on the standard error", PLAYED, 0, made=polite('sys.stderr.write("My Engine 1.0\\n")'), errors="My Engine 1.0\n",
+         why="My Engine 1.0\n"),
+    Case("it ends on quit without a reply", PLAYED, 0, made=polite('at["quit"] = sys.exit')),
+    Case("it is slow to quit", PLAYED, 0, made=polite('at["quit"] = lambda: time.sleep(1) or ("=", "")')),
 ]
 
 
@@ -317,19 +317,19 @@ CHECKER = [
     checked("an option of the match program", ("error: ", "--black", "--help"), "--black", "touch started"),
     checked("an engine that is not there", 'gtp_check: not started: no such file: "./engin"\n', "./engin"),
     printed("the list of lessons has each once", "start ", " restarts ", run=("gtp_check", "--list")),
-    printed("the help has statuses", "0 nothing was found, and in each lesson a move was answered rightly 1 something was found", "patience before its command", run=("gtp_check", "--help")),
+    printed("the help has statuses", "0 no complaint: each lesson was completed, with a move answered correctly 1 at least one complaint", "patience before its command", run=("gtp_check", "--help")),
     Case("nobody reads the list", "", 3, run=("gtp_check", "--list"), is_read=False, errors="gtp_check: write fault\n", why=None),
 ]
 
 TABLE = {
-    "where the program is": WHERE_IT_IS,
-    "words that only a shell reads": SHELL,
-    "the engine's start": START,
-    "what it writes": WRITES,
-    "how it writes": FORM,
-    "commands": COMMANDS,
-    "moves": MOVES,
-    "its end": END,
-    "the program's options": OPTIONS,
-    "the checker's options": CHECKER,
+    "not started": WHERE_IT_IS,
+    "shell syntax": SHELL,
+    "exits at the start": START,
+    "exits and crashes": END,
+    "stray output": WRITES,
+    "setup refused": COMMANDS,
+    "forfeits and refused moves": MOVES,
+    "the match hangs": FORM,
+    "errors of twogtp": OPTIONS,
+    "errors of gtp_check": CHECKER,
 }

@@ -1,7 +1,9 @@
-"""Looks for what a page of a release names and the release hasn't: targets of links, commands, and files."""
+"""Looks for what a page of a release names and the release hasn't: commands and files. `lost_links` looks at the targets of links."""
 import os
 import re
 from pathlib import Path
+
+from tests.shared.pages import blocks_in, blocks_of, code_of, lost_links  # noqa: F401
 
 # the commands that a page may show beside our own: those of Debian's base and of the packages that the pages name, and parts of bash
 BASE = """awk cat cd chmod command cp cut df du echo env exec exit export file find grep head install kill ldd ln ls man mkdir mktemp mv
@@ -15,41 +17,6 @@ FOLDERS = "bench cargo crates docs include interop lib library notices objects p
 SCRIPTS = ["./build", "./demo", "./release", "./test"]
 INSTALLED = r"/usr/(?:include|share/(?:doc/)?(?:vintsaky|libvintsaky|python3-vintsaky))[\w./-]*"  # files of the packages
 MISTYPED = {"bin/gtp_engin", "/usr/games/gtp_engin"}  # what a page names because it isn't there
-
-
-def blocks_of(text):
-    """The blocks of a page between lines of ```."""
-    return re.findall(r"^```\w*\n(.*?)^```$", text, re.MULTILINE | re.DOTALL)
-
-
-def blocks_in(text, language):
-    """The blocks of a page in this language, which commands have none of."""
-    return [block for of, block in re.findall(r"^```(\w*)\n(.*?)^```$", text, re.MULTILINE | re.DOTALL) if of == language]
-
-
-def code_of(text):
-    """The code of a page: its blocks, and what is between single backquotes."""
-    rest = re.sub(r"^```\w*\n.*?^```$", "", text, flags=re.MULTILINE | re.DOTALL)
-    return blocks_of(text) + re.findall(r"(?<!`)`([^`\n]+)`(?!`)", rest)
-
-
-def anchors_of(text):
-    """The anchors of a page: each of its headings in small letters, with hyphens in place of spaces and nothing else but letters."""
-    heads = re.findall(r"^#+ +(.*)$", re.sub(r"^```\w*\n.*?^```$", "", text, flags=re.MULTILINE | re.DOTALL), re.MULTILINE)
-    return {re.sub(r"[^\w\- ]", "", re.sub(r"\[([^]]*)\]\([^)]*\)", r"\1", it).lower()).replace(" ", "-") for it in heads}
-
-
-def lost_links(page):
-    """The links of a page that lead nowhere."""
-    lost = []
-    for target in re.findall(r"\]\(([^()\s]+)\)", page.read_text()):
-        name, _, anchor = target.partition("#")
-        at = page.parent / name if name else page
-        if re.match(r"https?:", target):
-            continue
-        if not at.exists() or (anchor and anchor not in anchors_of(at.read_text())):
-            lost.append(f"{page.name}: {target}")
-    return lost
 
 
 def lost_files(page, root):

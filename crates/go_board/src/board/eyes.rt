@@ -1,4 +1,4 @@
-//! Own eyes of a colour.
+//! Own eyes.
 ghost use Rattle.std.specs.Prelude.{◌≡◌, ◌≢◌, ℕ, ◌<◌, ◌≤◌, ◌↔◌, IsTrue};
 ghost use Rattle.go_base.specs.Point.{IsOn, Neighbours};
 ghost use Rattle.go_base.specs.Size.{most_size};
@@ -23,7 +23,7 @@ impl Board {
             && self.has_few_across(Cell::stone(colour.other()), place)
     }
 
-    /// Whether each neighbour of a point is a stone of a colour or edge.
+    /// Whether each neighbour of a point is edge or a stone of the colour.
     #[inline]
     fn is_shut_in(&self, colour: Colour, place: usize) -> bool
         requires { IsOn most_size place }
@@ -36,7 +36,7 @@ impl Board {
             && self.is_own_or_edge(colour, place - ROW)
     }
 
-    /// Whether a place is a stone of a colour or edge.
+    /// Whether a place is edge or a stone of the colour.
     #[inline]
     fn is_own_or_edge(&self, colour: Colour, place: usize) -> bool
         requires { place < place_count }
@@ -46,7 +46,8 @@ impl Board {
         cell == Cell::stone(colour) || cell == Cell::Edge
     }
 
-    /// Whether at most one diagonal of a point holds this stone, and none where another one is edge.
+    /// Whether at most one diagonal neighbour of a point holds this stone, and none does if a diagonal neighbour is
+    /// edge.
     #[inline]
     fn has_few_across(&self, stone: Cell, place: usize) -> bool
         requires { IsOn most_size place }
@@ -56,7 +57,7 @@ impl Board {
         stones == 0 || stones <= 1 && self.count_across(place, Cell::Edge) == 0
     }
 
-    /// How many diagonals of a point hold this.
+    /// How many diagonal neighbours of a point hold this.
     #[inline]
     fn count_across(&self, place: usize, wanted: Cell) -> u32
         requires { IsOn most_size place }
@@ -71,7 +72,7 @@ impl Board {
             + self.count_at(place - (ROW - 1), wanted)
     }
 
-    /// 1 where a place holds this, and 0 where it doesn't.
+    /// 1 if a place holds this, and 0 if not.
     #[inline]
     fn count_at(&self, place: usize, wanted: Cell) -> u32
         ensures yes { at self.now place ≡ wanted → result ≡ 1 }
@@ -85,7 +86,7 @@ impl Board {
         }
     }
 
-    /// What a place holds. Past the last one there is edge.
+    /// What a place holds. Places past the last one count as edge.
     #[inline]
     fn at_or_edge(&self, place: usize) -> Cell
         ensures { result ≡ at self.now place }

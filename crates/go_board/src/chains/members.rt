@@ -1,4 +1,4 @@
-//! Which stones are of a chain, and which points are its liberties.
+//! Which stones belong to a chain, and which points are its liberties.
 ghost use Rattle.std.specs.Prelude.{◌<◌, ◌↔◌, IsTrue};
 
 use super::Chains;
@@ -9,7 +9,7 @@ impl Chains {
     ghost use Rattle.go_board.specs.Chain.{Joined};
     ghost use Rattle.go_board.specs.Liberties.{IsLiberty};
 
-    /// Whether a place holds a stone of the chain of another stone.
+    /// Whether a place holds a stone of another stone's chain.
     #[inline]
     pub fn joins(&self, stone: usize, place: usize) -> bool
         requires stone_on_board { stone < place_count }
@@ -20,7 +20,7 @@ impl Chains {
         self.at(place).is_stone() && self.stones.id(place) == self.stones.id(stone)
     }
 
-    /// Whether a place is a liberty of the chain of a stone.
+    /// Whether a place is a liberty of a stone's chain.
     #[inline]
     pub fn has_liberty(&self, stone: usize, place: usize) -> bool
         requires stone_on_board { stone < place_count }

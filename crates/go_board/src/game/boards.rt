@@ -1,4 +1,4 @@
-//! The points of a game's board by number, lists with a value for each of them, and the ko point.
+//! The points of a game's board by index, lists with a value for each point, and the ko point.
 ghost use Rattle.std.specs.Prelude.{◌≡◌, ◌*◌, ◌<◌, ◌≤◌, ◌↔◌, ℕ, IsTrue, IfSome, MatchOption};
 ghost use Rattle.go_base.specs.Point.{IsOn};
 ghost use Rattle.go_base.specs.Size.{most_size};
@@ -18,8 +18,8 @@ impl Game {
     ghost use Rattle.go_board.specs.Refusals.{RefusesPoint};
     ghost use Rattle.go_board.specs.declared.faults.PlayFault.TheVariants.{Ko};
 
-    /// The number of a point of the board, from 0, in the order A1, B1, .., A2, B2, ...: `None` where the board doesn't
-    /// have the point.
+    /// The index of a point of the board, counted from 0 in the order A1, B1, .., A2, B2, ... Returns `None` if the
+    /// board doesn't have the point.
     pub fn index(&self, point: Point) -> Option<usize>
         ensures index { MatchOption result
             (¬ IsOn self.now.size point)
@@ -33,7 +33,7 @@ impl Game {
         Some(number_of(size, point))
     }
 
-    /// The point with a number, as `index` counts: `None` from the number of the board's points on.
+    /// The point with this index, as `index` counts. Returns `None` if the board has no such point.
     pub fn point(&self, index: usize) -> Option<Point>
         ensures { MatchOption result
             (self.now.size * self.now.size ≤ index)
@@ -46,8 +46,8 @@ impl Game {
         Some(point_at(place_at(size, index)))
     }
 
-    /// Makes a list that of the stones on all points of the board, in the order A1, B1, .., A2, B2, ...: `None` stands
-    /// for an empty point. What the list had goes.
+    /// Writes the stones on all points of the board to `stones`, in the order A1, B1, .., A2, B2, ..., replacing what
+    /// was there. `None` represents an empty point.
     pub fn board_into(&self, stones: &mut ArrayVec<Option<Colour>, MOST_POINTS>)
         ensures { AreStones self.now stones.new.items }
     {
@@ -58,8 +58,8 @@ impl Game {
         }
     }
 
-    /// Makes a list say of all points of the board, in the order A1, B1, .., A2, B2, ..., whether a colour may play on
-    /// them next, as `legal` does. What the list had goes.
+    /// Writes to `mask`, for all points of the board in the order A1, B1, .., A2, B2, ..., whether a colour may play
+    /// there next, as `legal` does. What was in `mask` is replaced.
     pub fn legal_mask_into(&self, colour: Colour, mask: &mut ArrayVec<bool, MOST_POINTS>)
         ensures { AreLegalMarks self.now colour mask.new.items }
     {
@@ -70,7 +70,7 @@ impl Game {
         }
     }
 
-    /// The colour of the stone on a place, where there is one.
+    /// The colour of the stone on a place, if there is one.
     #[inline]
     fn colour_at(&self, place: usize) -> Option<Colour>
         requires { place < place_count }
@@ -83,8 +83,8 @@ impl Game {
         }
     }
 
-    /// The one empty point on which a play of this colour would bring back the board before the last move, where there
-    /// is one. Both ko rules forbid that play: `refusal` returns `Ko` for it.
+    /// The one empty point on which a play of this colour would bring back the board before the last move. Returns
+    /// `None` if there is none. Both ko rules forbid that play, and `refusal` returns `Ko` for it.
     pub fn ko_point(&self, colour: Colour) -> Option<Point>
         ensures point { IsOnlyKoPoint self.now colour result }
         ensures refused { IfSome result (λ point. RefusesPoint self.now colour point Ko) }
@@ -117,7 +117,7 @@ fn point_count(size: Size) -> usize
     lines * lines
 }
 
-/// The number of a point on a board of this size.
+/// The index of a point on a board of this size.
 #[inline]
 fn number_of(size: Size, point: Point) -> usize
     requires { IsOn size point }
@@ -130,7 +130,7 @@ fn number_of(size: Size, point: Point) -> usize
     row * lines + column
 }
 
-/// The place of the point with a number on a board of this size.
+/// The place of the point with this index on a board of this size.
 #[inline]
 fn place_at(size: Size, index: usize) -> usize
     requires { index < size * size }

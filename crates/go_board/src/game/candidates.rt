@@ -1,4 +1,4 @@
-//! Own eyes, and a random move that leaves them.
+//! Own eyes, and a random move that leaves them alone.
 ghost use Rattle.std.specs.Prelude.{◌<◌, ◌↔◌, IsTrue};
 ghost use Rattle.go_board.specs.Board.{place_count};
 ghost use Rattle.go_board.specs.Candidates.{IsChosen};
@@ -13,17 +13,18 @@ impl Game {
     ghost use Rattle.go_board.specs.Candidates.{IsCandidate, AreCandidates, IsRandomMove};
     ghost use Rattle.go_board.specs.Eye.{IsOwnEye};
 
-    /// Whether a point is an own eye of a colour: an empty point of the board with only stones of the colour beside it.
-    /// The other colour has a stone on at most one of its diagonals, and on none where the point is on the edge.
+    /// Whether a point is an own eye of a colour: an empty point of the board with only stones of that colour beside
+    /// it. The other colour may have a stone on at most one of its diagonal neighbours, and on none if the point is on
+    /// the edge.
     pub fn is_own_eye(&self, colour: Colour, point: Point) -> bool
         ensures { IsTrue result ↔ IsOwnEye (board_of self.now) colour point }
     {
         self.chains.board().is_own_eye(colour, place_of(point))
     }
 
-    /// The move that a word chooses for a colour. The candidates are the points where `legal` allows a play and that
-    /// are no own eye of the colour, in the order A1, B1, .., A2, B2, ... Of n candidates the word chooses that of the
-    /// number `word` mod n, from 0, and a pass where there is none.
+    /// The random move that a word chooses for a colour. The candidates are the points where `legal` allows a play and
+    /// that aren't own eyes of the colour, in the order A1, B1, .., A2, B2, ... Of n candidates the word chooses number
+    /// `word` mod n, counted from 0. If there is none, the move is a pass.
     pub fn random_move(&self, colour: Colour, word: u64) -> Vertex
         ensures { IsRandomMove self.now colour word result }
     {
@@ -55,7 +56,7 @@ impl Game {
     }
 }
 
-/// Of n points that of the number `word` mod n, from 0, and a pass where there is none.
+/// Point number `word` mod n of n points, counted from 0, or a pass if there is none.
 fn chosen(points: &[Point], word: u64) -> Vertex
     ensures { IsChosen points.now word result }
 {

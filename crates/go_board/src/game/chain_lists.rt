@@ -1,4 +1,4 @@
-//! The stones of a chain, and its liberties.
+//! The stones and the liberties of a chain.
 
 use super::{Game, MOST_POINTS};
 use crate::board::{ROW, place_of, point_at};
@@ -9,8 +9,8 @@ impl Game {
     ghost use Rattle.go_board.specs.Game.{board_of};
     ghost use Rattle.go_board.specs.ChainPoints.{AreChainPoints, AreChainLiberties};
 
-    /// Makes a list that of the stones of the chain of the stone on a point, in the order A1, B1, .., A2, B2, ...: none
-    /// where the point is empty or off the board. What the list had goes.
+    /// Writes the stones of a chain to `points`, in the order A1, B1, .., A2, B2, ..., replacing what was there. The
+    /// chain is that of the stone on `point`; if the point is empty or off the board, the list is empty.
     pub fn chain_points_into(&self, point: Point, points: &mut ArrayVec<Point, MOST_POINTS>)
         ensures { AreChainPoints (board_of self.now) point points.new.items }
     {
@@ -27,8 +27,8 @@ impl Game {
         }
     }
 
-    /// Makes a list that of the liberties of the chain of the stone on a point, in the order A1, B1, .., A2, B2, ...
-    /// and each once: none where the point is empty or off the board. What the list had goes.
+    /// Writes the liberties of a chain to `points`, each once and in the order A1, B1, .., A2, B2, ..., replacing what
+    /// was there. The chain is that of the stone on `point`; if the point is empty or off the board, the list is empty.
     pub fn chain_liberties_into(&self, point: Point, points: &mut ArrayVec<Point, MOST_POINTS>)
         ensures { AreChainLiberties (board_of self.now) point points.new.items }
     {

@@ -1,4 +1,4 @@
-//! Copies of a game, for a search that plays on without the game that it searches.
+//! Copies of a game, for a search that plays on without changing the game itself.
 ghost use Rattle.std.specs.Prelude.{◌≡◌};
 
 use super::{Game, MOST_MOVES};
@@ -6,12 +6,12 @@ use arrayvec::ArrayVec;
 use go_base::Move;
 
 impl Game {
-    /// The same game once more, to play on without this one. A copy takes as much memory as a game.
+    /// Returns an independent copy of the game, which takes as much memory as the game.
     pub fn copied(&self) -> Game
         ensures { result ≡ self.now }
     {
         let mut moves = ArrayVec::new();
-        // There is room: both have the same.
+        // The capacity suffices: both have the same.
         let _ = moves.try_extend_from_slice(&self.moves);
         Game {
             size: self.size,
@@ -28,8 +28,9 @@ impl Game {
         }
     }
 
-    /// Becomes a copy of another game, whatever this one was. Each field is copied in place, and of the moves and the
-    /// taken stones no more than there are. So it takes less time than `copied`, and no room for a third game.
+    /// Makes this game a copy of another, whatever it was before. Each field is copied in place, and of the moves and
+    /// the captured stones only as many as there are. So it takes less time than `copied`, and no memory for a third
+    /// game.
     pub fn copy_from(&mut self, other: &Game)
         ensures { self.new ≡ other.now }
     {
@@ -47,14 +48,14 @@ impl Game {
     }
 }
 
-/// Makes moves a copy of others, in place. Each move is read before its place is written, and none is cleared that the
-/// copy has: so a game that C gives for both, as no caller here can, stays as it was.
+/// Makes `moves` a copy of `others`, in place. Each move is read before its place is written, and no move that the copy
+/// has is cleared. So if C passes the same game for both, which no caller here can do, that game stays as it was.
 fn copy_moves(moves: &mut ArrayVec<Move, MOST_MOVES>, others: &ArrayVec<Move, MOST_MOVES>)
     ensures { moves.new.items ≡ others.now.items }
 {
     moves.truncate(others.len());
     let (front, rest) = others.split_at(moves.len());
     moves.as_mut_slice().copy_from_slice(front);
-    // There is room: both have the same.
+    // The capacity suffices: both have the same.
     let _ = moves.try_extend_from_slice(rest);
 }

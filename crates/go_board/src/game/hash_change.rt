@@ -1,4 +1,4 @@
-//! What the last move changed in the hash of the board.
+//! How the last move changed the hash of the board.
 ghost use Rattle.std.specs.Prelude.{◌≡◌, ◌+◌, length};
 
 use super::Game;
@@ -8,8 +8,8 @@ use go_base::{Colour, Vertex};
 impl Game {
     ghost use Rattle.go_board.specs.private.HashChange.{ChangesHash, IsSumOfTaken};
 
-    /// What the last move added to the hash of the board, in 64 bits: the key of its stone, less those of the stones
-    /// that it took. It is 0 where that move is a pass, and where there is none.
+    /// What the last move added to the hash of the board, modulo 2^64: the key of its stone minus those of the stones
+    /// that it captured. It is 0 if the last move is a pass, and if there is no move.
     pub(crate) fn hash_change(&self) -> u64
         ensures { ChangesHash self.now result }
     {
@@ -23,7 +23,7 @@ impl Game {
         stone_key(last.colour, point).wrapping_sub(taken)
     }
 
-    /// The sum of the keys of the stones of this colour that the last move took, in 64 bits. That move came after
+    /// The sum, modulo 2^64, of the keys of the stones of this colour that the last move captured. That move came after
     /// `number` others.
     fn sum_of_taken(&self, colour: Colour, number: usize) -> u64
         requires { length self.now.moves ≡ number + 1 }

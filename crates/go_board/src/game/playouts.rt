@@ -1,4 +1,4 @@
-//! Playouts: a game that words play to its end.
+//! Playouts: random words play a game to its end.
 ghost use Rattle.std.specs.Prelude.{◌≡◌, ◌+◌, ◌<◌, ◌≤◌, ◌↔◌, IsTrue, MatchBool, length};
 ghost use Rattle.go_board.specs.Board.{place_count};
 ghost use Rattle.go_board.specs.Playouts.{drawn_place};
@@ -17,15 +17,15 @@ impl Game {
     ghost use Rattle.go_board.specs.private.Playouts.{IsOrderOf, HasRoomForTaken, IsWithTaken, AreEmptyBelow};
     ghost use Rattle.go_board.specs.private.Playouts.{IsPlayed, IsNotPlayed, IsTurnTaken, IsPlayedOn};
 
-    /// Plays on by words until the game is finished, `limit` moves are made or the record is full. The colours take
-    /// turns, and this one begins.
+    /// Plays on with random words until the game is finished, `limit` moves are made or the record is full. The colours
+    /// take turns, beginning with this one.
     ///
-    /// The order of the empty points begins as A1, B1, .., A2, B2, ... In a turn of a colour each word draws one of the
-    /// points from which it draws, at first all of the order. Of `n` points a word takes number
-    /// `(word / 2^32) * n / 2^32`, counted from 0 and rounded down. A point on which the colour may play, and that is
-    /// no own eye of it, is played. The last point of the order takes its place, and the points of the stones that the
-    /// play takes come behind, in the board's order. Any other point is put aside for the turn: it is exchanged with
-    /// the last of the `n`, and the next word draws among one less. With none left the colour passes.
+    /// The list of the empty points starts in the order A1, B1, .., A2, B2, ... In a turn, each word draws one of the
+    /// first `n` points of the list; at first these are all of it. The word draws number `(word / 2^32) * n / 2^32`,
+    /// counted from 0 and rounded down. If the colour may play on that point, and it isn't an own eye of that colour,
+    /// it is played. The last point of the list then takes its place, and the points of the captured stones are
+    /// appended in the board's order. Any other point is set aside for this turn: it is exchanged with the last of the
+    /// `n`, and the next word draws from one point fewer. If none is left, the colour passes.
     pub fn playout<W: Words>(&mut self, colour: Colour, words: &mut W, limit: u32)
         ensures { IsPlayedOut W.gives self.old colour limit words.old self.new words.new }
     {
@@ -33,7 +33,7 @@ impl Game {
         self.play_on(colour, words, limit, &mut order);
     }
 
-    /// The empty points of the board, in its order.
+    /// The empty points of the board, in the board's order.
     pub(crate) fn empty_points(&self) -> EmptyPoints
         ensures empty { AreEmptyPoints self.now result }
         ensures order { IsOrderOf (board_of self.now) result }
@@ -47,7 +47,7 @@ impl Game {
         order
     }
 
-    /// Adds a place behind those before it, if it is an empty point.
+    /// Appends a place if it is an empty point.
     #[inline]
     fn push_if_empty(&self, place: usize, order: &mut EmptyPoints)
         requires place { place < place_count }
@@ -81,7 +81,7 @@ impl Game {
         }
     }
 
-    /// Whether a playout that may make `left` moves more ends here.
+    /// Whether a playout that may still make `left` moves ends here.
     #[inline]
     fn playout_ends(&self, left: u32) -> bool
         ensures ends { IsTrue result ↔ Ends self.now left }
@@ -90,7 +90,7 @@ impl Game {
         left == 0 || self.moves.len() >= MOST_MOVES || self.finished()
     }
 
-    /// Takes a turn of a colour: plays the first candidate that words draw, or passes.
+    /// Takes a turn of a colour: plays the first candidate that the words draw, or passes.
     fn take_turn<W: Words>(&mut self, colour: Colour, words: &mut W, order: &mut EmptyPoints)
         requires game { IsGame self.old }
         requires room { HasRoom self.old }
@@ -111,11 +111,11 @@ impl Game {
             left -= 1;
             order.exchange(index, left);
         }
-        // A pass is legal, and the record has room.
+        // A pass is legal, and the record isn't full.
         let _ = self.play(colour, Vertex::Pass);
     }
 
-    /// Plays an empty point if it is a candidate of the colour. Returns whether it is.
+    /// Plays on an empty point if it is a candidate of the colour. Returns whether it is.
     #[inline]
     fn play_candidate(&mut self, colour: Colour, place: usize) -> bool
         requires room { HasRoom self.old }
@@ -128,7 +128,7 @@ impl Game {
             && self.play(colour, Vertex::At(point_at(place))).is_ok()
     }
 
-    /// Adds the points of the stones that the last move took behind the order.
+    /// Appends the points of the stones that the last move captured.
     fn push_taken(&self, order: &mut EmptyPoints)
         requires moved { 0 < length self.now.moves }
         requires room { HasRoomForTaken self.now order.old }
@@ -141,7 +141,7 @@ impl Game {
     }
 }
 
-/// The place that a word draws among the first `number` of an order, counted from 0.
+/// The place that a word draws among the first `number` of a list, counted from 0.
 #[inline]
 pub(crate) fn draw(word: u64, number: usize) -> usize
     requires { number ≤ place_count }

@@ -1,6 +1,7 @@
-//! Whether a play would bring back a board of the record, as positional ko forbids.
+//! Whether a play would bring back a board of the record, which positional ko forbids.
 //!
-//! A play's board is looked for by its hash. Where the record had that hash, it is played again.
+//! The board after the play is looked up by its hash. Only if the record had that hash, it is replayed to compare the
+//! boards.
 ghost use Rattle.std.specs.Prelude.{◌≡◌, ◌↔◌, ◌⊎◌, IsTrue, IfSome, IfNone};
 ghost use Rattle.go_base.specs.Point.{IsOn};
 ghost use Rattle.go_base.specs.Size.{most_size};
@@ -32,7 +33,7 @@ impl Game {
             && self.had_board(&self.board_after(colour, point), place_of(point))
     }
 
-    /// The hash of the board after a legal move, where the rule asks for it and the move takes nothing.
+    /// The hash of the board after a legal move, if the rule needs it and the move captures nothing.
     #[inline]
     pub(super) fn known_hash(&self, colour: Colour, vertex: Vertex) -> Option<u64>
         requires { IsLegal self.now colour vertex }
@@ -48,7 +49,8 @@ impl Game {
         }
     }
 
-    /// The hash of the board after a play on an empty point that takes nothing: the last hash with the key of one stone.
+    /// The hash of the board after a play on an empty point that captures nothing: the last hash plus the key of one
+    /// stone. Returns `None` if the play captures something.
     #[inline]
     fn hash_alone(&self, colour: Colour, point: Point) -> Option<u64>
         requires rule { self.now.rule ≡ Positional }
@@ -83,13 +85,13 @@ impl Game {
     {
         let mut chains = self.chains.copy();
         let mut stack = TakenStack::new();
-        // How many stones it takes doesn't matter here.
+        // How many stones it captures doesn't matter here.
         let _ = chains.make_play(colour, place_of(point), 0, &mut stack);
         *chains.board()
     }
 
-    /// Whether the board was this one after some number of moves, from none to all: the record is played again on
-    /// another board. The place is one where earlier boards may well differ.
+    /// Whether the board was this one after some number of moves, from none to all. The record is replayed on another
+    /// board. The given place is one at which earlier boards are likely to differ.
     fn had_board(&self, wanted: &Board, place: usize) -> bool
         requires { IsOn most_size place }
         ensures { IsTrue result ↔ RepeatsAny self.now wanted.now }

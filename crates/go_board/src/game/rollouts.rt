@@ -1,4 +1,4 @@
-//! Rollouts: the score of a playout, with the game as it was.
+//! Rollouts: the score of a playout that leaves the game as it was.
 ghost use Rattle.std.specs.Prelude.{◌≡◌, ◌↔◌, IsTrue};
 
 use super::Game;
@@ -16,8 +16,8 @@ impl Game {
     ghost use Rattle.go_board.specs.declared.rules.KoRule.TheVariants.{Simple};
     ghost use Rattle.go_board.specs.private.Rollouts.{LastIsPass, IsRolloutOf, IsKoPlace};
 
-    /// The score, in half points, of a game that `playout` would leave: positive where Black leads. The game stays as
-    /// it was. With limit 0 that is the score now.
+    /// Returns the score, in half points, of the game that `playout` would leave: positive if Black leads. The game
+    /// isn't changed. With limit 0 it is the score of the game as it is.
     pub fn rollout<W: Words>(&self, colour: Colour, words: &mut W, limit: u32) -> i32
         ensures { IsRolledOut W.gives self.now colour limit words.old result words.new }
     {
@@ -27,8 +27,8 @@ impl Game {
         }
     }
 
-    /// A rollout under any ko rule, by a copy of the game, which is made in place. It is called, so that a rollout under
-    /// simple ko takes no room for a copy.
+    /// A rollout under any ko rule, on a copy of the game that is made in place. It isn't inlined, so that a rollout
+    /// under simple ko takes no memory for a copy.
     #[inline(never)]
     fn rollout_by_copy<W: Words>(&self, colour: Colour, words: &mut W, limit: u32) -> i32
         ensures { IsRolledOut W.gives self.now colour limit words.old result words.new }
@@ -39,7 +39,7 @@ impl Game {
         game.score()
     }
 
-    /// A rollout under simple ko, by what it needs of the game alone.
+    /// A rollout under simple ko, with only that part of the game that it needs.
     fn rollout_alone<W: Words>(&self, colour: Colour, words: &mut W, limit: u32) -> i32
         requires { self.now.rule ≡ Simple }
         ensures { IsRolledOut W.gives self.now colour limit words.old result words.new }
@@ -52,7 +52,7 @@ impl Game {
         self.score_of(board, black_stones, white_stones)
     }
 
-    /// What a rollout keeps of this game, in which this colour is to move.
+    /// The rollout state of this game, with this colour to move.
     fn begin_rollout(&self, colour: Colour) -> Rollout
         requires { self.now.rule ≡ Simple }
         ensures kept { IsRolloutOf self.now colour result }
@@ -75,7 +75,7 @@ impl Game {
         }
     }
 
-    /// The empty point where a play of this colour would bring back the board before the last move.
+    /// The empty point on which a play of this colour would bring back the board before the last move, if there is one.
     fn ko_place(&self, colour: Colour) -> Option<usize>
         ensures { IsKoPlace self.now colour result }
     {

@@ -1,5 +1,5 @@
-//! What a search asks of a game beside its board: all legal points, the chain of a stone, the stones that the last move
-//! took, and a hash of the board.
+//! What a search needs of a game besides its board: all legal points, the chain of a stone, the stones that the last
+//! move captured, and a hash of the board.
 ghost use Rattle.std.specs.Prelude.{◌≡◌, ◌+◌, ◌*◌, ◌<◌, ◌↔◌, IsTrue, MatchOption};
 ghost use Rattle.go_board.specs.Board.{place_count};
 
@@ -12,17 +12,17 @@ use crate::taken_stack::TakenStone;
 use arrayvec::ArrayVec;
 use go_base::{Colour, Point};
 
-/// As many points as the largest board has, 25 to a row.
+/// The number of points of the largest board: 25 rows of 25.
 pub const MOST_POINTS: usize = 625;
 
-/// The chain of a stone: the stones of its colour that are joined to it.
+/// The chain of a stone: this stone and those of its colour that are connected to it.
 #[derive(Clone, Copy, PartialEq, Eq, Debug)]
 pub struct Chain {
     /// The colour of its stones.
     pub colour: Colour,
     /// How many stones it has.
     pub stones: u32,
-    /// How many liberties it has: empty points beside its stones, each counted once.
+    /// How many liberties it has: the empty points beside its stones, each counted once.
     pub liberties: u32,
 }
 
@@ -38,8 +38,8 @@ impl Game {
     ghost use Rattle.go_board.specs.private.TakenStack.{places_of};
     ghost use Rattle.go_board.specs.declared.rules.KoRule.TheVariants.{Simple};
 
-    /// The points on which a colour may play next, in the order A1, B1, .., A2, B2, ...: those for which `legal`
-    /// returns true. The number of moves doesn't count, though `play` makes none where the record is full.
+    /// Returns the points on which a colour may play next, in the order A1, B1, .., A2, B2, ...: those for which
+    /// `legal` returns true. This doesn't take into account that `play` makes no move when the record is full.
     pub fn legal_points(&self, colour: Colour) -> ArrayVec<Point, MOST_POINTS>
         ensures { AreLegalPoints self.now colour result.items }
     {
@@ -48,8 +48,8 @@ impl Game {
         points
     }
 
-    /// Makes a list the one that `legal_points` returns. What it had goes. A search that asks again and again needs no
-    /// new list each time.
+    /// Writes what `legal_points` returns to `points`, replacing what was there. So a search can ask again and again
+    /// without a new list each time.
     pub fn legal_points_into(&self, colour: Colour, points: &mut ArrayVec<Point, MOST_POINTS>)
         ensures { AreLegalPoints self.now colour points.new.items }
     {
@@ -67,9 +67,9 @@ impl Game {
         }
     }
 
-    /// The columns where either colour may surely play, among a row's empty points with another one beside them. There
-    /// a new stone has a liberty, and a play never brings back the board before the last move, for the ko point has no
-    /// empty point beside it. Under positional ko no point is sure.
+    /// Of a row's empty points that have an empty neighbour, the columns where either colour may surely play. A new
+    /// stone there has a liberty, and no play there brings back the board before the last move, since the ko point has
+    /// no empty neighbour. Under positional ko no point is sure.
     #[inline]
     fn sure_in_row(&self, row: usize, open_points: Columns) -> Columns
         requires { AreOpenIn (board_of self.now) row open_points }
@@ -99,7 +99,7 @@ impl Game {
         legal
     }
 
-    /// Pushes the points of a row on which a colour may play.
+    /// Appends the points of a row on which a colour may play.
     #[inline]
     fn push_legal(
         &self,
@@ -134,7 +134,7 @@ impl Game {
             && !self.repeats(colour, point_at(place))
     }
 
-    /// The chain of the stone on a point: `None` where the point is empty or off the board.
+    /// The chain of the stone on a point. Returns `None` if the point is empty or off the board.
     pub fn chain(&self, point: Point) -> Option<Chain>
         ensures { MatchOption result
             (stone_at (board_of self.now) point ≡ None)
@@ -152,8 +152,9 @@ impl Game {
         })
     }
 
-    /// The points of the stones that the last move of the record took, in the order A1, B1, .., A2, B2, ...: none where
-    /// it is a pass or took none, and none where the record has no move. After an `undo` that is the move before.
+    /// Returns the points of the stones that the last move of the record captured, in the order A1, B1, .., A2, B2, ...
+    /// There are none if the move is a pass or captured nothing, and if the record has no move. After an `undo` the
+    /// last move is the one before.
     pub fn taken_by_last_move(&self) -> ArrayVec<Point, MOST_POINTS>
         ensures { AreTakenByLast self.now result.items }
     {
@@ -162,7 +163,7 @@ impl Game {
         points
     }
 
-    /// Whether the last move of the record took a stone.
+    /// Whether the last move of the record captured a stone.
     #[inline]
     pub fn last_move_took(&self) -> bool
         ensures { IsTrue result ↔ HasTakenByLast self.now }
@@ -170,7 +171,7 @@ impl Game {
         !self.last_taken().is_empty()
     }
 
-    /// The stones that the last move of the record took, where it has a move.
+    /// The stones that the last move of the record captured, if there is a move.
     #[inline]
     fn last_taken(&self) -> &[TakenStone]
         ensures taken { AreTakenByLast self.now (places_of result.now) }
@@ -182,8 +183,8 @@ impl Game {
         }
     }
 
-    /// Makes a list the one that `taken_by_last_move` returns. What it had goes. Of the record it looks at the stones
-    /// alone that the last move took.
+    /// Writes what `taken_by_last_move` returns to `points`, replacing what was there. Of the record it reads only the
+    /// stones that the last move captured.
     pub fn taken_by_last_move_into(&self, points: &mut ArrayVec<Point, MOST_POINTS>)
         ensures { AreTakenByLast self.now points.new.items }
     {
@@ -193,15 +194,14 @@ impl Game {
         }
     }
 
-    /// A hash of the board and its size: the sum of the keys of the size and of the stones, in 64 bits.
+    /// A hash of the board and its size: the sum of the keys of the size and of all stones, modulo 2^64.
     ///
-    /// Games of equal size and with equal boards have equal hashes, whatever else differs: the komi, the ko rule, who
-    /// is to move, and by which moves the board came about. So different hashes show that the size or the board
-    /// differs. Equal hashes show nothing: two boards may have one.
+    /// Games of equal size and with equal boards have equal hashes, whatever else differs: the komi, the ko rule, the
+    /// colour to move, and the moves that led to the board. So different hashes show that the size or the board
+    /// differs. Equal hashes show nothing: two different boards may have the same hash.
     ///
-    /// It is computed at each call, in a pass over the board. A search that keeps one beside its game adds the
-    /// `stone_key` of each stone that comes, and subtracts that of each that goes (`taken_by_last_move`), both
-    /// wrapping.
+    /// Each call computes it in a pass over the board. A search that keeps its own hash adds the `stone_key` of each
+    /// stone that is placed, and subtracts that of each stone that is captured (`taken_by_last_move`), both wrapping.
     pub fn board_hash(&self) -> u64
         ensures { result ≡ hash_of self.now.size (board_of self.now) }
     {

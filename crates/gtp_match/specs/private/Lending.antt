@@ -1,4 +1,4 @@
--- One of the sides, lent to be changed.
+-- One of the sides, borrowed to be changed.
 use Rattle.std.specs.Borrow.{Lends, MutBor, Fml}
 use Rattle.go_base.specs.declared.colours.Colour.{Colour}
 use Rattle.gtp_match.specs.Sides.{with_side}

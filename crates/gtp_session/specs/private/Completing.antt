@@ -1,4 +1,4 @@
--- How a policy and the table answer what an engine in steps asks its author for.
+-- How a policy and the table answer what a sans-IO engine asks its author for.
 use Rattle.std.specs.Prelude.{◌≡◌, Bool, true, false}
 use Rattle.gtp_session.specs.declared.events.Wait.TheVariants as wait
 use Rattle.gtp_session.specs.declared.events.Event.{Event}

@@ -1,4 +1,4 @@
--- What the code says of the room that the lists of an engine in steps have.
+-- What the code says of the room that the lists of a sans-IO engine have.
 use Rattle.std.specs.Prelude.{◌≡◌, ℕ, ◌+◌, ◌≤◌, Bool, true, false, List, [], length, Some}
 use Rattle.go_base.specs.declared.colours.Colour.{Colour}
 use Rattle.gtp_wire.specs.Commands.{most_command_bytes}

@@ -1,4 +1,4 @@
--- The process of a side, lent to be changed.
+-- The process of a side, borrowed to be changed.
 use Rattle.std.specs.Prelude.{Option}
 use Rattle.std.specs.Borrow.{Fml, Lends, MutBor, RattleType}
 use Rattle.std.specs.contracts.option.Option.{the_row as OptionOf}

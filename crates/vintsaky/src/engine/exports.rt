@@ -1,4 +1,4 @@
-//! The calls of an engine in steps.
+//! The calls of a sans-IO engine.
 ghost use Rattle.std.specs.Prelude.{◌≡◌};
 ghost use Rattle.std.specs.Align.{type_align};
 ghost use Rattle.std.specs.Mem.{type_size};
@@ -14,7 +14,7 @@ use gtp_session::steps::Steps;
 use std::mem::{align_of, size_of};
 use vintsaky_calls::{code_of, engines};
 
-/// How many bytes an engine takes.
+/// Returns the size of an engine in bytes.
 #[unsafe(no_mangle)]
 pub extern "C" fn vintsaky_engine_bytes() -> usize
     ensures { result ≡ type_size engine_row }
@@ -22,7 +22,7 @@ pub extern "C" fn vintsaky_engine_bytes() -> usize
     size_of::<Steps>()
 }
 
-/// Of what number the address of an engine is a multiple.
+/// Returns the alignment of an engine in bytes.
 #[unsafe(no_mangle)]
 pub extern "C" fn vintsaky_engine_align() -> usize
     ensures { result ≡ type_align engine_row }
@@ -30,7 +30,7 @@ pub extern "C" fn vintsaky_engine_align() -> usize
     align_of::<Steps>()
 }
 
-/// Whether the session has ended, by a `quit`.
+/// Returns whether the session has ended, by a `quit`.
 #[unsafe(no_mangle)]
 pub extern "C" fn vintsaky_engine_ended(engine: &mut EngineHandle) -> bool
     ensures ended { result ≡ engine.old.value.ended }
@@ -39,14 +39,14 @@ pub extern "C" fn vintsaky_engine_ended(engine: &mut EngineHandle) -> bool
     engine.lend().ended()
 }
 
-/// Begins the engine anew, under a ko rule. It loses its name, its version and its own commands.
+/// Resets the engine, under a ko rule. It loses its name, its version and its custom commands.
 ///
 /// Call it only before the engine's first byte. Later the engine would lose its game, and what it hasn't answered; no
-/// call refuses that.
+/// call rejects that.
 ///
 /// # Errors
 ///
-/// `BadRule`. The engine stays as it was.
+/// `BadRule`. The engine is unchanged.
 #[unsafe(no_mangle)]
 pub extern "C" fn vintsaky_engine_begin(engine: &mut EngineHandle, rule: u32) -> u32
     ensures call { Returns result (BeginCall rule engine.old.value engine.new.value) }
@@ -54,10 +54,10 @@ pub extern "C" fn vintsaky_engine_begin(engine: &mut EngineHandle, rule: u32) ->
     code_of(engines::begin(engine.lend(), rule))
 }
 
-/// Takes the next piece, up to and with the newline of the first line that has a word, or all of it. How many bytes
-/// were used is written: feed the others next. Returns what came of them. While a choice or an answer is waited for,
-/// and after the end, no byte is used, and the same comes again. A line of more than 1,000 bytes of words is answered
-/// by a failure.
+/// Takes the next chunk, up to and including the newline of the first line that has a word, or all of it. Writes how
+/// many bytes were used: feed the others next. Returns what came of them. While the engine waits for a choice or an
+/// answer, and after the end, no byte is used, and the same is returned again. A line of more than 1,000 bytes of words
+/// is answered by a failure.
 #[unsafe(no_mangle)]
 pub extern "C" fn vintsaky_engine_feed(
     engine: &mut EngineHandle,
@@ -69,8 +69,8 @@ pub extern "C" fn vintsaky_engine_feed(
     engines::feed(engine.lend(), bytes, used)
 }
 
-/// What is waited for: 0 for nothing, VINTSAKY_BLACK or VINTSAKY_WHITE for a choice, VINTSAKY_OTHER for an
-/// answer.
+/// Returns what the engine waits for: 0 for nothing, VINTSAKY_BLACK or VINTSAKY_WHITE for the choice of a move,
+/// VINTSAKY_OTHER for an answer.
 #[unsafe(no_mangle)]
 pub extern "C" fn vintsaky_engine_wait(engine: &mut EngineHandle) -> u32
     ensures call { result ≡ wait_code engine.old.value.wait }
@@ -79,12 +79,12 @@ pub extern "C" fn vintsaky_engine_wait(engine: &mut EngineHandle) -> u32
     engines::wait(engine.lend())
 }
 
-/// Makes the choice that is asked for.
+/// Supplies the choice that the engine waits for: a move or a resignation.
 ///
 /// # Errors
 ///
-/// `BadVertex`, or else `NotAsked`, or else why the move is refused: `OffBoard`, `Occupied`, `Suicide` or `Ko`. The
-/// engine stays as it was, and a choice that was asked for is still asked for.
+/// `BadVertex`, or else `NotAsked`, or else why the move is illegal: `OffBoard`, `Occupied`, `Suicide` or `Ko`. The
+/// engine is unchanged, and still waits for a choice if it did before.
 #[unsafe(no_mangle)]
 pub extern "C" fn vintsaky_engine_choose(engine: &mut EngineHandle, vertex: u32) -> u32
     ensures call { Returns result (ChooseCall vertex engine.old.value engine.new.value) }
@@ -92,11 +92,11 @@ pub extern "C" fn vintsaky_engine_choose(engine: &mut EngineHandle, vertex: u32)
     code_of(engines::choose(engine.lend(), vertex))
 }
 
-/// Answers the line of another command: by a success, where `ok` isn't 0, or else by a failure.
+/// Answers a command that isn't in the protocol's table: by a success if `ok` isn't 0, else by a failure.
 ///
 /// # Errors
 ///
-/// `NotAsked`, or else `BadText` where no reply may have the text. The engine stays as it was.
+/// `NotAsked`, or else `BadText` if the text isn't allowed in a reply. The engine is unchanged.
 #[unsafe(no_mangle)]
 pub extern "C" fn vintsaky_engine_answer(engine: &mut EngineHandle, ok: u32, text: &[u8]) -> u32
     ensures call { Returns result (AnswerCall ok text.now engine.old.value engine.new.value) }
@@ -104,11 +104,11 @@ pub extern "C" fn vintsaky_engine_answer(engine: &mut EngineHandle, ok: u32, tex
     code_of(engines::answer(engine.lend(), ok, text))
 }
 
-/// Answers the line of another command as the protocol's table does: `unknown command`.
+/// Answers such a command as the protocol's table does: `unknown command`.
 ///
 /// # Errors
 ///
-/// `NotAsked`. The engine stays as it was.
+/// `NotAsked`. The engine is unchanged.
 #[unsafe(no_mangle)]
 pub extern "C" fn vintsaky_engine_decline(engine: &mut EngineHandle) -> u32
     ensures call { Returns result (DeclineCall engine.old.value engine.new.value) }
@@ -116,11 +116,11 @@ pub extern "C" fn vintsaky_engine_decline(engine: &mut EngineHandle) -> u32
     code_of(engines::decline(engine.lend()))
 }
 
-/// Answers `name` by this text from now on.
+/// Sets the text that answers `name` from now on.
 ///
 /// # Errors
 ///
-/// `BadText` where it has more than 200 bytes, or no reply may have it. The engine stays as it was.
+/// `BadText` if it has more than 200 bytes, or isn't allowed in a reply. The engine is unchanged.
 #[unsafe(no_mangle)]
 pub extern "C" fn vintsaky_engine_set_name(engine: &mut EngineHandle, text: &[u8]) -> u32
     ensures call { Returns result (SetNameCall text.now engine.old.value engine.new.value) }
@@ -128,11 +128,11 @@ pub extern "C" fn vintsaky_engine_set_name(engine: &mut EngineHandle, text: &[u8
     code_of(engines::set_name(engine.lend(), text))
 }
 
-/// Answers `version` by this text from now on.
+/// Sets the text that answers `version` from now on.
 ///
 /// # Errors
 ///
-/// As those of [`vintsaky_engine_set_name`].
+/// Those of [`vintsaky_engine_set_name`].
 #[unsafe(no_mangle)]
 pub extern "C" fn vintsaky_engine_set_version(engine: &mut EngineHandle, text: &[u8]) -> u32
     ensures call { Returns result (SetVersionCall text.now engine.old.value engine.new.value) }
@@ -140,12 +140,12 @@ pub extern "C" fn vintsaky_engine_set_version(engine: &mut EngineHandle, text: &
     code_of(engines::set_version(engine.lend(), text))
 }
 
-/// Adds a command of the author's own.
+/// Adds a custom command.
 ///
 /// # Errors
 ///
-/// `BadLength`, `BadByte`, `OnlyDigits`, `InTable`, `AddedBefore` or `TooMany`, the first of these that holds. The
-/// engine stays as it was.
+/// `BadLength`, `BadByte`, `OnlyDigits`, `InTable`, `AddedBefore` or `TooMany`, the first of these that applies. The
+/// engine is unchanged.
 #[unsafe(no_mangle)]
 pub extern "C" fn vintsaky_engine_add_command(engine: &mut EngineHandle, name: &[u8]) -> u32
     ensures call { Returns result (AddCommandCall name.now engine.old.value engine.new.value) }
@@ -162,7 +162,7 @@ pub extern "C" fn vintsaky_engine_copy_game(engine: &mut EngineHandle, game: &mu
     engines::copy_game(engine.lend(), game.lend())
 }
 
-/// Writes the last reply. How many bytes it has: none before the first, and 2,048 at most.
+/// Writes the last reply, and returns its length: 0 before the first, and at most 2,048.
 #[unsafe(no_mangle)]
 pub extern "C" fn vintsaky_engine_reply(engine: &mut EngineHandle, text: &mut [u8]) -> usize
     ensures call { Writes engine.old.value.reply text.old text.new result }
@@ -171,11 +171,12 @@ pub extern "C" fn vintsaky_engine_reply(engine: &mut EngineHandle, text: &mut [u
     engines::reply(engine.lend(), text)
 }
 
-/// Writes a word of the line that is waited for, counted from 0 after the id, and its length: at most 1,000 bytes.
+/// Writes a word of the command line for which a choice or an answer is waited for, counted from 0 after the id, and
+/// its length: at most 1,000 bytes.
 ///
 /// # Errors
 ///
-/// `NotAsked` where no line is waited for, or else `NoWord`. Nothing is written.
+/// `NotAsked` if nothing is waited for, or else `NoWord`. Nothing is written.
 #[unsafe(no_mangle)]
 pub extern "C" fn vintsaky_engine_word(
     engine: &mut EngineHandle,
@@ -190,11 +191,11 @@ pub extern "C" fn vintsaky_engine_word(
     code_of(engines::word(engine.lend(), number, text, count))
 }
 
-/// The id of the line that is waited for.
+/// Writes the id of the command line for which a choice or an answer is waited for.
 ///
 /// # Errors
 ///
-/// `NotAsked` where no line is waited for, or else `NoId`. Nothing is written.
+/// `NotAsked` if nothing is waited for, or else `NoId`. Nothing is written.
 #[unsafe(no_mangle)]
 pub extern "C" fn vintsaky_engine_id(engine: &mut EngineHandle, id: &mut u32) -> u32
     ensures call { Returns result (IdCall engine.old.value id.old id.new) }

@@ -1,10 +1,10 @@
-//! The handle of an engine in steps.
+//! The handle of a sans-IO engine.
 ghost use Rattle.gtp_session.specs.Steps.{StepsState};
 ghost use Rattle.gtp_session.specs.contracts.steps.Steps.{the_row};
 
 use std::marker::{Model, Send};
 
-/// An engine in steps in memory that the caller gave.
+/// A sans-IO engine in the caller's memory.
 #[repr(C)]
 pub struct EngineHandle {
     pub(crate) at: *mut u8,

@@ -1,4 +1,4 @@
-//! What the handle of an engine in steps lends.
+//! Borrowing the engine of a handle.
 ghost use Rattle.std.specs.Prelude.{◌≡◌};
 ghost use Rattle.std.specs.Borrow.{sem};
 ghost use Rattle.gtp_session.specs.contracts.steps.Steps.{the_row as engine_row};
@@ -9,7 +9,7 @@ use crate::engine::handle::EngineHandle;
 use gtp_session::steps::Steps;
 
 impl EngineHandle {
-    /// An engine in steps that lies in the memory. The handle sees what is done to it.
+    /// Borrows the engine in the memory. Changes to it are changes to the handle's engine.
     pub fn lend(&mut self) -> &mut Steps
         ensures* writes_back { sem 𝓛
             (Lends the_row engine_row (λ h v. record h { value = v }) self.entry result) }

@@ -1,4 +1,4 @@
-//! Engines that are put into memory.
+//! Placing engines in memory.
 ghost use Rattle.std.specs.Prelude.{◌≡◌};
 ghost use Rattle.std.specs.Borrow.{full_share, sem};
 ghost use Rattle.std.specs.Ptr.{lies_at, room_at};
@@ -11,19 +11,19 @@ use crate::engine::handle::EngineHandle;
 use go_board::KoRule;
 use gtp_session::steps::Steps;
 
-/// An engine under simple ko that was given nothing.
+/// An engine under simple ko that has received nothing.
 pub(crate) fn fresh_engine() -> Steps
     ensures { result ≡ fresh_engine }
 {
     Steps::new(KoRule::Simple)
 }
 
-/// Puts an engine in steps into the memory, and its handle. It has simple ko, and was given nothing.
+/// Initialises a sans-IO engine in the caller's memory, and its handle. It has simple ko, and has received nothing.
 ///
 /// # Safety
 ///
-/// The memory has as many bytes and the alignment that the calls for these return. It is the object's alone, and stays
-/// where it is, as long as the handle is used. So does the handle.
+/// The memory must have the size and the alignment that the calls for these return, and must be the object's alone.
+/// Neither the memory nor the handle may move as long as the handle is used.
 #[unsafe(no_mangle)]
 pub unsafe extern "C" fn vintsaky_engine_place(out: *mut EngineHandle, at: *mut u8)
     requires* { sem 𝓛 (fsep (room_at the_row out) (room_at engine_row at)) }

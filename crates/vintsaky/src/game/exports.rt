@@ -19,7 +19,7 @@ use go_board::Game;
 use std::mem::{align_of, size_of};
 use vintsaky_calls::{code_of, games, turns};
 
-/// How many bytes a game takes.
+/// Returns the size of a game in bytes.
 #[unsafe(no_mangle)]
 pub extern "C" fn vintsaky_game_bytes() -> usize
     ensures { result ≡ type_size game_row }
@@ -27,7 +27,7 @@ pub extern "C" fn vintsaky_game_bytes() -> usize
     size_of::<Game>()
 }
 
-/// Of what number the address of a game is a multiple.
+/// Returns the alignment of a game in bytes.
 #[unsafe(no_mangle)]
 pub extern "C" fn vintsaky_game_align() -> usize
     ensures { result ≡ type_align game_row }
@@ -35,7 +35,7 @@ pub extern "C" fn vintsaky_game_align() -> usize
     align_of::<Game>()
 }
 
-/// The size of the board, from 1 to 25.
+/// Returns the size of the board, 1 to 25.
 #[unsafe(no_mangle)]
 pub extern "C" fn vintsaky_game_size(game: &mut GameHandle) -> u32
     ensures size { result ≡ game.old.value.size }
@@ -44,7 +44,7 @@ pub extern "C" fn vintsaky_game_size(game: &mut GameHandle) -> u32
     game.lend().size().get()
 }
 
-/// The komi in half points.
+/// Returns the komi in half points.
 #[unsafe(no_mangle)]
 pub extern "C" fn vintsaky_game_komi(game: &mut GameHandle) -> i32
     ensures komi { result ≡ game.old.value.komi }
@@ -53,7 +53,7 @@ pub extern "C" fn vintsaky_game_komi(game: &mut GameHandle) -> i32
     game.lend().komi().half_points()
 }
 
-/// How many handicap stones were placed, or 0.
+/// Returns the number of handicap stones that were placed, or 0.
 #[unsafe(no_mangle)]
 pub extern "C" fn vintsaky_game_handicap(game: &mut GameHandle) -> u32
     ensures handicap { result ≡ game.old.value.handicap }
@@ -62,8 +62,8 @@ pub extern "C" fn vintsaky_game_handicap(game: &mut GameHandle) -> u32
     game.lend().handicap()
 }
 
-/// The number of the colour whose turn it is: the other one than that of the last move. Without a move that is Black,
-/// or White where handicap stones were placed.
+/// Returns the colour whose turn it is: the one that didn't make the last move. Before the first move it is Black, or
+/// White if handicap stones were placed.
 #[unsafe(no_mangle)]
 pub extern "C" fn vintsaky_game_turn(game: &mut GameHandle) -> u32
     ensures call { HasTurn game.old.value result }
@@ -72,7 +72,7 @@ pub extern "C" fn vintsaky_game_turn(game: &mut GameHandle) -> u32
     turns::turn(game.lend())
 }
 
-/// How many moves the record has.
+/// Returns the number of moves in the record.
 #[unsafe(no_mangle)]
 pub extern "C" fn vintsaky_game_length(game: &mut GameHandle) -> usize
     ensures length { result ≡ length game.old.value.moves }
@@ -81,7 +81,7 @@ pub extern "C" fn vintsaky_game_length(game: &mut GameHandle) -> usize
     game.lend().moves().len()
 }
 
-/// The score by area with every stone alive, and after the komi, in half points: positive where Black leads.
+/// Returns the area score with every stone alive, after komi, in half points: positive if Black leads.
 #[unsafe(no_mangle)]
 pub extern "C" fn vintsaky_game_score(game: &mut GameHandle) -> i32
     ensures score { result ≡ score game.old.value }
@@ -90,7 +90,7 @@ pub extern "C" fn vintsaky_game_score(game: &mut GameHandle) -> i32
     game.lend().score()
 }
 
-/// Whether the last two moves are passes.
+/// Returns whether the last two moves are passes.
 #[unsafe(no_mangle)]
 pub extern "C" fn vintsaky_game_finished(game: &mut GameHandle) -> bool
     ensures passes { IsTrue result ↔ IsFinished game.old.value }
@@ -99,8 +99,8 @@ pub extern "C" fn vintsaky_game_finished(game: &mut GameHandle) -> bool
     game.lend().finished()
 }
 
-/// A hash of the board and its size: equal boards of one size have equal hashes. So different ones show that size or
-/// board differs, and equal ones show nothing.
+/// Returns a hash of the board and its size. Equal boards of one size have equal hashes. So different hashes show that
+/// board or size differ; equal hashes show nothing.
 #[unsafe(no_mangle)]
 pub extern "C" fn vintsaky_game_hash(game: &mut GameHandle) -> u64
     ensures hash { result ≡ hash_of game.old.value.size (board_of game.old.value) }
@@ -109,8 +109,8 @@ pub extern "C" fn vintsaky_game_hash(game: &mut GameHandle) -> u64
     game.lend().board_hash()
 }
 
-/// Becomes a copy of another game, with its record, its komi and its ko rule. A game that is given for both stays as it
-/// was.
+/// Copies another game into this one, with its record, its komi and its ko rule. A game that is given for both is
+/// unchanged.
 #[unsafe(no_mangle)]
 pub extern "C" fn vintsaky_game_copy(game: &mut GameHandle, other: &mut GameHandle)
     ensures copied { game.new.value ≡ other.old.value }
@@ -119,11 +119,11 @@ pub extern "C" fn vintsaky_game_copy(game: &mut GameHandle, other: &mut GameHand
     game.lend().copy_from(other.lend());
 }
 
-/// Begins the game anew, on an empty board.
+/// Resets the game to an empty board, with this ko rule, size and komi.
 ///
 /// # Errors
 ///
-/// `BadRule`, `BadSize` or `BadKomi`, the first of these that holds. The game stays as it was.
+/// `BadRule`, `BadSize` or `BadKomi`, the first of these that applies. The game is unchanged.
 #[unsafe(no_mangle)]
 pub extern "C" fn vintsaky_game_begin(
     game: &mut GameHandle,
@@ -136,12 +136,12 @@ pub extern "C" fn vintsaky_game_begin(
     code_of(games::begin(game.lend(), rule, size, half_komi))
 }
 
-/// Makes a move of either colour, whoever moved last.
+/// Plays a move of either colour, whoever moved last.
 ///
 /// # Errors
 ///
-/// `BadColour`, or else `BadVertex`, or else why the move is refused: `Full`, `OffBoard`, `Occupied`, `Suicide` or
-/// `Ko`. The game stays as it was.
+/// `BadColour`, or else `BadVertex`, or else why the move is illegal: `Full`, `OffBoard`, `Occupied`, `Suicide` or
+/// `Ko`. The game is unchanged.
 #[unsafe(no_mangle)]
 pub extern "C" fn vintsaky_game_play(game: &mut GameHandle, colour: u32, vertex: u32) -> u32
     ensures call { Returns result (PlayCall colour vertex game.old.value game.new.value) }
@@ -149,11 +149,11 @@ pub extern "C" fn vintsaky_game_play(game: &mut GameHandle, colour: u32, vertex:
     code_of(games::play(game.lend(), colour, vertex))
 }
 
-/// Whether a colour may make a move next.
+/// Checks whether a colour may make a move next: 0 if it may.
 ///
 /// # Errors
 ///
-/// As those of [`vintsaky_game_play`], of which it leaves out `Full`.
+/// Those of [`vintsaky_game_play`], except `Full`.
 #[unsafe(no_mangle)]
 pub extern "C" fn vintsaky_game_legal(game: &mut GameHandle, colour: u32, vertex: u32) -> u32
     ensures call { Returns result (LegalCall game.old.value colour vertex) }
@@ -162,11 +162,11 @@ pub extern "C" fn vintsaky_game_legal(game: &mut GameHandle, colour: u32, vertex
     code_of(games::legal(game.lend(), colour, vertex))
 }
 
-/// Takes back the last move.
+/// Undoes the last move.
 ///
 /// # Errors
 ///
-/// `NothingToUndo` where the record has no move. The game stays as it was.
+/// `NothingToUndo` if the record has no move. The game is unchanged.
 #[unsafe(no_mangle)]
 pub extern "C" fn vintsaky_game_undo(game: &mut GameHandle) -> u32
     ensures call { Returns result (UndoCall game.old.value game.new.value) }
@@ -174,11 +174,11 @@ pub extern "C" fn vintsaky_game_undo(game: &mut GameHandle) -> u32
     code_of(games::undo(game.lend()))
 }
 
-/// Sets the komi. The board and the record stay.
+/// Sets the komi. The board and the record are unchanged.
 ///
 /// # Errors
 ///
-/// `BadKomi`. The game stays as it was.
+/// `BadKomi`. The game is unchanged.
 #[unsafe(no_mangle)]
 pub extern "C" fn vintsaky_game_set_komi(game: &mut GameHandle, half_komi: i32) -> u32
     ensures call { Returns result (SetKomiCall half_komi game.old.value game.new.value) }
@@ -186,11 +186,11 @@ pub extern "C" fn vintsaky_game_set_komi(game: &mut GameHandle, half_komi: i32) 
     code_of(games::set_komi(game.lend(), half_komi))
 }
 
-/// Puts handicap stones on their fixed points.
+/// Places handicap stones on their fixed points.
 ///
 /// # Errors
 ///
-/// `NotEmpty`, or else `BadHandicap`. The game stays as it was.
+/// `NotEmpty`, or else `BadHandicap`. The game is unchanged.
 #[unsafe(no_mangle)]
 pub extern "C" fn vintsaky_game_place_handicap(game: &mut GameHandle, stones: u32) -> u32
     ensures call { Returns result (PlaceHandicapCall stones game.old.value game.new.value) }
@@ -198,8 +198,8 @@ pub extern "C" fn vintsaky_game_place_handicap(game: &mut GameHandle, stones: u3
     code_of(games::place_handicap(game.lend(), stones))
 }
 
-/// Writes the numbers of the points on which a colour may play next, row by row from A1, where there is room for all of
-/// them, and how many these are. The number of moves doesn't count, though a full record takes no more.
+/// Writes the points where a colour may play next, row by row from A1, if the buffer holds all of them, and how many
+/// there are. The call ignores that a full record takes no more moves.
 ///
 /// # Errors
 ///
@@ -218,8 +218,8 @@ pub extern "C" fn vintsaky_game_legal_points(
     code_of(games::legal_points(game.lend(), colour, points, count))
 }
 
-/// Writes the numbers of the points whose stones the last move took, row by row from A1, where there is room for all of
-/// them. How many these are.
+/// Writes the points whose stones the last move captured, row by row from A1, if the buffer holds all of them. Returns
+/// how many there are.
 #[unsafe(no_mangle)]
 pub extern "C" fn vintsaky_game_taken_by_last_move(
     game: &mut GameHandle,
@@ -231,11 +231,11 @@ pub extern "C" fn vintsaky_game_taken_by_last_move(
     games::taken_by_last_move(game.lend(), points)
 }
 
-/// The colour of the stone on a point: 0 where there is none.
+/// Writes the colour of the stone on a point, or 0 if it is empty.
 ///
 /// # Errors
 ///
-/// `BadVertex`, also of a pass, or else `OffBoard`. Nothing is written.
+/// `BadVertex`, also for a pass, or else `OffBoard`. Nothing is written.
 #[unsafe(no_mangle)]
 pub extern "C" fn vintsaky_game_stone_at(
     game: &mut GameHandle,
@@ -248,11 +248,11 @@ pub extern "C" fn vintsaky_game_stone_at(
     code_of(games::stone_at(game.lend(), vertex, colour))
 }
 
-/// How many stones a chain has, and how many liberties.
+/// Writes how many stones and how many liberties the chain on a point has.
 ///
 /// # Errors
 ///
-/// `BadVertex`, also of a pass, or else `OffBoard` or `NoStone`. Nothing is written.
+/// `BadVertex`, also for a pass, or else `OffBoard` or `NoStone`. Nothing is written.
 #[unsafe(no_mangle)]
 pub extern "C" fn vintsaky_game_chain(
     game: &mut GameHandle,
@@ -267,11 +267,11 @@ pub extern "C" fn vintsaky_game_chain(
     code_of(games::chain(game.lend(), vertex, stones, liberties))
 }
 
-/// A move of the record, counted from 0.
+/// Writes a move of the record, counted from 0.
 ///
 /// # Errors
 ///
-/// `NoMove` where the record has no such move. Nothing is written.
+/// `NoMove` if the record has no such move. Nothing is written.
 #[unsafe(no_mangle)]
 pub extern "C" fn vintsaky_game_made(
     game: &mut GameHandle,
@@ -286,7 +286,7 @@ pub extern "C" fn vintsaky_game_made(
     code_of(games::made(game.lend(), number, colour, vertex))
 }
 
-/// How many stones a colour has taken.
+/// Writes how many stones a colour has captured.
 ///
 /// # Errors
 ///
@@ -303,7 +303,7 @@ pub extern "C" fn vintsaky_game_captured(
     code_of(games::captured(game.lend(), colour, stones))
 }
 
-/// The number of the ko rule.
+/// Returns the number of the ko rule.
 #[unsafe(no_mangle)]
 pub extern "C" fn vintsaky_game_rule(game: &mut GameHandle) -> u32
     ensures call { result ≡ rule_code game.old.value.rule }
@@ -312,7 +312,7 @@ pub extern "C" fn vintsaky_game_rule(game: &mut GameHandle) -> u32
     games::rule(game.lend())
 }
 
-/// Writes the board as text, as an engine answers `showboard`.
+/// Writes the board as text, as an engine answers `showboard`, and returns its length.
 #[unsafe(no_mangle)]
 pub extern "C" fn vintsaky_game_board_text(game: &mut GameHandle, text: &mut [u8]) -> usize
     ensures call { Writes (board_text game.old.value) text.old text.new result }

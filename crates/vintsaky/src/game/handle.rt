@@ -4,7 +4,7 @@ ghost use Rattle.go_board.specs.contracts.game.Game.{the_row};
 
 use std::marker::{Model, Send};
 
-/// A game in memory that the caller gave.
+/// A game in the caller's memory.
 #[repr(C)]
 pub struct GameHandle {
     pub(crate) at: *mut u8,

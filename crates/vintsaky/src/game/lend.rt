@@ -1,4 +1,4 @@
-//! What the handle of a game lends.
+//! Borrowing the game of a handle.
 ghost use Rattle.std.specs.Prelude.{◌≡◌};
 ghost use Rattle.std.specs.Borrow.{sem};
 ghost use Rattle.go_board.specs.contracts.game.Game.{the_row as game_row};
@@ -9,7 +9,7 @@ use crate::game::handle::GameHandle;
 use go_board::Game;
 
 impl GameHandle {
-    /// A game that lies in the memory. The handle sees what is done to it.
+    /// Borrows the game in the memory. Changes to it are changes to the handle's game.
     pub fn lend(&mut self) -> &mut Game
         ensures* writes_back { sem 𝓛
             (Lends the_row game_row (λ h v. record h { value = v }) self.entry result) }

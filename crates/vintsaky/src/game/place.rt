@@ -1,4 +1,4 @@
-//! Games that are put into memory.
+//! Placing games in memory.
 ghost use Rattle.std.specs.Prelude.{◌≡◌};
 ghost use Rattle.std.specs.Borrow.{full_share, sem};
 ghost use Rattle.std.specs.Ptr.{lies_at, room_at};
@@ -17,12 +17,12 @@ pub(crate) fn fresh_game() -> Game
     Game::fresh(KoRule::Simple)
 }
 
-/// Puts a game into the memory, and its handle. It has size 19, no komi and simple ko.
+/// Initialises a game in the caller's memory, and its handle. It has size 19, no komi and simple ko.
 ///
 /// # Safety
 ///
-/// The memory has as many bytes and the alignment that the calls for these return. It is the object's alone, and stays
-/// where it is, as long as the handle is used. So does the handle.
+/// The memory must have the size and the alignment that the calls for these return, and must be the object's alone.
+/// Neither the memory nor the handle may move as long as the handle is used.
 #[unsafe(no_mangle)]
 pub unsafe extern "C" fn vintsaky_game_place(out: *mut GameHandle, at: *mut u8)
     requires* { sem 𝓛 (fsep (room_at the_row out) (room_at game_row at)) }

@@ -1,4 +1,4 @@
-//! What a search asks of a game, and how it plays on.
+//! What a search asks of a game, and playouts.
 ghost use Rattle.std.specs.Prelude.{◌≡◌};
 ghost use Rattle.vintsaky_calls.specs.Codes.{Returns};
 ghost use Rattle.vintsaky_calls.specs.Searching.{IndexCall, PointAtCall, ListsBoard, LegalMaskCall, IsOwnEyeCall};
@@ -8,12 +8,12 @@ ghost use Rattle.vintsaky_calls.specs.Searching.{PositionHashCall, PlayoutCall, 
 use crate::game::handle::GameHandle;
 use vintsaky_calls::{code_of, searching};
 
-/// The index of a point of the board, by which a search keeps a list with a value for each point. It is counted from 0
-/// in the board's order: row by row from A1, as A1, B1, .., A2, B2.
+/// Writes the index of a point, by which a search keeps a list with one value for each point. It is counted from 0 in
+/// board order: row by row from A1, as A1, B1, .., A2, B2.
 ///
 /// # Errors
 ///
-/// `BadVertex`, also of a pass, or else `OffBoard`. Nothing is written.
+/// `BadVertex`, also for a pass, or else `OffBoard`. Nothing is written.
 #[unsafe(no_mangle)]
 pub extern "C" fn vintsaky_game_index(game: &mut GameHandle, vertex: u32, index: &mut usize) -> u32
     ensures call { Returns result (IndexCall game.old.value vertex index.old index.new) }
@@ -22,11 +22,11 @@ pub extern "C" fn vintsaky_game_index(game: &mut GameHandle, vertex: u32, index:
     code_of(searching::index(game.lend(), vertex, index))
 }
 
-/// The number of the point of an index.
+/// Writes the number of the point with this index.
 ///
 /// # Errors
 ///
-/// `OffBoard` where the board has no more points than the index says. Nothing is written.
+/// `OffBoard` if the board has no such index. Nothing is written.
 #[unsafe(no_mangle)]
 pub extern "C" fn vintsaky_game_point_at(
     game: &mut GameHandle,
@@ -39,8 +39,8 @@ pub extern "C" fn vintsaky_game_point_at(
     code_of(searching::point_at(game.lend(), index, vertex))
 }
 
-/// Writes a byte for each point of the board, in its order, where there is room for all of them: the colour of the
-/// stone there, and 0 where there is none. How many these are.
+/// Writes one byte for each point in board order, if the buffer holds all of them: the colour of its stone, or 0 if it
+/// is empty. Returns how many there are.
 #[unsafe(no_mangle)]
 pub extern "C" fn vintsaky_game_board(game: &mut GameHandle, bytes: &mut [u8]) -> usize
     ensures call { ListsBoard game.old.value bytes.old bytes.new result }
@@ -49,9 +49,8 @@ pub extern "C" fn vintsaky_game_board(game: &mut GameHandle, bytes: &mut [u8]) -
     searching::board(game.lend(), bytes)
 }
 
-/// Writes a byte for each point of the board, in its order, where there is room for all of them, and how many these
-/// are: 1 where a colour may play next, and 0 where it may not. The number of moves doesn't count, though a full record
-/// takes no more.
+/// Writes one byte for each point in board order, if the buffer holds all of them, and how many there are: 1 where a
+/// colour may play next, else 0. The call ignores that a full record takes no more moves.
 ///
 /// # Errors
 ///
@@ -70,13 +69,13 @@ pub extern "C" fn vintsaky_game_legal_mask(
     code_of(searching::legal_mask(game.lend(), colour, bytes, count))
 }
 
-/// Whether a point is an own eye of a colour, which a playout doesn't fill: 1 where it is one, and else 0. It is empty,
-/// and has only stones of the colour beside it. The other colour has a stone on at most one of its diagonals, and on
-/// none where the point is on the edge.
+/// Writes 1 if a point is an own eye of a colour, which a playout doesn't fill, else 0. An own eye is empty, and all
+/// its neighbours are stones of the colour. The other colour has a stone on at most one of its diagonals, and on none
+/// if the point is on the edge.
 ///
 /// # Errors
 ///
-/// `BadColour`, or else `BadVertex`, also of a pass, or else `OffBoard`. Nothing is written.
+/// `BadColour`, or else `BadVertex`, also for a pass, or else `OffBoard`. Nothing is written.
 #[unsafe(no_mangle)]
 pub extern "C" fn vintsaky_game_is_own_eye(
     game: &mut GameHandle,
@@ -90,12 +89,11 @@ pub extern "C" fn vintsaky_game_is_own_eye(
     code_of(searching::is_own_eye(game.lend(), colour, vertex, holds))
 }
 
-/// Writes the numbers of the points of a chain's stones, row by row from A1, where there is room for all of them, and
-/// how many these are.
+/// Writes the points of a chain's stones, row by row from A1, if the buffer holds all of them, and how many there are.
 ///
 /// # Errors
 ///
-/// As those of [`vintsaky_game_chain`].
+/// Those of [`vintsaky_game_chain`].
 #[unsafe(no_mangle)]
 pub extern "C" fn vintsaky_game_chain_points(
     game: &mut GameHandle,
@@ -110,12 +108,12 @@ pub extern "C" fn vintsaky_game_chain_points(
     code_of(searching::chain_points(game.lend(), vertex, points, count))
 }
 
-/// Writes the numbers of a chain's liberties, row by row from A1 and each once, where there is room for all of them,
-/// and how many these are.
+/// Writes a chain's liberties, row by row from A1 and each once, if the buffer holds all of them, and how many there
+/// are.
 ///
 /// # Errors
 ///
-/// As those of [`vintsaky_game_chain`].
+/// Those of [`vintsaky_game_chain`].
 #[unsafe(no_mangle)]
 pub extern "C" fn vintsaky_game_chain_liberties(
     game: &mut GameHandle,
@@ -130,8 +128,8 @@ pub extern "C" fn vintsaky_game_chain_liberties(
     code_of(searching::chain_liberties(game.lend(), vertex, points, count))
 }
 
-/// The ko point of a colour: the one empty point on which its play would bring back the board before the last move. 0,
-/// as a pass, where there is none.
+/// Writes the ko point of a colour: the one empty point where its play would bring back the board before the last move.
+/// If there is none, it writes 0, the number of a pass.
 ///
 /// # Errors
 ///
@@ -148,10 +146,10 @@ pub extern "C" fn vintsaky_game_ko_point(
     code_of(searching::ko_point(game.lend(), colour, vertex))
 }
 
-/// The move that a word chooses for a colour: of the n points on which the colour may play next and that are no own eyes
-/// of it, number `word` mod n, counted from 0 in the board's order. A pass where there is none. The first 2^64 mod n of
-/// them are chosen by one word more than the others: the choice is even but for one word in 2^64 / n. The number of moves
-/// doesn't count, though a full record takes no more.
+/// Writes the move that a random word chooses for a colour. Of the n points where the colour may play next and that
+/// aren't own eyes of it, this is number `word` mod n, counted from 0 in board order, or a pass if there are none. The
+/// choice is even except for one word in 2^64 / n: each of the first 2^64 mod n points is chosen by one word more than
+/// the others. The call ignores that a full record takes no more moves.
 ///
 /// # Errors
 ///
@@ -170,9 +168,10 @@ pub extern "C" fn vintsaky_game_random_move(
     code_of(searching::random_move(game.lend(), colour, word, vertex))
 }
 
-/// A hash of the position with a colour to move: of the board, its size, that colour, and its ko point. Positions that
-/// are equal in these have equal hashes. So different ones show a difference, and equal ones show nothing. It leaves
-/// out the komi, the ko rule, whether the last move was a pass, and the record that positional ko asks.
+/// Writes a hash of the position with a colour to move: of the board, its size, that colour and its ko point. Positions
+/// that are equal in these have equal hashes. So different hashes show a difference; equal hashes show nothing. The
+/// hash leaves out the komi, the ko rule, whether the last move was a pass, and the record, on which positional superko
+/// depends.
 ///
 /// # Errors
 ///
@@ -189,14 +188,14 @@ pub extern "C" fn vintsaky_game_position_hash(
     code_of(searching::position_hash(game.lend(), colour, hash))
 }
 
-/// Plays on at random, a colour first and then both in turn. Each plays a point that is drawn from those on which it
-/// may play and that are no own eyes of it, and passes where there is none. It ends after two passes, also of the
-/// record before, after so many moves as the limit says, or where the record has 2,000. All draws are the seed's: the
-/// same game, colour, seed and limit make the same moves. docs/library.md says how they are drawn.
+/// Plays on at random, a colour first and then both in turn. Each plays a random point of those where it may play and
+/// that aren't own eyes of it, and passes if there is none. The playout ends after two passes in a row, counting those
+/// made before it, after `limit` moves, or when the record has 2,000. The same game, colour, seed and limit always make
+/// the same moves. docs/library.md says how they are chosen.
 ///
 /// # Errors
 ///
-/// `BadColour`. The game stays as it was.
+/// `BadColour`. The game is unchanged.
 #[unsafe(no_mangle)]
 pub extern "C" fn vintsaky_game_playout(
     game: &mut GameHandle,
@@ -209,7 +208,8 @@ pub extern "C" fn vintsaky_game_playout(
     code_of(searching::playout(game.lend(), colour, seed, limit))
 }
 
-/// The score that a game has after such a playout, as [`vintsaky_game_score`] counts it. The game stays as it was.
+/// Writes the score that the game would have after such a playout, as [`vintsaky_game_score`] counts it. The game is
+/// unchanged.
 ///
 /// # Errors
 ///

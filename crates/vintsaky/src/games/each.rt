@@ -9,7 +9,7 @@ use crate::game::handle::GameHandle;
 use vintsaky_calls::Cause;
 use vintsaky_calls::batches::{self, Shown};
 
-/// What `vintsaky_games_play` does.
+/// Implements `vintsaky_games_play`.
 pub(crate) fn play(games: &mut [GameHandle], moves: &[u32], causes: &mut [u8]) -> Result<(), Cause>
     ensures call { PlayGamesCall (games_of games.old) (games_of games.new) moves.now
         causes.old causes.new result }
@@ -25,7 +25,7 @@ pub(crate) fn play(games: &mut [GameHandle], moves: &[u32], causes: &mut [u8]) -
     Ok(())
 }
 
-/// What `vintsaky_games_restart` does.
+/// Implements `vintsaky_games_restart`.
 pub(crate) fn restart(
     games: &mut [GameHandle],
     limit: u32,
@@ -48,7 +48,7 @@ pub(crate) fn restart(
     Ok(())
 }
 
-/// What the calls do that show something of each game, with these values for no and for yes.
+/// Implements the calls that show something of each game, with these values for no and for yes.
 pub(crate) fn show<T: Copy>(
     shown: Shown,
     games: &mut [GameHandle],
@@ -67,7 +67,7 @@ pub(crate) fn show<T: Copy>(
     Ok(())
 }
 
-/// Whether so many values are enough to show each game.
+/// Whether this many values are enough to show each game.
 fn is_room(shown: Shown, games: &mut [GameHandle], room: usize) -> bool
     ensures enough { IsTrue result ↔ (sum_by (shown_count shown) (games_of games.old) ≤ room) }
     ensures objects { games_of games.new ≡ games_of games.old }
@@ -100,7 +100,7 @@ fn show_each<T: Copy>(shown: Shown, games: &mut [GameHandle], zero: T, one: T, v
     }
 }
 
-/// What `vintsaky_games_rollouts` does.
+/// Implements `vintsaky_games_rollouts`.
 pub(crate) fn rollouts(
     games: &mut [GameHandle],
     seeds: &[u64],

@@ -1,7 +1,7 @@
 //! The calls over many games.
 //!
-//! Where each of them has its turn, the colour whose turn it is is that of `vintsaky_game_turn`. The number of a move
-//! is the index of its point, as `vintsaky_game_index` finds it, or the number of points of the board for a pass.
+//! The colour whose turn it is in a game is that of `vintsaky_game_turn`. The number of a move is the index of its
+//! point, as `vintsaky_game_index` finds it, or the number of points of the board for a pass.
 ghost use Rattle.std.specs.Prelude.{◌≡◌, ℕ};
 ghost use Rattle.std.specs.Float.{Float, float_zero, float_one};
 ghost use Rattle.vintsaky.specs.Games.{games_of, places_of};
@@ -14,14 +14,14 @@ use crate::games::each;
 use vintsaky_calls::batches::Shown;
 use vintsaky_calls::code_of;
 
-/// Each game makes the move of its number for the colour whose turn it is, which `vintsaky_game_turn` returns. The
-/// number of a move is the index of its point, or how many points the board has for a pass. For each game a byte is
-/// written: 0, or the cause for which that game alone refuses the move and stays as it was. That is `OffBoard` of a
-/// number that is higher, and else the one that `vintsaky_game_play` returns.
+/// Plays one move in each game, for the colour whose turn it is, as `vintsaky_game_turn` returns it. The number of a
+/// move is the index of its point, or the number of points of the board for a pass. Writes one byte for each game: 0,
+/// or the error for which this game alone rejects its move and is unchanged. That is `OffBoard` for a higher number, or
+/// else what `vintsaky_game_play` returns.
 ///
 /// # Errors
 ///
-/// `NoRoom` where `moves` or `causes` has fewer items than there are games. No move is made.
+/// `NoRoom` if `moves` or `causes` has fewer items than there are games. No move is made.
 #[unsafe(no_mangle)]
 pub extern "C" fn vintsaky_games_play(
     games: &mut [GameHandle],
@@ -35,13 +35,13 @@ pub extern "C" fn vintsaky_games_play(
     code_of(each::play(games, moves, causes))
 }
 
-/// For each game a byte is written: 1 where its last two moves are passes, else 2 where its record has `limit` moves or
-/// more, or is full, and else 0. With 1 and 2 its score is written, in half points, and then the game loses its moves:
-/// size, komi, ko rule and handicap stay. With 0 the score is 0, and the game stays as it was.
+/// Writes one byte for each game: 1 if its last two moves are passes, else 2 if its record has at least `limit` moves
+/// or is full, else 0. For 1 and 2 it writes the game's score in half points, and then removes the game's moves; size,
+/// komi, ko rule and handicap stay. For 0 it writes the score 0, and the game is unchanged.
 ///
 /// # Errors
 ///
-/// `NoRoom` where `over` or `half_points` has fewer items than there are games. No game changes.
+/// `NoRoom` if `over` or `half_points` has fewer items than there are games. No game changes.
 #[unsafe(no_mangle)]
 pub extern "C" fn vintsaky_games_restart(
     games: &mut [GameHandle],
@@ -56,14 +56,15 @@ pub extern "C" fn vintsaky_games_restart(
     code_of(each::restart(games, limit, over, half_points))
 }
 
-/// Writes the planes of each game, one game's after the other's. A plane is a byte for each point of the board, in its
-/// order: 1 where a stone of one colour is, and else 0. First come the stones of the colour whose turn it is, then
-/// those of the other one; then both again of the board one move earlier, and so on, as many moves as `earlier` says.
-/// Where a game has fewer moves, these planes have 0 alone.
+/// Writes the planes of each game, one game after the other. A plane has one byte for each point in board order: 1
+/// where a stone of one colour is, else 0. First come the stones of the colour whose turn it is, then those of the
+/// other; then both for the board one move earlier, and so on, for as many moves as `earlier` says. Where a game has
+/// fewer moves, these planes are all 0.
 ///
 /// # Errors
 ///
-/// `NoRoom` where the planes of all games have more bytes. A game of size n has 2 * n * n for each board.
+/// `NoRoom` if the buffer doesn't hold the planes of all games. A game of size n has 2 * n * n bytes for each board.
+/// Nothing is written.
 #[unsafe(no_mangle)]
 pub extern "C" fn vintsaky_games_planes(
     games: &mut [GameHandle],
@@ -82,7 +83,7 @@ pub extern "C" fn vintsaky_games_planes(
 ///
 /// # Errors
 ///
-/// As those of [`vintsaky_games_planes`].
+/// Those of [`vintsaky_games_planes`].
 #[unsafe(no_mangle)]
 pub extern "C" fn vintsaky_games_planes_f32(
     games: &mut [GameHandle],
@@ -97,13 +98,14 @@ pub extern "C" fn vintsaky_games_planes_f32(
     code_of(each::show(Shown::Planes(earlier), games, 0.0, 1.0, floats))
 }
 
-/// Writes a mask of each game, one game's after the other's. It has a byte for the move of each number: 1 where the
-/// colour whose turn it is may make it, and else 0. The last one is a pass, which is always 1. The number of moves
-/// doesn't count, though a full record takes no more.
+/// Writes a mask for each game, one game after the other. It has one byte for the move of each number: 1 if the colour
+/// whose turn it is may make it, else 0. The last one is for a pass, and always 1. The call ignores that a full record
+/// takes no more moves.
 ///
 /// # Errors
 ///
-/// `NoRoom` where the masks of all games have more bytes. A game of size n has n * n + 1.
+/// `NoRoom` if the buffer doesn't hold the masks of all games. A game of size n has n * n + 1 bytes. Nothing is
+/// written.
 #[unsafe(no_mangle)]
 pub extern "C" fn vintsaky_games_masks(games: &mut [GameHandle], bytes: &mut [u8]) -> u32
     ensures call { Returns result (ShowGamesCall {A = ℕ} 0 1 Mask (games_of games.old)
@@ -118,7 +120,7 @@ pub extern "C" fn vintsaky_games_masks(games: &mut [GameHandle], bytes: &mut [u8
 ///
 /// # Errors
 ///
-/// As those of [`vintsaky_games_masks`].
+/// Those of [`vintsaky_games_masks`].
 #[unsafe(no_mangle)]
 pub extern "C" fn vintsaky_games_masks_f32(games: &mut [GameHandle], floats: &mut [f32]) -> u32
     ensures call { Returns result (ShowGamesCall {A = Float} float_zero float_one Mask
@@ -129,12 +131,12 @@ pub extern "C" fn vintsaky_games_masks_f32(games: &mut [GameHandle], floats: &mu
     code_of(each::show(Shown::Mask, games, 0.0, 1.0, floats))
 }
 
-/// Writes the score of a rollout of each game, in half points, as `vintsaky_game_rollout` writes it. Each game has its
-/// own seed, and the colour whose turn it is begins.
+/// Writes the score of one rollout of each game, in half points, as `vintsaky_game_rollout` writes it. Each game has
+/// its own seed, and the colour whose turn it is moves first.
 ///
 /// # Errors
 ///
-/// `NoRoom` where `seeds` or `half_points` has fewer items than there are games.
+/// `NoRoom` if `seeds` or `half_points` has fewer items than there are games. Nothing is written.
 #[unsafe(no_mangle)]
 pub extern "C" fn vintsaky_games_rollouts(
     games: &mut [GameHandle],

@@ -12,7 +12,7 @@ use std::mem::{align_of, size_of};
 use vintsaky_calls::lines::Lines;
 use vintsaky_calls::{code_of, lines};
 
-/// How many bytes such a reader takes.
+/// Returns the size of such a reader in bytes.
 #[unsafe(no_mangle)]
 pub extern "C" fn vintsaky_lines_bytes() -> usize
     ensures { result ≡ type_size lines_row }
@@ -20,7 +20,7 @@ pub extern "C" fn vintsaky_lines_bytes() -> usize
     size_of::<Lines>()
 }
 
-/// Of what number the address of such a reader is a multiple.
+/// Returns the alignment of such a reader in bytes.
 #[unsafe(no_mangle)]
 pub extern "C" fn vintsaky_lines_align() -> usize
     ensures { result ≡ type_align lines_row }
@@ -28,9 +28,9 @@ pub extern "C" fn vintsaky_lines_align() -> usize
     align_of::<Lines>()
 }
 
-/// Takes the next piece up to and with the newline that ends a line with a word, or all of it. How many bytes were used
-/// is written. Returns 0 where none ended a line, VINTSAKY_LINE for a command line, and VINTSAKY_TOO_LONG for one
-/// of more than 1,000 bytes of words.
+/// Takes the next chunk, up to and including the newline that ends a line with a word, or all of it. Writes how many
+/// bytes were used. Returns 0 if no such line ended, VINTSAKY_LINE for a command line, and VINTSAKY_TOO_LONG for one of
+/// more than 1,000 bytes of words.
 #[unsafe(no_mangle)]
 pub extern "C" fn vintsaky_lines_feed(
     lines: &mut LinesHandle,
@@ -42,11 +42,11 @@ pub extern "C" fn vintsaky_lines_feed(
     lines::feed(lines.lend(), bytes, used)
 }
 
-/// The id of the line that was read last.
+/// Writes the id of the line that was read last.
 ///
 /// # Errors
 ///
-/// `NoLine` where none was read, or it is too long, or else `NoId`. Nothing is written.
+/// `NoLine` if none was read or it was too long, or else `NoId`. Nothing is written.
 #[unsafe(no_mangle)]
 pub extern "C" fn vintsaky_lines_id(lines: &mut LinesHandle, id: &mut u32) -> u32
     ensures call { Returns result (IdCall lines.old.value.line id.old id.new) }
@@ -59,7 +59,7 @@ pub extern "C" fn vintsaky_lines_id(lines: &mut LinesHandle, id: &mut u32) -> u3
 ///
 /// # Errors
 ///
-/// `NoLine` where none was read, or it is too long, or else `NoWord`. Nothing is written.
+/// `NoLine` if none was read or it was too long, or else `NoWord`. Nothing is written.
 #[unsafe(no_mangle)]
 pub extern "C" fn vintsaky_lines_word(
     lines: &mut LinesHandle,

@@ -4,7 +4,7 @@ ghost use Rattle.vintsaky_calls.specs.contracts.lines.Lines.{the_row};
 
 use std::marker::{Model, Send};
 
-/// A reader of command lines in memory that the caller gave.
+/// A reader of command lines in the caller's memory.
 #[repr(C)]
 pub struct LinesHandle {
     pub(crate) at: *mut u8,

@@ -1,4 +1,4 @@
-//! What the handle of a reader of command lines lends.
+//! Borrowing the reader of a handle.
 ghost use Rattle.std.specs.Prelude.{◌≡◌};
 ghost use Rattle.std.specs.Borrow.{sem};
 ghost use Rattle.vintsaky_calls.specs.contracts.lines.Lines.{the_row as lines_row};
@@ -9,7 +9,7 @@ use crate::lines::handle::LinesHandle;
 use vintsaky_calls::lines::Lines;
 
 impl LinesHandle {
-    /// A reader of command lines that lies in the memory. The handle sees what is done to it.
+    /// Borrows the reader in the memory. Changes to it are changes to the handle's reader.
     pub fn lend(&mut self) -> &mut Lines
         ensures* writes_back { sem 𝓛
             (Lends the_row lines_row (λ h v. record h { value = v }) self.entry result) }

@@ -1,4 +1,4 @@
-//! Readers of command lines that are put into memory.
+//! Placing readers of command lines in memory.
 ghost use Rattle.std.specs.Prelude.{◌≡◌};
 ghost use Rattle.std.specs.Borrow.{full_share, sem};
 ghost use Rattle.std.specs.Ptr.{lies_at, room_at};
@@ -10,19 +10,19 @@ ghost use Rattle.vintsaky_calls.specs.Lines.{fresh_lines};
 use crate::lines::handle::LinesHandle;
 use vintsaky_calls::lines::Lines;
 
-/// A reader that was given nothing.
+/// A reader that has received nothing.
 pub(crate) fn fresh_lines() -> Lines
     ensures { result ≡ fresh_lines }
 {
     Lines::new()
 }
 
-/// Puts a reader of command lines into the memory, and its handle. It was given nothing.
+/// Initialises a reader of command lines in the caller's memory, and its handle. It has received nothing.
 ///
 /// # Safety
 ///
-/// The memory has as many bytes and the alignment that the calls for these return. It is the object's alone, and stays
-/// where it is, as long as the handle is used. So does the handle.
+/// The memory must have the size and the alignment that the calls for these return, and must be the object's alone.
+/// Neither the memory nor the handle may move as long as the handle is used.
 #[unsafe(no_mangle)]
 pub unsafe extern "C" fn vintsaky_lines_place(out: *mut LinesHandle, at: *mut u8)
     requires* { sem 𝓛 (fsep (room_at the_row out) (room_at lines_row at)) }

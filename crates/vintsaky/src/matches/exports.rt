@@ -20,7 +20,7 @@ use gtp_referee::RefereedMatch;
 use std::mem::{align_of, size_of};
 use vintsaky_calls::{code_of, matches};
 
-/// How many bytes a match takes.
+/// Returns the size of a match in bytes.
 #[unsafe(no_mangle)]
 pub extern "C" fn vintsaky_match_bytes() -> usize
     ensures { result ≡ type_size match_row }
@@ -28,7 +28,7 @@ pub extern "C" fn vintsaky_match_bytes() -> usize
     size_of::<RefereedMatch>()
 }
 
-/// Of what number the address of a match is a multiple.
+/// Returns the alignment of a match in bytes.
 #[unsafe(no_mangle)]
 pub extern "C" fn vintsaky_match_align() -> usize
     ensures { result ≡ type_align match_row }
@@ -36,12 +36,12 @@ pub extern "C" fn vintsaky_match_align() -> usize
     align_of::<RefereedMatch>()
 }
 
-/// Begins a match between two engines that are not started yet.
+/// Begins a match between two engines that aren't started yet.
 ///
 /// # Errors
 ///
-/// `BadSize`, `BadKomi`, `BadHandicap`, `BadMaxMoves` or `BadMaxRestarts`, the first of these that holds. The match
-/// stays as it was.
+/// `BadSize`, `BadKomi`, `BadHandicap`, `BadMaxMoves` or `BadMaxRestarts`, the first of these that applies. The match
+/// is unchanged.
 #[unsafe(no_mangle)]
 pub extern "C" fn vintsaky_match_begin(
     held: &mut MatchHandle,
@@ -64,8 +64,7 @@ pub extern "C" fn vintsaky_match_begin(
     ))
 }
 
-/// What is to be done next, as a number. The number of the side with which it is done is written, or 0. After a ruling
-/// the match is over.
+/// Returns what to do next, as a number, and writes the side to do it with, or 0. After a ruling the match is over.
 #[unsafe(no_mangle)]
 pub extern "C" fn vintsaky_match_next(held: &mut MatchHandle, side: &mut u32) -> u32
     ensures call { NextCall held.old.value result side.new }
@@ -74,11 +73,11 @@ pub extern "C" fn vintsaky_match_next(held: &mut MatchHandle, side: &mut u32) ->
     matches::next(held.lend(), side)
 }
 
-/// A side was started. Where its start fails, [`vintsaky_match_lost`] comes next.
+/// Reports that a side was started. If its start fails, call [`vintsaky_match_lost`] next.
 ///
 /// # Errors
 ///
-/// `BadColour`, or else `NotNext` where its start isn't what is next. The match stays as it was.
+/// `BadColour`, or else `NotNext` if its start isn't what is next. The match is unchanged.
 #[unsafe(no_mangle)]
 pub extern "C" fn vintsaky_match_started(held: &mut MatchHandle, side: u32) -> u32
     ensures call { Returns result (StartedCall side held.old.value held.new.value) }
@@ -90,8 +89,8 @@ pub extern "C" fn vintsaky_match_started(held: &mut MatchHandle, side: u32) -> u
 ///
 /// # Errors
 ///
-/// `BadColour`, or else `NotNext` where that isn't what is next, or else `NoRoom` where the buffer has fewer than 65
-/// bytes, also for a shorter line. The match stays as it was, and nothing is written.
+/// `BadColour`, or else `NotNext` if that isn't what is next, or else `NoRoom` if the buffer has fewer than 65 bytes,
+/// even for a shorter line. The match is unchanged, and nothing is written.
 #[unsafe(no_mangle)]
 pub extern "C" fn vintsaky_match_send(
     held: &mut MatchHandle,
@@ -105,12 +104,12 @@ pub extern "C" fn vintsaky_match_send(
     code_of(matches::send(held.lend(), side, text, count))
 }
 
-/// Hears what a side wrote, in any pieces. Why the side fails by it is written, or 0. Of a side that is down, and after
-/// the end of the match, also by a ruling, nothing is heard.
+/// Takes a side's output, in any chunks. Writes why the side fails by it, or 0. The output of a side that is down is
+/// ignored, and so is all output once the match is over, also by a ruling.
 ///
 /// # Errors
 ///
-/// `BadColour`. The match stays as it was, and nothing is written.
+/// `BadColour`. The match is unchanged, and nothing is written.
 #[unsafe(no_mangle)]
 pub extern "C" fn vintsaky_match_hear(
     held: &mut MatchHandle,
@@ -124,16 +123,16 @@ pub extern "C" fn vintsaky_match_hear(
     code_of(matches::hear(held.lend(), side, bytes, loss))
 }
 
-/// Hears what a side wrote as [`vintsaky_match_hear`] does, and writes more of what it reports: which retake of its
-/// number of a move it is, 1 to 3, where the side refused a play that is retaken, or 0; and of the loss, or else of the
-/// retake, how many commands the side hadn't answered, with the one that this reply answers; the oldest of them, as it
-/// was sent but without its newline; and the first 80 bytes of the reply, or where it is none, of all that came since
-/// the last whole reply. Each text comes with its length. Where there is neither a loss nor a retake, these are 0 and
-/// the texts empty.
+/// Takes a side's output as [`vintsaky_match_hear`] does, and writes more about it. `retake` becomes 0, or if the side
+/// refused a play that is retaken, which retake of this move number it is, 1 to 3. For a loss, or else for a retake, it
+/// writes how many commands the side hadn't answered, including the one that this reply answers; the oldest of them, as
+/// it was sent but without its newline; and the first 80 bytes of the reply, or if the bytes aren't a reply, of all
+/// that came since the last whole one. Each text comes with its length. Without a loss or a retake, these are 0 and the
+/// texts empty.
 ///
 /// # Errors
 ///
-/// `BadColour`. The match stays as it was, and nothing is written.
+/// `BadColour`. The match is unchanged, and nothing is written.
 #[unsafe(no_mangle)]
 pub extern "C" fn vintsaky_match_hear_reporting(
     held: &mut MatchHandle,
@@ -166,8 +165,9 @@ pub extern "C" fn vintsaky_match_hear_reporting(
     ))
 }
 
-/// Writes what a side owes: how many commands it hasn't answered, the oldest of them, as it was sent but without its
-/// newline, or an empty text, and the first 80 bytes that it wrote since its last whole reply, each with its length.
+/// Writes what a side owes: how many commands it hasn't answered; the oldest of them, as it was sent but without its
+/// newline, or an empty text; and the first 80 bytes that it wrote since its last whole reply. Each text comes with its
+/// length.
 ///
 /// # Errors
 ///
@@ -198,8 +198,8 @@ pub extern "C" fn vintsaky_match_owed(
     ))
 }
 
-/// Writes how many commands a side has confirmed of those that bring it to the record, how many it hasn't answered, and
-/// whether a `genmove` is among them: 1 where it is, else 0. It doesn't matter whether the match is over.
+/// Writes how many of the commands that bring a side to the record it has confirmed, how many commands it hasn't
+/// answered, and 1 if a `genmove` is among these, else 0. It doesn't matter whether the match is over.
 ///
 /// # Errors
 ///
@@ -219,11 +219,12 @@ pub extern "C" fn vintsaky_match_status(
     code_of(matches::status(held.lend(), side, confirmed, unanswered, asked))
 }
 
-/// A side is gone: its output has ended, a read or a write failed, or its start did. After a ruling nothing changes.
+/// Reports that a side is gone: its output has ended, a read or a write failed, or its start did. After a ruling
+/// nothing changes.
 ///
 /// # Errors
 ///
-/// `BadColour`. The match stays as it was.
+/// `BadColour`. The match is unchanged.
 #[unsafe(no_mangle)]
 pub extern "C" fn vintsaky_match_lost(held: &mut MatchHandle, side: u32) -> u32
     ensures call { Returns result (LostCall side held.old.value held.new.value) }
@@ -231,8 +232,8 @@ pub extern "C" fn vintsaky_match_lost(held: &mut MatchHandle, side: u32) -> u32
     code_of(matches::lost(held.lend(), side))
 }
 
-/// Whether a side is in step: 1 where it is up, owes no answer and has confirmed all commands that bring it to the
-/// record, else 0.
+/// Writes 1 if a side is in step: it is up, owes no answer, and has confirmed all commands that bring it to the record.
+/// Else it writes 0.
 ///
 /// # Errors
 ///
@@ -245,7 +246,7 @@ pub extern "C" fn vintsaky_match_in_step(held: &mut MatchHandle, side: u32, hold
     code_of(matches::in_step(held.lend(), side, holds))
 }
 
-/// Writes how often a side was started again.
+/// Writes how often a side was restarted.
 ///
 /// # Errors
 ///
@@ -262,8 +263,8 @@ pub extern "C" fn vintsaky_match_restarts(
     code_of(matches::restarts(held.lend(), side, restarts))
 }
 
-/// How many refusals of the move of this number, counted from 1, were met by a retake: 3 at most, and 0 for a number
-/// that has none.
+/// Returns how often the move of this number, counted from 1, was retaken because it was refused: at most 3, and 0 for
+/// a number without a retake.
 #[unsafe(no_mangle)]
 pub extern "C" fn vintsaky_match_retakes(held: &mut MatchHandle, number: u32) -> u32
     ensures call { result ≡ retakes_of held.old.value.controller.retakes number }
@@ -272,7 +273,7 @@ pub extern "C" fn vintsaky_match_retakes(held: &mut MatchHandle, number: u32) ->
     matches::retakes(held.lend(), number)
 }
 
-/// The side whose last move is to be taken back, because the other side refused it, or 0.
+/// Returns the side whose last move is to be undone because the other side refused it, or 0.
 #[unsafe(no_mangle)]
 pub extern "C" fn vintsaky_match_taking_back(held: &mut MatchHandle) -> u32
     ensures call { result ≡ maybe_side_code (taking_back held.old.value.controller) }
@@ -281,8 +282,8 @@ pub extern "C" fn vintsaky_match_taking_back(held: &mut MatchHandle) -> u32
     matches::taking_back(held.lend())
 }
 
-/// Writes how a match ended, the side that it says it of, or 0, and the score in half points, positive where Black
-/// leads, or 0. Of a ruling it is the side that loses.
+/// Writes how the match ended, the side concerned (or 0), and the score in half points (positive: Black leads; or 0).
+/// By a ruling, the side is the one that loses.
 ///
 /// # Errors
 ///
@@ -310,8 +311,8 @@ pub extern "C" fn vintsaky_match_copy_game(held: &mut MatchHandle, game: &mut Ga
     matches::copy_game(held.lend(), game.lend())
 }
 
-/// Writes the result line of a match that is over, without its newline, and its length. The number is that of the game
-/// in it. Where Black loses by a ruling, the verdict is `W+T`, or `W+F(REASON)` where there is a reason.
+/// Writes the result line of a match that is over, without its newline, and its length. `number` is the number of the
+/// game in that line. If Black loses by a ruling, the verdict is `W+T`, or `W+F(REASON)` if there is a reason.
 ///
 /// # Errors
 ///
@@ -330,7 +331,7 @@ pub extern "C" fn vintsaky_match_result(
     code_of(matches::result(held.lend(), number, text, count))
 }
 
-/// Writes the moves of a match, as `--record` of `twogtp` prints them, without the newline. How many bytes they have.
+/// Writes the moves of a match as `twogtp --record` prints them, without the newline, and returns their length.
 #[unsafe(no_mangle)]
 pub extern "C" fn vintsaky_match_record(held: &mut MatchHandle, text: &mut [u8]) -> usize
     ensures call { Writes (record_text held.old.value.controller.game) text.old text.new result }
@@ -339,13 +340,13 @@ pub extern "C" fn vintsaky_match_record(held: &mut MatchHandle, text: &mut [u8])
     matches::record(held.lend(), text)
 }
 
-/// Ends a match that isn't over: the side loses. Where the reason is empty, it loses for time. Else the reason is of 1
-/// to 20 letters and spaces, and none of `refused play`, `no move`, `no vertex` and `illegal move`. After that nothing
-/// changes the match but [`vintsaky_match_begin`].
+/// Ends a match that isn't over: the side loses. An empty reason means that it loses on time. Otherwise the reason has
+/// 1 to 20 letters and spaces, and is none of `refused play`, `no move`, `no vertex` and `illegal move`. After that
+/// only [`vintsaky_match_begin`] changes the match.
 ///
 /// # Errors
 ///
-/// `BadColour`, or else `IsOver`, or else `BadReason`. The match stays as it was.
+/// `BadColour`, or else `IsOver`, or else `BadReason`. The match is unchanged.
 #[unsafe(no_mangle)]
 pub extern "C" fn vintsaky_match_adjudicate(held: &mut MatchHandle, side: u32, reason: &[u8]) -> u32
     ensures call { Returns result (AdjudicateCall side reason.now held.old.value held.new.value) }
@@ -353,8 +354,8 @@ pub extern "C" fn vintsaky_match_adjudicate(held: &mut MatchHandle, side: u32, r
     code_of(matches::adjudicate(held.lend(), side, reason))
 }
 
-/// Writes the reason of the ruling that ended a match. How many bytes it has: 0 where the side lost for time, and where
-/// there is no ruling.
+/// Writes the reason of the ruling that ended a match, and returns its length: 0 if the side lost on time, or if there
+/// is no ruling.
 #[unsafe(no_mangle)]
 pub extern "C" fn vintsaky_match_reason(held: &mut MatchHandle, text: &mut [u8]) -> usize
     ensures call { Writes (reason_of held.old.value.ruled) text.old text.new result }

@@ -4,7 +4,7 @@ ghost use Rattle.gtp_referee.specs.contracts.refereed.RefereedMatch.{the_row};
 
 use std::marker::{Model, Send};
 
-/// A match in memory that the caller gave.
+/// A match in the caller's memory.
 #[repr(C)]
 pub struct MatchHandle {
     pub(crate) at: *mut u8,

@@ -1,4 +1,4 @@
-//! What the handle of a match lends.
+//! Borrowing the match of a handle.
 ghost use Rattle.std.specs.Prelude.{◌≡◌};
 ghost use Rattle.std.specs.Borrow.{sem};
 ghost use Rattle.gtp_referee.specs.contracts.refereed.RefereedMatch.{the_row as match_row};
@@ -9,7 +9,7 @@ use crate::matches::handle::MatchHandle;
 use gtp_referee::RefereedMatch;
 
 impl MatchHandle {
-    /// A match that lies in the memory. The handle sees what is done to it.
+    /// Borrows the match in the memory. Changes to it are changes to the handle's match.
     pub fn lend(&mut self) -> &mut RefereedMatch
         ensures* writes_back { sem 𝓛
             (Lends the_row match_row (λ h v. record h { value = v }) self.entry result) }

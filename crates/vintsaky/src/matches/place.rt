@@ -1,4 +1,4 @@
-//! Matches that are put into memory.
+//! Placing matches in memory.
 ghost use Rattle.std.specs.Prelude.{◌≡◌};
 ghost use Rattle.std.specs.Borrow.{full_share, sem};
 ghost use Rattle.std.specs.Ptr.{lies_at, room_at};
@@ -12,7 +12,7 @@ use go_base::{Komi, Size};
 use gtp_match::Setup;
 use gtp_referee::RefereedMatch;
 
-/// A match of size 19 without komi, handicap and restarts.
+/// A match of size 19 without komi, handicap or restarts.
 pub(crate) fn fresh_match() -> RefereedMatch
     ensures { result ≡ fresh_match }
 {
@@ -25,13 +25,13 @@ pub(crate) fn fresh_match() -> RefereedMatch
     }
 }
 
-/// Puts a match into the memory, and its handle. It has size 19, no komi, no handicap, 2,000 moves at most,
-/// and no restart.
+/// Initialises a match in the caller's memory, and its handle. It has size 19, no komi, no handicap, at most 2,000
+/// moves, and no restart.
 ///
 /// # Safety
 ///
-/// The memory has as many bytes and the alignment that the calls for these return. It is the object's alone, and stays
-/// where it is, as long as the handle is used. So does the handle.
+/// The memory must have the size and the alignment that the calls for these return, and must be the object's alone.
+/// Neither the memory nor the handle may move as long as the handle is used.
 #[unsafe(no_mangle)]
 pub unsafe extern "C" fn vintsaky_match_place(out: *mut MatchHandle, at: *mut u8)
     requires* { sem 𝓛 (fsep (room_at the_row out) (room_at match_row at)) }

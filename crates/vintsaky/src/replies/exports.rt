@@ -12,7 +12,7 @@ use std::mem::{align_of, size_of};
 use vintsaky_calls::replies::Replies;
 use vintsaky_calls::{code_of, replies};
 
-/// How many bytes such a reader takes.
+/// Returns the size of such a reader in bytes.
 #[unsafe(no_mangle)]
 pub extern "C" fn vintsaky_replies_bytes() -> usize
     ensures { result ≡ type_size replies_row }
@@ -20,7 +20,7 @@ pub extern "C" fn vintsaky_replies_bytes() -> usize
     size_of::<Replies>()
 }
 
-/// Of what number the address of such a reader is a multiple.
+/// Returns the alignment of such a reader in bytes.
 #[unsafe(no_mangle)]
 pub extern "C" fn vintsaky_replies_align() -> usize
     ensures { result ≡ type_align replies_row }
@@ -28,10 +28,10 @@ pub extern "C" fn vintsaky_replies_align() -> usize
     align_of::<Replies>()
 }
 
-/// Takes the next piece up to and with the byte that ends a reply or shows a fault, or all of it. How many bytes were
-/// used is written. Returns 0 where none did, VINTSAKY_READ for a reply, VINTSAKY_NO_REPLY where what came is none,
-/// and VINTSAKY_LONG_REPLY where more than 8,192 bytes came since the last reply. After a fault no byte is used, and
-/// the same comes again: place it anew.
+/// Takes the next chunk, up to and including the byte that ends a reply or shows a fault, or all of it. Writes how many
+/// bytes were used. Returns 0 if there was no such byte, VINTSAKY_READ for a reply, VINTSAKY_NO_REPLY if the bytes are
+/// not a reply, and VINTSAKY_LONG_REPLY if more than 8,192 bytes came since the last reply. After a fault no byte is
+/// used, and the same is returned again: place the reader again.
 #[unsafe(no_mangle)]
 pub extern "C" fn vintsaky_replies_feed(
     replies: &mut RepliesHandle,
@@ -43,7 +43,7 @@ pub extern "C" fn vintsaky_replies_feed(
     replies::feed(replies.lend(), bytes, used)
 }
 
-/// Whether the reply that was read last is a success: false before the first.
+/// Returns whether the reply that was read last is a success: false before the first.
 #[unsafe(no_mangle)]
 pub extern "C" fn vintsaky_replies_ok(replies: &mut RepliesHandle) -> bool
     ensures call { result ≡ replies.old.value.reply.ok }
@@ -52,7 +52,7 @@ pub extern "C" fn vintsaky_replies_ok(replies: &mut RepliesHandle) -> bool
     replies::ok(replies.lend())
 }
 
-/// The id of the reply that was read last.
+/// Writes the id of the reply that was read last.
 ///
 /// # Errors
 ///
@@ -65,7 +65,7 @@ pub extern "C" fn vintsaky_replies_id(replies: &mut RepliesHandle, id: &mut u32)
     code_of(replies::id(replies.lend(), id))
 }
 
-/// Writes the text of the reply that was read last. How many bytes it has: none before the first, and 8,192 at most.
+/// Writes the text of the reply that was read last, and returns its length: 0 before the first, and at most 8,192.
 #[unsafe(no_mangle)]
 pub extern "C" fn vintsaky_replies_text(replies: &mut RepliesHandle, text: &mut [u8]) -> usize
     ensures call { Writes replies.old.value.reply.text.items text.old text.new result }

@@ -4,7 +4,7 @@ ghost use Rattle.vintsaky_calls.specs.contracts.replies.Replies.{the_row};
 
 use std::marker::{Model, Send};
 
-/// A reader of replies in memory that the caller gave.
+/// A reader of replies in the caller's memory.
 #[repr(C)]
 pub struct RepliesHandle {
     pub(crate) at: *mut u8,

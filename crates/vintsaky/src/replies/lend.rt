@@ -1,4 +1,4 @@
-//! What the handle of a reader of replies lends.
+//! Borrowing the reader of a handle.
 ghost use Rattle.std.specs.Prelude.{◌≡◌};
 ghost use Rattle.std.specs.Borrow.{sem};
 ghost use Rattle.vintsaky_calls.specs.contracts.replies.Replies.{the_row as replies_row};
@@ -9,7 +9,7 @@ use crate::replies::handle::RepliesHandle;
 use vintsaky_calls::replies::Replies;
 
 impl RepliesHandle {
-    /// A reader of replies that lies in the memory. The handle sees what is done to it.
+    /// Borrows the reader in the memory. Changes to it are changes to the handle's reader.
     pub fn lend(&mut self) -> &mut Replies
         ensures* writes_back { sem 𝓛
             (Lends the_row replies_row (λ h v. record h { value = v }) self.entry result) }

@@ -1,4 +1,4 @@
-//! Readers of replies that are put into memory.
+//! Placing readers of replies in memory.
 ghost use Rattle.std.specs.Prelude.{◌≡◌};
 ghost use Rattle.std.specs.Borrow.{full_share, sem};
 ghost use Rattle.std.specs.Ptr.{lies_at, room_at};
@@ -10,19 +10,19 @@ ghost use Rattle.vintsaky_calls.specs.Replies.{fresh_replies};
 use crate::replies::handle::RepliesHandle;
 use vintsaky_calls::replies::Replies;
 
-/// A reader that was given nothing.
+/// A reader that has received nothing.
 pub(crate) fn fresh_replies() -> Replies
     ensures { result ≡ fresh_replies }
 {
     Replies::new()
 }
 
-/// Puts a reader of replies into the memory, and its handle. It was given nothing.
+/// Initialises a reader of replies in the caller's memory, and its handle. It has received nothing.
 ///
 /// # Safety
 ///
-/// The memory has as many bytes and the alignment that the calls for these return. It is the object's alone, and stays
-/// where it is, as long as the handle is used. So does the handle.
+/// The memory must have the size and the alignment that the calls for these return, and must be the object's alone.
+/// Neither the memory nor the handle may move as long as the handle is used.
 #[unsafe(no_mangle)]
 pub unsafe extern "C" fn vintsaky_replies_place(out: *mut RepliesHandle, at: *mut u8)
     requires* { sem 𝓛 (fsep (room_at the_row out) (room_at replies_row at)) }

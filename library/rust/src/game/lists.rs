@@ -1,18 +1,18 @@
-//! Lists that calls of a game return: each is made where it stays, in the iterator over it.
+//! Lists that calls of a game return: each is built in place, in the iterator over it.
 
 use std::ops::Range;
 
 use arrayvec::ArrayVec;
 use go_board::MOST_POINTS;
 
-/// What a list has, the first one first, each as `of` returns it.
+/// The items of a list, in order, each as `of` returns it.
 pub(super) struct Listed<T, F> {
     list: ArrayVec<T, MOST_POINTS>,
     left: Range<usize>,
     of: F,
 }
 
-/// The list that `fill` makes, each of which is shown by `of`.
+/// The list that `fill` makes, each item as `of` returns it.
 #[inline]
 pub(super) fn listed<T: Copy, U, F: Fn(T) -> U>(
     of: F,

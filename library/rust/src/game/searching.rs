@@ -1,4 +1,4 @@
-//! What a search asks of a game.
+//! What a search asks of a game, and playouts.
 
 use super::Game;
 use super::lists::listed;
@@ -6,8 +6,8 @@ use crate::refusal::Refusal;
 use crate::values::{Colour, Point, Score, Vertex};
 
 impl Game {
-    /// The index of a point, for lists with a value for each point of the board. It is counted from 0 in the board's
-    /// order: row by row from A1, as A1, B1, .., A2, B2.
+    /// Returns the index of a point, for lists with one value for each point. It is counted from 0 in board order: row
+    /// by row from A1, as A1, B1, .., A2, B2.
     ///
     /// ```
     /// use vintsaky::{Game, Refusal};
@@ -25,30 +25,29 @@ impl Game {
         self.inner.index(point.inner()).ok_or(Refusal::OffBoard)
     }
 
-    /// The point of an index.
+    /// Returns the point with an index.
     ///
     /// # Errors
     ///
-    /// [`Refusal::OffBoard`] where the board has no more points than the index says.
+    /// [`Refusal::OffBoard`] if the board has no such index.
     pub fn point_at(&self, index: usize) -> Result<Point, Refusal> {
         self.inner.point(index).map(Point::of).ok_or(Refusal::OffBoard)
     }
 
-    /// The stone on each point of the board, in its order: none where there is none. They are those of the game as it
-    /// is now.
+    /// Returns for each point of the current board, in board order, its stone, or `None` if it is empty.
     pub fn board(&self) -> impl ExactSizeIterator<Item = Option<Colour>> + DoubleEndedIterator + use<> {
         listed(|stone: Option<go_base::Colour>| stone.map(Colour::of), |stones| self.inner.board_into(stones))
     }
 
-    /// Whether a colour may play next, for each point of the board in its order. That is of the game as it is now. The
-    /// number of moves doesn't count, though a full record takes no more.
+    /// Returns for each point, in board order, whether a colour may play there next in the current game, even if the
+    /// record is full.
     pub fn legal_mask(&self, colour: Colour) -> impl ExactSizeIterator<Item = bool> + DoubleEndedIterator + use<> {
         listed(|may: bool| may, |mask| self.inner.legal_mask_into(colour.inner(), mask))
     }
 
-    /// Whether a point is an own eye of a colour, which a playout doesn't fill. It is empty, and has only stones of the
-    /// colour beside it. The other colour has a stone on at most one of its diagonals, and on none where the point is
-    /// on the edge.
+    /// Returns whether a point is an own eye of a colour, which a playout doesn't fill. An own eye is empty, and all
+    /// its neighbours are stones of the colour. The other colour has a stone on at most one of its diagonals, and on
+    /// none if the point is on the edge.
     ///
     /// # Errors
     ///
@@ -57,42 +56,41 @@ impl Game {
         Ok(self.inner.is_own_eye(colour.inner(), self.on_board(point)?))
     }
 
-    /// The stones of the chain of the stone on a point, row by row from A1. They are those of the game as it is now.
+    /// Returns the stones of the chain on a point of the current game, row by row from A1.
     ///
     /// # Errors
     ///
-    /// As those of [`chain`](Self::chain).
+    /// Those of [`chain`](Self::chain).
     pub fn chain_points(&self, point: Point) -> Result<impl ExactSizeIterator<Item = Point> + use<>, Refusal> {
         let stone = self.stone_on(point)?;
         Ok(listed(Point::of, |points| self.inner.chain_points_into(stone, points)))
     }
 
-    /// The liberties of the chain of the stone on a point, row by row from A1 and each once. They are those of the game
-    /// as it is now.
+    /// Returns the liberties of the chain on a point of the current game, row by row from A1 and each once.
     ///
     /// # Errors
     ///
-    /// As those of [`chain`](Self::chain).
+    /// Those of [`chain`](Self::chain).
     pub fn chain_liberties(&self, point: Point) -> Result<impl ExactSizeIterator<Item = Point> + use<>, Refusal> {
         let stone = self.stone_on(point)?;
         Ok(listed(Point::of, |points| self.inner.chain_liberties_into(stone, points)))
     }
 
-    /// The ko point of a colour: the one empty point on which its play would bring back the board before the last move,
-    /// where there is one.
+    /// Returns the ko point of a colour, if there is one: the one empty point where its play would bring back the board
+    /// before the last move.
     pub fn ko_point(&self, colour: Colour) -> Option<Point> {
         self.inner.ko_point(colour.inner()).map(Point::of)
     }
 
-    /// The move that a word chooses for a colour: of the n points on which the colour may play next and that are no own
-    /// eyes of it, number `word` mod n, counted from 0 in the board's order. A pass where there is none. The first
-    /// 2^64 mod n of them are chosen by one word more than the others: the choice is even but for one word in 2^64 / n.
-    /// The number of moves doesn't count, though a full record takes no more.
+    /// Returns the move that a random word chooses for a colour, even if the record is full. Of the n points where the
+    /// colour may play next and that aren't own eyes of it, this is number `word` mod n, counted from 0 in board order,
+    /// or a pass if there are none. The choice is even except for one word in 2^64 / n: each of the first 2^64 mod n
+    /// points is chosen by one word more than the others.
     ///
     /// ```
     /// use vintsaky::{Colour, Game, Komi, KoRule, Point, Refusal};
     ///
-    /// // Of nine points that of the number 13 modulo 9, from 0, is B2.
+    /// // Of nine points, number 13 mod 9 = 4, counted from 0, is B2.
     /// let game = Game::with(KoRule::Simple, 3, Komi::default())?;
     /// assert_eq!(game.random_move(Colour::Black, 13), Point::new(2, 2).unwrap().into());
     /// # Ok::<(), Refusal>(())
@@ -101,17 +99,18 @@ impl Game {
         Vertex::of(self.inner.random_move(colour.inner(), word))
     }
 
-    /// A hash of the position with a colour to move: of the board, its size, that colour, and its ko point. Positions
-    /// that are equal in these have equal hashes. So different ones show a difference, and equal ones show nothing. It
-    /// leaves out the komi, the ko rule, whether the last move was a pass, and the record that positional ko asks.
+    /// Returns a hash of the position with a colour to move: of the board, its size, that colour and its ko point.
+    /// Positions that are equal in these have equal hashes. So different hashes show a difference; equal hashes show
+    /// nothing. The hash leaves out the komi, the ko rule, whether the last move was a pass, and the record, on which
+    /// positional superko depends.
     pub fn position_hash(&self, colour: Colour) -> u64 {
         self.inner.position_hash(colour.inner())
     }
 
-    /// Plays on at random, a colour first and then both in turn. Each plays a point that is drawn from those on which
-    /// it may play and that are no own eyes of it, and passes where there is none. It ends after two passes, also of
-    /// the record before, after so many moves as the limit says, or where the record has 2,000. All draws are the
-    /// seed's: the same game, colour, seed and limit make the same moves.
+    /// Plays on at random, a colour first and then both in turn. Each plays a random point of those where it may play
+    /// and that aren't own eyes of it, and passes if there is none. The playout ends after two passes in a row, counting
+    /// those made before it, after `limit` moves, or when the record has 2,000. The same game, colour, seed and
+    /// limit always make the same moves.
     ///
     /// ```
     /// use vintsaky::{Colour, Game};
@@ -125,12 +124,12 @@ impl Game {
         go_playouts::playout(&mut self.inner, colour.inner(), seed, limit);
     }
 
-    /// The score after a [`playout`](Self::playout). The game stays as it was.
+    /// Returns the score after a [`playout`](Self::playout). The game is unchanged.
     pub fn rollout(&self, colour: Colour, seed: u64, limit: u32) -> Score {
         Score::of(go_playouts::rollout(&self.inner, colour.inner(), seed, limit))
     }
 
-    /// The point, where it is on the board and has a stone.
+    /// The point, if it is on the board and has a stone.
     fn stone_on(&self, point: Point) -> Result<go_base::Point, Refusal> {
         let point = self.on_board(point)?;
         self.inner.at(point).is_some().then_some(point).ok_or(Refusal::NoStone)
