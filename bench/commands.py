@@ -1,33 +1,33 @@
 #!/usr/bin/env python3
-"""GTP commands through a pipe, measured for several engines in turn in one run.
+"""Measures GTP commands through a pipe, for several engines in turn in one run.
 
 usage: bench/commands.py [--work NAME] [--size N] [--half] [--count N] [--rounds N] [--singly] ENGINE..
 
-Each ENGINE is a command line, split at spaces. Each gets the same lines, in one burst or, with --singly, one at a time as
-a controller sends them: the next one once the reply to the last has come. A round is one run of each program, one after
-the other, and the best round of each counts.
+Each ENGINE is a command line, split at spaces. All get the same lines, in one burst; or with --singly one at a time, as a
+controller sends them, each after the reply to the one before. A round is one run of each program, one after the other, and
+the best round of each counts.
 
 The works:
-  name        `name`, again and again; beside it the machine's limit, bench/copy.c, which only copies its input with one
-              write a line
+  name        `name`, again and again; compared with the machine's limit, bench/copy.c, which only copies its input with
+              one write a line
   pairs       a `play` and an `undo`, on an empty 19x19
   deep        an `undo` and the same `play`, after a game of 200 moves on 19x19 in which each colour has one chain; with
               --half after the plays of a half full board, in which the stones are scattered
-  play        plays of one colour to and fro over an empty 19x19, taken back by `clear_board` every 200
+  play        plays of one colour to and fro over an empty 19x19, with a `clear_board` every 200
   replay      a game of 200 moves on 19x19, from `clear_board` on
   full        2,000 times `genmove`, of both colours in turn, which fills our record; then `final_score`, `showboard` and
-              `undo`. Made for the peak of memory
+              `undo`. It shows the peak of memory
 
-and three that ask about one position, an empty board of --size or, with --half, one on which half as many plays were made
-as it has points. Each is asked for half a second or more, after a first time that counts only where it takes two seconds:
+and three that ask about one position, an empty board of --size or, with --half, one with half as many plays as it has
+points. Each is asked for half a second or more, after a first time that counts only if it takes two seconds:
   showboard   `showboard`, in one burst
   final_score `final_score`, one at a time; a play, its `final_score` and an `undo` after each aren't timed, and are there
-              since GNU Go keeps the answer to the last position that it was asked for
+              since GNU Go caches the answer for the last position
   genmove     `genmove b`, one at a time; the `undo` after each isn't timed. In an ENGINE, {book} is a book whose
               entry for this position is a free point
 
-The plays of a half full board are drawn, always the same: the points in a shuffled order, Black and White in turn, of which
-those are taken that the first ENGINE takes. Each ENGINE has to take them too.
+The plays of a half full board are random, and always the same: the points in a shuffled order, Black and White in turn,
+except those that the first ENGINE refuses. Each other ENGINE has to accept them.
 """
 
 import argparse
@@ -74,7 +74,7 @@ def lines_of(work, count, plays):
         return start, (moves + ["clear_board"]) * (count // 201)
     if work == "replay":
         return start, (["clear_board"] + moves) * (count // 201)
-    sys.exit(f"no such work: {work}")
+    sys.exit(f"bench: there is no work {work}: --help lists them")
 
 
 def replies(words, lines):
@@ -96,7 +96,7 @@ def plays_of(engines, size, half):
     plays = taken[: size * size // 2]
     for engine in engines:
         if not all(reply.startswith("=") for reply in replies(with_book(engine, size, plays), start + plays)[:-1]):
-            sys.exit(f"{engine} refuses a play of the position")
+            sys.exit(f"bench: {engine} refuses a play of the position")
     return plays
 
 
@@ -116,12 +116,12 @@ def found(engine):
     source of it is newer."""
     words = engine.split()
     if not words:
-        sys.exit("bench: an ENGINE has no command")
+        sys.exit("bench: an ENGINE has no command: give a command line")
     if os.path.realpath(words[0]).startswith(os.path.join(TOP, "bin", "")):
         subprocess.run([os.path.join(TOP, "build"), "--needed"], check=True)
     program = shutil.which(words[0]) or shutil.which(words[0], path=GAMES)
     if program is None:
-        sys.exit(f"bench: there is no program {words[0]}; ./build makes ours, and gnugo and leela-zero are packages of Debian")
+        sys.exit(f"bench: there is no program {words[0]}: ./build makes ours, and Debian has the packages gnugo and leela-zero")
     return " ".join([program if "/" not in words[0] else words[0], *words[1:]])
 
 
@@ -144,7 +144,7 @@ class Program:
         while came < count:
             piece = os.read(self.process.stdout.fileno(), 65536)
             if not piece:
-                sys.exit(f"{self.name} ended after {came} answers")
+                sys.exit(f"bench: {self.name} ended after {came} answers")
             text = self.last + piece
             came += text.count(self.mark)
             ended = text.endswith(self.mark)
@@ -271,7 +271,7 @@ def main():
     options = parser.parse_args()
     options.engines = [found(engine) for engine in options.engines]
     if options.work == "name" and shutil.which("cc") is None:
-        sys.exit("bench: there is no C compiler `cc`, which makes the limit of this work, bench/copy.c")
+        sys.exit("bench: there is no cc, which compiles the limit of this work, bench/copy.c (apt-get install gcc libc6-dev)")
     if options.work in POSITION_WORKS:
         position_table(options)
         return

@@ -29,6 +29,6 @@ words=(--task "$SLURM_ARRAY_TASK_ID/$2" --jobs "${SLURM_CPUS_PER_TASK:-1}")
 if read -r left < <(squeue --noheader --jobs "${SLURM_ARRAY_JOB_ID:-}_$SLURM_ARRAY_TASK_ID" --Format TimeLeft) && [ -n "$left" ]; then
     words+=(--time-left "$left")
 else
-    echo "tournament.sbatch: squeue doesn't say how much time is left, so games are begun to the end" >&2
+    echo "tournament.sbatch: squeue doesn't say how much time is left, so a game may be cut off" >&2
 fi
 exec "${TOURNAMENT:-tournament}" play "$1" "${words[@]}"

@@ -213,7 +213,7 @@ class Plan:
         if not found or self.seeds <= (len(set(self.openings[: self.seeds])) or 1):
             return ""
         seeds = "all seeds with the same opening" if self.openings else "all seeds"
-        said = f"if they draw nothing by themselves, {seeds} are the same games, which tally counts once"
+        said = f"unless they choose at random by themselves, {seeds} give the same games, which tally counts once"
         return f"{', '.join(found[:-1])} and {found[-1]} have no %s, the seed, in their commands: {said}"
 
     def has_boards(self):

@@ -235,7 +235,7 @@ class Play:
             output.complain(f"stopped: {counted}; the same command goes on")
             return self.run.stop_status()
         if (self.count < self.total or self.old) and self.has_no_time():
-            output.complain(f"the time left doesn't hold another game of {self.plan.limit} seconds; the same command goes on")
+            output.complain(f"another game of {self.plan.limit} seconds doesn't fit into the time left; the same command goes on")
         if self.later and not self.run.no_room:
             output.complain(f"games that another process plays: {len(self.later)}")
         self.tell(self.counted(0 if self.is_unable else self.of_kind(results.LOST)))

@@ -83,7 +83,7 @@ WARNED = {
 
 
 class Warned(Case):
-    """A plan whose games have to be the same, where engines draw nothing by themselves."""
+    """A plan whose games have to be the same, where engines choose nothing at random by themselves."""
 
     def test_warned(self):
         """Who is named, and when."""
@@ -115,7 +115,7 @@ def said_of(who, seeds="all seeds"):
     """What is said of these engines, if any are named."""
     if who is None:
         return ""
-    said = f"have no %s, the seed, in their commands: if they draw nothing by themselves, {seeds} are the same games, which tally counts once"
+    said = f"have no %s, the seed, in their commands: unless they choose at random by themselves, {seeds} give the same games, which tally counts once"
     return f"tournament: {who} {said}\n"
 
 

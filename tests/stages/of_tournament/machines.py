@@ -188,8 +188,8 @@ class Arrays(Case):
             for left, count in times.items():
                 came = task_of(here, 8, ["array", "8"], left)
                 last = f"{count} of 1 games of task 8/8 have a result{'' if count else ', 1 are missing'}"
-                said = {0: "tournament: the time left doesn't hold another game of 600 seconds; the same command goes on\n",
-                        1: "" if left != "none" else "tournament.sbatch: squeue doesn't say how much time is left\n"}[count]  # fmt: skip
+                said = {0: "tournament: another game of 600 seconds doesn't fit into the time left; the same command goes on\n",
+                        1: "" if left != "none" else "tournament.sbatch: squeue doesn't say how much time is left, so a game may be cut off\n"}[count]  # fmt: skip
                 wanted = (1 - count, last, said, count)
                 played = list((here.at / "array/games").iterdir())
                 self.check(f"time left: {left}", wanted, (came.status, came.output.splitlines()[-1], came.errors, len(played)))

@@ -205,7 +205,7 @@ class Lost(Case):
                 begins = last.startswith("tournament: no new result, and the old one stays: two wasn't started: ")
                 self.check(f"{game}: below it is why there is no new one", (True, True), (is_so, begins))
             came = here.run("tournament", "play", "all", "--again", "--time-left", "10")
-            said = "tournament: the time left doesn't hold another game of 600 seconds; the same command goes on\n"
+            said = "tournament: another game of 600 seconds doesn't fit into the time left; the same command goes on\n"
             self.check("the time left is too short: all is as it was", (1, said, before), (came.status, came.errors, kept_in(here)))
             here.script("two", "#!/bin/bash\nexec sleep 1000\n")
             self.stop_at(here, before, "in the trial", "trial two", signal.SIGTERM)

@@ -83,69 +83,66 @@ fn mistakes_in_the_words_are_reported_in_their_order(rt: HostRuntime) {
     }
 }
 
-/// The line of the komis that are allowed.
-const KOMI_LIMITS: &str =
-    "twogtp: komi may be a multiple of 0.5 from -999999999.5 to 999999999.5, with at most nine digits on each \
+/// A wrong komi, and the komis that are allowed.
+const KOMI_LINES: &str = "twogtp: bad komi\n\
+    twogtp: komi may be a multiple of 0.5 from -999999999.5 to 999999999.5, with at most nine digits on each \
     side of the point; write a negative one as --komi=-3.5\n";
 
-/// Arguments with a wrong komi or handicap, the line that says so, and under `--why` the next one.
+/// Arguments with a wrong komi or handicap, the line that says so, and what is reported with `--why`.
 static EXPLAINED: [(&[&str], &str, &str); 9] = [
-    (&["--komi", "6.7"], "twogtp: bad komi\n", KOMI_LIMITS),
+    (&["--komi", "6.7"], "twogtp: bad komi\n", KOMI_LINES),
     (
         &["--komi", "3,5", "--handicap", "1"],
         "twogtp: bad komi\n",
-        KOMI_LIMITS,
+        KOMI_LINES,
     ),
     (
         &["--handicap", "1"],
         "twogtp: bad handicap\n",
-        "twogtp: on size 19 the handicap may be 0, or 2 to 9\n",
+        "twogtp: bad handicap\ntwogtp: on size 19 the handicap may be 0, or 2 to 9\n",
     ),
     (
         &["--size", "10", "--handicap", "9"],
         "twogtp: bad handicap\n",
-        "twogtp: on size 10 the handicap may be 0, or 2 to 4\n",
+        "twogtp: bad handicap\ntwogtp: on size 10 the handicap may be 0, or 2 to 4\n",
     ),
     (
         &["--size", "9", "--handicap", "1"],
         "twogtp: bad handicap\n",
-        "twogtp: on size 9 the handicap may be 0, or 2 to 9\n",
+        "twogtp: bad handicap\ntwogtp: on size 9 the handicap may be 0, or 2 to 9\n",
     ),
     (
         &["--size", "8", "--handicap", "5"],
         "twogtp: bad handicap\n",
-        "twogtp: on size 8 the handicap may be 0, or 2 to 4\n",
+        "twogtp: bad handicap\ntwogtp: on size 8 the handicap may be 0, or 2 to 4\n",
     ),
     (
         &["--size", "7", "--handicap", "5"],
         "twogtp: bad handicap\n",
-        "twogtp: on size 7 the handicap may be 0, or 2 to 4\n",
+        "twogtp: bad handicap\ntwogtp: on size 7 the handicap may be 0, or 2 to 4\n",
     ),
     (
         &["--size", "6", "--handicap", "2"],
         "twogtp: bad handicap\n",
-        "twogtp: on size 6 the handicap may only be 0\n",
+        "twogtp: bad handicap\ntwogtp: on size 6 the handicap may only be 0\n",
     ),
     (
         &["--size", "1", "--handicap", "9"],
         "twogtp: bad handicap\n",
-        "twogtp: on size 1 the handicap may only be 0\n",
+        "twogtp: bad handicap\ntwogtp: on size 1 the handicap may only be 0\n",
     ),
 ];
 
 #[test]
 fn with_why_a_second_line_says_what_is_allowed(rt: HostRuntime) {
-    for (more, line, limits) in &EXPLAINED {
-        let without = run_with(&rt, &["--black", "x", "--white", "y"], more, FREE);
-        assert_equal_for(&rt, *more, without.reported(&rt), *line);
-        let with = run_with(&rt, &["--black", "x", "--white", "y", "--why"], more, FREE);
-        let reported = with.reported(&rt);
-        assert_true_for(&rt, (*more, reported), reported.starts_with(*line));
-        assert_true_for(&rt, (*more, reported), reported.ends_with(*limits));
-        assert_equal_for(&rt, *more, reported.len(), line.len() + limits.len());
-        assert_equal_for(&rt, *more, with.written(&rt), "");
-        assert_equal_for(&rt, *more, with.status, 2);
-        assert_equal_for(&rt, *more, with.log.started.get(), 0);
+    for (more, line, lines) in &EXPLAINED {
+        let plain = run_with(&rt, &["--black", "x", "--white", "y"], more, FREE);
+        assert_equal_for(&rt, *more, plain.reported(&rt), *line);
+        let explained = run_with(&rt, &["--black", "x", "--white", "y", "--why"], more, FREE);
+        assert_equal_for(&rt, *more, explained.reported(&rt), *lines);
+        assert_equal_for(&rt, *more, explained.written(&rt), "");
+        assert_equal_for(&rt, *more, explained.status, 2);
+        assert_equal_for(&rt, *more, explained.log.started.get(), 0);
     }
 }
 

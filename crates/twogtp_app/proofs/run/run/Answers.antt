@@ -92,5 +92,5 @@ returns-clause-stopped g c = λ three. inr (inr (record {
   lines = c.play_games.new.errors;
   failure = c.in-Err-play_games.failure;
   stopped = c.in-Err-play_games.ensures;
-  reported = c.report-in-Err-play_games.ensures.written;
+  reported = c.report.ensures.written;
 }))
