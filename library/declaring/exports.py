@@ -1,6 +1,6 @@
 """The calls of the library, as the exports in crates/vintsaky/src declare them: their comments, results and arguments.
 
-An argument of an export comes to one or two of C: a slice is a pointer with a length, or with the room that is there.
+An argument of an export becomes one or two of C: a slice is a pointer with its length, or with the size of the buffer.
 """
 import re
 from dataclasses import dataclass
@@ -23,8 +23,8 @@ NUMBERS = {
     "bool": ("bool", "c_bool"),
     "f32": ("float", "c_float"),
 }
-BYTES = "bytes"  # an argument of this name has bytes that are no text
-OF_BYTES = (BYTES, "causes", "over")  # and so have these
+BYTES = "bytes"  # an argument of this name has bytes that aren't text
+OF_BYTES = (BYTES, "causes", "over")  # and so do these
 
 
 @dataclass(frozen=True)
@@ -63,7 +63,7 @@ def handle_of(kind):
 def slice_of(name, kind, is_written):
     """The two arguments of a slice."""
     length = Argument(f"{name}_length", *NUMBERS["usize"])
-    if handle_of(kind) and is_written:  # each handle is lent, so it may change
+    if handle_of(kind) and is_written:  # each handle is borrowed, so it may change
         return [Argument(name, f"vintsaky_{handle_of(kind)} *", f"POINTER({kind})"), length]
     if is_written:
         byte = ("uint8_t", "c_uint8") if name in OF_BYTES else ("char", "c_char")
@@ -76,7 +76,7 @@ def slice_of(name, kind, is_written):
 
 
 def given(name, kind):
-    """The arguments of C that an argument of an export comes to. KeyError where its type is none that C has."""
+    """The arguments of C that an argument of an export becomes. KeyError if C has no such type."""
     is_slice = re.fullmatch(r"&(mut )?\[(\w+)\]", kind)
     if is_slice:
         return slice_of(name, is_slice[2], bool(is_slice[1]))
@@ -97,7 +97,7 @@ def pairs_of(text):
 
 
 def arguments_of(pairs, where):
-    """The arguments of C that those of an export come to."""
+    """The arguments of C that those of an export become."""
     arguments = []
     for name, kind in pairs:
         try:
@@ -120,7 +120,7 @@ def said_of(comment, where):
     parts = re.split(r"^/// # (\w+)\n", comment, flags=re.MULTILINE)
     sections = dict(zip(parts[1::2], parts[2::2]))
     if not parts[0].strip() or set(sections) - {"Errors", "Safety"}:
-        raise Mistake(f"{where}: its comment has to say what it does, and then, if it may be refused, '# Errors'")
+        raise Mistake(f"{where}: its comment has to say what it does, and then, if it can be rejected, '# Errors'")
     return paragraphs(parts[0].splitlines()), paragraphs(sections.get("Errors", "").splitlines())
 
 
@@ -130,7 +130,7 @@ def call_of(found, path):
     where = f"{path}: {name}"
     said, errors = said_of(comment, where)
     if ("code_of(" in (body or "")) != bool(errors):
-        raise Mistake(f"{where}: '# Errors' has to say for which causes it is refused, and nothing where it never is")
+        raise Mistake(f"{where}: '# Errors' has to list the errors, and must not be there if it is never rejected")
     if result and result not in NUMBERS:
         raise Mistake(f"{where}: it returns what C can't: {result}")
     c, python = NUMBERS[result] if result else ("void", "None")
@@ -173,11 +173,11 @@ def all_calls(files):
 
 
 def causes_of(call, calls):
-    """The causes for which a call is refused, in the order in which it names them. It may name those of another call."""
+    """The errors of a call, in the order in which its comment lists them. It may refer to those of another call."""
     other = re.search(r"Those of \[`(vintsaky_\w+)`\]", call.errors)
     named = re.findall(r"`([A-Z]\w*)`", call.errors)
     if not other:
         return named
     if other[1] not in calls:
-        raise Mistake(f"{call.name}: its errors are those of {other[1]}, which is no call")
+        raise Mistake(f"{call.name}: its errors are those of {other[1]}, which isn't a call")
     return [it for it in causes_of(calls[other[1]], calls) if it not in named]

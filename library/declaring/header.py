@@ -1,7 +1,7 @@
 """The C header: vintsaky.h.in, in which the calls and the numbers take the places that are marked.
 
 A mark is `@WORD ..@`. One alone on its line becomes lines: `@values KIND@` the numbers of a kind, a line each with what is said of it;
-`@enums KIND@` the same in short enumerations; `@causes@` the causes; `@calls SECTION@` the calls of a section. Another one becomes a
+`@enums KIND@` the same in short enumerations; `@causes@` the errors; `@calls SECTION@` the calls of a section. Any other becomes a
 number: `@interface@`, `@version@`, `@KIND NAME@` that of a value, `@CRATE NAME@` that of a constant, and `@CRATE NAME + 1@` one more.
 """
 import re
@@ -38,13 +38,13 @@ def declaration(call):
 
 
 def in_c(text, causes, where):
-    """A comment in the words of C: without marks of code, and with the causes as C calls them."""
+    """A comment for C: without marks of code, and with the names that errors have in C."""
 
     def word(found):
         if found[1] in causes:
             return f"VINTSAKY_{snake(found[1])}"
         if re.fullmatch(r"[A-Z][a-z]\w*", found[1]):
-            raise Mistake(f"{where}: its comment names {found[1]}, which is no cause")
+            raise Mistake(f"{where}: its comment names {found[1]}, which isn't an error")
         return found[1]
 
     return re.sub(r"\[?`([^`]*)`\]?", word, text)
@@ -56,7 +56,7 @@ def wrapped(text):
 
 
 def comment_of(call, causes):
-    """The comment of a call: what it does, and for which causes it is refused."""
+    """The comment of a call: what it does, and its errors."""
     said = in_c(call.said, causes, call.name)
     errors = call.errors and f"Errors: {in_c(call.errors, causes, call.name)}"
     lines = wrapped(said if errors else said + LAST) + (wrapped(errors + LAST) if errors else [])
@@ -69,7 +69,7 @@ def sections(files):
 
 
 def calls_of(section, files):
-    """The calls of a section, but the one that is the number of the interface, which stands at the head of the header."""
+    """The calls of a section, except the one with the number of the interface, which stands at the head of the header."""
     causes = {it.name for it in numbers.causes_of(files)}
     calls = [it for it in exports.calls_of(section, files) if not it.name.startswith("vintsaky_interface_")]
     return "\n\n".join(f"{comment_of(it, causes)}\n{declaration(it)}" for it in calls)
@@ -79,7 +79,7 @@ def calls_of(section, files):
 
 
 def lines_of(values):
-    """The lines of an enumeration, with what is said of each value. The comments stand below each other where all have the room."""
+    """The lines of an enumeration, with what is said of each value. The comments are aligned."""
     ends = [f"VINTSAKY_{it.name} = {it.number}{',' * (it is not values[-1])}" for it in values]
     width = max(map(len, ends))
     said = [f"/* {it.said} */" if it.said else "" for it in values]
@@ -87,7 +87,7 @@ def lines_of(values):
 
 
 def causes_of(files):
-    """The lines of the causes: each is followed by a comma, since later ones come after the last."""
+    """The lines of the errors: each ends with a comma, since later releases add more."""
     return [f"VINTSAKY_{it.name} = {it.number}, /* {it.said} */" for it in (cause.value for cause in numbers.causes_of(files))]
 
 

@@ -1,4 +1,4 @@
-"""Modules of the Python package: `_declared.py`, with the table of the calls, and `_numbers.py`, with the numbers that are explained there."""
+"""Modules of the Python package: `_declared.py`, with the table of the calls, and `_numbers.py`, with numbers and what they mean."""
 import textwrap
 
 from . import exports, header, numbers

@@ -1,6 +1,6 @@
-"""The sentences of the causes where other sources have them: the code and the definition of the call that writes them, and the Rust crate.
+"""The sentences of the errors where other sources have them: the code and the definition of the call that writes them, and the Rust crate.
 
-They come from the comments of the variants of Cause. In the first two the rows alone are written, and the rest stays."""
+They come from the comments of the variants of Cause. In the first two only the rows are written, and the rest stays."""
 import re
 
 from . import numbers
@@ -18,7 +18,7 @@ HEAD_OF_RUST = """\
 
 causes! {
 """
-# what the Rust crate says otherwise: for these causes no call of it is refused, since its types leave them out
+# errors that the Rust crate explains otherwise: none of its calls returns these, since its types rule them out
 NEVER = ("BadColour", "BadVertex", "BadRule", "NoRoom", "BadCommand")
 OTHERWISE = {
     "NoId": "The line has no id.",
@@ -53,7 +53,7 @@ def definition(files):
 
 
 def meaning(cause):
-    """What a cause means in Rust."""
+    """The meaning of an error in Rust."""
     if cause.name in NEVER:
         return f"{cause.comment.partition(':')[0].rstrip('.')}. No call of this crate returns it."
     return OTHERWISE.get(cause.name, cause.comment)

@@ -1,4 +1,4 @@
-"""What the Rust crate has of each call of the library: its name, its arguments, and for which causes it is refused.
+"""What the Rust crate has of each call of the library: its name, its arguments, and its errors.
 
 The crate calls no C. So the compiler doesn't see whether it has all that the library has for others, by these names.
 """
@@ -66,7 +66,7 @@ OTHER_ARGUMENTS = {
     "vintsaky_write_command": "id: Option<u32>",
     "vintsaky_write_reply": "id: Option<u32>, answer: Result<&str, &str>",
 }
-# the causes that types leave out in Rust
+# the errors that types rule out in Rust
 LEFT_OUT = {"BAD_COLOUR", "BAD_VERTEX", "BAD_RULE", "BAD_KOMI", "NO_ROOM", "BAD_COMMAND"}
 # the enums of numbers: what the header's names begin with, and the variants that have other names there, or none
 ENUMS = {
@@ -122,7 +122,7 @@ def arguments_of(text, function):
 
 
 def refused_for(found, path):
-    """The causes for which a function is refused, in the order in which it names them, as the header calls them."""
+    """The errors of a function, in the order in which its comment lists them, by their names in the header."""
     said = found[path]["said"].partition("# Errors")[2] if path in found else "Refusal::Missing"
     other = re.search(r"Those of \[`\w+`\]\(Self::(\w+)\)", said)
     if other:
@@ -153,7 +153,7 @@ def wanted_arguments(call):
 
 
 def refused_in_c(call, calls):
-    """The causes of a call, as the header calls them and in its order, without those for which no call in Rust is refused."""
+    """The errors of a call, by their names and in their order in the header, without those that no call in Rust returns."""
     return [it for it in map(snake, exports.causes_of(call, calls)) if it not in LEFT_OUT]
 
 
@@ -170,9 +170,9 @@ def differing_call(text, call, wanted, refused, path):
     may_be = "Refusal>" in found[path]["result"]
     causes = refused_for(found, path)
     if may_be != bool(causes) or (may_be and causes != refused):
-        lines.append(f"{path} is refused for {causes}, and {call} for {refused}")
+        lines.append(f"{path} has the errors {causes}, and {call} has {refused}")
     if refused and not may_be and not re.search(r"-> Option<", found[path]["result"]):
-        lines.append(f"{path} is never refused, and {call} is, for {refused}")
+        lines.append(f"{path} is never rejected, and {call} has the errors {refused}")
     return lines
 
 
