@@ -1,9 +1,9 @@
 #!/usr/bin/env python3
 """Does what docs/library.md shows: runs its commands, and plays the engine in Python that it shows. The loop of self-play that it shows is
-the example, which runs.
+the example, which runs. The rollout in C that it shows has the score of the reference.
 
-The commands run in a folder that has what they name, and in which the engine is my_engine.py. Each has to end with the result line of a
-game without a restart. README.md has to show the same engine, but its name.
+The commands run in a directory that has what they name, and in which the engine is my_engine.py. Each has to end with the result line of a
+game without a restart. README.md has to show the same engine, except its name.
 
 Skipped are blocks whose compiler isn't there, and all of them without the library and the programs in bin/.
 """
@@ -16,8 +16,12 @@ from pathlib import Path
 sys.dont_write_bytecode = True
 sys.path[0] = str(Path(__file__).resolve().parents[2])
 
+from tests.references.engine.game import Game  # noqa: E402
+from tests.references.engine.values import BLACK  # noqa: E402
+from tests.references.search.generator import Pcg64  # noqa: E402
+from tests.references.search.playouts import rollout  # noqa: E402
 from tests.shared import checks, pages, running  # noqa: E402
-from tests.shared.library import ARCHIVE, SHARED, TOP, Needing, python_with_numpy  # noqa: E402
+from tests.shared.library import ARCHIVE, SHARED, TOP, WARN, Needing, cc, python_with_numpy  # noqa: E402
 
 TOOLS = ["cc", "python3", "cargo"]  # a block is skipped where it names one that isn't there
 LIMIT = 600  # seconds that a block may take
@@ -30,6 +34,7 @@ def blocks_of(page, language):
 
 
 PYTHON = blocks_of("docs/library.md", "python")
+ROLLOUT = [block for block in blocks_of("docs/library.md", "c") if "_rollout(" in block]
 ENGINES = [block for block in PYTHON if "vintsaky.Engine" in block]
 LOOP = TOP / "library/python/examples/self_play.py"
 COMMANDS = blocks_of("docs/library.md", "")
@@ -76,6 +81,24 @@ class Loop(Needing):
             self.skipTest("there is no numpy (apt-get install python3-numpy)")
         paths = {"PYTHONPATH": str(TOP / "library/python"), "VINTSAKY_LIBRARY": str(SHARED), "PYTHONDONTWRITEBYTECODE": "1"}
         self.same((0, "True\n", ""), tuple(running.run([python, LOOP], env={**os.environ, **paths}, limit=LIMIT)))
+
+
+class Rollout(Needing):
+    """The calls of a rollout in C."""
+
+    FILES, TOOLS = (ARCHIVE,), ("cc",)
+
+    def test_score(self):
+        """the page's rollout in C is that of the reference."""
+        game = Game()
+        game.begin(9)
+        game.komi = 14
+        wanted = rollout(game, BLACK, Pcg64.of_number(1), 2000)
+        room = self.room()
+        head, tail = '#include "vintsaky.h"\n#include <stdio.h>\nint main(void) {\n', 'printf("%d", half_points);\n}\n'
+        (room / "page.c").write_text(head + "".join(ROLLOUT) + tail)
+        self.same("", cc(["cc", "-Ilibrary", *WARN, "-o", room / "page", room / "page.c", ARCHIVE], room))
+        self.same(str(wanted), running.run([room / "page"]).output)
 
 
 @checks.table(COMMANDS, lambda block: f"a game is played by: {block.splitlines()[0]}")
