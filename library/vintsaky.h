@@ -82,7 +82,7 @@ enum {
     VINTSAKY_KO = 12, /* The move would repeat a board that the ko rule forbids. */
     VINTSAKY_NOTHING_TO_UNDO = 13, /* The record has no move to undo. */
     VINTSAKY_NOT_EMPTY = 14, /* The board and the record must be empty. */
-    VINTSAKY_BAD_HANDICAP = 15, /* Not a handicap of this size: use 2 to 9 stones on odd sizes from 9, 2 to 4 on 7 and even sizes from 8. */
+    VINTSAKY_BAD_HANDICAP = 15, /* Odd sizes from 9 allow 2 to 9 stones, 7 and even sizes from 8 allow 2 to 4; never a negative number. */
     VINTSAKY_NO_MOVE = 16, /* The record has no move with this number, counted from 0. */
     VINTSAKY_NO_STONE = 17, /* No stone is on the point. */
     VINTSAKY_NOT_ASKED = 18, /* No such move or answer is being waited for. */
@@ -90,7 +90,7 @@ enum {
     VINTSAKY_NO_ID = 20, /* The line or the reply has no id. */
     VINTSAKY_BAD_LENGTH = 21, /* A name must have 1 to 32 bytes. */
     VINTSAKY_BAD_BYTE = 22, /* A name may have only bytes 33 to 126, except #. */
-    VINTSAKY_ONLY_DIGITS = 23, /* A name can't have only digits: it would be read as an id. */
+    VINTSAKY_ONLY_DIGITS = 23, /* A name can't have only digits, as an id has. */
     VINTSAKY_IN_TABLE = 24, /* The protocol already has a command of this name. */
     VINTSAKY_ADDED_BEFORE = 25, /* A custom command of this name was already added. */
     VINTSAKY_TOO_MANY = 26, /* The engine already has 32 custom commands, the maximum. */
@@ -101,9 +101,9 @@ enum {
     VINTSAKY_NO_LINE = 31, /* No command line was read, or the last one was too long. */
     VINTSAKY_BAD_COMMAND = 32, /* Not a command: use 1 to 8. */
     VINTSAKY_BAD_ID = 33, /* The id must be 0 to 2,147,483,647, or -1 for none. */
-    VINTSAKY_DOWN = 34, /* The side isn't up: it was not started or it went down, or the match is over. */
+    VINTSAKY_DOWN = 34, /* The side isn't up (it was not started, or it went down), or the match is over. */
     VINTSAKY_IS_OVER = 35, /* The match is already over. */
-    VINTSAKY_BAD_REASON = 36, /* A reason must be 1 to 20 letters (a-z, A-Z) and spaces, and not that of a forfeit. */
+    VINTSAKY_BAD_REASON = 36, /* A reason must be empty (a loss on time), or 1 to 20 letters (a-z, A-Z) and spaces, and no forfeit's. */
 };
 
 /* colours of stones, and the sides that play them */

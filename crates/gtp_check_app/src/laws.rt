@@ -31,8 +31,9 @@ pub fn trials_ask_few<P: Process>()
     ensures { TrialsAskFew P.Process }
 {}
 
-/// The commands that a trial counts as its own are the first commands of the shorter conversation, with any extra
-/// `name` between them. So parts are left out of the conversation alone.
+/// Of the commands that a trial sends, the first ones, without any extra `name` among them, are the first commands of
+/// the shorter conversation: as many as are counted as the trial's own. So parts are left out of the conversation
+/// alone.
 pub fn own_commands_are_counted()
     ensures { OwnCommandsAreCounted }
 {}

@@ -109,9 +109,11 @@ pub fn ready_engines_may_be_asked()
     ensures { ReadyEnginesMayBeAsked }
 {}
 
-/// If the board of such an engine is known, it may also be asked what depends on the board. That is a `fixed_handicap`,
-/// an `undo` and a `final_score` if it is known to have them, and a score only if the last `komi` is one that every
-/// engine has to accept.
+/// If the board of such an engine is known, it may also be asked what depends on the board: a `play`, and, if it owes
+/// nothing and no two passes ended the game, a `genmove`, both as long as the record isn't full. If it is known to have
+/// them, it may be asked an `undo`; a `fixed_handicap` before any move, or with a stone on the board; and a
+/// `final_score` if it owes nothing, nothing was played or placed, and the last `komi` is one that every engine has to
+/// accept. An `undo` that may fail needs that it owes nothing.
 pub fn known_engines_may_be_asked()
     ensures { KnownEnginesMayBeAsked }
 {}

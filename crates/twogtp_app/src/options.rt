@@ -120,7 +120,7 @@ static OPTIONS: [OptionRow<'static>; 11] = [
         name: "why",
         takes: Takes::Nothing,
         help: "Report on standard error why a side fails, each refused\n\
-            play, and which komi and handicap are allowed",
+            play, and after a bad komi or handicap what is allowed",
     },
 ];
 

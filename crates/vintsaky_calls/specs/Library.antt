@@ -27,7 +27,7 @@ sentence cause.Ko = codes "The move would repeat a board that the ko rule forbid
 sentence cause.NothingToUndo = codes "The record has no move to undo."
 sentence cause.NotEmpty = codes "The board and the record must be empty."
 sentence cause.BadHandicap =
-    codes "Not a handicap of this size: use 2 to 9 stones on odd sizes from 9, 2 to 4 on 7 and even sizes from 8."
+    codes "Odd sizes from 9 allow 2 to 9 stones, 7 and even sizes from 8 allow 2 to 4; never a negative number."
 sentence cause.NoMove = codes "The record has no move with this number, counted from 0."
 sentence cause.NoStone = codes "No stone is on the point."
 sentence cause.NotAsked = codes "No such move or answer is being waited for."
@@ -35,7 +35,7 @@ sentence cause.NoWord = codes "The line has no word with this number, counted fr
 sentence cause.NoId = codes "The line or the reply has no id."
 sentence cause.BadLength = codes "A name must have 1 to 32 bytes."
 sentence cause.BadByte = codes "A name may have only bytes 33 to 126, except #."
-sentence cause.OnlyDigits = codes "A name can't have only digits: it would be read as an id."
+sentence cause.OnlyDigits = codes "A name can't have only digits, as an id has."
 sentence cause.InTable = codes "The protocol already has a command of this name."
 sentence cause.AddedBefore = codes "A custom command of this name was already added."
 sentence cause.TooMany = codes "The engine already has 32 custom commands, the maximum."
@@ -46,9 +46,10 @@ sentence cause.NotOver = codes "The match is not over yet."
 sentence cause.NoLine = codes "No command line was read, or the last one was too long."
 sentence cause.BadCommand = codes "Not a command: use 1 to 8."
 sentence cause.BadId = codes "The id must be 0 to 2,147,483,647, or -1 for none."
-sentence cause.Down = codes "The side isn't up: it was not started or it went down, or the match is over."
+sentence cause.Down = codes "The side isn't up (it was not started, or it went down), or the match is over."
 sentence cause.IsOver = codes "The match is already over."
-sentence cause.BadReason = codes "A reason must be 1 to 20 letters (a-z, A-Z) and spaces, and not that of a forfeit."
+sentence cause.BadReason =
+    codes "A reason must be empty (a loss on time), or 1 to 20 letters (a-z, A-Z) and spaces, and no forfeit's."
 
 -- what is said of a number: that it was done, what a cause means, or that the number is none
 abbrev pub SaysDone : ℕ → List ℕ → Type 0

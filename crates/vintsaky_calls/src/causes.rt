@@ -37,7 +37,7 @@ pub enum Cause {
     NothingToUndo,
     /// The board and the record must be empty.
     NotEmpty,
-    /// Not a handicap of this size: use 2 to 9 stones on odd sizes from 9, 2 to 4 on 7 and even sizes from 8.
+    /// Odd sizes from 9 allow 2 to 9 stones, 7 and even sizes from 8 allow 2 to 4; never a negative number.
     BadHandicap,
     /// The record has no move with this number, counted from 0.
     NoMove,
@@ -53,7 +53,7 @@ pub enum Cause {
     BadLength,
     /// A name may have only bytes 33 to 126, except `#`.
     BadByte,
-    /// A name can't have only digits: it would be read as an id.
+    /// A name can't have only digits, as an id has.
     OnlyDigits,
     /// The protocol already has a command of this name.
     InTable,
@@ -75,11 +75,11 @@ pub enum Cause {
     BadCommand,
     /// The id must be 0 to 2,147,483,647, or -1 for none.
     BadId,
-    /// The side isn't up: it was not started or it went down, or the match is over.
+    /// The side isn't up (it was not started, or it went down), or the match is over.
     Down,
     /// The match is already over.
     IsOver,
-    /// A reason must be 1 to 20 letters (a-z, A-Z) and spaces, and not that of a forfeit.
+    /// A reason must be empty (a loss on time), or 1 to 20 letters (a-z, A-Z) and spaces, and no forfeit's.
     BadReason,
 }
 

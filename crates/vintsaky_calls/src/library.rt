@@ -53,7 +53,7 @@ fn sentence(cause: Cause) -> &'static [u8]
         Cause::NothingToUndo => b"The record has no move to undo.",
         Cause::NotEmpty => b"The board and the record must be empty.",
         Cause::BadHandicap =>
-            b"Not a handicap of this size: use 2 to 9 stones on odd sizes from 9, 2 to 4 on 7 and even sizes from 8.",
+            b"Odd sizes from 9 allow 2 to 9 stones, 7 and even sizes from 8 allow 2 to 4; never a negative number.",
         Cause::NoMove => b"The record has no move with this number, counted from 0.",
         Cause::NoStone => b"No stone is on the point.",
         Cause::NotAsked => b"No such move or answer is being waited for.",
@@ -61,7 +61,7 @@ fn sentence(cause: Cause) -> &'static [u8]
         Cause::NoId => b"The line or the reply has no id.",
         Cause::BadLength => b"A name must have 1 to 32 bytes.",
         Cause::BadByte => b"A name may have only bytes 33 to 126, except #.",
-        Cause::OnlyDigits => b"A name can't have only digits: it would be read as an id.",
+        Cause::OnlyDigits => b"A name can't have only digits, as an id has.",
         Cause::InTable => b"The protocol already has a command of this name.",
         Cause::AddedBefore => b"A custom command of this name was already added.",
         Cause::TooMany => b"The engine already has 32 custom commands, the maximum.",
@@ -73,9 +73,9 @@ fn sentence(cause: Cause) -> &'static [u8]
         Cause::BadCommand => b"Not a command: use 1 to 8.",
         Cause::BadId => b"The id must be 0 to 2,147,483,647, or -1 for none.",
         Cause::Down =>
-            b"The side isn't up: it was not started or it went down, or the match is over.",
+            b"The side isn't up (it was not started, or it went down), or the match is over.",
         Cause::IsOver => b"The match is already over.",
         Cause::BadReason =>
-            b"A reason must be 1 to 20 letters (a-z, A-Z) and spaces, and not that of a forfeit.",
+            b"A reason must be empty (a loss on time), or 1 to 20 letters (a-z, A-Z) and spaces, and no forfeit's.",
     }
 }

@@ -22,7 +22,7 @@ class Cause(Told):
     KO: The move would repeat a board that the ko rule forbids.
     NOTHING_TO_UNDO: The record has no move to undo.
     NOT_EMPTY: The board and the record must be empty.
-    BAD_HANDICAP: Not a handicap of this size: use 2 to 9 stones on odd sizes from 9, 2 to 4 on 7 and even sizes from 8.
+    BAD_HANDICAP: Odd sizes from 9 allow 2 to 9 stones, 7 and even sizes from 8 allow 2 to 4; never a negative number.
     NO_MOVE: The record has no move with this number, counted from 0.
     NO_STONE: No stone is on the point.
     NOT_ASKED: No such move or answer is being waited for.
@@ -30,7 +30,7 @@ class Cause(Told):
     NO_ID: The line or the reply has no id.
     BAD_LENGTH: A name must have 1 to 32 bytes.
     BAD_BYTE: A name may have only bytes 33 to 126, except #.
-    ONLY_DIGITS: A name can't have only digits: it would be read as an id.
+    ONLY_DIGITS: A name can't have only digits, as an id has.
     IN_TABLE: The protocol already has a command of this name.
     ADDED_BEFORE: A custom command of this name was already added.
     TOO_MANY: The engine already has 32 custom commands, the maximum.
@@ -41,9 +41,9 @@ class Cause(Told):
     NO_LINE: No command line was read, or the last one was too long.
     BAD_COMMAND: Not a command: use 1 to 8.
     BAD_ID: The id must be 0 to 2,147,483,647, or -1 for none.
-    DOWN: The side isn't up: it was not started or it went down, or the match is over.
+    DOWN: The side isn't up (it was not started, or it went down), or the match is over.
     IS_OVER: The match is already over.
-    BAD_REASON: A reason must be 1 to 20 letters (a-z, A-Z) and spaces, and not that of a forfeit.
+    BAD_REASON: A reason must be empty (a loss on time), or 1 to 20 letters (a-z, A-Z) and spaces, and no forfeit's.
     """
 
     DONE = 0
