@@ -126,6 +126,8 @@ RUNS = [
          "twogtp --black x --white y --size 99"),
         ("a komi without a value", f"error: a value is required for '--komi <K>' but none was supplied{HELP}", "twogtp --komi"),
         ("a komi that is none", "twogtp: bad komi\n", "twogtp --black x --white y --komi 6.7"),
+        ("a handicap that the size doesn't allow, with --why", "twogtp: bad handicap\ntwogtp: on size 6 the handicap may only be 0\n",
+         "twogtp --black x --white y --size 6 --handicap 2 --why"),
         ("a policy that there is not",
          f"error: invalid value 'best' for '--policy <POLICY>'\n  [possible values: first, random, book]{HELP}",
          "gtp_engine --policy best"),

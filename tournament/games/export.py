@@ -117,7 +117,7 @@ def write_records(games, plan, folder):
     """Writes a file for each game into a folder, which is new or empty. Where one can't be written, none is left."""
     is_there, board, places = os.path.isdir(folder), sgf.Board(plan.options), []
     if is_there and os.listdir(folder):
-        raise Mistake(f"{folder} isn't empty: name a new folder for --sgf")
+        raise Mistake(f"{folder} isn't empty: name a new directory for --sgf")
     try:
         os.makedirs(folder, exist_ok=True)
         for row, end, moves in games:

@@ -77,7 +77,7 @@ def advice(plan, asked, folder):
     new = [name for name in asked.engines if name not in plan.engines]
     old = all(plan.engines[name] == command for name, command in asked.engines.items() if name in plan.engines)
     if new and old and (not asked.options or asked.options == plan.options):
-        return "To add an engine, repeat the whole command with the new one behind the others. Else take another folder."
+        return "To add an engine, repeat the whole command with the new one behind the others. Else take another directory."
     return f"Take another folder, or write tournament play {folder} alone, which goes on with what it has."
 
 
@@ -102,24 +102,24 @@ def difference(plan, asked):
 def look_at_limits(plan, asked, folder):
     """Is what is asked for of the program between as the plan has it?"""
     if asked.is_direct and not plan.is_direct:
-        raise Mistake(f"{folder} was begun without --direct: take another folder")
+        raise Mistake(f"{folder} was begun without --direct: take another directory")
     values = (("--start-limit", asked.start_limit), ("--move-limit", asked.move_limit), ("--openings", asked.openings))
     given = [option for option, value in values if value]
     if given and plan.is_direct:
         why = "by earlier scripts, which had none" if plan.is_old() else "with --direct"
-        raise Mistake(f"{folder} was begun {why}, so it can't have {given[0]}: take another folder")
+        raise Mistake(f"{folder} was begun {why}, so it can't have {given[0]}: take another directory")
     if asked.move_limit and asked.move_limit != plan.move_limit:
         old = f"--move-limit {plan.move_limit}" if plan.move_limit else "no --move-limit"
-        raise Mistake(f"{folder} was begun with {old}: take another folder")
+        raise Mistake(f"{folder} was begun with {old}: take another directory")
     if asked.openings and asked.openings != plan.openings:
-        raise Mistake(f"{folder} was begun with {'other' if plan.openings else 'no'} openings: take another folder")
+        raise Mistake(f"{folder} was begun with {'other' if plan.openings else 'no'} openings: take another directory")
 
 
 def look_at_pairing(plan, asked, folder):
     """Is the engine of a gauntlet that of the plan, where one is asked for?"""
     if asked.gauntlet not in (None, plan.gauntlet):
         old = f"with --gauntlet {plan.gauntlet}" if plan.gauntlet else "without --gauntlet"
-        raise Mistake(f"{folder} was begun {old}: take another folder")
+        raise Mistake(f"{folder} was begun {old}: take another directory")
 
 
 def make_folders(folder):
@@ -162,7 +162,7 @@ def put(aside, place, is_new):
                 is_same = mine.read() == other.read()
             os.unlink(aside)
             if not is_same:
-                raise Mistake(f"{place} was made by another run at the same time: take another folder") from None
+                raise Mistake(f"{place} was made by another run at the same time: take another directory") from None
             return
         except OSError:  # a file system without links
             os.replace(aside, place)

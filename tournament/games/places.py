@@ -61,7 +61,7 @@ class Places:
             os.close(lock)
             if isinstance(problem, BlockingIOError):
                 raise Taken from None
-            raise OSError(problem.errno, f"{problem.strerror}: the folder has to be on a file system with locks", self.lock) from None
+            raise OSError(problem.errno, f"{problem.strerror}: the directory has to be on a file system with locks", self.lock) from None
         if is_file(lock, self.lock):
             return lock
         os.close(lock)

@@ -201,7 +201,7 @@ class Plan:
         """Looks for mistakes in what nothing else looks at."""
         self.players(), self.games()
         if "\n" in (self.folder or ""):
-            raise Mistake(f"the name of the folder {self.folder} has more than one line")
+            raise Mistake(f"the name of the directory {self.folder} has more than one line")
         for name in self.engines:
             self.words(name)
 

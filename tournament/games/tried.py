@@ -83,7 +83,7 @@ class Tried:
         """Tries these engines, but for those that passed before. What one can't do is reported. Raises NoStart where one can't be started."""
         if not os.path.isdir(self.match.folder):
             where = f"{self.match.folder}, in which the engines start"
-            raise NoStart(f"there is no folder {where}: make it, or name another one in {self.run.folder}/plan")
+            raise NoStart(f"there is no directory {where}: make it, or name another one in {self.run.folder}/plan")
         os.makedirs(self.place, exist_ok=True)
         file = os.open(f"{self.place}/passed", os.O_RDWR | os.O_CREAT | os.O_APPEND, 0o666)
         try:

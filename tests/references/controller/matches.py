@@ -181,10 +181,14 @@ def mistake(match):
     if values.read_komi(match.komi.encode()) is None:
         return "bad komi", KOMI_LIMITS
     if match.handicap and values.handicap_points(match.size, match.handicap) is None:
-        most = max((stones for stones in range(10) if values.handicap_points(match.size, stones)), default=0)
-        allowed = f"be 0, or 2 to {most}" if most else "only be 0"
-        return "bad handicap", f"on size {match.size} the handicap may {allowed}"
+        return "bad handicap", f"on size {match.size} the handicap may {allowed_handicaps(match.size)}"
     return None
+
+
+def allowed_handicaps(size):
+    """How `--why` names the handicaps of a size."""
+    most = max((stones for stones in range(10) if values.handicap_points(size, stones)), default=0)
+    return f"be 0, or 2 to {most}" if most else "only be 0"
 
 
 def play_game(setup, starter):

@@ -6,8 +6,9 @@ from . import controller, matches, replies, why
 from .by_hand import BY_HAND
 
 # What is no part of a controller: how engines run, what else `--why` may write where that is a question of time, and how results are
-# compared.
+# compared. And which handicaps `--why` names: drawn matches seldom come to that, and worked ones look at it.
 APART = (
+    "matches.allowed_handicaps",
     "matches.Process", "matches.Starter", "matches.MOST_TURNS", "matches.fits", "matches.has_too_many_lines", "matches.may_be_counted_so",
     "matches.as_reported", "controller.Controller.others_unanswered", "controller.Controller.of_script", "controller.Controller.writes",
 )

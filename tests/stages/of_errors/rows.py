@@ -143,7 +143,8 @@ ERRORS = {
                                                 "release: there is no tag v1.0: git tag v1.0\n"),
         "the tag v{} names another commit, {}":
             Run(STUBS + VERSIONS + CHANGES + COMMIT + "git tag v1.0; touch a; " + COMMIT
-                + "./release --final 2>&1 | sed 's/, [0-9a-f]*$//' >&2; exit ${PIPESTATUS[0]}", 1, "release: the tag v1.0 names another commit\n"),
+                + "./release --final 2>&1 | sed 's/, [0-9a-f]*$//' >&2; exit ${PIPESTATUS[0]}", 1,
+                "release: the tag v1.0 names another commit\n"),
         "{} is not built": At("of_release/stopped.py"),
         "the static program {} can't be made": SLOW,
         "the shared library can't be made": SLOW,
@@ -321,7 +322,7 @@ ERRORS = {
         "{} needs the word loses after it, and not '{}'": ASKED,
     },
     "tournament/games/export.py": {
-        "{} isn't empty: name a new folder for --sgf": At("of_tournament/exports.py"),
+        "{} isn't empty: name a new directory for --sgf": At("of_tournament/exports.py"),
         "no file of --sgf is left: {}": At("of_tournament/exports.py"),
         "write one of --pgn, --csv, --jsonl and --sgf FOLDER": ASKED,
         "without a result, and so not exported: {} of {} games": At("of_tournament/exports.py"),
@@ -335,15 +336,15 @@ ERRORS = {
         "{} was begun with {}. It has\n{}": At("of_tournament/plans.py"),
         "{} was begun with openings: write --openings with the same ones, or leave out engines and options, too": OPENINGS,
         "there is no {}/plan, so {}": At("of_tournament/asked.py", "nothere/plan, so name"),
-        "{} was begun without --direct: take another folder": ASKED,
-        "{} was begun {}, so it can't have {}: take another folder": ASKED,
-        "{} was begun with {}: take another folder": At("of_tournament/openings.py", "was begun with"),
-        "{} was begun with {} openings: take another folder": At("of_tournament/openings.py", "openings: take another folder"),
-        "{} was begun {}: take another folder": At("of_tournament/asked.py", "all was begun without --gauntlet"),
+        "{} was begun without --direct: take another directory": ASKED,
+        "{} was begun {}, so it can't have {}: take another directory": ASKED,
+        "{} was begun with {}: take another directory": At("of_tournament/openings.py", "was begun with"),
+        "{} was begun with {} openings: take another directory": At("of_tournament/openings.py", "openings: take another directory"),
+        "{} was begun {}: take another directory": At("of_tournament/asked.py", "all was begun without --gauntlet"),
         "{} was changed by another run at the same time: give the command again": TRIES,
         "it can't be written: {}":
             Run(f"ulimit -f 0; tournament plan all {PLAY}", 1, "tournament: all/plan: it can't be written: File too large\n"),
-        "{} was made by another run at the same time: take another folder": RACE,
+        "{} was made by another run at the same time: take another directory": RACE,
     },
     "tournament/games/game.py": {
         "not over in {} seconds{}": At("of_tournament/stops.py"),
@@ -368,7 +369,7 @@ ERRORS = {
         "{}: moves {} and {} are passes, which end the game": OPENINGS,
         "{}: move {}, {} {}: {}": At("of_tournament/openings.py", ": move "),
     },
-    "tournament/games/places.py": {"{}: the folder has to be on a file system with locks": At("of_tournament/machines.py")},
+    "tournament/games/places.py": {"{}: the directory has to be on a file system with locks": At("of_tournament/machines.py")},
     "tournament/games/plan.py": {
         "{} needs a number from 1 to 9999999, and not '{}'": ASKED,
         "{} needs seconds above 0, such as 60 or 0.5, and not '{}'": ASKED,
@@ -387,9 +388,9 @@ ERRORS = {
         "an option has more than one line":
             Run(f"tournament plan all {PLAY} -- $'--komi=7\\n'", 2, "tournament: an option has more than one line\n"),
         "the command of {} can't be split into words: {}": ASKED,
-        "the name of the folder {} has more than one line":
+        "the name of the directory {} has more than one line":
             Run(f"mkdir $'a\\nb'; cd $'a\\nb'; tournament plan all {PLAY}", 2,
-                "tournament: the name of the folder {here}/a\nb has more than one line\n"),
+                "tournament: the name of the directory {here}/a\nb has more than one line\n"),
         "{} and {} have no %s, the seed, in their commands: {}": At("of_tournament/gauntlets.py"),
         "--gauntlet needs the name of an engine, such as {}, and not '{}'": ASKED,
         "{} seeds are {} games, which are too many": ASKED,
@@ -462,7 +463,7 @@ ERRORS = {
     "tournament/games/tried.py": {
         "{}: {}; tried before: to try again, remove {}/{}/passed": At("of_tournament/trials.py"),
         "{} can't be started here: {}": TRIES,
-        "there is no folder {}: make it, or name another one in {}/plan": TRIES,
+        "there is no directory {}: make it, or name another one in {}/plan": TRIES,
         "no game is begun here": TRIES,
     },
     "tournament/games/words.py": {

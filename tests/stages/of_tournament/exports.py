@@ -230,7 +230,7 @@ class Records(Case):
             (here.at / "records").mkdir()
             (here.at / "records/9_a_b.sgf").write_text("of others")
             came = here.run("tournament", "export", "all", "--sgf", "records")
-            said = "tournament: records isn't empty: name a new folder for --sgf\n"
+            said = "tournament: records isn't empty: name a new directory for --sgf\n"
             self.check("a folder with a file", (2, "", said, ["9_a_b.sgf"]), (*came, [it.name for it in (here.at / "records").iterdir()]))
             (here.at / "empty").mkdir()
             came = here.run("tournament", "export", "all", "--sgf", "empty")

@@ -48,7 +48,7 @@ class Gauntlets(Case):
             came = here.run("tournament", "play", "all", *engines(*NAMES), *SMALL)
             self.check("without --gauntlet it is refused", (2, ""), came[:2])
             came = here.run("tournament", "play", "all", "--gauntlet", "one")
-            said = "tournament: all was begun with --gauntlet two: take another folder\n"
+            said = "tournament: all was begun with --gauntlet two: take another directory\n"
             self.check("another engine's gauntlet is refused", (2, "", said), came)
             self.check("the same one isn't", (0, ""), here.run("tournament", "play", "all", "--gauntlet", "two")[::2])
 

@@ -261,7 +261,7 @@ class Locks(Case):
                     wanted = (status, f"tournament: {said}\n")
                 else:
                     place = f"{here.at}/all/running/1_one_two/lock"
-                    why = f"{place}: {NO_LOCKS[error]}: the folder has to be on a file system with locks"
+                    why = f"{place}: {NO_LOCKS[error]}: the directory has to be on a file system with locks"
                     more = "no other game can be played in all either"
                     wanted = (1, f"tournament: 1_one_two: no result: {why}\ntournament: {more}\n")
                 self.check(f"{error}: {words[0]}", wanted, (came.status, came.errors))

@@ -169,15 +169,15 @@ class Taken(Case):
 WORDS = [*two_engines("all"), "--openings", "openings", *NINE]
 # what is asked for in a folder that was begun with two openings, and what is said
 ASKED = {
-    "other openings": (["--openings", "other"], "all was begun with other openings: take another folder"),
-    "fewer openings": ([*WORDS[1:7], "--openings=one", *NINE], "all was begun with other openings: take another folder"),
+    "other openings": (["--openings", "other"], "all was begun with other openings: take another directory"),
+    "fewer openings": ([*WORDS[1:7], "--openings=one", *NINE], "all was begun with other openings: take another directory"),
     "none, with engines": ([*WORDS[1:7], *NINE],
                            "all was begun with openings: write --openings with the same ones, or leave out engines and options, too"),
     "none, with engines alone": (WORDS[1:7],
                                  "all was begun with other engines or options. It has\noption --size 9\nwhere the command has\nnothing\n"
                                  "Take another folder, or write tournament play all alone, which goes on with what it has."
                                  " It has openings, too: where engines or options are given, write --openings."),
-    "directly": (["--direct"], "all was begun without --direct: take another folder"),
+    "directly": (["--direct"], "all was begun without --direct: take another directory"),
     "a file that isn't there": (["--openings", "nowhere"], "nowhere can't be read: No such file or directory"),
 }  # fmt: skip
 
@@ -220,16 +220,16 @@ class Folders(Case):
             self.made(here)
             direct = [*two_engines("direct"), "--direct", *NINE]
             here.run("tournament", "plan", *direct)
-            said = "direct was begun with --direct, so it can't have --openings: take another folder"
+            said = "direct was begun with --direct, so it can't have --openings: take another directory"
             came = here.run("tournament", "play", "direct", "--openings", "openings")
             self.check("a folder with --direct", (2, "", f"tournament: {said}\n"), came)
             here.run("tournament", "plan", *[it.replace("direct", "plain") for it in direct if it != "--direct"])
-            said = "plain was begun with no openings: take another folder"
+            said = "plain was begun with no openings: take another directory"
             came = here.run("tournament", "play", "plain", "--openings", "openings")
             self.check("a folder without openings", (2, "", f"tournament: {said}\n"), came)
             plan = here.at / "plain/plan"
             plan.write_text("".join(line for line in plan.read_text().splitlines(True) if line.split()[0] not in ("folder", "start-limit")))
-            said = "plain was begun by earlier scripts, which had none, so it can't have --openings: take another folder"
+            said = "plain was begun by earlier scripts, which had none, so it can't have --openings: take another directory"
             came = here.run("tournament", "play", "plain", "--openings", "openings")
             self.check("a folder of earlier scripts", (2, "", f"tournament: {said}\n"), came)
             for line, why in (("opening D4", "direct/plan has openings, which aren't played directly"),

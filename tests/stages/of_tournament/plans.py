@@ -50,7 +50,7 @@ DIFFERS = {
     "both in another order": "\n".join([*(lines_of := [f"engine one {RANDOM} %s", f"engine two {RANDOM} 10%s", *OPTIONS]),
                                         "where the command has", lines_of[1], lines_of[0], *OPTIONS]),
 }  # fmt: skip
-TO_ADD = "To add an engine, repeat the whole command with the new one behind the others. Else take another folder.\n"
+TO_ADD = "To add an engine, repeat the whole command with the new one behind the others. Else take another directory.\n"
 ELSE = "Take another folder, or write tournament play all alone, which goes on with what it has.\n"
 ADDS = ("another name", "one engine more, before the others", "one engine more, alone", "one engine more, alone without options")
 # what a command may have less of than the folder, and what is said then

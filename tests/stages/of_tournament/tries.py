@@ -240,7 +240,7 @@ class Tried(Case):
             plan = here.at / "deep/all/plan"
             plan.write_text(plan.read_text().replace(f"folder {here.at}", "folder /no/where").replace("seeds 3", "seeds 4"))
             came = here.run("tournament", "play", "deep/all")
-            said = "there is no folder /no/where, in which the engines start: make it, or name another one in deep/all/plan"
+            said = "there is no directory /no/where, in which the engines start: make it, or name another one in deep/all/plan"
             self.check("a folder that isn't there", (69, f"tournament: {said}\n"), came[::2])
             came = here.run("tournament", "game", "deep/all", "4_one_two")
             self.check("a folder that isn't there: game", (69, f"tournament: 4_one_two: {said}\n"), came[::2])
