@@ -87,7 +87,7 @@ class Commands(Case):
         """The names of games with a side that was abandoned, a plan that is made again, and a game that is played again."""
         with room() as here:
             plant(here, [("B", "abandoned"), ("W", "B")])
-            came = here.run("bash", "-c", within("grep -r"))
+            came = here.run("bash", "-c", within("grep -r "))
             self.check("the names", "night/games/1_two_one:game 1: abandoned black moves 0 restarts 2 0\n", came.output)
             (here.at / "night/plan").write_text("folder x\n")
             came = here.run("tournament", "play", "night")
