@@ -1,10 +1,11 @@
 #!/usr/bin/env python3
 """Looks whether what the pages lead to and name is there, and whether their words are right.
 
-Each relative link of a page leads to a file, and its anchor to a heading in it, as GitHub makes anchors. Each file, option and name of a
-source that a page has in its code is there, or in a list of other people's, with whose it is. Other files name no page that isn't there.
-Words are spelt as hunspell's British dictionary has them, or as tests/shared/words.txt: those of the pages, of help and manual pages, and
-of comments and docstrings. What a user reads has no word that docs/glossary.md replaces. Last, each fault in a small page has to be seen.
+Each relative link of a page leads to a file, and its anchor to a heading in it, as GitHub makes anchors. Each file and each name of a
+source that a page has in code within a line, and each option in any code, is there, or in a list of other people's, with whose it is.
+Other files name by its path no page that isn't there. Words are spelt as hunspell's British dictionary has them, or as
+tests/shared/words.txt: those of the pages, of help and manual pages, and of doc comments and docstrings. What a user reads has none of
+the words that docs/glossary.md says aren't used. Last, each fault in a small page has to be seen.
 
 Other stages look at the rest: `shown` and `library_page` run the examples, `map` looks at the crates of the map's names, `release` at the
 pages as a release has them, and tests/proofs/promises at the names in comments of contracts and in docs/promises.md.

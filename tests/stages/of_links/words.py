@@ -17,7 +17,7 @@ NO_WORD = re.compile(
 )
 # words of GTP's standard that are British nowhere else: of each the files that name it
 OF_STANDARD = {"color": ("docs/values.md", "crates/gtp_check_questions/src/stretches.rt", "tests/references/engine/values.py")}
-# what no page says, and what it says in its place (docs/glossary.md); patterns without capitals
+# what no page says, and what it says in its place (docs/glossary.md, at the end of its first table); patterns without capitals
 REPLACED = {
     "folders?": "directory",
     "anew": "again, from scratch",
