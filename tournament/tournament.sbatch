@@ -8,7 +8,7 @@
 # programs.
 #
 #   tournament plan FOLDER --engine .. --engine .. --limit 600
-#   sbatch --array=1-100 tournament.sbatch FOLDER 100
+#   sbatch --array=1-99 tournament.sbatch FOLDER 99
 #
 # Task 3 of 99 plays the games 3, 102, 201 and so on, as many at once as --cpus-per-task says. To go on, submit the array again with the
 # same number of tasks, or a part of it: --array=3,7. A task begins no game that doesn't fit into its time left, so --time has to be more
