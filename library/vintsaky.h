@@ -1,20 +1,22 @@
 /* vintsaky.h: the rules of Go, the controller of a match and the engine of the Go Text Protocol, as a library.
  *
- * Each object lies in memory that the caller gives, with at least the size and the alignment that its _bytes and _align return. The
- * memory must be the object's alone, and neither it nor the handle may move while the object is used; don't copy a handle. Place an
- * object before you use it. You may place it again, and needn't destroy it. Only one thread at a time may use an object. It may be
- * another one each time, if something orders the uses, as a lock does.
+ * Each object lies in memory that the caller provides, with at least the size and the alignment that its _bytes and _align return. The
+ * memory must be the object's alone. While the object is used, neither the memory nor the handle may move. Don't copy a handle. Place
+ * an object before you use it. You may place it again, and needn't destroy it. Only one thread at a time may use an object. It may be
+ * another thread each time, if something orders the uses, as a lock does.
  *
- * No pointer may be NULL, even if its length or its _room is 0, and it must have as many bytes or items as that says. What the pointers
- * of one call lead to (objects, handles, buffers, numbers) must not overlap; only vintsaky_game_copy may be given one game twice. All
- * other arguments may have any value. No call allocates memory, blocks, or reads or writes anything except its object and the caller's
- * buffers. A call of a match needs at most 320 kB of stack, any other at most 160 kB.
+ * No pointer may be NULL, even if the length or the _room that belongs to it is 0. A pointer with a length or a _room must lead to at
+ * least that many bytes or items. What the pointers of one call lead to (objects, handles, buffers, numbers) must not overlap; only
+ * vintsaky_game_copy may be given one game twice. All other arguments may have any value. No call allocates memory, blocks, or reads or
+ * writes anything except its object and the caller's buffers. A call of a match needs at most 320 kB of stack, and any other call at
+ * most 160 kB.
  *
- * A call that can be rejected returns 0 if it was done, or else an error: the first that applies, in the order in which its comment
- * lists them. Then its object is unchanged, and nothing is written. A text is written with a NUL after it if the buffer has space for
- * both, else not at all. Its length, without the NUL, is returned or written either way; a call that only reads can then be repeated
- * with a larger buffer. So a short buffer is no error, except in vintsaky_match_send, whose command would be lost, and in the calls over
- * many games. What an engine wrote may contain a NUL. */
+ * A call that can be rejected returns 0 if it was done, and otherwise an error. If several errors apply, it returns the first of them,
+ * in the order in which its comment lists the errors. After an error the object is unchanged, and nothing was written. A text is
+ * written with a NUL after it if the buffer has space for both, and otherwise not at all. Its length, without the NUL, is returned or
+ * written in both cases, so you can repeat a call that only reads with a larger buffer. So a short buffer is no error, except in
+ * vintsaky_match_send, whose command would be lost, and in the calls over many games. A text that has what an engine wrote may itself
+ * contain a NUL. */
 
 /* Written by library/declare from the comments of the exports in crates/vintsaky/src and from vintsaky.h.in: edit those. */
 #ifndef VINTSAKY_H
@@ -30,7 +32,7 @@ extern "C" {
 #endif
 
 /* The number of the interface. A program can be linked only with a library of the same number: each file that includes this header
- * refers to vintsaky_interface_1, which no other library has. */
+ * refers to vintsaky_interface_1, which a library of another number doesn't have. */
 #define VINTSAKY_INTERFACE 1
 void vintsaky_interface_1(void);
 #ifdef __GNUC__
@@ -38,13 +40,14 @@ __attribute__((used))
 #endif
 static void (*const vintsaky_interface)(void) = vintsaky_interface_1;
 
-/* The version of this header, in the form in which vintsaky_version returns that of the library: 65536 times the first number, plus
+/* The version of this header, in the form in which vintsaky_version returns the library's version: 65536 times the first number, plus
  * 256 times the second, plus the third. */
 #define VINTSAKY_VERSION 0x010000
 
 /* ---- numbers ---- */
 
-/* Object sizes and the alignment as compile-time constants: what _bytes and _align return, or more if cargo built the library. */
+/* The sizes of objects and their alignment as compile-time constants: what _bytes and _align return. If cargo built the library, _bytes
+ * and _align may return less, so these constants are enough for it too. */
 #define VINTSAKY_GAME_BYTES ((size_t)35640)
 #define VINTSAKY_ENGINE_BYTES ((size_t)41472)
 #define VINTSAKY_MATCH_BYTES ((size_t)62648)
@@ -53,8 +56,8 @@ static void (*const vintsaky_interface)(void) = vintsaky_interface_1;
 #define VINTSAKY_ALIGN ((size_t)8)
 
 /* Buffer sizes that hold any text of a kind, with its NUL: the line of a command, a reply, what a side wrote since its last whole
- * reply, a board, the result line of a match, its moves, the reason of a ruling. Then the most points of a board, and the most moves of
- * a record. */
+ * reply, a board, the result line of a match, the moves of a match, the reason of a ruling. VINTSAKY_MOST_POINTS and
+ * VINTSAKY_MOST_MOVES are no buffer sizes: they are the most points of a board and the most moves of a record. */
 #define VINTSAKY_COMMAND_ROOM ((size_t)65)
 #define VINTSAKY_REPLY_ROOM ((size_t)2049)
 #define VINTSAKY_WROTE_ROOM ((size_t)81)
@@ -85,7 +88,7 @@ enum {
     VINTSAKY_BAD_HANDICAP = 15, /* Odd sizes from 9 allow 2 to 9 stones, 7 and even sizes from 8 allow 2 to 4; never a negative number. */
     VINTSAKY_NO_MOVE = 16, /* The record has no move with this number, counted from 0. */
     VINTSAKY_NO_STONE = 17, /* No stone is on the point. */
-    VINTSAKY_NOT_ASKED = 18, /* No such move or answer is being waited for. */
+    VINTSAKY_NOT_ASKED = 18, /* The engine is waiting for nothing, or for something that this call doesn't supply. */
     VINTSAKY_NO_WORD = 19, /* The line has no word with this number, counted from 0 after the id. */
     VINTSAKY_NO_ID = 20, /* The line or the reply has no id. */
     VINTSAKY_BAD_LENGTH = 21, /* A name must have 1 to 32 bytes. */
@@ -103,7 +106,7 @@ enum {
     VINTSAKY_BAD_ID = 33, /* The id must be 0 to 2,147,483,647, or -1 for none. */
     VINTSAKY_DOWN = 34, /* The side isn't up (it was not started, or it went down), or the match is over. */
     VINTSAKY_IS_OVER = 35, /* The match is already over. */
-    VINTSAKY_BAD_REASON = 36, /* A reason must be empty (a loss on time), or 1 to 20 letters (a-z, A-Z) and spaces, and no forfeit's. */
+    VINTSAKY_BAD_REASON = 36, /* A reason must be empty (loss on time), or 1 to 20 letters (a-z, A-Z) and spaces; not a forfeit's cause. */
 };
 
 /* colours of stones, and the sides that play them */
@@ -117,7 +120,7 @@ enum { VINTSAKY_SIMPLE = 1, VINTSAKY_POSITIONAL = 2 };
 #define VINTSAKY_PASS ((uint32_t)0)
 #define VINTSAKY_RESIGN ((uint32_t)65535)
 
-/* what vintsaky_engine_feed returns: VINTSAKY_BLACK or VINTSAKY_WHITE if that colour's choice is waited for, or one of these */
+/* what vintsaky_engine_feed returns: VINTSAKY_BLACK or VINTSAKY_WHITE if the engine waits for that colour's choice, or one of these */
 enum {
     VINTSAKY_MORE = 0,  /* all bytes were used: read more, which no other result asks for */
     VINTSAKY_OTHER = 3, /* a command that isn't in the protocol's table: answer or decline it, then write the reply */
@@ -128,22 +131,23 @@ enum {
 /* what vintsaky_match_next returns: start this side's engine, send it a command, wait for its output; or the match is over */
 enum { VINTSAKY_START = 1, VINTSAKY_SEND = 2, VINTSAKY_WAIT = 3, VINTSAKY_OVER = 4 };
 
-/* why a side fails by its output, if it isn't 0. A match ends before its record is full, so VINTSAKY_LOSS_FULL never occurs. */
+/* why a side fails by its output, or 0 if it doesn't. A match asks for no move once its record is full, so VINTSAKY_LOSS_FULL
+ * never occurs. */
 enum {
     VINTSAKY_LOSS_NO_STATUS = 1,    /* What it wrote isn't a reply: it begins with neither = nor ?. It goes down. */
     VINTSAKY_LOSS_OVERLONG = 2,     /* More than 8,192 bytes came since its last reply. It goes down. */
     VINTSAKY_LOSS_WRONG_ID = 3,     /* The reply doesn't have the id of the oldest unanswered command. It goes down. */
     VINTSAKY_LOSS_UNASKED = 4,      /* A reply came when no command was unanswered. It goes down. */
-    VINTSAKY_LOSS_UNFIT = 5,        /* It failed at a command of its script other than a play, or placed another handicap. It is unfit. */
+    VINTSAKY_LOSS_UNFIT = 5,        /* It failed at a setup command, or placed other handicap stones. It is unfit. */
     VINTSAKY_LOSS_REFUSES_PLAY = 6, /* It refused a play that isn't retaken. It forfeits. */
     VINTSAKY_LOSS_KEEPS_MOVE = 7,   /* It didn't undo its move, which the other side refused. The other side forfeits. */
     VINTSAKY_LOSS_NO_MOVE = 8,      /* It failed at a genmove. It forfeits. */
     VINTSAKY_LOSS_NO_VERTEX = 9,    /* Its answer to a genmove is neither a vertex nor a resignation. It forfeits. */
-    VINTSAKY_LOSS_FULL = 10,        /* Its move is illegal, by the error of the same name. It forfeits. */
-    VINTSAKY_LOSS_OFF_BOARD = 11,
-    VINTSAKY_LOSS_OCCUPIED = 12,
-    VINTSAKY_LOSS_SUICIDE = 13,
-    VINTSAKY_LOSS_KO = 14
+    VINTSAKY_LOSS_FULL = 10,        /* Its move is illegal: the record is full. It forfeits. */
+    VINTSAKY_LOSS_OFF_BOARD = 11,   /* Its move is illegal: the point isn't on the board. It forfeits. */
+    VINTSAKY_LOSS_OCCUPIED = 12,    /* Its move is illegal: a stone is on the point. It forfeits. */
+    VINTSAKY_LOSS_SUICIDE = 13,     /* Its move is illegal: suicide. It forfeits. */
+    VINTSAKY_LOSS_KO = 14           /* Its move is illegal: ko. It forfeits. */
 };
 
 /* how a match ended */
@@ -155,7 +159,7 @@ enum {
     VINTSAKY_BY_NO_MOVE = 5,      /* the side failed at a genmove: it forfeits */
     VINTSAKY_BY_NO_VERTEX = 6,    /* the side answered a genmove by what is neither a vertex nor a resignation: it forfeits */
     VINTSAKY_BY_ILLEGAL_MOVE = 7, /* the side answered a genmove by an illegal move: it forfeits */
-    VINTSAKY_BY_UNFIT = 8,        /* the side can't be brought to the record */
+    VINTSAKY_BY_UNFIT = 8,        /* the side failed at a setup command, or placed other handicap stones: it is unfit */
     VINTSAKY_BY_ABANDONED = 9,    /* the side went down too often */
     VINTSAKY_BY_TIME = 10,        /* the side lost on time, by a ruling */
     VINTSAKY_BY_RULING = 11       /* the side lost by a ruling with a reason */
@@ -165,10 +169,10 @@ enum {
 enum { VINTSAKY_BOARDSIZE = 1, VINTSAKY_KOMI = 2, VINTSAKY_CLEAR_BOARD = 3, VINTSAKY_FIXED_HANDICAP = 4 };
 enum { VINTSAKY_PLAY = 5, VINTSAKY_GENMOVE = 6, VINTSAKY_UNDO = 7, VINTSAKY_QUIT = 8 };
 
-/* what vintsaky_lines_feed returns, if it isn't 0: a command line, or one that is too long */
+/* what vintsaky_lines_feed returns, if it isn't 0: a command line, or a command line that is too long */
 enum { VINTSAKY_LINE = 1, VINTSAKY_TOO_LONG = 2 };
 
-/* what vintsaky_replies_feed returns, if it isn't 0: a reply, bytes that aren't one, or one that is too long */
+/* what vintsaky_replies_feed returns, if it isn't 0: a reply, bytes that aren't a reply, or a reply that is too long */
 enum { VINTSAKY_READ = 1, VINTSAKY_NO_REPLY = 2, VINTSAKY_LONG_REPLY = 3 };
 
 /* opaque handles */
@@ -212,13 +216,13 @@ uint32_t vintsaky_vertex_text(uint32_t vertex, char *text, size_t text_room, siz
  * Errors: VINTSAKY_BAD_TEXT. Nothing is written. */
 uint32_t vintsaky_read_komi(const char *text, size_t text_length, int32_t *half_points);
 
-/* Writes a komi in points, as the protocol spells it, and the length of that text. It is given in half points.
+/* Writes a komi, which is given in half points, as the protocol spells it in points, and the length of that text.
  * Errors: VINTSAKY_BAD_KOMI. Nothing is written. */
 uint32_t vintsaky_komi_text(int32_t half_points, char *text, size_t text_room, size_t *count);
 
 /* ---- writing lines ---- */
 
-/* Writes the line of a command with its newline, at most 64 bytes, and its length. The id is -1 for none. value is the size of
+/* Writes the line of a command with its newline, at most 64 bytes, and its length. An id of -1 means none. value is the size of
  * boardsize, the half points of komi, the number of stones of fixed_handicap, or the colour of play and genmove; vertex is that of
  * play. An argument that the command doesn't have is ignored.
  * Errors: VINTSAKY_BAD_ID, VINTSAKY_BAD_COMMAND, VINTSAKY_BAD_SIZE, VINTSAKY_BAD_KOMI, VINTSAKY_BAD_HANDICAP (only for a negative
@@ -226,7 +230,7 @@ uint32_t vintsaky_komi_text(int32_t half_points, char *text, size_t text_room, s
 uint32_t vintsaky_write_command(
     int32_t id, uint32_t command, int32_t value, uint32_t vertex, char *text, size_t text_room, size_t *count);
 
-/* Writes a reply, at most 2,014 bytes, and its length: a success if ok isn't 0, else a failure. The id is -1 for none. The text may
+/* Writes a reply, at most 2,014 bytes, and its length: a success if ok isn't 0, else a failure. An id of -1 means none. The text may
  * have up to 2,000 bytes, each a newline or one of 32 to 126, without two newlines in a row, and without a space or newline at its
  * beginning or end.
  * Errors: VINTSAKY_BAD_ID, or else VINTSAKY_BAD_TEXT if the text isn't allowed in a reply. Nothing is written. */
@@ -282,7 +286,7 @@ uint32_t vintsaky_game_begin(vintsaky_game *game, uint32_t rule, uint32_t size, 
  * VINTSAKY_OCCUPIED, VINTSAKY_SUICIDE or VINTSAKY_KO. The game is unchanged. */
 uint32_t vintsaky_game_play(vintsaky_game *game, uint32_t colour, uint32_t vertex);
 
-/* Checks whether a colour may make a move next: 0 if it may.
+/* Returns 0 if a colour may make a move next, or else why the move is illegal.
  * Errors: Those of vintsaky_game_play, except VINTSAKY_FULL. */
 uint32_t vintsaky_game_legal(vintsaky_game *game, uint32_t colour, uint32_t vertex);
 
@@ -298,8 +302,8 @@ uint32_t vintsaky_game_set_komi(vintsaky_game *game, int32_t half_komi);
  * Errors: VINTSAKY_NOT_EMPTY, or else VINTSAKY_BAD_HANDICAP. The game is unchanged. */
 uint32_t vintsaky_game_place_handicap(vintsaky_game *game, uint32_t stones);
 
-/* Writes the points where a colour may play next, row by row from A1, if the buffer holds all of them, and how many there are. The call
- * ignores that a full record takes no more moves.
+/* Writes the number of points where a colour may play next and, if the buffer holds all of them, these points, row by row from A1. The
+ * call ignores that a full record takes no more moves.
  * Errors: VINTSAKY_BAD_COLOUR. Nothing is written. */
 uint32_t vintsaky_game_legal_points(vintsaky_game *game, uint32_t colour, uint32_t *points, size_t points_room, size_t *count);
 
@@ -352,11 +356,11 @@ uint32_t vintsaky_game_legal_mask(vintsaky_game *game, uint32_t colour, uint8_t 
  * Errors: VINTSAKY_BAD_COLOUR, or else VINTSAKY_BAD_VERTEX, also for a pass, or else VINTSAKY_OFF_BOARD. Nothing is written. */
 uint32_t vintsaky_game_is_own_eye(vintsaky_game *game, uint32_t colour, uint32_t vertex, uint32_t *holds);
 
-/* Writes the points of a chain's stones, row by row from A1, if the buffer holds all of them, and how many there are.
+/* Writes how many stones a chain has and, if the buffer holds all of them, their points, row by row from A1.
  * Errors: Those of vintsaky_game_chain. */
 uint32_t vintsaky_game_chain_points(vintsaky_game *game, uint32_t vertex, uint32_t *points, size_t points_room, size_t *count);
 
-/* Writes a chain's liberties, row by row from A1 and each once, if the buffer holds all of them, and how many there are.
+/* Writes how many liberties a chain has and, if the buffer holds all of them, these points, row by row from A1 and each once.
  * Errors: Those of vintsaky_game_chain. */
 uint32_t vintsaky_game_chain_liberties(vintsaky_game *game, uint32_t vertex, uint32_t *points, size_t points_room, size_t *count);
 
@@ -365,10 +369,10 @@ uint32_t vintsaky_game_chain_liberties(vintsaky_game *game, uint32_t vertex, uin
  * Errors: VINTSAKY_BAD_COLOUR. Nothing is written. */
 uint32_t vintsaky_game_ko_point(vintsaky_game *game, uint32_t colour, uint32_t *vertex);
 
-/* Writes the move that a random word chooses for a colour. Of the n points where the colour may play next and that aren't own eyes of
- * it, this is number word mod n, counted from 0 in board order, or a pass if there are none. The choice is even except for one word in
- * 2^64 / n: each of the first 2^64 mod n points is chosen by one word more than the others. The call ignores that a full record takes
- * no more moves.
+/* Writes the move that a random word chooses for a colour. Of the n points where the colour may play next and that aren't its own eyes,
+ * this is number word mod n, counted from 0 in board order. If there is no such point, it is a pass. Each of the first 2^64 mod n
+ * points is chosen by one word more than each of the others, a bias that you can neglect. The call ignores that a full record takes no
+ * more moves.
  * Errors: VINTSAKY_BAD_COLOUR. Nothing is written. */
 uint32_t vintsaky_game_random_move(vintsaky_game *game, uint32_t colour, uint64_t word, uint32_t *vertex);
 
@@ -378,24 +382,27 @@ uint32_t vintsaky_game_random_move(vintsaky_game *game, uint32_t colour, uint64_
  * Errors: VINTSAKY_BAD_COLOUR. Nothing is written. */
 uint32_t vintsaky_game_position_hash(vintsaky_game *game, uint32_t colour, uint64_t *hash);
 
-/* Plays on at random, a colour first and then both in turn. Each plays a random point of those where it may play and that aren't own
- * eyes of it, and passes if there is none. The playout ends after two passes in a row, counting those made before it, after limit
- * moves, or when the record has 2,000. The same game, colour, seed and limit always make the same moves. docs/library.md says how they
- * are chosen.
+/* Plays on at random: this colour first, and then both in turn. Each plays a random point of those where it may play and that aren't
+ * its own eyes, or passes if there is none. The playout ends after two passes in a row, where a pass just before the call counts too;
+ * after limit moves; or when the record has 2,000. The same game, colour, seed and limit always make the same moves. docs/library.md
+ * says how they are chosen.
  * Errors: VINTSAKY_BAD_COLOUR. The game is unchanged. */
 uint32_t vintsaky_game_playout(vintsaky_game *game, uint32_t colour, uint64_t seed, uint32_t limit);
 
-/* Writes the score that the game would have after such a playout, as vintsaky_game_score counts it. The game is unchanged.
+/* Writes the score that the game would have after vintsaky_game_playout with the same arguments, as vintsaky_game_score counts it. The
+ * game is unchanged.
  * Errors: VINTSAKY_BAD_COLOUR. Nothing is written. */
 uint32_t vintsaky_game_rollout(vintsaky_game *game, uint32_t colour, uint64_t seed, uint32_t limit, int32_t *half_points);
 
 /* ---- many games ---- */
 
-/* An array of handles comes with its length. The games may have any sizes. Each must have been placed, and none may be there twice. */
+/* An array of handles comes with its length. The games may have any sizes. Each game must have been placed, and none may be in the
+ * array twice. */
 
 /* Plays one move in each game, for the colour whose turn it is, as vintsaky_game_turn returns it. The number of a move is the index of
- * its point, or the number of points of the board for a pass. Writes one byte for each game: 0, or the error for which this game alone
- * rejects its move and is unchanged. That is VINTSAKY_OFF_BOARD for a higher number, or else what vintsaky_game_play returns.
+ * its point, or the number of points of the board for a pass. Writes one byte for each game: 0, or the error for which this game
+ * rejects its move. A game that rejects its move is unchanged, and the others are played. The error is VINTSAKY_OFF_BOARD for a number
+ * above that of a pass, and otherwise what vintsaky_game_play returns.
  * Errors: VINTSAKY_NO_ROOM if moves or causes has fewer items than there are games. No move is made. */
 uint32_t vintsaky_games_play(
     vintsaky_game *games, size_t games_length, const uint32_t *moves, size_t moves_length, uint8_t *causes, size_t causes_room);
@@ -409,7 +416,7 @@ uint32_t vintsaky_games_restart(vintsaky_game *games, size_t games_length, uint3
 
 /* Writes the planes of each game, one game after the other. A plane has one byte for each point in board order: 1 where a stone of one
  * colour is, else 0. First come the stones of the colour whose turn it is, then those of the other; then both for the board one move
- * earlier, and so on, for as many moves as earlier says. Where a game has fewer moves, these planes are all 0.
+ * earlier, and so on, for as many moves as earlier says. If a game has fewer moves, the planes of the missing boards are all 0.
  * Errors: VINTSAKY_NO_ROOM if the buffer doesn't hold the planes of all games. A game of size n has 2 * n * n bytes for each board.
  * Nothing is written. */
 uint32_t vintsaky_games_planes(vintsaky_game *games, size_t games_length, uint32_t earlier, uint8_t *bytes, size_t bytes_room);
@@ -454,8 +461,9 @@ bool vintsaky_engine_ended(vintsaky_engine *engine);
 uint32_t vintsaky_engine_begin(vintsaky_engine *engine, uint32_t rule);
 
 /* Takes the next chunk, up to and including the newline of the first line that has a word, or all of it. Writes how many bytes were
- * used: feed the others next. Returns what came of them. While the engine waits for a choice or an answer, and after the end, no byte
- * is used, and the same is returned again. A line of more than 1,000 bytes of words is answered by a failure. */
+ * used: feed the others next. Returns what came of the used bytes. While the engine waits for a choice or an answer, and after the end,
+ * no byte is used, and the same result is returned again. A line whose words, joined by single spaces, have more than 1,000 bytes is
+ * answered by a failure. */
 uint32_t vintsaky_engine_feed(vintsaky_engine *engine, const void *bytes, size_t bytes_length, size_t *used);
 
 /* Returns what the engine waits for: 0 for nothing, VINTSAKY_BLACK or VINTSAKY_WHITE for the choice of a move, VINTSAKY_OTHER for an
@@ -471,7 +479,7 @@ uint32_t vintsaky_engine_choose(vintsaky_engine *engine, uint32_t vertex);
  * Errors: VINTSAKY_NOT_ASKED, or else VINTSAKY_BAD_TEXT if the text isn't allowed in a reply. The engine is unchanged. */
 uint32_t vintsaky_engine_answer(vintsaky_engine *engine, uint32_t ok, const char *text, size_t text_length);
 
-/* Answers such a command as the protocol's table does: unknown command.
+/* Answers a command that isn't in the protocol's table by a failure: unknown command.
  * Errors: VINTSAKY_NOT_ASKED. The engine is unchanged. */
 uint32_t vintsaky_engine_decline(vintsaky_engine *engine);
 
@@ -491,15 +499,15 @@ uint32_t vintsaky_engine_add_command(vintsaky_engine *engine, const char *name, 
 /* Copies the engine's game into another one. */
 void vintsaky_engine_copy_game(vintsaky_engine *engine, vintsaky_game *game);
 
-/* Writes the last reply, and returns its length: 0 before the first, and at most 2,048. */
+/* Writes the last reply, and returns its length: 0 before the first reply, and at most 2,048. */
 size_t vintsaky_engine_reply(vintsaky_engine *engine, char *text, size_t text_room);
 
-/* Writes a word of the command line for which a choice or an answer is waited for, counted from 0 after the id, and its length: at most
- * 1,000 bytes.
+/* Writes a word of the command line for which the engine waits for a choice or an answer. Words are counted from 0 after the id. Also
+ * writes the length of the word: at most 1,000 bytes.
  * Errors: VINTSAKY_NOT_ASKED if nothing is waited for, or else VINTSAKY_NO_WORD. Nothing is written. */
 uint32_t vintsaky_engine_word(vintsaky_engine *engine, size_t number, char *text, size_t text_room, size_t *count);
 
-/* Writes the id of the command line for which a choice or an answer is waited for.
+/* Writes the id of the command line for which the engine waits for a choice or an answer.
  * Errors: VINTSAKY_NOT_ASKED if nothing is waited for, or else VINTSAKY_NO_ID. Nothing is written. */
 uint32_t vintsaky_engine_id(vintsaky_engine *engine, uint32_t *id);
 
@@ -521,16 +529,16 @@ size_t vintsaky_match_align(void);
 uint32_t vintsaky_match_begin(
     vintsaky_match *held, uint32_t size, int32_t half_komi, uint32_t handicap, uint32_t max_moves, uint32_t max_restarts);
 
-/* Returns what to do next, as a number, and writes the side to do it with, or 0. After a ruling the match is over. */
+/* Returns what to do next, as a number. Writes the side with which to do it, or 0 if the match is over, as it is after a ruling. */
 uint32_t vintsaky_match_next(vintsaky_match *held, uint32_t *side);
 
-/* Reports that a side was started. If its start fails, call vintsaky_match_lost next.
+/* Reports that a side was started. If it can't be started, call this all the same, and then vintsaky_match_lost.
  * Errors: VINTSAKY_BAD_COLOUR, or else VINTSAKY_NOT_NEXT if its start isn't what is next. The match is unchanged. */
 uint32_t vintsaky_match_started(vintsaky_match *held, uint32_t side);
 
 /* Writes the next command for a side, and its length. It counts as sent.
- * Errors: VINTSAKY_BAD_COLOUR, or else VINTSAKY_NOT_NEXT if that isn't what is next, or else VINTSAKY_NO_ROOM if the buffer has fewer
- * than 65 bytes, even for a shorter line. The match is unchanged, and nothing is written. */
+ * Errors: VINTSAKY_BAD_COLOUR, or else VINTSAKY_NOT_NEXT if no command for this side is next, or else VINTSAKY_NO_ROOM if the buffer
+ * has fewer than 65 bytes, even for a shorter line. The match is unchanged, and nothing is written. */
 uint32_t vintsaky_match_send(vintsaky_match *held, uint32_t side, char *text, size_t text_room, size_t *count);
 
 /* Takes a side's output, in any chunks. Writes why the side fails by it, or 0. The output of a side that is down is ignored, and so is
@@ -538,11 +546,12 @@ uint32_t vintsaky_match_send(vintsaky_match *held, uint32_t side, char *text, si
  * Errors: VINTSAKY_BAD_COLOUR. The match is unchanged, and nothing is written. */
 uint32_t vintsaky_match_hear(vintsaky_match *held, uint32_t side, const void *bytes, size_t bytes_length, uint32_t *loss);
 
-/* Takes a side's output as vintsaky_match_hear does, and writes more about it. retake becomes 0, or if the side refused a play that is
- * retaken, which retake of this move number it is, 1 to 3. For a loss, or else for a retake, it writes how many commands the side
- * hadn't answered, including the one that this reply answers; the oldest of them, as it was sent but without its newline; and the first
- * 80 bytes of the reply, or if the bytes aren't a reply, of all that came since the last whole one. Each text comes with its length.
- * Without a loss or a retake, these are 0 and the texts empty.
+/* Takes a side's output as vintsaky_match_hear does, and writes more about it. If the side refused a play that is retaken, retake
+ * becomes the number of this retake at its move number, 1 to 3; otherwise it becomes 0. For a loss, or else for a retake, the call
+ * writes how many commands the side hadn't answered, including the one that this reply answers; the oldest of these commands, as it was
+ * sent but without its newline; and the first 80 bytes of the reply. If the bytes aren't a reply, it writes the first 80 of all bytes
+ * that came since the last whole reply. Each text comes with its length. Without a loss or a retake, the numbers are 0 and the texts
+ * empty.
  * Errors: VINTSAKY_BAD_COLOUR. The match is unchanged, and nothing is written. */
 uint32_t vintsaky_match_hear_reporting(vintsaky_match *held, uint32_t side, const void *bytes, size_t bytes_length, uint32_t *loss,
     uint32_t *retake, uint32_t *unanswered, char *command, size_t command_room, size_t *command_count, char *wrote, size_t wrote_room,
@@ -550,21 +559,23 @@ uint32_t vintsaky_match_hear_reporting(vintsaky_match *held, uint32_t side, cons
 
 /* Writes what a side owes: how many commands it hasn't answered; the oldest of them, as it was sent but without its newline, or an
  * empty text; and the first 80 bytes that it wrote since its last whole reply. Each text comes with its length.
- * Errors: VINTSAKY_BAD_COLOUR, or else VINTSAKY_DOWN. Nothing is written. */
+ * Errors: VINTSAKY_BAD_COLOUR, or else VINTSAKY_DOWN, also if the match is over. Nothing is written. */
 uint32_t vintsaky_match_owed(vintsaky_match *held, uint32_t side, uint32_t *unanswered, char *command, size_t command_room,
     size_t *command_count, char *wrote, size_t wrote_room, size_t *wrote_count);
 
-/* Writes how many of the commands that bring a side to the record it has confirmed, how many commands it hasn't answered, and 1 if a
- * genmove is among these, else 0. It doesn't matter whether the match is over.
- * Errors: VINTSAKY_BAD_COLOUR, or else VINTSAKY_DOWN. Nothing is written. */
+/* Writes how many commands of its script a side has confirmed, how many commands it hasn't answered, and 1 if a genmove is among the
+ * unanswered ones, else 0. The script consists of the setup commands and a play for each move of the record. It doesn't matter whether
+ * the match is over.
+ * Errors: VINTSAKY_BAD_COLOUR, or else VINTSAKY_DOWN if the side isn't up. Nothing is written. */
 uint32_t vintsaky_match_status(vintsaky_match *held, uint32_t side, uint32_t *confirmed, uint32_t *unanswered, uint32_t *asked);
 
-/* Reports that a side is gone: its output has ended, a read or a write failed, or its start did. After a ruling nothing changes.
+/* Reports that a side is gone: its output has ended, a read or a write failed, or it couldn't be started. After a ruling nothing
+ * changes.
  * Errors: VINTSAKY_BAD_COLOUR. The match is unchanged. */
 uint32_t vintsaky_match_lost(vintsaky_match *held, uint32_t side);
 
-/* Writes 1 if a side is in step: it is up, owes no answer, and has confirmed all commands that bring it to the record. Else it writes
- * 0.
+/* Writes 1 if a side is in step: it is up, owes no answer, and has confirmed its whole script, as vintsaky_match_status counts it. Else
+ * it writes 0.
  * Errors: VINTSAKY_BAD_COLOUR. Nothing is written. */
 uint32_t vintsaky_match_in_step(vintsaky_match *held, uint32_t side, uint32_t *holds);
 
@@ -615,8 +626,8 @@ size_t vintsaky_lines_bytes(void);
 size_t vintsaky_lines_align(void);
 
 /* Takes the next chunk, up to and including the newline that ends a line with a word, or all of it. Writes how many bytes were used.
- * Returns 0 if no such line ended, VINTSAKY_LINE for a command line, and VINTSAKY_TOO_LONG for one of more than 1,000 bytes of
- * words. */
+ * Returns 0 if no such line ended, VINTSAKY_LINE for a command line, and VINTSAKY_TOO_LONG for a line whose words, joined by single
+ * spaces, have more than 1,000 bytes. */
 uint32_t vintsaky_lines_feed(vintsaky_lines *lines, const void *bytes, size_t bytes_length, size_t *used);
 
 /* Writes the id of the line that was read last.
@@ -644,20 +655,20 @@ size_t vintsaky_replies_align(void);
  * again: place the reader again. */
 uint32_t vintsaky_replies_feed(vintsaky_replies *replies, const void *bytes, size_t bytes_length, size_t *used);
 
-/* Returns whether the reply that was read last is a success: false before the first. */
+/* Returns whether the reply that was read last is a success: false before the first reply. */
 bool vintsaky_replies_ok(vintsaky_replies *replies);
 
 /* Writes the id of the reply that was read last.
- * Errors: VINTSAKY_NO_ID, also before the first. Nothing is written. */
+ * Errors: VINTSAKY_NO_ID, also before the first reply. Nothing is written. */
 uint32_t vintsaky_replies_id(vintsaky_replies *replies, uint32_t *id);
 
-/* Writes the text of the reply that was read last, and returns its length: 0 before the first, and at most 8,192. */
+/* Writes the text of the reply that was read last, and returns its length: 0 before the first reply, and at most 8,192. */
 size_t vintsaky_replies_text(vintsaky_replies *replies, char *text, size_t text_room);
 
 /* ---- memory from malloc ---- */
 
 /* For each kind of object, such as vintsaky_game_new and vintsaky_game_free:
- * - _new initialises one as its _place does, in memory that it allocates with malloc. It returns false if there is no memory.
+ * - _new initialises an object as _place does, in memory that it allocates with malloc. It returns false if there is no memory.
  * - _free frees the memory of an object that _new made. The object can't be used afterwards. */
 #define VINTSAKY_IN_MALLOC(kind)                                         \
     static inline bool vintsaky_##kind##_new(vintsaky_##kind *out) {     \

@@ -10,12 +10,14 @@
 #   tournament plan FOLDER --engine .. --engine .. --limit 600
 #   sbatch --array=1-99 tournament.sbatch FOLDER 99
 #
-# Task 3 of 99 plays the games 3, 102, 201 and so on, as many at once as --cpus-per-task says. To go on, submit the array again with the
-# same number of tasks, or a part of it: --array=3,7. A task begins no game that doesn't fit into its time left, so --time has to be more
-# than the limit of a game. If `tournament` isn't in PATH, set TOURNAMENT to its path, and TWOGTP to that of the program.
+# Task 3 of 99 plays the games 3, 102, 201 and so on, as many at once as --cpus-per-task says. TASKS should have no common factor with the
+# number of games of a seed, which is two for every two engines: take a prime number above the number of engines. To go on, submit the array
+# again with the same TASKS, or a part of the array: --array=3,7. A task begins no game that doesn't fit into the time that the task has left,
+# so --time has to be more than the limit of a game. If `tournament` isn't in PATH, set TOURNAMENT to its path, and TWOGTP to the path of
+# twogtp.
 #
-# The last task has to be below MaxArraySize, by default 1001. When a node dies, Slurm gives its tasks to others after some nine minutes;
-# some clusters want --requeue for it.
+# The number of the last task has to be below MaxArraySize, which is 1001 by default. If a node dies, Slurm gives its tasks to other nodes
+# after some nine minutes; on some clusters that needs the option --requeue.
 if [ $# -ne 2 ] || [ -z "${SLURM_ARRAY_TASK_ID:-}" ]; then
     {
         [ $# -eq 2 ] && echo 'tournament.sbatch: SLURM_ARRAY_TASK_ID is not set: submit it by sbatch, as an array' \

@@ -8,9 +8,12 @@ It wants root, and Debian's packages: apt-get install slurm-wlm munge. It takes 
 - A node is killed, with all that runs there: Slurm gives its tasks to the other node, and all games get a result.
 - An array is cancelled in the middle: no engine is left, and a submission of some of its tasks plays what is theirs.
 - A task whose time left doesn't hold a game begins none, and says how many are missing.
+- The page's script, submitted once for each node, plays all games, each of them once. With little time it begins none that would be cut off.
+- Such jobs are cancelled. A node with one is killed: the other node's job plays all games, and the dead node's job waits for its node.
 """
 import contextlib
 import os
+import re
 import shutil
 import signal
 import socket
@@ -22,7 +25,7 @@ from pathlib import Path
 sys.dont_write_bytecode = True
 sys.path[0] = str(Path(__file__).resolve().parents[2])
 
-from tests.shared import checks  # noqa: E402
+from tests.shared import checks, running  # noqa: E402
 from tests.stages.of_tournament import rooms  # noqa: E402
 
 CONFIGURATION = """\
@@ -125,6 +128,16 @@ class Cluster:
         said = self.here.run("sbatch", "--parsable", f"--array={array or f'1-{tasks}'}", *words, script, folder, str(tasks))
         return said.output.strip() or said.errors
 
+    def each(self, jobs, minutes):
+        """Submits the page's script for a job of one's own once for each node, with these numbers, and answers the numbers of the jobs."""
+        text = re.search("  (#!/bin/bash\n  #SBATCH [^`]*)", (running.TOP / "docs/tournaments.md").read_text())[1].replace("\n  ", "\n")
+        text = re.sub("(--jobs |--cpus-per-task=)[0-9]+", rf"\g<1>{jobs}", re.sub("(--time=)[0-9:]+", rf"\g<1>{minutes}", text))
+        return [self.says("sbatch", "--parsable", "-w", node, self.here.script("each", text)).strip() for node in ("one", "two")]
+
+    def state(self, number):
+        """The state, status and node of a job."""
+        return " ".join(re.findall(r" (?:JobState|ExitCode|NodeList)=(\S*)", self.says("scontrol", "-o", "show", "job", number)))
+
     def waits(self, seconds=240):
         """Waits until no task is left: has it ended?"""
         return self.here.until(lambda: self.here.run("squeue", "-h")[:2] == (0, ""), seconds)
@@ -168,12 +181,13 @@ class Slurm(rooms.Case):
             self.skip("a real Slurm", "it wants root, and slurm-wlm and munge")
             self.skipTest("no Slurm")
 
-    def planned(self, made):
-        """A planned tournament, on nodes that are up."""
-        self.check("both nodes are up", True, made.is_up)
-        came = made.here.run("tournament", "plan", "far", *ENGINES, *rooms.SMALL)
-        self.check("the plan", 0, came.status)
-        return undisturbed()
+    @contextlib.contextmanager
+    def planned(self):
+        """A planned tournament, on nodes that are up, and the results that it should have."""
+        with cluster() as made:
+            self.check("both nodes are up", True, made.is_up)
+            self.check("the plan", 0, made.here.run("tournament", "plan", "far", *ENGINES, *rooms.SMALL).status)
+            yield made, undisturbed()
 
     def same_games(self, made, wanted):
         """The results are those of an undisturbed run."""
@@ -187,8 +201,7 @@ class Slurm(rooms.Case):
 
     def test_array(self):
         """An array plays all games, and a second submission none; a task without time plays none."""
-        with cluster() as made:
-            wanted = self.planned(made)
+        with self.planned() as (made, wanted):
             short = made.submit("--time=1", folder="far", array="1", tasks=TASKS)
             self.check(f"a task of one minute ends ({short})", True, made.waits())
             self.check("and has played", True, 0 < len(made.here.games("far")) <= 4)
@@ -204,8 +217,7 @@ class Slurm(rooms.Case):
 
     def test_twice(self):
         """Two submissions at once share the games."""
-        with cluster() as made:
-            wanted = self.planned(made)
+        with self.planned() as (made, wanted):
             made.submit("--time=10", folder="far")
             made.submit("--time=10", folder="far", tasks=2, array="1-2")
             self.check("both end", True, made.waits())
@@ -214,8 +226,7 @@ class Slurm(rooms.Case):
 
     def test_killed(self):
         """A node is killed: the other one plays its games."""
-        with cluster() as made:
-            wanted = self.planned(made)
+        with self.planned() as (made, wanted):
             made.submit("--time=10", "--requeue", folder="far")
             made.here.until(lambda: made.says("squeue", "-h", "-t", "R", "-o", "%N").split().count("two") > 0, 60)
             made.here.until(lambda: len(made.here.games("far")) >= 2, 60)
@@ -226,19 +237,58 @@ class Slurm(rooms.Case):
             self.same_games(made, wanted)
 
     def test_cancelled(self):
-        """An array is cancelled: nothing is left, and some of its tasks are played."""
-        with cluster() as made:
-            wanted = self.planned(made)
-            number = made.submit("--time=10", folder="far")
-            made.here.until(lambda: len(made.here.games("far")) >= 2, 60)
-            made.here.run("scancel", number)
-            self.check("it ends", True, made.waits(60))
-            made.here.until(lambda: not made.here.named("gtp_engine"), 10)
-            self.check("no engine is left", [], made.here.named("gtp_engine") + made.here.named("twogtp"))
+        """An array is cancelled, and then a job for each node: nothing is left, and some of the array's tasks are played."""
+        with self.planned() as (made, wanted):
+            for submit in (lambda: [made.submit("--time=10", folder="far")], lambda: made.each(1, 10)):
+                numbers = submit()
+                made.here.until(lambda least=len(made.here.games("far")) + 2: len(made.here.games("far")) >= least, 60)
+                made.here.run("scancel", *numbers)
+                self.check("it ends", True, made.waits(60))
+                made.here.until(lambda: not made.here.named("gtp_engine"), 10)
+                self.check("no engine is left", [], made.here.named("gtp_engine") + made.here.named("twogtp"))
+            self.check("each job as by TERM", ["CANCELLED 143:0 one", "CANCELLED 143:0 two"], [made.state(it) for it in numbers])
             for array in ("2,4", "1-4"):
                 made.submit("--time=10", folder="far", array=array)
                 self.check(f"the tasks {array} end", True, made.waits())
             self.same_games(made, wanted)
+
+    def test_each(self):
+        """A job for each node, by the page's script: first with too little time, and then with enough."""
+        with self.planned() as (made, wanted):
+            slow = SLOW.replace("sleep", "echo $1 >> starts\nsleep")
+            made.here.script("slow", slow.replace("0.5", "4"))
+            short = made.each(1, 1)
+            self.check("two jobs of one minute end", True, made.waits())
+            failed = ["FAILED 1:0 one", "FAILED 1:0 two"]
+            self.check("by themselves, with status 1", failed, [made.state(it) for it in short])
+            self.check("no game was cut off", {it.name for it in (made.here.at / "far/notes").iterdir()}, {*made.here.games("far")})
+            made.here.script("slow", slow)
+            long = made.each(2, 10)
+            self.check("two jobs of ten minutes end", True, made.waits())
+            states = [made.state(it) for it in long]
+            good = states != failed and {*states} <= {"COMPLETED 0:0 one", "COMPLETED 0:0 two", *failed}
+            self.check(f"with status 0, or one with 1 while the other plays: {states}", True, good)
+            self.same_games(made, wanted)
+            wrote = [(made.here.at / f"slurm-{it}.out").read_text() for it in short + long]
+            self.check("the first two say why they end", [1, 1, 0, 0], [it.count("30 seconds doesn't fit into the time left") for it in wrote])
+            played = [re.findall("^[0-9]+ of 16: (.*?):", it, re.MULTILINE) for it in wrote]
+            self.check(f"each job played some games: {[*map(len, played)]}", True, all(played))
+            self.check("each game was played once", sorted(wanted), sorted(sum(played, [])))
+            self.check("by both engines; and two trials", 2 * 16 + 2, len((made.here.at / "starts").read_text().split()))
+
+    def test_each_killed(self):
+        """A node with such a job is killed: the other one plays its games, and it waits for its node."""
+        with self.planned() as (made, wanted):
+            jobs = made.each(1, 10)
+            made.here.until(lambda: len(made.here.games("far")) >= 3, 60)
+            made.kill("two")
+            self.check("the other node's job ends", True, made.here.until(lambda: made.state(jobs[0]) == "COMPLETED 0:0 one"))
+            self.same_games(made, wanted)
+            made.here.until(lambda: made.state(jobs[1]).startswith("PENDING"))
+            made.here.run("scontrol", "update", f"JobId={jobs[1]}", "StartTime=now")  # and not in two minutes
+            self.check("the dead node's job waits for it", True, made.here.until(lambda: "two" in made.says("squeue", "-h", "-o", "%r")))
+            made.node("two")
+            self.check("and ends there", True, made.here.until(lambda: made.state(jobs[1]) == "COMPLETED 0:0 two"))
 
 
 PARSER = checks.Parser(__doc__)

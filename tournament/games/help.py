@@ -3,42 +3,45 @@
 HEAD = """\
 usage: tournament play FOLDER --engine NAME=CMD --engine NAME=CMD ..
            [--seeds N] [--limit SECONDS] [--jobs N] .. [-- OPTION ..]
-       tournament play FOLDER [--again]     goes on with what FOLDER/plan says
+       tournament play FOLDER [--again]     goes on with the plan in FOLDER
        tournament plan FOLDER --engine ..   writes FOLDER/plan, plays nothing
        tournament list FOLDER [--all]       lists games without a result, or all
-       tournament game FOLDER GAME          plays one of them
+       tournament game FOLDER GAME          plays one game
        tournament export FOLDER --csv       exports results for other programs
        tournament COMMAND --help            explains one command
 """
 PLAN = """\
   --engine NAME=CMD  an engine and its command, split at spaces; quote what has
-                     a space as for a shell. %s in it is the game's seed. NAME:
-                     letters, digits, . + -
-  --seeds N          seeds 1 to N; each pair plays two games with each. You can
-                     raise N later: games that were played still count [10]
-  --gauntlet NAME    this engine plays all others, which don't play each other
+                     a space as for a shell. %s in CMD is the game's seed. NAME
+                     has letters, digits, . + -
+  --seeds N          seeds 1 to N; with each seed every two engines play two
+                     games, one with each colour. You can raise N later: games
+                     that were played still count [10]
+  --gauntlet NAME    each game is between this engine and one of the others
   --limit SECONDS    time limit of a game [600]
   --move-limit SECONDS
-                     time limit of a genmove, by the clock on the wall. It can't
-                     be added or changed later [as long as a game]
+                     time limit of a genmove, in real time. You can't add or
+                     change it later [no limit except --limit]
   --start-limit SECONDS
-                     time limit of each other answer, also the first [60]
-  --openings FILE    openings, a line of moves each, such as D4 Q16 pass; #
-                     begins a comment. Seed 1 has the first one, with both
-                     colours, seed 2 the second, and so on; after the last one
-                     comes the first again. They can't be added later
+                     time limit of every answer except that to genmove; the
+                     first one includes the engine's start [60]
+  --openings FILE    openings; each line has the moves of one, such as
+                     D4 Q16 pass, and # begins a comment. Seed 1 has the first
+                     opening, with both colours, seed 2 the second, and so on;
+                     after the last opening comes the first again. You can't add
+                     openings later
   --direct           saves 30 milliseconds a game: twogtp itself starts the
-                     engines, without quotes. There are no limits of an answer
-                     and no openings, and moves aren't kept as they are played
+                     engines, so commands have no quotes. There are no limits of
+                     an answer and no openings, and no notes of the moves
 """
 PLAY = """\
-  --jobs N           games at a time; a plan doesn't keep it [the number of
+  --jobs N           play N games at once; a plan doesn't keep N [the number of
                      processors]
   --again            play games with an unfit or abandoned side again, and try
                      their engines again
-  --task K/T         play only the games K, K+T, K+2T .. of all
+  --task K/T         play only the games K, K+T, K+2T .. of the plan
   --time-left TIME   begin no game that doesn't fit into this time, written as
-                     by Slurm: 1-00:30:00, 30:00, or 90 for seconds
+                     squeue prints it: 1-00:30:00 or 30:00; or in seconds, as 90
 """
 OPTION = """\
   -- OPTION ..       options of twogtp, such as --size 9 --komi 7.5, except
@@ -48,20 +51,24 @@ FILES = """\
 A game is named SEED_BLACK_WHITE. FOLDER/games has its result and record,
 FOLDER/notes its moves as they are played, and FOLDER/logs its standard error,
 if there was any. The twogtp that plays is the one that TWOGTP names, or else
-the one in a directory bin beside these scripts, or else the one in PATH.
+the one in ../bin or ../../bin, seen from the directory of these scripts, or
+else the one in PATH.
 """
 STATUS = """\
-status: 0  each game has a result, or with --task another process plays it,
-           and no side was unfit or abandoned
-        1  some game has none, a side was so, or nothing can be written
+status: 0  each game has a result, and no side was unfit or abandoned. With
+           --task, and for tournament game, a game that another process is
+           playing needs no result
+        1  some game has no result, a side was unfit or abandoned, or nothing
+           can be written
         2  usage error; nothing was played
         69  an engine can't be started on this machine
         130, 143  stopped by Ctrl-C; by TERM or HUP
         141  nobody reads what it prints
 """
 LOSSES = """\
-  --abandoned loses  count a side that was abandoned as the loser
-  --late loses       count a side that was abandoned for being late as the loser
+  --abandoned loses  count an abandoned side as the loser
+  --late loses       count a side that was abandoned because it was late as the
+                     loser
 """
 HELP = {
     None: "\n".join([HEAD, PLAN + PLAY + OPTION, FILES, STATUS]),
@@ -71,15 +78,16 @@ usage: tournament play FOLDER --engine NAME=CMD --engine NAME=CMD ..
            [--seeds N] [--limit SECONDS] [--move-limit SECONDS]
            [--start-limit SECONDS] [--openings FILE] [--direct] [--jobs N]
            [--again] [--task K/T] [--time-left TIME] [-- OPTION ..]
-       tournament play FOLDER .. where it has a plan
+       tournament play FOLDER ..            if FOLDER has a plan
 
-Plays all games of FOLDER that have no result; a damaged result counts as none.
-The same command goes on where it was stopped. If there is a plan, give all of
-engines, gauntlet, openings, move limit, direct and options as it has them, or
-none of them. You may add engines after the others; if the plan has more engines
-or seeds, all are played. New engines are added to a plan only if each can be
-started on this machine. Each minute, and in a terminal each ten seconds, a line
-on standard error says how far it is.
+Plays all games of FOLDER that have no result, seed by seed; a damaged result
+counts as none. The same command goes on where it was stopped. If FOLDER has a
+plan, give engines, --gauntlet, --openings, --move-limit, --direct and options
+all as in the plan, or give none of them. You can add engines after the others.
+If the plan has more engines or seeds than the command, the whole plan is
+played. New engines are added to a plan only if each of them can be started on
+this machine. Each minute, and in a terminal each ten seconds, a line on
+standard error shows the progress.
 """, PLAN + PLAY + OPTION, FILES, STATUS]),
     "plan": "\n".join(["""\
 usage: tournament plan FOLDER --engine NAME=CMD --engine NAME=CMD ..
@@ -88,23 +96,23 @@ usage: tournament plan FOLDER --engine NAME=CMD --engine NAME=CMD ..
            [--start-limit SECONDS] [--openings FILE] [--direct]
            [-- OPTION ..]
 
-Makes FOLDER and FOLDER/plan, plays nothing, and tries no engine. It takes the
-arguments of tournament play. If there is a plan, you may give it more seeds,
+Makes FOLDER and FOLDER/plan, plays nothing, and tries no engine. The arguments
+are those of tournament play. If FOLDER has a plan, you can give it more seeds,
 more engines after the others, or another limit.
 """, PLAN + OPTION, """\
-status: 0  FOLDER/plan is what was asked for
-        1  it can't be written
-        2  usage error, or other engines or options
+status: 0  FOLDER/plan is as the arguments say
+        1  FOLDER/plan can't be written
+        2  usage error, or FOLDER/plan has other engines or options
 """]),
     "list": """\
 usage: tournament list FOLDER [--all]
 
-Prints the names of the games that have no result, a line each, in the plan's
-order. A damaged result counts as none.
+Prints the names of the games that have no result, one in each line, in the
+plan's order. A damaged result counts as none.
 
-  --all  print all games of FOLDER/plan
+  --all  print the names of all games of FOLDER/plan
 
-status: 0  the games are printed
+status: 0  the names are printed
         1  a directory can't be read, or nothing can be written
         2  usage error
         141  nobody reads what it prints
@@ -112,8 +120,8 @@ status: 0  the games are printed
     "game": "\n".join(["""\
 usage: tournament game FOLDER GAME
 
-Plays one game of FOLDER/plan, such as 1_one_two, unless it has a result or
-another process is playing it, which is no failure.
+Plays one game of FOLDER/plan, such as 1_one_two. If the game has a result, or
+another process is playing it, this command plays nothing and ends with 0.
 """, FILES, STATUS]),
     "export": """\
 usage: tournament export FOLDER --pgn | --csv | --jsonl | --sgf RECORDS
@@ -121,21 +129,22 @@ usage: tournament export FOLDER --pgn | --csv | --jsonl | --sgf RECORDS
 
 Writes the results of FOLDER in the plan's order, for other programs.
 
-  --pgn              write a PGN game each, without moves, for rating programs.
-                     White's result is first; 1/2-1/2 is a drawn game, and *
-                     another that nobody won
-  --csv              write a table with a header
-  --jsonl            write a line of JSON each
-  --sgf RECORDS      write an SGF file each, RECORDS/GAME.sgf, in a new
-                     directory. 0 is a drawn game, and Void another that nobody
-                     won
+  --pgn              write each game in PGN, without moves, for rating programs.
+                     White's result is first; 1/2-1/2 is a drawn game, and * is
+                     any other game that nobody won
+  --csv              write a table with a header, and a line for each game
+  --jsonl            write a line of JSON for each game
+  --sgf RECORDS      write an SGF file for each game, RECORDS/GAME.sgf, into a
+                     new directory. The result 0 is a drawn game, and Void is
+                     any other game that nobody won
 """ + LOSSES + """
-The versions are what an engine said in its last trial on the game's machine:
-not in the game, if the engine was replaced or tried again since. No format says
-when a game was played: that is the time of its file in FOLDER/games.
+The version of an engine is what it said in its last trial on the game's
+machine. If the engine was replaced or tried again after the game, that can
+differ from what played. No format says when a game was played: the time of its
+file in FOLDER/games does.
 
 status: 0  the games that have a result are written
-        1  they can't be read or written, and no file of --sgf is left
+        1  something can't be read or written; no file of --sgf is left
         2  usage error, or RECORDS isn't empty
         141  nobody reads what it prints
 """,
@@ -146,20 +155,23 @@ usage: tally FOLDER [--abandoned loses] [--late loses] [--no-winner half|out]
 Counts the results of a directory that tournament made.
 
 """ + LOSSES + """\
-  --no-winner half   in pairs count a game that nobody won as half a point
-  --no-winner out    leave out pairs with such a game, except drawn games
-  --sprt ELO0 ELO1   say which of two differences in Elo is accepted, of the
-                     plan's first engine to its second: from -800 to 800, the
-                     lower one first
+  --no-winner half   in a pair (the two games of two engines with one seed),
+                     count a game that nobody won as half a point; this is the
+                     default
+  --no-winner out    leave out pairs with a game that nobody won, unless that
+                     game is drawn
+  --sprt ELO0 ELO1   test whether the plan's first engine is stronger than its
+                     second by ELO0 or by ELO1 Elo, and say which of the two is
+                     accepted. Both are from -800 to 800, the lower one first
   --between NAME NAME
-                     with --sprt: test the difference of the first engine named
-                     here to the second; needed with more than two engines
+                     with --sprt: test these two engines, the first one against
+                     the second; needed if the plan has more than two engines
   --json             print JSON: scores are from 0 to 1, an infinite Elo is
                      null, and pairs that repeat each other count as one in
                      pairs_in_interval
 
-status: 0  each game of its plan has a result; with --sprt: ELO1 is accepted
-        1  some game has none, or a damaged file
+status: 0  each game of the plan has a result; with --sprt: ELO1 is accepted
+        1  some game has no result, or its file is damaged
         2  usage error
         3  with --sprt: ELO0 is accepted
         4  with --sprt: more pairs are needed

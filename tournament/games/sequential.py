@@ -22,16 +22,16 @@ class Test:
         """What it says."""
         low, high = (f"{it:g} Elo" for it in self.differences)
         said = {None: "go on", 0: f"{low} accepted, not {high}", 1: f"{high} accepted, not {low}"}[self.decision]
-        bounds = f"{-scores.BOUND:.2f} to {scores.BOUND:.2f}"
-        ratios = f"log likelihood ratio {self.ratio:.2f}, exact {self.exact:.2f}, of {bounds}"
+        bounds = f"{-scores.BOUND:.2f} and {scores.BOUND:.2f}"
+        ratios = f"log likelihood ratio {self.ratio:.2f}, exact {self.exact:.2f}, bounds {bounds}"
         return f"{' - '.join(self.engines)}: {said}: {sum(self.counts)} pairs{self.few()}, {ratios}"
 
     def few(self):
         """Why it can't say more yet, where pairs are too few."""
         others = scores.others(self.counts) if any(self.counts) else 0
         if sum(self.counts) < scores.FEWEST:
-            return f" (not below {scores.FEWEST})"
-        return f" ({others} unlike most, not below {scores.FEWEST_OTHERS})" if others < scores.FEWEST_OTHERS else ""
+            return f" (at least {scores.FEWEST} are needed)"
+        return f" ({others} unlike most; at least {scores.FEWEST_OTHERS} are needed)" if others < scores.FEWEST_OTHERS else ""
 
     def status(self):
         """The status: 0 and 3 where the second or the first difference is accepted, 4 where more pairs are wanted."""

@@ -77,7 +77,7 @@ pub extern "C" fn vintsaky_read_komi(text: &[u8], half_points: &mut i32) -> u32
     code_of(values::read_komi(text, half_points))
 }
 
-/// Writes a komi in points, as the protocol spells it, and the length of that text. It is given in half points.
+/// Writes a komi, which is given in half points, as the protocol spells it in points, and the length of that text.
 ///
 /// # Errors
 ///

@@ -6,7 +6,7 @@ use vintsaky_calls::{code_of, writing};
 
 /// Writes the line of a command with its newline, at most 64 bytes, and its length.
 ///
-/// The id is -1 for none. `value` is the size of `boardsize`, the half points of `komi`, the number of stones of
+/// An id of -1 means none. `value` is the size of `boardsize`, the half points of `komi`, the number of stones of
 /// `fixed_handicap`, or the colour of `play` and `genmove`; `vertex` is that of `play`. An argument that the command
 /// doesn't have is ignored.
 ///
@@ -29,7 +29,7 @@ pub extern "C" fn vintsaky_write_command(
     code_of(writing::write_command(id, command, value, vertex, text, count))
 }
 
-/// Writes a reply, at most 2,014 bytes, and its length: a success if `ok` isn't 0, else a failure. The id is -1 for
+/// Writes a reply, at most 2,014 bytes, and its length: a success if `ok` isn't 0, else a failure. An id of -1 means
 /// none. The text may have up to 2,000 bytes, each a newline or one of 32 to 126, without two newlines in a row, and
 /// without a space or newline at its beginning or end.
 ///

@@ -30,7 +30,7 @@ sentence cause.BadHandicap =
     codes "Odd sizes from 9 allow 2 to 9 stones, 7 and even sizes from 8 allow 2 to 4; never a negative number."
 sentence cause.NoMove = codes "The record has no move with this number, counted from 0."
 sentence cause.NoStone = codes "No stone is on the point."
-sentence cause.NotAsked = codes "No such move or answer is being waited for."
+sentence cause.NotAsked = codes "The engine is waiting for nothing, or for something that this call doesn't supply."
 sentence cause.NoWord = codes "The line has no word with this number, counted from 0 after the id."
 sentence cause.NoId = codes "The line or the reply has no id."
 sentence cause.BadLength = codes "A name must have 1 to 32 bytes."
@@ -49,7 +49,7 @@ sentence cause.BadId = codes "The id must be 0 to 2,147,483,647, or -1 for none.
 sentence cause.Down = codes "The side isn't up (it was not started, or it went down), or the match is over."
 sentence cause.IsOver = codes "The match is already over."
 sentence cause.BadReason =
-    codes "A reason must be empty (a loss on time), or 1 to 20 letters (a-z, A-Z) and spaces, and no forfeit's."
+    codes "A reason must be empty (loss on time), or 1 to 20 letters (a-z, A-Z) and spaces; not a forfeit's cause."
 
 -- what is said of a number: that it was done, what a cause means, or that the number is none
 abbrev pub SaysDone : ℕ → List ℕ → Type 0

@@ -43,7 +43,7 @@ pub enum Cause {
     NoMove,
     /// No stone is on the point.
     NoStone,
-    /// No such move or answer is being waited for.
+    /// The engine is waiting for nothing, or for something that this call doesn't supply.
     NotAsked,
     /// The line has no word with this number, counted from 0 after the id.
     NoWord,
@@ -79,7 +79,7 @@ pub enum Cause {
     Down,
     /// The match is already over.
     IsOver,
-    /// A reason must be empty (a loss on time), or 1 to 20 letters (a-z, A-Z) and spaces, and no forfeit's.
+    /// A reason must be empty (loss on time), or 1 to 20 letters (a-z, A-Z) and spaces; not a forfeit's cause.
     BadReason,
 }
 

@@ -36,7 +36,7 @@ pub(crate) fn number_of_ending(given: Verdict) -> u32
         Verdict::Forfeit(_, ForfeitCause::NoVertex) => 6,
         // the side answered a genmove by an illegal move: it forfeits
         Verdict::Forfeit(_, ForfeitCause::IllegalMove) => 7,
-        // the side can't be brought to the record
+        // the side failed at a setup command, or placed other handicap stones: it is unfit
         Verdict::Unfit(_) => 8,
         // the side went down too often
         Verdict::Abandoned(_) => 9,

@@ -56,7 +56,8 @@ fn sentence(cause: Cause) -> &'static [u8]
             b"Odd sizes from 9 allow 2 to 9 stones, 7 and even sizes from 8 allow 2 to 4; never a negative number.",
         Cause::NoMove => b"The record has no move with this number, counted from 0.",
         Cause::NoStone => b"No stone is on the point.",
-        Cause::NotAsked => b"No such move or answer is being waited for.",
+        Cause::NotAsked =>
+            b"The engine is waiting for nothing, or for something that this call doesn't supply.",
         Cause::NoWord => b"The line has no word with this number, counted from 0 after the id.",
         Cause::NoId => b"The line or the reply has no id.",
         Cause::BadLength => b"A name must have 1 to 32 bytes.",
@@ -76,6 +77,6 @@ fn sentence(cause: Cause) -> &'static [u8]
             b"The side isn't up (it was not started, or it went down), or the match is over.",
         Cause::IsOver => b"The match is already over.",
         Cause::BadReason =>
-            b"A reason must be empty (a loss on time), or 1 to 20 letters (a-z, A-Z) and spaces, and no forfeit's.",
+            b"A reason must be empty (loss on time), or 1 to 20 letters (a-z, A-Z) and spaces; not a forfeit's cause.",
     }
 }

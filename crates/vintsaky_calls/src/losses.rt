@@ -34,7 +34,7 @@ fn number_of_cause(cause: LossCause) -> u32
 {
     match cause {
         LossCause::Shows(fault) => number_of_fault(fault),
-        // It failed at a command of its script other than a play, or placed another handicap. It is unfit.
+        // It failed at a setup command, or placed other handicap stones. It is unfit.
         LossCause::Unfit => 5,
         // It refused a play that isn't retaken. It forfeits.
         LossCause::RefusesPlay => 6,
@@ -69,11 +69,15 @@ fn number_of_rule(fault: PlayFault) -> u32
     ensures { result ≡ rule_loss_code fault }
 {
     match fault {
-        // Its move is illegal, by the error of the same name. It forfeits.
+        // Its move is illegal: the record is full. It forfeits.
         PlayFault::Full => 10,
+        // Its move is illegal: the point isn't on the board. It forfeits.
         PlayFault::OffBoard => 11,
+        // Its move is illegal: a stone is on the point. It forfeits.
         PlayFault::Occupied => 12,
+        // Its move is illegal: suicide. It forfeits.
         PlayFault::Suicide => 13,
+        // Its move is illegal: ko. It forfeits.
         PlayFault::Ko => 14,
     }
 }

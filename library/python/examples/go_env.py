@@ -2,9 +2,9 @@
 """An environment for learning, in the form of Gymnasium's vector environments: many games, with a step in all at once.
 
 Observations are planes, as `Games.planes_into` writes them, and actions are numbers of moves. `infos["action_mask"]`
-says which are legal, and `infos["refused"]` why one was rejected: that game is unchanged. A game that is over begins
-again in the same step, and its final position isn't shown. The reward is that of the side that has just moved: 1 if it
-won, -1 if it lost, else 0.
+says which actions are legal, and `infos["refused"]` why a game rejected its action; that game is unchanged. A game that
+is over begins again in the same step, and its final position isn't shown. The reward is that of the side that has just
+moved: 1 if it won, -1 if it lost, else 0.
 
 Arrays are numpy's if numpy is installed, else memoryviews. Each step overwrites them: copy what you want to keep.
 

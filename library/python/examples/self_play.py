@@ -26,7 +26,7 @@ def turned(planes, policy, symmetry):
 games.planes_into(planes, EARLIER)
 games.masks_into(masks)
 played = [[] for _ in range(COUNT)]  # for each game: whose turn, planes and policy of each move
-learned = []  # planes, policy, and 1 if the side that moved won, -1 if it lost, 0 if nobody won
+learned = []  # planes, policy, and 1 if the side that moved leads at the end, -1 if the other leads, else 0
 for _ in range(400):
     turns, policies = games.turns, policies_of(planes, masks)
     moves = [rng.choice(len(policy), p=policy / policy.sum(dtype=float)) for policy in policies]

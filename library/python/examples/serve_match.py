@@ -2,7 +2,8 @@
 """A server of one match: two engines connect to it, and a side whose answer is late loses by a ruling.
 
 It prints the number of its port on the loopback interface. The engine that connects first plays Black. Each side has
-SECONDS for each answer. At the end it prints the result line of the match, and sends both engines `quit`.
+SECONDS for each answer, counted from the last command that was sent to it. At the end it prints the result line of the
+match, and sends both engines `quit`.
 
 usage: serve_match.py SIZE HALF_KOMI SECONDS
 """

@@ -18,6 +18,7 @@ REPLY = (
     "each a newline or 32 to 126, no empty line, and no space or newline at its ends"
 )
 TITLE = REPLY.replace("2000", "200")
+NOT_ASKED = "The engine is waiting for nothing, or for something that this call doesn't supply."
 GAME, MATCH, STEPS = Game(9), Match(), Steps()
 ASKED = Steps()
 ASKED.feed(b"genmove b\n")
@@ -119,14 +120,14 @@ VALUES = [
     (lambda: ASKED.choose("K99"), Cause.BAD_TEXT, f"choice: 'K99' is no choice; {CHOICES}"),
     (lambda: ASKED.choose("Z1"), Cause.OFF_BOARD, "choose Z1: The point isn't on a board of this size."),
     (lambda: ASKED.choose((0, 1)), Cause.BAD_VERTEX, "choice: (0, 1): a column is from 1 to 25"),
-    (lambda: STEPS.choose("A1"), Cause.NOT_ASKED, "choose A1: No such move or answer is being waited for."),
-    (lambda: STEPS.answer("x"), Cause.NOT_ASKED, "answer 'x': No such move or answer is being waited for."),
-    (lambda: STEPS.decline(), Cause.NOT_ASKED, "decline: No such move or answer is being waited for."),
+    (lambda: STEPS.choose("A1"), Cause.NOT_ASKED, f"choose A1: {NOT_ASKED}"),
+    (lambda: STEPS.answer("x"), Cause.NOT_ASKED, f"answer 'x': {NOT_ASKED}"),
+    (lambda: STEPS.decline(), Cause.NOT_ASKED, f"decline: {NOT_ASKED}"),
     (lambda: OTHER.answer("a\n\nb"), Cause.BAD_TEXT, rf"text: 'a\n\nb' may be in no reply; {REPLY}"),
     (lambda: OTHER.answer("é"), Cause.BAD_TEXT, f"text: 'é' may be in no reply; {REPLY}"),
     (lambda: STEPS.set_name(" a"), Cause.BAD_TEXT, f"name: ' a' may be in no reply; {TITLE}"),
     (lambda: STEPS.set_version("é"), Cause.BAD_TEXT, f"version: 'é' may be in no reply; {TITLE}"),
-    (lambda: STEPS.answer("é"), Cause.NOT_ASKED, "answer 'é': No such move or answer is being waited for."),
+    (lambda: STEPS.answer("é"), Cause.NOT_ASKED, f"answer 'é': {NOT_ASKED}"),
     (lambda: STEPS.add_command("play"), Cause.IN_TABLE, f"add_command 'play': {Cause.IN_TABLE.text}"),
     (lambda: STEPS.add_command("é"), Cause.BAD_BYTE, f"add_command 'é': {Cause.BAD_BYTE.text}"),
     (lambda: MATCH.started("w"), Cause.NOT_NEXT, "started w: Not the call that the match expects next."),

@@ -1,6 +1,6 @@
 """The rules of Go, the controller of a match and the engine of the Go Text Protocol (GTP), over the library libvintsaky.
 
-This is an engine of your own. To play it, run `twogtp --black 'python3 engine.py'`, say:
+This is a whole engine, which `twogtp` plays as `--black 'python3 engine.py'`, say:
 
     import random
     import vintsaky
@@ -16,23 +16,23 @@ This is an engine of your own. To play it, run `twogtp --black 'python3 engine.p
     MyEngine().serve()
 
 `Game` has the rules, `Games` plays many games in one call, `Match` is the controller of a match, `Engine` is an engine,
-and `Steps` a sans-IO one. `CommandLines` and `Replies` read the protocol's lines in any chunks; `write_command` and
-`write_reply` write them.
+and `Steps` is a sans-IO engine. `CommandLines` and `Replies` read the protocol's lines in any chunks; `write_command`
+and `write_reply` write such lines.
 
-- A wrong type is a TypeError, and a wrong value a ValueError, also a number that is out of range. Both name the
+- An argument of a wrong type raises a TypeError, and a wrong value or a number out of range a ValueError. Both name the
   argument, its value and what is wanted.
-- `Refused` is the ValueError of a call that the library rejects, and that has changed nothing. Its `cause` is the
-  error: a `Cause`, which explains each, and which "Errors:" in the docstrings names. Its text names the call and its
-  arguments, as in `play w C3: A stone is on the point.`
-- Texts are ASCII. Komis and scores are in points: floats, each a multiple of 0.5.
-- A game can be copied, pickled and compared, also one of a subclass, with its attributes. It can't be hashed: use
+- A call that the library rejects raises `Refused`, a ValueError, and changes nothing. Its `cause` is the error, a
+  `Cause`. Docstrings name these errors after "Errors:", and `Cause` explains them. The text of a `Refused` names the
+  call and its arguments, as in `play w C3: A stone is on the point.`
+- Texts are ASCII. Komis and scores are in points: floats that are multiples of 0.5.
+- A game can be copied, pickled and compared; one of a subclass keeps its attributes. It can't be hashed: use
   `board_hash` or `position_hash` for a table. No other object can be copied or pickled.
-- Only the thread that made an object may use it, or the one that called its `adopt` last; any other gets a
+- Only the thread that made an object may use it, or the thread that called its `adopt` last; any other thread gets a
   RuntimeError. A game from a pickle belongs to the thread that uses it first. Calls hold the interpreter's lock, except
   those of `Games`.
 
-The library is the file libvintsaky.so.1 in this package, or else the one that the variable VINTSAKY_LIBRARY names, or
-else the system's.
+The library is the file libvintsaky.so.1 in this package, or else the file that the variable VINTSAKY_LIBRARY names, or
+else the library of the system.
 """
 from ._held import Bytes
 from ._library import version

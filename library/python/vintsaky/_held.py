@@ -50,8 +50,8 @@ class Held(metaclass=BriefABC):
         return self._place if has_lock else self._held()
 
     def adopt(self) -> None:
-        """From now on this thread may use the object, and no other one. The thread that had it must be done with it,
-        and something must order the two, as a queue does."""
+        """From now on this thread may use the object, and no other thread. The thread that used it before must be done
+        with it, and something must order the two uses, as a queue does."""
         self._thread = get_ident()
 
     def _release(self) -> None:

@@ -25,7 +25,7 @@ class Cause(Told):
     BAD_HANDICAP: Odd sizes from 9 allow 2 to 9 stones, 7 and even sizes from 8 allow 2 to 4; never a negative number.
     NO_MOVE: The record has no move with this number, counted from 0.
     NO_STONE: No stone is on the point.
-    NOT_ASKED: No such move or answer is being waited for.
+    NOT_ASKED: The engine is waiting for nothing, or for something that this call doesn't supply.
     NO_WORD: The line has no word with this number, counted from 0 after the id.
     NO_ID: The line or the reply has no id.
     BAD_LENGTH: A name must have 1 to 32 bytes.
@@ -43,7 +43,7 @@ class Cause(Told):
     BAD_ID: The id must be 0 to 2,147,483,647, or -1 for none.
     DOWN: The side isn't up (it was not started, or it went down), or the match is over.
     IS_OVER: The match is already over.
-    BAD_REASON: A reason must be empty (a loss on time), or 1 to 20 letters (a-z, A-Z) and spaces, and no forfeit's.
+    BAD_REASON: A reason must be empty (loss on time), or 1 to 20 letters (a-z, A-Z) and spaces; not a forfeit's cause.
     """
 
     DONE = 0
@@ -92,16 +92,16 @@ class Loss(Numbered):
     OVERLONG: More than 8,192 bytes came since its last reply. It goes down.
     WRONG_ID: The reply doesn't have the id of the oldest unanswered command. It goes down.
     UNASKED: A reply came when no command was unanswered. It goes down.
-    UNFIT: It failed at a command of its script other than a play, or placed another handicap. It is unfit.
+    UNFIT: It failed at a setup command, or placed other handicap stones. It is unfit.
     REFUSES_PLAY: It refused a play that isn't retaken. It forfeits.
     KEEPS_MOVE: It didn't undo its move, which the other side refused. The other side forfeits.
     NO_MOVE: It failed at a genmove. It forfeits.
     NO_VERTEX: Its answer to a genmove is neither a vertex nor a resignation. It forfeits.
-    FULL: Its move is illegal, by the error of the same name. It forfeits.
-    OFF_BOARD: Its move is illegal, by the error of the same name. It forfeits.
-    OCCUPIED: Its move is illegal, by the error of the same name. It forfeits.
-    SUICIDE: Its move is illegal, by the error of the same name. It forfeits.
-    KO: Its move is illegal, by the error of the same name. It forfeits.
+    FULL: Its move is illegal: the record is full. It forfeits.
+    OFF_BOARD: Its move is illegal: the point isn't on the board. It forfeits.
+    OCCUPIED: Its move is illegal: a stone is on the point. It forfeits.
+    SUICIDE: Its move is illegal: suicide. It forfeits.
+    KO: Its move is illegal: ko. It forfeits.
     """
 
     NO_STATUS = 1
@@ -130,7 +130,7 @@ class Ending(Numbered):
     BY_NO_MOVE: the side failed at a genmove: it forfeits
     BY_NO_VERTEX: the side answered a genmove by what is neither a vertex nor a resignation: it forfeits
     BY_ILLEGAL_MOVE: the side answered a genmove by an illegal move: it forfeits
-    BY_UNFIT: the side can't be brought to the record
+    BY_UNFIT: the side failed at a setup command, or placed other handicap stones: it is unfit
     BY_ABANDONED: the side went down too often
     BY_TIME: the side lost on time, by a ruling
     BY_RULING: the side lost by a ruling with a reason

@@ -25,16 +25,16 @@ MOST_NUMBER = 2**32 - 1
 
 
 class Games(metaclass=BriefABC):
-    """Up to 2^20 games of one size, which are played in one call. A game that begins again keeps its komi, ko rule and
-    handicap. A game with `limit` moves, 1 to 2,000, is over.
+    """Up to 2^20 games of one size, which one call plays. A game is over after two passes, or with `limit` moves, 1 to
+    2,000. `step` begins it again then, and it keeps its komi, ko rule and handicap.
 
-    The colours play in turn: after a move it is the other colour's turn, and before the first it is Black's, or White's
-    if handicap stones were placed. A move is a number: the `Game.index` of a point, and size * size for a pass.
+    The colours play in turn: after a move it is the other colour's turn, and before the first move it is Black's, or
+    White's if handicap stones were placed. A move is a number: the `Game.index` of a point, and size * size for a pass.
 
-    Buffers are written by the buffer protocol: a bytearray, an `array`, or a numpy array, in C order. The items of
-    planes and masks are bytes (`B`, or `?`, numpy's bool) or floats of 32 bits (`f`).
+    A buffer that a call writes is a bytearray, an `array`, or a numpy array in C order. The items of planes and masks
+    are bytes (`B`, or `?`, numpy's bool) or floats of 32 bits (`f`).
 
-    Calls let other threads run. While one runs, any other call on these games raises RuntimeError.
+    While a call runs, other threads can run, but any other call on these games raises RuntimeError.
 
     >>> games = Games(2, size=3)
     >>> planes = bytearray(2 * 2 * 9)
@@ -95,7 +95,7 @@ class Games(metaclass=BriefABC):
             self._lock.release()
 
     def adopt(self) -> None:
-        """From now on this thread may use the games, and no other one. Errors: RuntimeError while a call runs."""
+        """From now on this thread may use the games, and no other thread. Errors: RuntimeError while a call runs."""
         if not self._lock.acquire(blocking=False):
             raise RuntimeError(BUSY)
         self._thread = get_ident()
@@ -129,16 +129,16 @@ class Games(metaclass=BriefABC):
         earlier: int = 0,
         masks: Any = None,
     ) -> int:
-        """Plays a move in each game, and begins again those that are over. Returns how many games rejected their move.
-        The moves are a list of whole numbers, or an array of one dimension. Into the buffers it is given it writes, in
-        order:
+        """Plays a move in each game, and begins each game again that is over. Returns how many games rejected their
+        move. The moves are a list of whole numbers, or an array of one dimension. `step` writes into the buffers that
+        you give, in this order:
 
-        - `causes`, one byte for each game: 0, or the number of the `Cause` for which this game alone rejected its move
-          and is unchanged: OFF_BOARD for a number that is no move's, FULL, OCCUPIED, SUICIDE or KO.
+        - `causes`, one byte for each game: 0, or the number of the `Cause` for which this game rejected its move, and
+          so is unchanged: OFF_BOARD for a number that is no move, FULL, OCCUPIED, SUICIDE or KO.
         - `over`, one byte for each game: 1 if it ended by two passes, 2 if it has `limit` moves or more, else 0.
-        - `scores`, one float for each game: the score in points if it is over, positive if Black leads, else 0. Above
-          2^23 it is rounded to 32 bits.
-        - `planes` and `masks`, of the games that are there afterwards, as `planes_into` and `masks_into` write them.
+        - `scores`, one float for each game: the score in points if it is over, positive if Black leads, else 0. A score
+          above 2^23 is rounded to 32 bits.
+        - `planes` and `masks`, of the games as they are afterwards, as `planes_into` and `masks_into` write them.
 
         Errors: TypeError and ValueError for wrong moves and buffers. Then no move is made."""
         each, earlier, numbers = (len(self._handles),), whole(earlier, "earlier", 0, MOST_MOVES), self._numbers(moves)
@@ -162,10 +162,10 @@ class Games(metaclass=BriefABC):
             return refused
 
     def planes_into(self, planes: Any, earlier: int = 0) -> None:
-        """Writes the planes of all games: in C order games, planes, rows from row 1, and columns from A. The first two
-        planes have 1 where the colour whose turn it is has a stone, and where the other one has, else 0. Then come the
-        same two for the board one move earlier, for the same colours, and so on. Planes of boards before the first one,
-        which has the handicap stones, are empty."""
+        """Writes the planes of all games: in C order games, planes, rows from row 1, and columns from A. A game's first
+        plane has 1 where the colour whose turn it is has a stone, and the second where the other one has, else 0. Then
+        come the planes of the same colours for the board one move earlier, and so on. Planes of boards before the first
+        one, which has the handicap stones, are empty."""
         room = room_of(planes, "planes", self._plane_shape(earlier))
         with self._held() as (handles, _):
             self._write_planes(handles, room, earlier)
@@ -178,8 +178,8 @@ class Games(metaclass=BriefABC):
             self._write_masks(handles, room)
 
     def rollouts(self, seeds: Sequence[int], limit: int = MOST_MOVES) -> List[float]:
-        """Returns the score of one playout of each game by its seed, in points, as `Game.rollout` returns it for the
-        colour whose turn it is. The games are unchanged."""
+        """Returns the score of one playout of each game, in points, as `Game.rollout` returns it for the game's seed
+        and the colour whose turn it is. The games are unchanged."""
         most = whole(limit, "limit")
         try:
             given = list(seeds)
@@ -195,15 +195,15 @@ class Games(metaclass=BriefABC):
         return [half / 2 for half in halves]
 
     def game(self, number: int) -> Game:
-        """Returns a copy of the game with this number, counted from 0, or from the end, as -1."""
+        """Returns a copy of the game with this number, counted from 0, or from the end if it is negative."""
         copied = Game()
         with self._held() as (handles, _):
             library.vintsaky_game_copy(copied._held(), ctypes.byref(handles[self._place_of(number)]))
         return copied
 
     def put(self, number: int, game: Game) -> None:
-        """Makes the game with this number a copy of another one: of a new one, say, if a side resigned. Its komi, ko
-        rule and handicap stay when it begins again. Errors: ValueError if it has another size, or is over."""
+        """Makes the game with this number a copy of another one: of a new one if a side resigned, say. When it begins
+        again, it keeps komi, ko rule and handicap. Errors: ValueError if the other one has another size, or is over."""
         if not isinstance(game, Game):
             raise TypeError(f"game: {shown(game)} is no Game")
         if game.size != self._size:

@@ -37,8 +37,8 @@ class Event(IntEnum, metaclass=BriefEnum):
 class Steps(Held):
     """A sans-IO engine: you pass it the bytes that arrived, and it returns replies or asks for a colour's move.
 
-    A call that is rejected raises Refused, and the engine is unchanged. While it waits for a choice or an answer it
-    uses no byte, and `feed` returns the same event.
+    A call that is rejected raises Refused, and the engine is unchanged. While the engine waits for a choice or an
+    answer, `feed` uses no byte and returns the same event.
 
     >>> steps = Steps()
     >>> steps.feed(b"1 genmove b\\n2 name\\n")
@@ -63,8 +63,8 @@ class Steps(Held):
         done(library.vintsaky_engine_begin(self._held(), rule_number(rule)))
 
     def feed(self, data: Bytes) -> Tuple[int, Event]:
-        """Takes the next chunk, up to and including the newline of the first line that has a word. Returns how many
-        bytes were used, and what came of them."""
+        """Takes the next chunk, up to and including the newline of the first line that has a word, or all of it.
+        Returns how many bytes were used, and what came of them."""
         data, used = bytes_of(data), ctypes.c_size_t()
         event = library.vintsaky_engine_feed(self._held(), data, len(data), ctypes.byref(used))
         return used.value, Event(event)
@@ -87,7 +87,7 @@ class Steps(Held):
 
     @property
     def line(self) -> Optional[CommandLine]:
-        """The command line for which a choice or an answer is waited for, or None."""
+        """The command line for which the engine waits for a choice or an answer, or None."""
         place, number = self._held(), ctypes.c_uint32()
         if self.wait is Event.MORE:
             return None
@@ -103,7 +103,7 @@ class Steps(Held):
 
     def choose(self, choice: AnyChoice) -> None:
         """Supplies the choice that the engine waits for: a vertex, RESIGN, or the text of either. Errors: BAD_VERTEX,
-        NOT_ASKED, OFF_BOARD, OCCUPIED, SUICIDE or KO; the engine still waits for the choice."""
+        NOT_ASKED, OFF_BOARD, OCCUPIED, SUICIDE or KO; then the engine still waits for the choice."""
         number = choice_number(choice)
         cause = library.vintsaky_engine_choose(self._held(), number)
         if cause:
@@ -150,8 +150,8 @@ def command(name: str) -> Callable[[Method], Method]:
     one. If it raises Failure, the reply is a failure with that text. No custom command changes the game.
 
     The text may have up to 2,000 bytes, each a newline or one of 32 to 126, without two newlines in a row, and without
-    a space or newline at its beginning or end. If it isn't such a text, the reply is a failure, a line on standard
-    error names the command and says what is wrong, and the engine goes on. Any other exception comes out of `serve`.
+    a space or newline at its beginning or end. For any other value the reply is a failure, a line on standard error
+    names the command and says what is wrong, and the engine goes on. Other exceptions come out of `serve`.
 
     Errors: TypeError if the name is no str, as after `@command` without a name."""
     if not isinstance(name, str):
@@ -192,9 +192,9 @@ class Engine(metaclass=BriefABC):
 
     def choose(self, game: Game, colour: Colour) -> AnyChoice:
         """Returns what the engine plays: a legal Point, PASS or RESIGN, or the text of one. The game is a copy, on
-        which it may play as it likes: up to 2,000 moves with those of the game, then `play` raises Refused, with FULL.
+        which the method may play as it likes. When its record has 2,000 moves, `play` raises Refused with FULL.
 
-        An exception that it raises, or that its choice causes, comes out of `serve`, and the genmove isn't answered."""
+        An exception that it raises, or that its choice causes, comes out of `serve`, and the genmove has no reply."""
         raise NotImplementedError(f"{type(self).__name__} has no method choose(self, game, colour)")
 
     @property
@@ -205,16 +205,16 @@ class Engine(metaclass=BriefABC):
         return self._steps.game
 
     def serve(self, source: Any = None, sink: Any = None) -> None:
-        """Reads commands from `source` and writes the replies to `sink`, until it has answered a quit or the input
-        ends. Both are binary files. Each chunk is read as it comes, and each reply is flushed.
+        """Reads commands from `source` and writes the replies to `sink`, until a quit is answered or the input ends.
+        Both are binary files. Each chunk is read as it comes, and each reply is flushed.
 
-        By default they are standard input and standard output. While the engine serves, these are its own: anything
-        else that is written to standard output, by `print` or by a process that it starts, goes to standard error, and
-        anything else that reads standard input finds it empty.
+        By default they are standard input and standard output. While the engine serves, nothing else uses these: what
+        `print` or a process that the engine starts writes to standard output goes to standard error, and anything else
+        that reads standard input finds it empty.
 
         Errors: what `choose` or a custom command raises, except Failure; Refused or TypeError for a choice that isn't
-        allowed; and what the files raise. Nothing is written then; the earlier lines have their replies. A name or a
-        custom command that isn't allowed is a ValueError at once."""
+        allowed; and what the files raise. Then the current line has no reply; earlier lines have theirs. A name or a
+        custom command that isn't allowed raises a ValueError at once."""
         with contextlib.ExitStack() as stack:
             if source is None or sink is None:
                 standard = stack.enter_context(standard_streams())

@@ -39,8 +39,8 @@ class Chain(_Chain, metaclass=BriefABC):
 class Game(Held):
     """A game: its board, its record, its komi and its ko rule. Colours and vertices may be given as text.
 
-    A call that is rejected raises Refused and leaves the game unchanged: with BAD_TEXT if a text spells no colour or
-    vertex.
+    A call that is rejected raises Refused and leaves the game unchanged. If a text spells no colour or vertex, the
+    error is BAD_TEXT.
 
     >>> game = Game(size=5, komi=0.5)
     >>> game.play("b", "C3")
@@ -76,8 +76,8 @@ class Game(Held):
         handicap: int = 0,
     ) -> Kind:
         """Returns a game with these moves, each a colour and a vertex, as `play` takes them. `handicap` is the number
-        of stones that are placed before, or 0. For a subclass, `__init__` is called with the size, the komi and the
-        rule by their names. Errors: those of `begin`, `place_handicap` and `play`, with the move's number, from 1.
+        of stones that are placed before the moves, or 0. For a subclass, `__init__` is called with the keywords `size`,
+        `komi` and `rule`. Errors: those of `begin`, `place_handicap` and `play`; for a move with its number, from 1.
 
         >>> game = Game.from_moves([("b", "C3"), ("w", "pass")], size=5)
         >>> Game.from_moves(game.moves, size=5) == game
@@ -93,12 +93,12 @@ class Game(Held):
         return game
 
     def copy(self: Kind) -> Kind:
-        """Returns an independent copy. A subclass's copy has the same attributes, and its `__init__` isn't called. To
-        pass it to another thread, have that thread call its `adopt`."""
+        """Returns an independent copy. The copy of a subclass's game has the same attributes, and `__init__` isn't
+        called for it. If another thread is to use the copy, that thread has to call its `adopt`."""
         return self.__copy__()
 
     def become(self, other: Game) -> None:
-        """Makes this game a copy of another one. A copy of itself is unchanged."""
+        """Makes this game a copy of another one. Given itself, it is unchanged."""
         if not isinstance(other, Game):
             raise TypeError(f"other: {shown(other)} is no Game")
         if other is not self:
@@ -199,8 +199,8 @@ class Game(Held):
         done(library.vintsaky_game_undo(self._held()), "undo")
 
     def why_not(self, colour: AnyColour, vertex: AnyVertex) -> Optional[Cause]:
-        """Returns why a colour may not make a move next: OFF_BOARD, OCCUPIED, SUICIDE or KO; None if it may, even if
-        the record is full. Errors: BAD_COLOUR or BAD_VERTEX."""
+        """Returns why a move of a colour would be illegal: OFF_BOARD, OCCUPIED, SUICIDE or KO; None if it would be
+        legal, even if the record is full. Errors: BAD_COLOUR or BAD_VERTEX."""
         cause = library.vintsaky_game_legal(self._held(), colour_number(colour), vertex_number(vertex))
         if not cause:
             return None
@@ -345,15 +345,15 @@ class Game(Held):
         return number.value
 
     def playout(self, colour: AnyColour, seed: int, limit: int = 2000) -> None:
-        """Plays on at random, a colour first and then both in turn. Each plays a random point of those where it may
-        play and that aren't own eyes of it, and passes if there is none. The playout ends after two passes in a row,
-        counting those made before it, after `limit` moves, or when the record has 2,000. The same game, colour, seed
-        (of 64 bits) and limit always make the same moves. Errors: BAD_COLOUR."""
+        """Plays on at random: this colour first, and then both in turn. Each plays a random one of the points where it
+        may play and that aren't its own eyes, and passes if there is none. The playout ends after two passes in a row
+        (a pass just before it counts), after `limit` moves, or when the record has 2,000 moves. The same game, colour,
+        seed (of 64 bits) and limit always make the same moves. Errors: BAD_COLOUR."""
         number, seed, limit = colour_number(colour), whole(seed, "seed", 0, MOST_WORD), whole(limit, "limit")
         done(library.vintsaky_game_playout(self._held(), number, seed, limit))
 
     def rollout(self, colour: AnyColour, seed: int, limit: int = 2000) -> float:
-        """Returns the score after such a playout, in points. The game is unchanged. Errors: BAD_COLOUR."""
+        """Returns the score after a `playout` like this, in points. The game is unchanged. Errors: BAD_COLOUR."""
         number, seed, limit = colour_number(colour), whole(seed, "seed", 0, MOST_WORD), whole(limit, "limit")
         halves = ctypes.c_int32()
         done(library.vintsaky_game_rollout(self._held(), number, seed, limit, ctypes.byref(halves)))
@@ -361,9 +361,9 @@ class Game(Held):
 
     def random_move(self, colour: AnyColour, word: int) -> Vertex:
         """Returns the move that a random word of 64 bits chooses for a colour, even if the record is full. Of the n
-        points where it may play next and that aren't own eyes of it, this is number `word` mod n, counted from 0 in
-        board order, or PASS if there are none. The choice is even except for one word in 2^64 / n: each of the first
-        2^64 mod n points is chosen by one word more than the others. Errors: BAD_COLOUR."""
+        points where it may play next and that aren't its own eyes, this is number `word` mod n, counted from 0 in board
+        order, or PASS if there are none. Each of the first 2^64 mod n points is chosen by one word more than each of
+        the others, a bias that you can neglect. Errors: BAD_COLOUR."""
         vertex = ctypes.c_uint32()
         number, word = colour_number(colour), whole(word, "word", 0, MOST_WORD)
         done(library.vintsaky_game_random_move(self._held(), number, word, ctypes.byref(vertex)))

@@ -52,7 +52,7 @@ class _CommandLine(NamedTuple):
 
 class CommandLine(_CommandLine, metaclass=BriefABC):
     """A command line: its id, if it has one, and its words, the command's name first. If a line is too long, only
-    `too_long` is set. Bytes of a word that aren't UTF-8 are what `os.fsencode` gives back."""
+    `too_long` is set. Bytes of a word that aren't UTF-8 are kept so that `os.fsencode` gives them back."""
 
     __slots__ = ()
 
@@ -136,7 +136,7 @@ class Replies(Held):
 
     @property
     def fault(self) -> Optional[ReplyEvent]:
-        """NO_REPLY or LONG_REPLY, once such bytes came. From then on nothing is read."""
+        """NO_REPLY or LONG_REPLY after such bytes came, else None. After a fault nothing is read."""
         return self._fault
 
     def feed(self, data: Bytes) -> List[Reply]:

@@ -49,8 +49,8 @@ class Owed(metaclass=Brief):
 
 @dataclass(frozen=True)
 class Report(metaclass=Brief):
-    """What came of a side's output: why it fails, if it does; which retake of this move number it is, 1 to 3, if the
-    side refused a play that is retaken, else 0; and what it owed at the loss, or else at the retake."""
+    """What came of a side's output: why the side fails, if it does; the number of the retake at its move number, 1 to
+    3, if the side refused a play that is retaken, else 0; and what it owed at the loss, or else at the retake."""
 
     loss: Optional[Loss]
     retake: int
@@ -59,8 +59,8 @@ class Report(metaclass=Brief):
 
 @dataclass(frozen=True)
 class Status(metaclass=Brief):
-    """How many of the commands that bring a side to the record it has confirmed, how many commands it hasn't answered,
-    and whether a genmove is among these."""
+    """How many commands of its script (the setup, and a play for each move of the record) a side has confirmed, how
+    many commands it hasn't answered, and whether a genmove is among the unanswered ones."""
 
     confirmed: int
     unanswered: int
@@ -69,8 +69,8 @@ class Status(metaclass=Brief):
 
 @dataclass(frozen=True)
 class Verdict(metaclass=Brief):
-    """How a match ended, the score in points if it ended by one, and the reason if a ruling has one. `side` is the one
-    that resigned, forfeited, is unfit, was abandoned or lost by a ruling: never the one that won."""
+    """How a match ended, the score in points if it ended by score, and the reason if a ruling has one. `side` is the
+    one that resigned, forfeited, is unfit, was abandoned or lost by a ruling: never the one that won."""
 
     ending: Ending
     side: Optional[Colour]
@@ -118,8 +118,8 @@ class OwedRoom:
 class Match(Held):
     """A match between two engines that aren't started yet. Sides may be given as the text of their colours.
 
-    A call that is rejected raises Refused, and the match is unchanged: BAD_COLOUR for a side that is none, and what
-    each method names. The defaults aren't those of twogtp, which are a komi of 6.5, 1,000 moves and 2 restarts.
+    A call that is rejected raises Refused, and the match is unchanged. The error is BAD_COLOUR for a side that is none;
+    methods name their others. The defaults aren't those of twogtp, which are a komi of 6.5, 1,000 moves and 2 restarts.
 
     >>> match = Match(size=9, komi=6.5)
     >>> match.next()
@@ -166,13 +166,13 @@ class Match(Held):
         return Action(Next(kind), Colour(side.value) if side.value else None)
 
     def started(self, side: AnyColour) -> None:
-        """Reports that the side was started. If its start fails, call `lost` next. Errors: NOT_NEXT if that isn't
-        next."""
+        """Reports that the side was started. If it can't be started, call this all the same, and then `lost`. Errors:
+        NOT_NEXT if its start isn't what is next."""
         number = side_number(side)
         done(library.vintsaky_match_started(self._held(), number), f"started {Colour(number)}")
 
     def send(self, side: AnyColour) -> bytes:
-        """Returns the next command for the side, which counts as sent. Errors: NOT_NEXT if that isn't next."""
+        """Returns the next command for the side, which counts as sent. Errors: NOT_NEXT if it isn't what is next."""
         text, count = ctypes.create_string_buffer(COMMAND_ROOM), ctypes.c_size_t()
         number = side_number(side)
         cause = library.vintsaky_match_send(self._held(), number, text, COMMAND_ROOM, ctypes.byref(count))
@@ -210,11 +210,11 @@ class Match(Held):
 
     def lost(self, side: AnyColour) -> None:
         """Reports that the side is gone: its output ended, or a read or a write failed. If its start failed, call this
-        after `started`. After a loss that `hear` returned it isn't needed, and after a ruling nothing changes."""
+        after `started`. After a loss that `hear` returned, it isn't needed; after a ruling it changes nothing."""
         done(library.vintsaky_match_lost(self._held(), side_number(side)))
 
     def in_step(self, side: AnyColour) -> bool:
-        """Whether the side is in step: up, owing no answer, with all commands confirmed that bring it to the record."""
+        """Whether the side is in step: it is up, owes no answer, and has confirmed its whole script, as in `Status`."""
         holds = ctypes.c_uint32()
         done(library.vintsaky_match_in_step(self._held(), side_number(side), ctypes.byref(holds)))
         return bool(holds.value)

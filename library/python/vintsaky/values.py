@@ -44,7 +44,7 @@ WHITE = Colour.WHITE
 
 
 class KoRule(IntEnum, metaclass=BriefEnum):
-    """The boards that a play may not bring back: the one before the last move, or (POSITIONAL) any earlier one."""
+    """The boards that a play must not bring back: the one before the last move, or with POSITIONAL any earlier one."""
 
     SIMPLE = _declared.SIMPLE
     POSITIONAL = _declared.POSITIONAL
@@ -238,9 +238,9 @@ def inverse_symmetry(symmetry: int) -> int:
 
 def symmetry_map(size: int, symmetry: int) -> Tuple[int, ...]:
     """Returns for each point of the turned board, in board order, the index that it had before. So the plane of a
-    turned board is `[plane[index] for index in symmetry_map(size, symmetry)]`. An index that says where something is,
-    such as a move, becomes `symmetry_map(size, inverse_symmetry(symmetry))[index]`. Errors: BAD_SIZE; ValueError if the
-    symmetry isn't 0 to 7.
+    turned board is `[plane[index] for index in symmetry_map(size, symmetry)]`. A single index, such as the number of a
+    move, becomes `symmetry_map(size, inverse_symmetry(symmetry))[index]`. Errors: BAD_SIZE; ValueError if the symmetry
+    isn't 0 to 7.
 
     >>> symmetry_map(2, 1)  # A1, whose index is 0, comes to B1
     (2, 0, 3, 1)

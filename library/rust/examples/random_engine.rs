@@ -1,4 +1,4 @@
-//! An engine that plays a random legal point that isn't an own eye: the library does everything but choose the move.
+//! An engine that plays a random legal point, unless only own stones surround it. The library does the rest.
 //!
 //! usage: random_engine [SEED]
 

@@ -19,7 +19,7 @@ pub enum Fed {
     More,
     /// A line was answered, also a `quit`: write the [reply](Engine::reply).
     Reply,
-    /// A choice for this colour is waited for: supply it by [`Engine::choose`], then write the reply.
+    /// The engine waits for a choice for this colour: supply it by [`Engine::choose`], then write the reply.
     Asked(Colour),
     /// A command that isn't in the protocol's table: answer or decline it, then write the reply.
     Other,
@@ -104,7 +104,7 @@ impl Engine {
     }
 
     /// Takes the next chunk, up to the end of a line that needs an answer, or all of it. Returns what came of it, and
-    /// how many bytes were used. While the engine waits for something, none is used.
+    /// how many bytes were used. While the engine waits for something, no bytes are used.
     pub fn feed(&mut self, bytes: &[u8]) -> (Fed, usize) {
         let fed = self.inner.feed(bytes);
         (Fed::of(fed.event), fed.used)
@@ -189,25 +189,25 @@ impl Engine {
         texts::string_of(self.reply_bytes())
     }
 
-    /// Returns a word of the line for which a choice or an answer is waited for, counted from 0 after the id.
+    /// Returns a word of the line for which the engine waits for a choice or an answer, counted from 0 after the id.
     ///
     /// # Errors
     ///
-    /// [`Refusal::NotAsked`] if nothing is waited for, or else [`Refusal::NoWord`].
+    /// [`Refusal::NotAsked`] if the engine waits for nothing, or else [`Refusal::NoWord`].
     pub fn word(&self, number: usize) -> Result<Vec<u8>, Refusal> {
         self.line()?.word(number).map(<[u8]>::to_vec).ok_or(Refusal::NoWord)
     }
 
-    /// Returns the words of that line, after the id: none if nothing is waited for.
+    /// Returns the words of the line for which the engine waits, after the id: none if it waits for nothing.
     pub fn words(&self) -> impl Iterator<Item = Vec<u8>> + '_ {
         (0..).map_while(|number| self.word(number).ok())
     }
 
-    /// Returns the id of that line.
+    /// Returns the id of the line for which the engine waits for a choice or an answer.
     ///
     /// # Errors
     ///
-    /// [`Refusal::NotAsked`] if nothing is waited for, or else [`Refusal::NoId`].
+    /// [`Refusal::NotAsked`] if the engine waits for nothing, or else [`Refusal::NoId`].
     pub fn id(&self) -> Result<u32, Refusal> {
         self.line()?.id().ok_or(Refusal::NoId)
     }
@@ -217,7 +217,7 @@ impl Engine {
         self.inner.reply()
     }
 
-    /// The line for which a choice or an answer is waited for.
+    /// The line for which the engine waits for a choice or an answer.
     fn line(&self) -> Result<&CommandLine, Refusal> {
         self.inner.line().ok_or(Refusal::NotAsked)
     }

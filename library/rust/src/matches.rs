@@ -112,7 +112,8 @@ impl Match {
         (self.next_action() == action).then_some(()).ok_or(Refusal::NotNext)
     }
 
-    /// Reports that a side's engine was started. If it couldn't be started, call this and then [`lost`](Self::lost).
+    /// Reports that a side's engine was started. If it couldn't be started, call this all the same, and then
+    /// [`lost`](Self::lost).
     ///
     /// # Errors
     ///
@@ -127,7 +128,7 @@ impl Match {
     ///
     /// # Errors
     ///
-    /// [`Refusal::NotNext`] if that isn't what is next.
+    /// [`Refusal::NotNext`] if a command for this side isn't what is next.
     pub fn send(&mut self, side: Colour) -> Result<String, Refusal> {
         self.is_next(Action::Send(side))?;
         Ok(texts::string_of(&self.inner.send(side.inner())))
@@ -167,8 +168,8 @@ impl Match {
         self.inner.lost(side.inner());
     }
 
-    /// Returns whether a side is in step: it is up, owes no answer, and has confirmed all commands that bring it to the
-    /// record.
+    /// Returns whether a side is in step: it is up, owes no answer, and has confirmed its whole script, as [`Status`]
+    /// counts it.
     pub fn is_in_step(&self, side: Colour) -> bool {
         self.inner.played().in_step(side.inner())
     }

@@ -46,7 +46,7 @@ pub enum Loss {
     WrongId,
     /// A reply came when no command was unanswered. It goes down.
     Unasked,
-    /// It failed at a command of its script other than a play, or placed another handicap. It is unfit.
+    /// It failed at a setup command, or placed other handicap stones. It is unfit.
     Unfit,
     /// It refused a play that isn't retaken. It forfeits.
     RefusesPlay,
@@ -149,7 +149,7 @@ impl Owed {
 pub struct Report {
     /// Why the side fails by it, if it does.
     pub loss: Option<Loss>,
-    /// If the side refused a play that is retaken: which retake of this move number it is, 1 to 3.
+    /// If the side refused a play that is retaken: the number of this retake at its move number, 1 to 3.
     pub retake: Option<u32>,
     /// What the side owed, if there is a loss or a retake.
     pub owed: Option<Owed>,
@@ -166,11 +166,11 @@ impl Report {
 /// How far a side is.
 #[derive(Clone, Copy, Debug, PartialEq, Eq, Hash)]
 pub struct Status {
-    /// How many of the commands that bring it to the record it has confirmed.
+    /// How many commands of its script it has confirmed: of the setup commands, and a play for each move of the record.
     pub confirmed: u32,
     /// How many commands it hasn't answered.
     pub unanswered: u32,
-    /// Whether a genmove is among these.
+    /// Whether a genmove is among the unanswered commands.
     pub asked: bool,
 }
 
@@ -201,7 +201,7 @@ pub enum Verdict {
     NoVertex(Colour),
     /// This side answered a genmove by an illegal move: it forfeits.
     IllegalMove(Colour),
-    /// This side can't be brought to the record.
+    /// This side failed at a setup command, or placed other handicap stones: it is unfit.
     Unfit(Colour),
     /// This side went down too often.
     Abandoned(Colour),

@@ -67,7 +67,7 @@ pub trait Player {
         &[]
     }
 
-    /// Returns the ko rule of the session's game: simple ko by default. It is called once, before anything is read.
+    /// Returns the ko rule of the session's game: simple ko by default. `serve` asks for it before it reads anything.
     ///
     /// ```
     /// use vintsaky::{Choice, Colour, Game, KoRule, Player};
@@ -95,8 +95,8 @@ pub trait Player {
         KoRule::default()
     }
 
-    /// Answers a command that isn't in the protocol's table, by a success or a failure with a text; or declines it by
-    /// `None`, and the reply is a failure: `unknown command`. The words are those after the id, the command's name
+    /// Answers a command that isn't in the protocol's table, by a success or a failure with a text. `None` declines the
+    /// command: then the reply is the failure `unknown command`. The words are those after the id, the command's name
     /// first; there may be none. Bytes that aren't UTF-8 become U+FFFD.
     fn command(&mut self, _game: &Game, _words: &[&str]) -> Option<Result<String, String>> {
         None

@@ -302,7 +302,7 @@ impl FromStr for Komi {
     }
 }
 
-/// The boards that a play may not bring back.
+/// The boards that a play must not bring back.
 #[derive(Clone, Copy, Debug, Default, PartialEq, Eq, Hash, PartialOrd, Ord)]
 pub enum KoRule {
     /// Simple ko: the board before the last move.

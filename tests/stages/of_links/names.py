@@ -46,7 +46,6 @@ FILES_OF_OTHERS = {
     "objects": "a directory of a release",
     "out": "made by rt check",
     "crates/*/out": "made by rt check",
-    "gtp_session/streams": "a module of one line, which names another crate's",
 }
 NAMES_OF_OTHERS = {
     "MovesOfCall": "an example of a definition that isn't there yet",

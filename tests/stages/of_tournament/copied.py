@@ -57,7 +57,7 @@ class Loop(Case):
         came = self.loop([("abandoned", "B"), *many], going)
         self.check("it goes on where an abandoned side loses, as the page has it", "one - two: 10", came[0])
         came = self.loop([even] * 200, text.replace("5000", "200"))
-        self.check("the last seeds, where all pairs end alike", ("one - two: go on: 200 pairs (0 unlike most, not below 10)", 6), came)
+        self.check("the last seeds, where all pairs end alike", ("one - two: go on: 200 pairs (0 unlike most; at least 10 are needed)", 6), came)
 
 
 class Commands(Case):

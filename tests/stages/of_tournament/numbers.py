@@ -312,13 +312,13 @@ TESTED = {
     "won": (SOME, ("0", "100"), "100 Elo accepted, not 0 Elo: 50 pairs", 0),
     "lost": ([it[::-1] for it in SOME], ("0", "100"), "0 Elo accepted, not 100 Elo: 50 pairs", 3),
     "open": ([EVEN, WON, LOST, EVEN] * 13, ("0", "10"), "go on: 52 pairs", 4),
-    "few": (SOME[:15], ("0", "100"), "go on: 15 pairs (not below 16)", 4),
-    "few that differ": ([EVEN] * 20 + [WON] * 9, ("0", "50"), "go on: 29 pairs (9 unlike most, not below 10)", 4),
+    "few": (SOME[:15], ("0", "100"), "go on: 15 pairs (at least 16 are needed)", 4),
+    "few that differ": ([EVEN] * 20 + [WON] * 9, ("0", "50"), "go on: 29 pairs (9 unlike most; at least 10 are needed)", 4),
     "one more that differs": ([EVEN] * 20 + [WON] * 10, ("0", "50"), "50 Elo accepted, not 0 Elo: 30 pairs", 0),
     "up to the first that isn't whole": ([*SOME[:48], ("B+R", None), *SOME], ("0", "100"), "100 Elo accepted, not 0 Elo: 48 pairs", 0),
     "as far as it goes": (SOME, ("-800", "800"), "800 Elo accepted, not -800 Elo: 50 pairs", 0),
     "below 0": (SOME, ("-50", "50"), "50 Elo accepted, not -50 Elo: 50 pairs", 0),
-    "nothing": ([(None, None)] * 2, ("0", "10"), "go on: 0 pairs (not below 16)", 4),
+    "nothing": ([(None, None)] * 2, ("0", "10"), "go on: 0 pairs (at least 16 are needed)", 4),
 }
 
 
@@ -328,7 +328,7 @@ BETWEEN = {
     "three -100 0 c b": ("c - b: -100 Elo accepted", 3),
     "three -100 0 a c": ("a - c: -100 Elo accepted", 3),
     "three 0 100 c a": ("c - a: 100 Elo accepted", 0),
-    "three 0 100 a b": ("a - b: go on: 50 pairs (0 unlike most", 4),
+    "three 0 100 a b": ("a - b: go on: 50 pairs (0 unlike most; at least 10 are needed)", 4),
     "two 0 100 a b": ("a - b: 100 Elo accepted", 0),
     "two -100 0 b a": ("b - a: -100 Elo accepted", 3),
 }
@@ -359,7 +359,7 @@ class Tests(Case):
             of_pairs(here, "all", SOME)
             line = here.run("tally", "all", "--sprt", "0", "10").output
             # by R and by Newton's method, as above, of 5 0 15 0 30: 1.55231 and 1.00280
-            self.check("both ratios", "a - b: go on: 50 pairs, log likelihood ratio 1.55, exact 1.00, of -2.94 to 2.94\n", line)
+            self.check("both ratios", "a - b: go on: 50 pairs, log likelihood ratio 1.55, exact 1.00, bounds -2.94 and 2.94\n", line)
             found = json.loads(here.run("tally", "all", "--sprt", "0", "10", "--json").output)
             ratio = scores.ratio((5, 0, 15, 0, 30), 0, 10)
             wanted = {"engines": ["a", "b"], "elo0": 0, "elo1": 10, "accepted": "go on", "pairs": [5, 0, 15, 0, 30], "bound": math.log(19)}

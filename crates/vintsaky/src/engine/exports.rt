@@ -55,9 +55,9 @@ pub extern "C" fn vintsaky_engine_begin(engine: &mut EngineHandle, rule: u32) ->
 }
 
 /// Takes the next chunk, up to and including the newline of the first line that has a word, or all of it. Writes how
-/// many bytes were used: feed the others next. Returns what came of them. While the engine waits for a choice or an
-/// answer, and after the end, no byte is used, and the same is returned again. A line of more than 1,000 bytes of words
-/// is answered by a failure.
+/// many bytes were used: feed the others next. Returns what came of the used bytes. While the engine waits for a choice
+/// or an answer, and after the end, no byte is used, and the same result is returned again. A line whose words, joined
+/// by single spaces, have more than 1,000 bytes is answered by a failure.
 #[unsafe(no_mangle)]
 pub extern "C" fn vintsaky_engine_feed(
     engine: &mut EngineHandle,
@@ -104,7 +104,7 @@ pub extern "C" fn vintsaky_engine_answer(engine: &mut EngineHandle, ok: u32, tex
     code_of(engines::answer(engine.lend(), ok, text))
 }
 
-/// Answers such a command as the protocol's table does: `unknown command`.
+/// Answers a command that isn't in the protocol's table by a failure: `unknown command`.
 ///
 /// # Errors
 ///
@@ -162,7 +162,7 @@ pub extern "C" fn vintsaky_engine_copy_game(engine: &mut EngineHandle, game: &mu
     engines::copy_game(engine.lend(), game.lend())
 }
 
-/// Writes the last reply, and returns its length: 0 before the first, and at most 2,048.
+/// Writes the last reply, and returns its length: 0 before the first reply, and at most 2,048.
 #[unsafe(no_mangle)]
 pub extern "C" fn vintsaky_engine_reply(engine: &mut EngineHandle, text: &mut [u8]) -> usize
     ensures call { Writes engine.old.value.reply text.old text.new result }
@@ -171,8 +171,8 @@ pub extern "C" fn vintsaky_engine_reply(engine: &mut EngineHandle, text: &mut [u
     engines::reply(engine.lend(), text)
 }
 
-/// Writes a word of the command line for which a choice or an answer is waited for, counted from 0 after the id, and
-/// its length: at most 1,000 bytes.
+/// Writes a word of the command line for which the engine waits for a choice or an answer. Words are counted from 0
+/// after the id. Also writes the length of the word: at most 1,000 bytes.
 ///
 /// # Errors
 ///
@@ -191,7 +191,7 @@ pub extern "C" fn vintsaky_engine_word(
     code_of(engines::word(engine.lend(), number, text, count))
 }
 
-/// Writes the id of the command line for which a choice or an answer is waited for.
+/// Writes the id of the command line for which the engine waits for a choice or an answer.
 ///
 /// # Errors
 ///

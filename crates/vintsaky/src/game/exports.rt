@@ -149,7 +149,7 @@ pub extern "C" fn vintsaky_game_play(game: &mut GameHandle, colour: u32, vertex:
     code_of(games::play(game.lend(), colour, vertex))
 }
 
-/// Checks whether a colour may make a move next: 0 if it may.
+/// Returns 0 if a colour may make a move next, or else why the move is illegal.
 ///
 /// # Errors
 ///
@@ -198,8 +198,8 @@ pub extern "C" fn vintsaky_game_place_handicap(game: &mut GameHandle, stones: u3
     code_of(games::place_handicap(game.lend(), stones))
 }
 
-/// Writes the points where a colour may play next, row by row from A1, if the buffer holds all of them, and how many
-/// there are. The call ignores that a full record takes no more moves.
+/// Writes the number of points where a colour may play next and, if the buffer holds all of them, these points, row by
+/// row from A1. The call ignores that a full record takes no more moves.
 ///
 /// # Errors
 ///

@@ -89,7 +89,7 @@ pub extern "C" fn vintsaky_game_is_own_eye(
     code_of(searching::is_own_eye(game.lend(), colour, vertex, holds))
 }
 
-/// Writes the points of a chain's stones, row by row from A1, if the buffer holds all of them, and how many there are.
+/// Writes how many stones a chain has and, if the buffer holds all of them, their points, row by row from A1.
 ///
 /// # Errors
 ///
@@ -108,8 +108,8 @@ pub extern "C" fn vintsaky_game_chain_points(
     code_of(searching::chain_points(game.lend(), vertex, points, count))
 }
 
-/// Writes a chain's liberties, row by row from A1 and each once, if the buffer holds all of them, and how many there
-/// are.
+/// Writes how many liberties a chain has and, if the buffer holds all of them, these points, row by row from A1 and
+/// each once.
 ///
 /// # Errors
 ///
@@ -147,9 +147,9 @@ pub extern "C" fn vintsaky_game_ko_point(
 }
 
 /// Writes the move that a random word chooses for a colour. Of the n points where the colour may play next and that
-/// aren't own eyes of it, this is number `word` mod n, counted from 0 in board order, or a pass if there are none. The
-/// choice is even except for one word in 2^64 / n: each of the first 2^64 mod n points is chosen by one word more than
-/// the others. The call ignores that a full record takes no more moves.
+/// aren't its own eyes, this is number `word` mod n, counted from 0 in board order. If there is no such point, it is a
+/// pass. Each of the first 2^64 mod n points is chosen by one word more than each of the others, a bias that you can
+/// neglect. The call ignores that a full record takes no more moves.
 ///
 /// # Errors
 ///
@@ -188,10 +188,10 @@ pub extern "C" fn vintsaky_game_position_hash(
     code_of(searching::position_hash(game.lend(), colour, hash))
 }
 
-/// Plays on at random, a colour first and then both in turn. Each plays a random point of those where it may play and
-/// that aren't own eyes of it, and passes if there is none. The playout ends after two passes in a row, counting those
-/// made before it, after `limit` moves, or when the record has 2,000. The same game, colour, seed and limit always make
-/// the same moves. docs/library.md says how they are chosen.
+/// Plays on at random: this colour first, and then both in turn. Each plays a random point of those where it may play
+/// and that aren't its own eyes, or passes if there is none. The playout ends after two passes in a row, where a pass
+/// just before the call counts too; after `limit` moves; or when the record has 2,000. The same game, colour, seed and
+/// limit always make the same moves. docs/library.md says how they are chosen.
 ///
 /// # Errors
 ///
@@ -208,8 +208,8 @@ pub extern "C" fn vintsaky_game_playout(
     code_of(searching::playout(game.lend(), colour, seed, limit))
 }
 
-/// Writes the score that the game would have after such a playout, as [`vintsaky_game_score`] counts it. The game is
-/// unchanged.
+/// Writes the score that the game would have after [`vintsaky_game_playout`] with the same arguments, as
+/// [`vintsaky_game_score`] counts it. The game is unchanged.
 ///
 /// # Errors
 ///

@@ -16,8 +16,8 @@ use vintsaky_calls::code_of;
 
 /// Plays one move in each game, for the colour whose turn it is, as `vintsaky_game_turn` returns it. The number of a
 /// move is the index of its point, or the number of points of the board for a pass. Writes one byte for each game: 0,
-/// or the error for which this game alone rejects its move and is unchanged. That is `OffBoard` for a higher number, or
-/// else what `vintsaky_game_play` returns.
+/// or the error for which this game rejects its move. A game that rejects its move is unchanged, and the others are
+/// played. The error is `OffBoard` for a number above that of a pass, and otherwise what `vintsaky_game_play` returns.
 ///
 /// # Errors
 ///
@@ -58,8 +58,8 @@ pub extern "C" fn vintsaky_games_restart(
 
 /// Writes the planes of each game, one game after the other. A plane has one byte for each point in board order: 1
 /// where a stone of one colour is, else 0. First come the stones of the colour whose turn it is, then those of the
-/// other; then both for the board one move earlier, and so on, for as many moves as `earlier` says. Where a game has
-/// fewer moves, these planes are all 0.
+/// other; then both for the board one move earlier, and so on, for as many moves as `earlier` says. If a game has fewer
+/// moves, the planes of the missing boards are all 0.
 ///
 /// # Errors
 ///

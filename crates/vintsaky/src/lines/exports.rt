@@ -29,8 +29,8 @@ pub extern "C" fn vintsaky_lines_align() -> usize
 }
 
 /// Takes the next chunk, up to and including the newline that ends a line with a word, or all of it. Writes how many
-/// bytes were used. Returns 0 if no such line ended, VINTSAKY_LINE for a command line, and VINTSAKY_TOO_LONG for one of
-/// more than 1,000 bytes of words.
+/// bytes were used. Returns 0 if no such line ended, VINTSAKY_LINE for a command line, and VINTSAKY_TOO_LONG for a line
+/// whose words, joined by single spaces, have more than 1,000 bytes.
 #[unsafe(no_mangle)]
 pub extern "C" fn vintsaky_lines_feed(
     lines: &mut LinesHandle,

@@ -64,7 +64,8 @@ pub extern "C" fn vintsaky_match_begin(
     ))
 }
 
-/// Returns what to do next, as a number, and writes the side to do it with, or 0. After a ruling the match is over.
+/// Returns what to do next, as a number. Writes the side with which to do it, or 0 if the match is over, as it is after
+/// a ruling.
 #[unsafe(no_mangle)]
 pub extern "C" fn vintsaky_match_next(held: &mut MatchHandle, side: &mut u32) -> u32
     ensures call { NextCall held.old.value result side.new }
@@ -73,7 +74,7 @@ pub extern "C" fn vintsaky_match_next(held: &mut MatchHandle, side: &mut u32) ->
     matches::next(held.lend(), side)
 }
 
-/// Reports that a side was started. If its start fails, call [`vintsaky_match_lost`] next.
+/// Reports that a side was started. If it can't be started, call this all the same, and then [`vintsaky_match_lost`].
 ///
 /// # Errors
 ///
@@ -89,8 +90,8 @@ pub extern "C" fn vintsaky_match_started(held: &mut MatchHandle, side: u32) -> u
 ///
 /// # Errors
 ///
-/// `BadColour`, or else `NotNext` if that isn't what is next, or else `NoRoom` if the buffer has fewer than 65 bytes,
-/// even for a shorter line. The match is unchanged, and nothing is written.
+/// `BadColour`, or else `NotNext` if no command for this side is next, or else `NoRoom` if the buffer has fewer than 65
+/// bytes, even for a shorter line. The match is unchanged, and nothing is written.
 #[unsafe(no_mangle)]
 pub extern "C" fn vintsaky_match_send(
     held: &mut MatchHandle,
@@ -123,12 +124,12 @@ pub extern "C" fn vintsaky_match_hear(
     code_of(matches::hear(held.lend(), side, bytes, loss))
 }
 
-/// Takes a side's output as [`vintsaky_match_hear`] does, and writes more about it. `retake` becomes 0, or if the side
-/// refused a play that is retaken, which retake of this move number it is, 1 to 3. For a loss, or else for a retake, it
-/// writes how many commands the side hadn't answered, including the one that this reply answers; the oldest of them, as
-/// it was sent but without its newline; and the first 80 bytes of the reply, or if the bytes aren't a reply, of all
-/// that came since the last whole one. Each text comes with its length. Without a loss or a retake, these are 0 and the
-/// texts empty.
+/// Takes a side's output as [`vintsaky_match_hear`] does, and writes more about it. If the side refused a play that is
+/// retaken, `retake` becomes the number of this retake at its move number, 1 to 3; otherwise it becomes 0. For a loss,
+/// or else for a retake, the call writes how many commands the side hadn't answered, including the one that this reply
+/// answers; the oldest of these commands, as it was sent but without its newline; and the first 80 bytes of the reply.
+/// If the bytes aren't a reply, it writes the first 80 of all bytes that came since the last whole reply. Each text
+/// comes with its length. Without a loss or a retake, the numbers are 0 and the texts empty.
 ///
 /// # Errors
 ///
@@ -171,7 +172,7 @@ pub extern "C" fn vintsaky_match_hear_reporting(
 ///
 /// # Errors
 ///
-/// `BadColour`, or else `Down`. Nothing is written.
+/// `BadColour`, or else `Down`, also if the match is over. Nothing is written.
 #[unsafe(no_mangle)]
 pub extern "C" fn vintsaky_match_owed(
     held: &mut MatchHandle,
@@ -198,12 +199,13 @@ pub extern "C" fn vintsaky_match_owed(
     ))
 }
 
-/// Writes how many of the commands that bring a side to the record it has confirmed, how many commands it hasn't
-/// answered, and 1 if a `genmove` is among these, else 0. It doesn't matter whether the match is over.
+/// Writes how many commands of its script a side has confirmed, how many commands it hasn't answered, and 1 if a
+/// `genmove` is among the unanswered ones, else 0. The script consists of the setup commands and a `play` for each move
+/// of the record. It doesn't matter whether the match is over.
 ///
 /// # Errors
 ///
-/// `BadColour`, or else `Down`. Nothing is written.
+/// `BadColour`, or else `Down` if the side isn't up. Nothing is written.
 #[unsafe(no_mangle)]
 pub extern "C" fn vintsaky_match_status(
     held: &mut MatchHandle,
@@ -219,8 +221,8 @@ pub extern "C" fn vintsaky_match_status(
     code_of(matches::status(held.lend(), side, confirmed, unanswered, asked))
 }
 
-/// Reports that a side is gone: its output has ended, a read or a write failed, or its start did. After a ruling
-/// nothing changes.
+/// Reports that a side is gone: its output has ended, a read or a write failed, or it couldn't be started. After a
+/// ruling nothing changes.
 ///
 /// # Errors
 ///
@@ -232,8 +234,8 @@ pub extern "C" fn vintsaky_match_lost(held: &mut MatchHandle, side: u32) -> u32
     code_of(matches::lost(held.lend(), side))
 }
 
-/// Writes 1 if a side is in step: it is up, owes no answer, and has confirmed all commands that bring it to the record.
-/// Else it writes 0.
+/// Writes 1 if a side is in step: it is up, owes no answer, and has confirmed its whole script, as
+/// [`vintsaky_match_status`] counts it. Else it writes 0.
 ///
 /// # Errors
 ///

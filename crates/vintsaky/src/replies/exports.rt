@@ -43,7 +43,7 @@ pub extern "C" fn vintsaky_replies_feed(
     replies::feed(replies.lend(), bytes, used)
 }
 
-/// Returns whether the reply that was read last is a success: false before the first.
+/// Returns whether the reply that was read last is a success: false before the first reply.
 #[unsafe(no_mangle)]
 pub extern "C" fn vintsaky_replies_ok(replies: &mut RepliesHandle) -> bool
     ensures call { result ≡ replies.old.value.reply.ok }
@@ -56,7 +56,7 @@ pub extern "C" fn vintsaky_replies_ok(replies: &mut RepliesHandle) -> bool
 ///
 /// # Errors
 ///
-/// `NoId`, also before the first. Nothing is written.
+/// `NoId`, also before the first reply. Nothing is written.
 #[unsafe(no_mangle)]
 pub extern "C" fn vintsaky_replies_id(replies: &mut RepliesHandle, id: &mut u32) -> u32
     ensures call { Returns result (IdCall replies.old.value.reply id.old id.new) }
@@ -65,7 +65,8 @@ pub extern "C" fn vintsaky_replies_id(replies: &mut RepliesHandle, id: &mut u32)
     code_of(replies::id(replies.lend(), id))
 }
 
-/// Writes the text of the reply that was read last, and returns its length: 0 before the first, and at most 8,192.
+/// Writes the text of the reply that was read last, and returns its length: 0 before the first reply, and at most
+/// 8,192.
 #[unsafe(no_mangle)]
 pub extern "C" fn vintsaky_replies_text(replies: &mut RepliesHandle, text: &mut [u8]) -> usize
     ensures call { Writes replies.old.value.reply.text.items text.old text.new result }

@@ -83,9 +83,9 @@ impl Game {
     }
 
     /// Returns the move that a random word chooses for a colour, even if the record is full. Of the n points where the
-    /// colour may play next and that aren't own eyes of it, this is number `word` mod n, counted from 0 in board order,
-    /// or a pass if there are none. The choice is even except for one word in 2^64 / n: each of the first 2^64 mod n
-    /// points is chosen by one word more than the others.
+    /// colour may play next and that aren't its own eyes, this is number `word` mod n, counted from 0 in board order,
+    /// or a pass if there are none. Each of the first 2^64 mod n points is chosen by one word more than each of the
+    /// others, a bias that you can neglect.
     ///
     /// ```
     /// use vintsaky::{Colour, Game, Komi, KoRule, Point, Refusal};
@@ -107,10 +107,10 @@ impl Game {
         self.inner.position_hash(colour.inner())
     }
 
-    /// Plays on at random, a colour first and then both in turn. Each plays a random point of those where it may play
-    /// and that aren't own eyes of it, and passes if there is none. The playout ends after two passes in a row, counting
-    /// those made before it, after `limit` moves, or when the record has 2,000. The same game, colour, seed and
-    /// limit always make the same moves.
+    /// Plays on at random: this colour first, and then both in turn. Each plays a random one of the points where it
+    /// may play and that aren't its own eyes, and passes if there is none. The playout ends after two passes in a row
+    /// (a pass just before it counts), after `limit` moves, or when the record has 2,000 moves. The same game, colour,
+    /// seed and limit always make the same moves.
     ///
     /// ```
     /// use vintsaky::{Colour, Game};

@@ -18,7 +18,7 @@ causes! {
     BadHandicap = 15 "Odd sizes from 9 allow 2 to 9 stones, 7 and even sizes from 8 allow 2 to 4; never a negative number.",
     NoMove = 16 "The record has no move with this number, counted from 0.",
     NoStone = 17 "No stone is on the point.",
-    NotAsked = 18 "No such move or answer is being waited for.",
+    NotAsked = 18 "The engine is waiting for nothing, or for something that this call doesn't supply.",
     NoWord = 19 "The line has no word with this number, counted from 0 after the id.",
     NoId = 20 "The line has no id.",
     BadLength = 21 "A name must have 1 to 32 bytes.",
@@ -36,5 +36,5 @@ causes! {
     BadId = 33 "The id must be at most 2,147,483,647.",
     Down = 34 "The side isn't up (it was not started, or it went down), or the match is over.",
     IsOver = 35 "The match is already over.",
-    BadReason = 36 "A reason must be empty (a loss on time), or 1 to 20 letters (a-z, A-Z) and spaces, and no forfeit's.",
+    BadReason = 36 "A reason must be empty (loss on time), or 1 to 20 letters (a-z, A-Z) and spaces; not a forfeit's cause.",
 }
