@@ -1,8 +1,8 @@
 #!/usr/bin/env python3
 """Tries tournament/patience, which stands between a controller and an engine, and ends the engine where an answer is late.
 
-Every number of seconds here is far from the limit that it is held against, but for the time of a command, of which the best of some tries
-counts. An engine writes the numbers of its processes into a file, and in the end none of them may be there.
+Every number of seconds here is far from the limit that it is held against. An engine writes the numbers of its processes into a file,
+and in the end none of them may be there.
 """
 import os
 import signal
@@ -32,18 +32,6 @@ for line in sys.stdin:
         break
 """
 LATE = "patience: no answer in time to "
-
-
-def seconds_a_command(words, count=2000):
-    """How many seconds a command takes, of so many that are asked one after the other."""
-    with started(words, stdin=subprocess.PIPE) as engine:
-        asked, answers = engine.stdin.fileno(), engine.stdout.fileno()
-        began = None
-        for number in range(count + 1):
-            os.write(asked, b"1 name\n")
-            os.read(answers, 4096)
-            began = began or time.monotonic()  # the first command waits for the start
-        return (time.monotonic() - began) / count
 
 
 def through(*words, text="", **how):
@@ -144,13 +132,6 @@ class Passing(checks.Case):
             between.stdin.flush()
             output = between.stdout.read()
             self.same((b"", None), (output, between.poll()))
-
-    def test_the_time_of_a_command(self):
-        """it takes less than 100 microseconds a command."""
-        need("gtp_engine")
-        engine = [TOP / "bin/gtp_engine"]
-        tries = (seconds_a_command([PATIENCE, LONG, *engine]) - seconds_a_command(engine) for _ in range(20))
-        self.assertTrue(any(it < 100e-6 for it in tries), "it takes more")
 
     def test_the_time_of_an_answer(self):
         """the time of an answer begins when the one before it has ended, and what asks nothing isn't waited for."""

@@ -16,7 +16,8 @@ The stage finds all processes that a script started by a word in their environme
   are killed, two of them at one moment. What an engine can't do is kept, and processes that wait for a trial take its outcome.
 - Engines send signals to their process group. A shell that becomes the run has children, which live on.
 - Folders go on that the scripts left which were written in bash, and a game of theirs may be played at the same time.
-- What a game costs beside twogtp, and what each command costs in a folder with 20,000 results, is little; with --whole, 100,000.
+- A game starts few processes beside twogtp's. With ten times the results no command takes much more than ten times as long: with 20,000,
+  and by --whole with 100,000.
 - The tally is compared with results that were counted by hand, and the interval of pairs is worked out in another way.
 - The formulas are compared with values worked out by hand and by R, and each slip in one is noticed. Tests of two engines are simulated,
   and so is a tournament of engines whose differences are known.

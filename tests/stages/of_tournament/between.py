@@ -205,18 +205,6 @@ class Passing(Case):
             came = alone.run()
             self.same((1, "between: the game is over\n", False), (came.status, came.errors, (here.at / "started").exists()))
 
-    def test_time(self):
-        """A command takes less than 100 microseconds there."""
-        engine = [str(Room.programs / "gtp_engine")]
-        undo, long = b"2 undo\n", " ".join(f"{column}{row}" for row in range(1, 20) for column in "ABCDEFGHJKLMNOPQRST")
-        rows = {"name": ([b"1 name\n"], [b"1 name\n"], ""), "genmove": ([b"1 genmove b\n", undo], [b"1 genmove b\n", undo], ""),
-                "genmove in an opening": ([b"1 genmove b\n", undo], [b"1 play b A1\n", undo], long)}  # fmt: skip
-        with room() as here:
-            for name, (commands, alone, opening) in rows.items():
-                Alone(here, *engine, limit="60", move_limit="60", **({"opening": opening} if opening else {}))
-                more = min(seconds_a_command([*QUICK, "black"], commands, here) - seconds_a_command(engine, alone, here) for _ in range(3))
-                self.check(f"a command takes less than 100 microseconds there: {name}: {1e6 * more:.0f}", True, more < 100e-6)
-
 
 def wait_for(process, seconds):
     """Does it end in so many seconds?"""
@@ -234,20 +222,6 @@ def running_state(process):
             return file.read().rpartition(")")[2].split()[0] not in "ZX"
     except OSError:
         return False
-
-
-def seconds_a_command(words, commands, here, tries=40, count=100):
-    """How many seconds a command takes, of so many that are asked one after the other: the best of some tries, on a machine with other work."""
-    found = []
-    with running.started(words, stdin=subprocess.PIPE, env=here.environment) as engine:
-        asked, answers = engine.stdin.fileno(), engine.stdout.fileno()
-        for _ in range(tries):
-            began = time.monotonic()
-            for number in range(count):
-                os.write(asked, commands[number % len(commands)])
-                os.read(answers, 4096)
-            found.append((time.monotonic() - began) / count)
-    return min(found)
 
 
 # what is asked, the limits of an answer and of a genmove, and what is noted
