@@ -7,8 +7,8 @@ from tests.shared import checks
 
 from .rooms import LIMIT, RANDOM, STUBBORN, Case, room, tried
 
-# It writes down what it is asked, and plays as ours.
-HEARD = '#!/bin/bash\necho start >> heard\nexec gtp_engine < <(tee -a heard)\n'
+# It plays as ours, and writes down what it is asked: each line is in the file before gtp_engine has it.
+HEARD = '#!/bin/bash\necho start >> heard\nexec gtp_engine < <(while read -r line; do echo "$line" >> heard; echo "$line"; done)\n'
 ONE_SEED = ["--seeds", "1", "--jobs", "1"]
 # an engine's script, and what is reported of it; * is a number of seconds
 UNABLE = {
