@@ -65,6 +65,20 @@ class OneGame(Case):
         return None
 
 
+def make_results(here, count):
+    """Makes a tournament of two engines that has so many results, in the directory `all`."""
+    words = ["--engine", "one=gtp_engine", "--engine", "two=gtp_engine", "--seeds", str(count // 2), "--", "--size", "9", "--max-moves", "30"]
+    here.run("tournament", "plan", "all", *words)
+    place = here.at / "all/games"
+    for seed in range(1, count // 2 + 1):
+        winner = "BW"[seed % 2]
+        one = here.at / f"{winner}{seed // 2 % 8 + 1}"  # one of 16 files, which have many names
+        if not one.exists():
+            one.write_text(f"game 1: {winner}+6.5 moves 30 restarts 0 0\n{'D4 ' * 29}C{one.name[1]}\n")
+        for name in ("one_two", "two_one"):
+            os.link(one, place / f"{seed}_{name}")
+
+
 class Filled(Case):
     """Directories with many results, made by hand."""
 
@@ -90,7 +104,7 @@ class Many(Filled):
         spent = {}
         for count in (few, many):
             with room() as here:
-                self.make(here, count)
+                make_results(here, count)
                 self.look_at(here, count)
                 spent[count] = {words: least_seconds(here, *words.split()) for words in self.COMMANDS}
         for words in self.COMMANDS:
@@ -110,19 +124,6 @@ class Many(Filled):
         # and `one` the others
         self.check("and who won", [("two", str(many // 2 - 1)), ("one", str(many // 2 - 3))], won)
         self.check("play plays what is missing", (0, 5), (played.status, len(played.output.splitlines())))
-
-    def make(self, here, count):
-        """Makes the directory."""
-        words = ["--engine", "one=gtp_engine", "--engine", "two=gtp_engine", "--seeds", str(count // 2), "--", "--size", "9", "--max-moves", "30"]
-        here.run("tournament", "plan", "all", *words)
-        place = here.at / "all/games"
-        for seed in range(1, count // 2 + 1):
-            winner = "BW"[seed % 2]
-            one = here.at / f"{winner}{seed // 2 % 8 + 1}"  # one of 16 files, which have many names
-            if not one.exists():
-                one.write_text(f"game 1: {winner}+6.5 moves 30 restarts 0 0\n{'D4 ' * 29}C{one.name[1]}\n")
-            for name in ("one_two", "two_one"):
-                os.link(one, place / f"{seed}_{name}")
 
 
 class Dear(Filled):
