@@ -15,7 +15,7 @@ MOST = {"--direct": 1, None: 3}  # how many processes a game starts beside those
 MANY, FEW = 100_000, 10_000  # results
 # How many times as long a command may take with ten times the results, by the processor. It takes up to eight times as long. If it looked at
 # each result once for each other one, it would take a hundred times as long, so that no machine with other work makes a difference.
-LONGER = 25
+LONGER = 20
 TRIES = 3  # the best of so many counts
 # In a namespace of its own each process has the next number: how many a command starts, itself among them.
 COUNT = """\
