@@ -22,7 +22,7 @@ from pathlib import Path
 sys.dont_write_bytecode = True
 sys.path[0] = str(Path(__file__).resolve().parents[2])
 
-from tests.references.engine import chosen, stepped, values  # noqa: E402
+from tests.references.engine import chosen, values  # noqa: E402
 from tests.references.engine import game as rules  # noqa: E402
 from tests.references.engine.conversations import KINDS  # noqa: E402
 from tests.shared import checks, library  # noqa: E402
@@ -42,9 +42,6 @@ DEBIANS = "/usr/bin/python3"  # which has Debian's numpy, where that is installe
 LEAST_TESTS = 150
 AT_ONCE = 2  # games and matches that are played at a time
 CAUSES = {"OFF_BOARD", "OCCUPIED", "SUICIDE", "KO"}
-# What the reference of an engine in steps returns, where it isn't the name of the cause.
-RETURNED = {"OFF_BOARD": "off the board", "BLACK": "asked b", "WHITE": "asked w"}
-UNREAD = {"choose": "no choice", "name": "no title", "version": "no title"}
 
 # Engines that go wrong, or seem to: what `choose` does.
 WRONG = {
@@ -176,49 +173,12 @@ def differences(vintsaky, r):
     return None
 
 
-def by_steps(vintsaky, steps, name, data):
-    """What this call of an engine in steps returns, as the reference says it."""
-    calls = {
-        "feed": steps.feed, "choose": steps.choose, "answer": steps.answer, "fail": lambda data: steps.answer(data, ok=False),
-        "decline": lambda data: steps.decline(), "name": steps.set_name, "version": steps.set_version, "add": steps.add_command,
-    }  # fmt: skip
-    try:
-        came = calls[name](data if name != "choose" or data.lower() != b"resign" else vintsaky.RESIGN)
-    except vintsaky.Refused as refused:
-        cause = refused.cause.name
-        if cause == "BAD_TEXT" and name in UNREAD:
-            return UNREAD[name]
-        return RETURNED.get(cause, cause.lower().replace("_", " "))
-    if name != "feed":
-        return "done" if name in ("name", "version", "add") else f"done {steps.reply.hex()}"
-    used, event = came
-    words = [os.fsencode(word).hex() for word in steps.line.words] if steps.line else []
-    said = [str(used), RETURNED.get(event.name, event.name.lower()), *words]
-    return " ".join(said + ([steps.reply.hex()] if event.name == "REPLY" else []))
-
-
-def odd_steps(vintsaky, seed):
-    """The first call of a drawn list that returns something else than the reference's, or None."""
-    rule, calls = stepped.drawn(seed, random.Random(seed))
-    steps = vintsaky.Steps(vintsaky.KoRule.SIMPLE if rule == rules.SIMPLE else vintsaky.KoRule.POSITIONAL)
-    for name, data, wanted in calls:
-        got = by_steps(vintsaky, steps, name, data)
-        if got != wanted:
-            return name, data, wanted, got
-    return None
-
-
 class Games(Needing):
-    """Drawn games and drawn calls beside the reference."""
+    """Drawn games beside the reference."""
 
     def test_games(self):
         """100 drawn games are the reference's."""
         odd = [differences(package(), random.Random(f"game {number}")) for number in range(100)]
-        self.same([], [each for each in odd if each])
-
-    def test_steps(self):
-        """60 drawn lists of calls of an engine in steps return the reference's."""
-        odd = [odd_steps(package(), seed) for seed in range(60)]
         self.same([], [each for each in odd if each])
 
 
