@@ -75,9 +75,9 @@ def verdict_on(edit, refused):
 
 
 def try_edits(crate, edits, note):
-    """Tries a crate's edits, many in one check, and alone what isn't shown so. Whether all passed; each is noted."""
+    """Tries a crate's edits, many in one check, and alone what isn't shown so. Each is noted."""
     left = list(batches(edits))
-    checks, seconds, well = 0, 0.0, True
+    checks, seconds = 0, 0.0
     while left:
         taken, texts = left.pop(0)
         output, time = check(crate, texts)
@@ -88,9 +88,7 @@ def try_edits(crate, edits, note):
         for edit in taken:
             goal, why = verdict_on(edit, refused)
             if goal or len(taken) == 1:
-                well = well and bool(goal)
                 note(bool(goal), f"{edit.name} is refused by {goal}" if goal else f"{edit.name}: {why}")
             else:
                 left.append(([edit], applied({}, edit)))
     print(f"{crate}: {len(edits)} edits in {checks} checks, {seconds:.0f} s of processor time", flush=True)
-    return well

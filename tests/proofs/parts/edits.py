@@ -2,8 +2,6 @@
 
 A file edits/CRATE.edits has the edits of a crate, in the order of its sources:
 
-    tried: SUM
-
     src/lines.rt:
 
     # a comment, where the name doesn't say what is wrong
@@ -12,10 +10,9 @@ A file edits/CRATE.edits has the edits of a crate, in the order of its sources:
     -     self.bytes[self.len - 1]
     +     self.bytes[0]
 
-`tried:` has the sum of all that they were last tried on (sums.py). After a file's name and a colon come its edits: a name, and below it
-lines of the source, which stand there once in this order, whatever their indentation. A line after `- ` gives way to those after `+ `,
-and a line after two spaces stays. Lines after a line with `+ ` are a further change of the same edit; one of another file is headed by
-`in FILE`.
+After a file's name and a colon come its edits: a name, and below it lines of the source, which stand there once in this order, whatever
+their indentation. A line after `- ` gives way to those after `+ `, and a line after two spaces stays. Lines after a line with `+ ` are a
+further change of the same edit; one of another file is headed by `in FILE`.
 """
 from __future__ import annotations
 
@@ -26,7 +23,6 @@ from pathlib import Path
 from .crates import TOP
 
 FOLDER = TOP / "tests" / "proofs" / "edits"
-TRIED = "tried: "
 
 
 class BadEdits(Exception):
@@ -91,7 +87,6 @@ class Reading:
 
     path: Path
     crate: str
-    tried: str = ""
     file: str = ""
     here: str = ""
     stem: str = ""
@@ -134,8 +129,6 @@ class Reading:
             self.here = line[3:]
         elif line.startswith("#"):
             self.end_edit()
-        elif line.startswith(TRIED) and not self.edits:
-            self.tried = line[len(TRIED):]
         elif re.fullmatch(r"src/[\w/]+\.rt:", line):
             self.end_edit()
             self.file = line[:-1]
@@ -146,13 +139,12 @@ class Reading:
 
 
 def read_edits(path):
-    """What was read of a file of edits."""
+    """The edits of a file of them."""
     reading = Reading(path, path.stem)
-    if path.is_file():
-        for line in path.read_text().splitlines():
-            reading.take(line)
-        reading.end_edit()
-    return reading
+    for line in path.read_text().splitlines():
+        reading.take(line)
+    reading.end_edit()
+    return reading.edits
 
 
 def read_must_fail(path):
@@ -175,11 +167,11 @@ def all_edits():
     for path in sorted(TOP.glob("crates/*/must-fail/*.edit")):
         found.setdefault(path.parent.parent.name, []).append(read_must_fail(path))
     for path in sorted(FOLDER.glob("*.edits")):
-        edits = found.setdefault(path.stem, [])
-        twice = {edit.stem for edit in edits} & {edit.stem for edit in read_edits(path).edits}
+        edits, more = found.setdefault(path.stem, []), read_edits(path)
+        twice = {edit.stem for edit in edits} & {edit.stem for edit in more}
         if twice:
             raise BadEdits(f"{path}: {', '.join(sorted(twice))} is in must-fail/ too")
-        edits += read_edits(path).edits
+        edits += more
     return dict(sorted(found.items()))
 
 
