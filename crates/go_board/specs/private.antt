@@ -9,7 +9,6 @@ pub mod Ko
 pub mod Legal
 pub mod Kept
 pub mod Stones
-pub mod HashChange
 pub mod Columns
 pub mod Playouts
 pub mod Eye

@@ -13,7 +13,6 @@ mod boards;
 mod candidates;
 mod chain_lists;
 mod copies;
-mod hash_change;
 mod playouts;
 mod position_hash;
 mod repeats;

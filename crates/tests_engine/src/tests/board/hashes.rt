@@ -1,10 +1,9 @@
-//! Hashes of boards, and hashes kept from move to move.
-use super::{at, new_game, new_game_under, play_all, read_move};
-use crate::asserts::{assert_equal, assert_equal_for, assert_true, some};
+//! Hashes of boards and positions, and the keys of stones.
+use super::{at, new_game, play_all, read_move};
+use crate::asserts::{assert_equal_for, some};
 use arrayvec::ArrayVec;
 use go_base::{Colour, Komi, Size, Vertex};
-use go_board::{Game, HashedGame, KoRule, NothingToUndo, PlayFault, stone_key};
-use std::process::Abort;
+use go_board::{Game, KoRule, stone_key};
 
 /// A colour, a column, a row, and the key of such a stone: SplitMix64 from state 0 draws it after as many draws as
 /// twice the point's place, and one more for White. (From a program in Python; its first draw is 0xe220a8397b1dcdaf, as
@@ -28,6 +27,9 @@ static HASHES: [(u32, &str, u64); 6] = [
     (19, "bA1 wT19 bK10", 0x6577_a991_e03c_3d82),
     (19, "bA1 wT19 bK10 undo undo", 0x6971_9932_8856_7280),
 ];
+
+/// White takes a ko.
+const TAKEN: &str = "bA2 wC1 bB1 wB2 bD4 wA1";
 
 /// The lines of the board, the moves, the colour to move, and the hash of that position: the draw after 1,430 draws is
 /// added for Black and the next for White, and for a ko point that after 1,432 draws and one for each place before it.
@@ -70,8 +72,6 @@ fn a_position_has_the_colour_to_move_and_its_ko_point_in_its_hash(rt: HostRuntim
             let mut game = Game::with_rule(size, komi, rule);
             play_all(&rt, &mut game, moves);
             assert_equal_for(&rt, (moves, to_move), game.position_hash(*to_move), *hash);
-            let hashed = HashedGame::new(game);
-            assert_equal_for(&rt, (moves, to_move), hashed.position_hash(*to_move), *hash);
         }
     }
 }
@@ -116,111 +116,4 @@ fn a_hash_is_kept_from_move_to_move_by_the_keys_of_stones(rt: HostRuntime) {
         }
         assert_equal_for(&rt, word, hash, game.board_hash());
     }
-}
-
-/// Plays the moves of a text, separated by spaces, as the other tests do. After each move the kept hash has to be the
-/// board's.
-fn play_hashed(rt: &impl Abort, hashed: &mut HashedGame, moves: &str) {
-    for word in moves.split_whitespace() {
-        if word == "undo" {
-            assert_true(rt, hashed.undo().is_ok());
-        } else {
-            let made = read_move(rt, word);
-            assert_equal_for(rt, word, hashed.play(made.colour, made.vertex), Ok(()));
-        }
-        assert_equal_for(rt, word, hashed.hash(), hashed.game().board_hash());
-    }
-}
-
-/// A hashed game after these moves under this rule, on a board of 4 lines each way.
-fn hashed_after(rt: &impl Abort, rule: KoRule, moves: &str) -> HashedGame {
-    let mut hashed = HashedGame::new(new_game_under(rt, 4, rule));
-    play_hashed(rt, &mut hashed, moves);
-    hashed
-}
-
-/// White takes a ko.
-const TAKEN: &str = "bA2 wC1 bB1 wB2 bD4 wA1";
-
-/// A rule, moves under it, and moves under simple ko that leave the same board.
-static SAME: [(KoRule, &str, &str); 8] = [
-    (KoRule::Simple, "bA1 wB2", "wB2 bA1"),
-    (KoRule::Simple, "bpass wpass bD4", "bD4"),
-    (KoRule::Simple, "bA1 undo", ""),
-    // A stone is captured, and the capture undone.
-    (
-        KoRule::Simple,
-        "bA3 bB3 wA2 wB2 bA1 wB1 undo",
-        "bA3 bB3 wA2 wB2 bA1",
-    ),
-    (
-        KoRule::Simple,
-        "bA3 bB3 wA2 wB2 bA1 wB1",
-        "wB1 wB2 wA2 bB3 bA3",
-    ),
-    // A ko is taken, and retaken after passes.
-    (
-        KoRule::Simple,
-        "bA2 wC1 bB1 wB2 wA1 bpass wpass bB1",
-        "wB2 wC1 bB1 bA2",
-    ),
-    (
-        KoRule::Simple,
-        "bA2 wC1 bB1 wB2 bD4 wA1 bpass wpass bB1",
-        "wB2 bB1 wC1 bD4 bpass bA2",
-    ),
-    (KoRule::Positional, TAKEN, TAKEN),
-];
-
-/// Moves that leave boards of which no two are equal.
-static DIFFERENT: [&str; 8] = [
-    "",
-    "bA1",
-    "wA1",
-    "bA2",
-    "bA1 wA2",
-    "bA2 wC1 bB1 wB2 wA1",
-    TAKEN,
-    "wB2 bB1 wC1 bD4 bpass bA2",
-];
-
-#[test]
-fn equal_boards_alone_have_equal_hashes(rt: HostRuntime) {
-    for (rule, moves, others) in &SAME {
-        let hash = hashed_after(&rt, *rule, moves).hash();
-        let other = hashed_after(&rt, KoRule::Simple, others).hash();
-        assert_equal_for(&rt, (rule, moves), hash, other);
-    }
-    for (index, moves) in DIFFERENT.iter().enumerate() {
-        let hash = hashed_after(&rt, KoRule::Simple, moves).hash();
-        for (number, others) in DIFFERENT.iter().enumerate() {
-            let other = hashed_after(&rt, KoRule::Simple, others).hash();
-            assert_equal_for(&rt, (moves, others), hash == other, index == number);
-        }
-    }
-}
-
-#[test]
-fn refusals_leave_the_hash_and_copies_have_hashes_of_their_own(rt: HostRuntime) {
-    // The key of the size 4, and that with the key of Black's stone on A1.
-    let empty = 0xcc7c_014b_c0d9_f6a2;
-    let key = 0xd052_859e_e4a8_3313;
-    let mut hashed = hashed_after(&rt, KoRule::Simple, "");
-    assert_equal(&rt, hashed.undo(), Err(NothingToUndo));
-    assert_equal(&rt, hashed.hash(), empty);
-    play_hashed(&rt, &mut hashed, "bA1");
-    assert_equal(&rt, hashed.hash(), key);
-    let a1 = at(&rt, 1, 1);
-    let refused = hashed.play(Colour::White, Vertex::At(a1));
-    assert_equal(&rt, refused, Err(PlayFault::Occupied));
-    assert_equal(&rt, hashed.hash(), key);
-    let mut copy = hashed.copied();
-    play_hashed(&rt, &mut copy, "wB1 wA2");
-    // White's two stones captured Black's.
-    assert_equal(&rt, copy.game().at(a1), None);
-    assert_equal(&rt, hashed.hash(), key);
-    hashed.copy_from(&copy);
-    let other = hashed_after(&rt, KoRule::Simple, "wA2 wB1").hash();
-    assert_equal(&rt, hashed.hash(), other);
-    assert_equal(&rt, hashed.into_game().moves().len(), 3);
 }
