@@ -1,18 +1,17 @@
 """The manifests of the workspace."""
 import re
 
-# The other crates: what a member's manifest says of each, and what the workspace's does. The kit's ports of the last three have
+# The other crates: what a member's manifest says of each, and what the workspace's does. The kit's ports of the last two have
 # another interface, which a shim has over them.
 OTHERS = {
     "arrayvec": 'version = "0.7.2", default-features = false',
     "thiserror": 'version = "1.0.38"',
     "rand_pcg": 'version = "0.3.1", default-features = false',
     "rand_core": 'version = "0.6.3", default-features = false',
-    "hex": 'version = "0.4.3", default-features = false, features = ["alloc"]',
     "clap": 'version = "4.0.32", default-features = false, features = ["std", "help", "usage", "error-context", "suggestions", "string"]',
 }
 BUILT = ("gtp_check", "gtp_engine", "twogtp", "vintsaky")  # the crates that cargo builds where none is named
-SHIMMED = ("rand_core", "hex", "clap")
+SHIMMED = ("rand_core", "clap")
 SHIMS = ("kit_ffi", "kit_simd", "kit_std")
 # Why each lint of clippy is allowed. The sources are proved as they are, and a change has to make them better in itself.
 LINTS = """\

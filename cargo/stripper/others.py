@@ -12,7 +12,7 @@ import tempfile
 from pathlib import Path
 
 DEBIAN = Path("/usr/share/cargo/registry")
-PACKAGES = "librust-arrayvec-dev librust-thiserror-dev librust-rand-pcg-dev librust-rand-core-dev librust-hex-dev librust-clap-dev"
+PACKAGES = "librust-arrayvec-dev librust-thiserror-dev librust-rand-pcg-dev librust-rand-core-dev librust-clap-dev"
 TABLE = re.compile(r'(?m)^\[(?:target\..*\.)?(?:dependencies|build-dependencies)\.(?P<quoted>"?)(?P<name>[\w-]+)(?P=quoted)\]\n(?P<rows>(?:(?!\[).*\n?)*)')
 RENAMED = re.compile(r'(?m)^package = "([^"]+)"')
 CHANGED = "# Changed by cargo/strip: each `path` says where a crate lies, and no warning is shown.\n"
