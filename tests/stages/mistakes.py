@@ -30,10 +30,8 @@ sys.path[0] = str(Path(__file__).resolve().parents[2])
 from tests.shared import checks, running  # noqa: E402
 from tests.stages.of_mistakes.rows import TABLE  # noqa: E402
 from tests.stages.of_mistakes.trials import Trial, try_it  # noqa: E402
-from tests.stages.of_mistakes.turned import unnoticed  # noqa: E402
 
 PARSER = checks.Parser(__doc__)
-PARSER.add_argument("--wrong", action="store_true", help="then turns each thing that is wanted; each has to be noticed")
 PARSER.add_argument("--programs", metavar="FOLDER", help="where the programs are; else bin/")
 OPTIONS = PARSER.options(__name__)
 AT_ONCE = 4  # matches that are played at a time
@@ -60,13 +58,8 @@ class Mistakes(checks.Case):
     def row(self, trial, came):
         if came is None:
             self.skipTest("its limits can't be set here")
-        played, different = came
-        odd = [f"{what}, wanted\n{wanted}\n--- {what}, got\n{got}" for what, wanted, got in different]
-        with self.subTest(trial.name):
-            self.nothing("\n--- ".join([*odd, f"the command\n{shlex.join(map(str, trial.command()))}"]) if odd else None)
-        if OPTIONS.wrong and not different:
-            turned, missed = unnoticed(played)
-            self.check(f"{trial.name}: each of {turned} wishes is noticed where it is turned", (True, []), (turned > 0, missed))
+        odd = [f"{what}, wanted\n{wanted}\n--- {what}, got\n{got}" for what, wanted, got in came]
+        self.nothing("\n--- ".join([*odd, f"the command\n{shlex.join(map(str, trial.command()))}"]) if odd else None)
 
 
 if __name__ == "__main__":

@@ -166,11 +166,11 @@ def with_why(case, result):
 
 
 def try_it(trial):
-    """Plays the match, also with `--why`. What came of each, with its row, and in what that differs. None where it can't be played here."""
+    """Plays the match, also with `--why`. In what that differs from its row. None where it can't be played here."""
     if not can_be_tried(trial.case):
         return None
     played = [(trial.case, trial.play())]
     if trial.explains:
         played.append(with_why(trial.case, trial.play("--why")))
     plain, *others = [differences(*row) for row in played]
-    return played, plain + [(f"with --why, {what}", *texts) for found in others for what, *texts in found]
+    return plain + [(f"with --why, {what}", *texts) for found in others for what, *texts in found]
