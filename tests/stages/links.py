@@ -8,7 +8,7 @@ tests/shared/words.txt: those of the pages, of help and manual pages, and of doc
 the words that docs/glossary.md says aren't used. Last, each fault in a small page has to be seen.
 
 Other stages look at the rest: `shown` and `library_page` run the examples, `map` looks at the crates of the map's names, `release` at the
-pages as a release has them, and tests/proofs/promises at the names in comments of contracts and in docs/promises.md.
+pages as a release has them, and tests/proofs/promises at the names in comments of contracts.
 """
 import sys
 from functools import lru_cache
@@ -44,8 +44,7 @@ class Pages(Faultless):
         if page not in names.OF_RELEASES:
             self.none(f"{page}: the files that it names are there", names.lost_files(page, text))
         self.none(f"{page}: some program has each option", names.lost_options(page, text))
-        if page not in names.NAMES_ELSEWHERE:
-            self.none(f"{page}: some source has each name", names.lost_names(page, text))
+        self.none(f"{page}: some source has each name", names.lost_names(page, text))
 
 
 class Others(checks.Case):

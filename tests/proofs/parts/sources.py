@@ -31,9 +31,9 @@ class Function:
     def is_law(self):
         return self.file == "src/laws.rt"
 
-
-def is_of_tests(path):
-    return "tests" in path.parts or path.name == "tests.rt"
+    @property
+    def is_promise(self):
+        return self.is_law or bool(self.clauses)
 
 
 def comment_above(lines, at):
@@ -68,7 +68,7 @@ def functions_of(crate):
     found = []
     for path in sorted((TOP / "crates" / crate / "src").rglob("*.rt")):
         inner = path.relative_to(TOP / "crates" / crate)
-        if is_of_tests(inner):
+        if "tests" in inner.with_suffix("").parts:
             continue
         lines, owner, is_trait = path.read_text().splitlines(), "", False
         for at, line in enumerate(lines):
@@ -80,13 +80,9 @@ def functions_of(crate):
     return found
 
 
-def promises(crate):
-    """Does the crate promise anything? A crate of tests doesn't, nor does one whose functions have no clause, as an example."""
-    return not crate.startswith("tests_") and any("ensures" in path.read_text() for path in (TOP / "crates" / crate / "src").rglob("*.rt"))
-
-
 def crates_with_promises():
-    return [crate for crate in rows_of_crates() if promises(crate)]
+    """The crates that promise anything. A crate of tests doesn't, nor does one whose functions have no clause, as an example."""
+    return [crate for crate in rows_of_crates() if not crate.startswith("tests_") and any(it.is_promise for it in functions_of(crate))]
 
 
 def code_of_sources():

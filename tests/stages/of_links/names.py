@@ -20,8 +20,6 @@ OWN_PARTS = ("tests/stages/links.py", "tests/stages/of_links/", "tests/stages/of
 
 # pages that lie in a release, where tests/stages/release.py looks at the files that they name
 OF_RELEASES = ("packaging/README.release.md", "packaging/README.source.md")
-# pages whose names another check looks at: tests/proofs/promises
-NAMES_ELSEWHERE = ("docs/promises.md",)
 
 # what pages name and the repository hasn't, and whose it is
 FILES_OF_OTHERS = {
