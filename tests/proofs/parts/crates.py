@@ -4,36 +4,27 @@ from __future__ import annotations
 import os
 import shlex
 import shutil
-from dataclasses import dataclass
 from pathlib import Path
 
 TOP = Path(__file__).resolve().parents[3]
 RT = shlex.split(os.environ.get("RT", "rt"))  # what proves a crate
 
 
-@dataclass(frozen=True)
-class Row:
-    """A row of crates.txt: whether the crate is a static library, and what it depends on, the kit's crates too."""
-
-    is_static: bool
-    below: tuple[str, ...]
+def rows_of_crates():
+    """What each crate of crates.txt depends on, the kit's crates too, by the crate's name."""
+    lines = (line.split("#")[0].split(":") for line in (TOP / "crates.txt").read_text().splitlines())
+    return {words[0].split()[0]: words[1].split() for words in lines if len(words) == 2}
 
 
-def rows_of_crates(top=TOP):
-    """The rows of crates.txt, by the crate's name."""
-    lines = (line.split("#")[0].split(":") for line in (top / "crates.txt").read_text().splitlines())
-    return {words[0].split()[0]: Row("staticlib" in words[0].split(), tuple(words[1].split())) for words in lines if len(words) == 2}
-
-
-def crates_below(crate, top=TOP):
+def crates_below(crate):
     """The crates of this repository that a crate depends on, without itself."""
-    rows = rows_of_crates(top)
-    found, left = set(), list(rows[crate].below)
+    rows = rows_of_crates()
+    found, left = set(), list(rows[crate])
     while left:
         name = left.pop()
         if name in rows and name not in found:
             found.add(name)
-            left += rows[name].below
+            left += rows[name]
     return found
 
 

@@ -4,21 +4,18 @@ A file edits/CRATE.edits has the edits of a crate, in the order of its sources:
 
     src/lines.rt:
 
-    # a comment, where the name doesn't say what is wrong
     the_last_byte_is_lost
       fn last(&self) -> u8 {
     -     self.bytes[self.len - 1]
     +     self.bytes[0]
 
 After a file's name and a colon come its edits: a name, and below it lines of the source, which stand there once in this order, whatever
-their indentation. A line after `- ` gives way to those after `+ `, and a line after two spaces stays. Lines after a line with `+ ` are a
-further change of the same edit; one of another file is headed by `in FILE`.
+their indentation. Those after two spaces stay, and those after `- ` give way to those after `+ `.
 """
 from __future__ import annotations
 
 import re
-from dataclasses import dataclass, field
-from pathlib import Path
+from dataclasses import dataclass
 
 from .crates import TOP
 
@@ -81,70 +78,18 @@ class Edit:
 # ---- reading
 
 
-@dataclass
-class Reading:
-    """What was read of a file of edits: the file that the next change is of, and the lines of the change that is being read."""
-
-    path: Path
-    crate: str
-    file: str = ""
-    here: str = ""
-    stem: str = ""
-    changes: list = field(default_factory=list)
-    edits: list = field(default_factory=list)
-    lines: dict = field(default_factory=lambda: {" ": [], "-": [], "+": []})
-
-    def end_change(self):
-        kept, old, new = (tuple(self.lines[sign]) for sign in " -+")
-        if kept or old or new:
-            if not (old or new) or not (kept or old):
-                raise BadEdits(f"{self.path}: {self.stem}: a change without lines of the source, or one that changes none")
-            self.changes.append(Lines(self.here, kept, old, new))
-        self.lines = {" ": [], "-": [], "+": []}
-
-    def end_edit(self):
-        self.end_change()
-        if self.stem:
-            if not self.changes or self.stem in (edit.stem for edit in self.edits):
-                raise BadEdits(f"{self.path}: {self.stem} changes nothing, or is there twice")
-            self.edits.append(Edit(self.crate, self.stem, tuple(self.changes)))
-        self.stem, self.changes = "", []
-
-    def take_line(self, sign, text):
-        if not self.stem:
-            raise BadEdits(f"{self.path}: '{sign} {text}' is of no edit")
-        begins = self.lines["+"] and sign != "+" or self.lines["-"] and sign == " "
-        if begins:
-            self.end_change()
-        self.lines[sign].append(text)
-
-    def take(self, line):
-        """Takes a line of the file."""
-        if re.match(r"[-+ ] |[-+]$", line):
-            self.take_line(line[0], line[2:])
-        elif not line:
-            self.end_edit()
-        elif line.startswith("in ") and self.stem:
-            self.end_change()
-            self.here = line[3:]
-        elif line.startswith("#"):
-            self.end_edit()
-        elif re.fullmatch(r"src/[\w/]+\.rt:", line):
-            self.end_edit()
-            self.file = line[:-1]
-        elif re.fullmatch(r"[a-z0-9_]+", line) and self.file and not self.stem:
-            self.stem, self.here = line, self.file
-        else:
-            raise BadEdits(f"{self.path}: '{line}' is no line of edits")
-
-
 def read_edits(path):
     """The edits of a file of them."""
-    reading = Reading(path, path.stem)
-    for line in path.read_text().splitlines():
-        reading.take(line)
-    reading.end_edit()
-    return reading.edits
+    found, file = [], ""
+    for block in path.read_text().rstrip("\n").split("\n\n"):
+        name, *lines = block.split("\n")
+        if re.fullmatch(r"src/[\w/]+\.rt:", block):
+            file = name[:-1]
+        elif file and re.fullmatch(r"\w+", name) and re.fullmatch(r" *-*\+*", "".join(line[:1] for line in lines)) and lines:
+            found.append(Edit(path.stem, name, (Lines(file, *(tuple(it[2:] for it in lines if it[0] == sign) for sign in " -+")),)))
+        else:
+            raise BadEdits(f"{path}: '{name}' is neither a file nor an edit of one")
+    return found
 
 
 def read_must_fail(path):
@@ -164,14 +109,11 @@ def read_must_fail(path):
 def all_edits():
     """The edits of each crate, by its name: those of its must-fail/ and of its file here."""
     found = {}
-    for path in sorted(TOP.glob("crates/*/must-fail/*.edit")):
-        found.setdefault(path.parent.parent.name, []).append(read_must_fail(path))
-    for path in sorted(FOLDER.glob("*.edits")):
-        edits, more = found.setdefault(path.stem, []), read_edits(path)
-        twice = {edit.stem for edit in edits} & {edit.stem for edit in more}
-        if twice:
-            raise BadEdits(f"{path}: {', '.join(sorted(twice))} is in must-fail/ too")
-        edits += more
+    edits = [read_must_fail(path) for path in sorted(TOP.glob("crates/*/must-fail/*.edit"))]
+    for edit in [*edits, *(it for path in sorted(FOLDER.glob("*.edits")) for it in read_edits(path))]:
+        if edit.name in (it.name for it in found.setdefault(edit.crate, [])):
+            raise BadEdits(f"{edit.name} is there twice")
+        found[edit.crate].append(edit)
     return dict(sorted(found.items()))
 
 
