@@ -19,8 +19,8 @@ The stage finds all processes that a script started by a word in their environme
 - A game starts few processes beside twogtp's. With ten times the results no command takes much more than ten times as long: with 20,000,
   and by --whole with 100,000.
 - The tally is compared with results that were counted by hand, and the interval of pairs is worked out in another way.
-- The formulas are compared with values worked out by hand and by R, and each slip in one is noticed. Tests of two engines are simulated,
-  and so is a tournament of engines whose differences are known.
+- The formulas are compared with values worked out by hand and by R. Tests of two engines are simulated, and so is a tournament of
+  engines whose differences are known.
 - What is exported is read by pgn-extract, and by GNU Go, whose boards and captures have to be those of the games.
 - One engine plays all others, engines are added, and games that are the same are found. A run says how far it is.
 - tap is tried with two engines. The sample engine plays whole games on many sizes, and takes and refuses the same moves as
@@ -49,7 +49,7 @@ from tests.stages.of_tournament.asked import Forms, Helps, Python, Said, SaidByT
 from tests.stages.of_tournament.gauntlets import Gauntlets, Same, Warned  # noqa: E402, F401
 from tests.stages.of_tournament.exports import ByGnuGo, DamagedNotes, Exported, Opened, Page, Records, Versions  # noqa: E402, F401
 from tests.stages.of_tournament.progressed import Abandoned, Lines, Times  # noqa: E402, F401
-from tests.stages.of_tournament.numbers import Errors, Mutants, PairsOfTwo, Tests, Values, Year  # noqa: E402, F401
+from tests.stages.of_tournament.numbers import Errors, PairsOfTwo, Tests, Values, Year  # noqa: E402, F401
 from tests.stages.of_tournament.damaged import Copied, Cut, Damages, Old, Spelled  # noqa: E402, F401
 from tests.stages.of_tournament.damaged import Unread as UnreadResults  # noqa: E402, F401
 from tests.stages.of_tournament.costs import Dear, Filled, Many, OneGame  # noqa: E402, F401

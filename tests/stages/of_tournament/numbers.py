@@ -3,7 +3,6 @@ import json
 import math
 import sys
 
-from tests.references.mutator import Limit, Mutant, known_by, mutants_of
 from tests.shared import checks
 
 from . import simulated
@@ -108,9 +107,6 @@ VALUES = [
     ("decision", ((0, 0, 0, 1, 46), 0, 100), None),
     ("decision", ((12, 0, 24, 0, 12), 0, 10), None),
 ]
-# Mutants by hand, of the numbers that aren't whole.
-BY_HAND = [("Z is that of a 90 % interval", "Z", 1.6448536269514722), ("the bound is ln 20", "BOUND", math.log(20)),
-           ("the bound is ln 18", "BOUND", math.log(18)), ("0.01 is added", "ADDED", 0.01), ("0.0001 is added", "ADDED", 0.0001)]
 
 
 def is_near(wanted, got):
@@ -122,12 +118,6 @@ def is_near(wanted, got):
     return abs(got - wanted) <= NEAR * max(1, abs(wanted))
 
 
-def off():
-    """The values that don't come out."""
-    found = [(name, words, wanted, getattr(scores, name)(*words)) for name, words, wanted in VALUES]
-    return [it for it in found if not is_near(it[2], it[3])]
-
-
 @checks.table(VALUES, lambda it: f"{it[0]}{it[1]}")
 class Values(Case):
     """What a function comes to."""
@@ -136,41 +126,6 @@ class Values(Case):
         name, words, wanted = row
         got = getattr(scores, name)(*words)
         self.nothing("" if is_near(wanted, got) else f"{got}, and not {wanted}")
-
-
-# Changes that make no difference: a ratio is never the bound to the last digit, nor is what is halved; the exact ratio isn't asked where the
-# other one says nothing, which saves time; and one halving more or less is in the last digits.
-EQUAL = {
-    "scores.accepted: found >= BOUND -> found > BOUND",
-    "scores.accepted: found <= -BOUND -> found < -BOUND",
-    "scores.shares: off > 0 -> off >= 0",
-    "scores.decision: found is not None and accepted(exact_ratio(counts, elo0, elo1)) == found"
-    " -> accepted(exact_ratio(counts, elo0, elo1)) == found",
-    "scores.HALVINGS: 60 -> 61",
-    "scores.HALVINGS: 60 -> 59",
-}
-
-
-class Mutants(checks.Case):
-    """Each formula with one slip: the values don't come out."""
-
-    def test_mutants(self):
-        """Each slip in a formula, and each other number, is noticed by some value."""
-        self.check("without a slip the values come out", [], off())
-        made = list(mutants_of(scores))
-        self.check("there are many slips", True, len(made) > 75)
-        by_hand_too = [*made, *((what, scores, name, value) for what, name, value in BY_HAND)]
-        self.check("each is noticed", [], [it[0] for it in by_hand_too if known_by(it[0]) not in EQUAL and not is_noticed(it, off)])
-
-
-def is_noticed(mutant, looked):
-    """Does this find something with the wrong body, or break?"""
-    _, owner, attribute, wrong = mutant
-    with Limit(), Mutant(owner, attribute, wrong):
-        try:
-            return looked() != []
-        except Exception:
-            return True
 
 
 # ---- the pairs
@@ -265,26 +220,6 @@ def pairs_off():
     return [what for what, is_so in found.items() if not is_so]
 
 
-# Changes that make no difference: what is skipped where no game is the same, the order of two things of which only the sum counts, and a pair
-# that isn't whole, which is never among those that aren't new.
-EQUAL_PAIRS = {
-    "pairs.Pairs.of_two: self.repeats(one, other) -> self.repeats(other, one)",
-    "pairs.Pairs.in_order: self.repeats(one, other) -> self.repeats(other, one)",
-    "pairs.Pairs.in_order: seed < until -> seed <= until",
-    "pairs.Pairs.repeats: if not any((has_twice(it) for it in sides)): -> if False:",
-    "pairs.Pairs.repeats: zip(self.of(self.scores, one), self.of(self.scores, other)) -> zip(self.of(self.scores, other), self.of(self.scores, one))",
-    "pairs.Pairs.same: if has_twice(played): -> if True:",
-    "pairs.Found.add: zip(self.every, other.every) -> zip(other.every, self.every)",
-    "pairs.has_twice: if len(moves) < 2: -> if False:",
-    "pairs.has_twice: 2 -> 1",
-    "pairs.has_twice: False -> True",
-    "pairs.without: if not seeds: -> if False:",
-    "pairs.has_twice: len(set(played)) < len(played) -> len(set(played)) <= len(played)",
-    "pairs.has_twice: return len(set(played)) < len(played) -> return True",
-    "pairs.has_twice: (... for it in moves if it) -> (... for it in moves)",
-}
-
-
 class PairsOfTwo(checks.Case):
     """The pairs of two engines, counted by hand."""
 
@@ -292,14 +227,6 @@ class PairsOfTwo(checks.Case):
         """What is found of the pairs, also where nothing was played."""
         self.check("all pairs, those that are new, those in order, and the games that are the same", FOUND, found_in(PLAYED))
         self.check("all that is asked of pairs", [], pairs_off())
-
-    def test_mutants(self):
-        """Each slip in how pairs are found is noticed."""
-        every = list(mutants_of(pairs))
-        made = [it for it in every if known_by(it.what) not in EQUAL_PAIRS]
-        self.check("each change that makes no difference can be made", len(EQUAL_PAIRS), len(every) - len(made))
-        self.check("there are many slips", True, len(made) > 100)
-        self.check("each is noticed", [], [it.what for it in made if not is_noticed(it, pairs_off)])
 
 
 # ---- the test of two engines, and the text for other programs
