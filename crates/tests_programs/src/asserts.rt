@@ -33,11 +33,6 @@ pub fn some<T>(rt: &impl Abort, found: Option<T>) -> T {
     found.expect(rt, "nothing is there")
 }
 
-/// Asserts that it holds in this case.
-pub fn assert_true_for<C: PartialEq + Debug + Drop>(rt: &impl Abort, case: C, holds: bool) {
-    assert_equal_for(rt, case, holds, true);
-}
-
 /// The bytes as text.
 pub fn text_of<'a>(rt: &impl Abort, bytes: &'a [u8]) -> &'a str {
     some(rt, str::from_utf8(bytes).ok())

@@ -1,16 +1,25 @@
 //! Engines in memory, in place of processes.
 ghost use Rattle.std.specs.Prelude.{⊤, None};
 
-use crate::tests::streams::Log;
 use byte_streams::CallFault;
+use go_board::KoRule;
 use gtp_process::{Ending, Process, StartFault, StartReason, Starter};
 use gtp_session::book::Book;
+use gtp_session::fault::Fault;
 use gtp_session::first::First;
 use gtp_session::policy::Policy;
-use gtp_session::session::{Fed, Session};
+use gtp_session::session::Session;
 use std::alloc::{AllocError, Global};
 use std::cell::Cell;
 use std::io::Read;
+use std::rc::Rc;
+
+/// How many engines were started, and how many were ended.
+#[derive(Drop)]
+pub struct Counts {
+    pub started: Cell<usize>,
+    pub ended: Cell<usize>,
+}
 
 /// What an engine in memory does.
 #[derive(Drop)]
@@ -19,111 +28,71 @@ enum Engine {
     First(Session<First>),
     /// Plays by a book.
     Book(Session<Book>),
-    /// Takes all that it is sent, and writes one text.
-    Says,
-    /// Takes what it is sent, and writes one text. Once that was read its pipes are broken.
-    Stops,
-    /// Answers each command by the next of these answers, which end at semicolons and have underscores for spaces; once
-    /// they are used up, nothing.
-    Answers,
     /// Writes what it is sent, and nothing else.
     Echoes,
-    /// Takes all that it is sent, and can't be read.
-    Mute,
-    /// Its pipes are broken.
-    Broken,
-    /// Plays the first candidate. Each call of its pipes is interrupted this often before it goes through, and a read
-    /// or a write takes one byte.
-    Interrupted(Session<First>, u32),
+    /// Takes all that it is sent, and writes one text.
+    Says,
 }
 
-/// A conversation with an engine in memory: the engine, its answers and how much of them is used, what it wrote, how
-/// much of that was read, and how often the call that is tried was interrupted.
-pub struct Talk {
-    engine: Engine,
-    answers: Vec<u8>,
-    used: usize,
+/// What an engine wrote, how much of that was read, its fault, how many of its genmoves succeeded, and whether it has
+/// stopped.
+#[derive(Drop)]
+struct Said {
     written: Vec<u8>,
     read: usize,
-    interruptions: u32,
-    log: Log,
+    fault: Fault,
+    genmoves: u32,
+    is_stopped: bool,
 }
 
-impl Talk {
-    /// Its pipes are broken.
-    fn is_broken(&self) -> bool {
-        match &self.engine {
-            Engine::Broken => true,
-            Engine::Stops => self.read == self.written.len(),
-            _ => false,
+impl Said {
+    /// Writes a reply, or what the fault puts in its place.
+    fn add(&mut self, reply: &[u8], genmove: bool) -> Result<(), AllocError> {
+        if genmove {
+            self.genmoves = self.genmoves.saturating_add(1);
         }
-    }
-
-    /// Interrupts a call, unless it was interrupted often enough.
-    fn interrupt(&mut self) -> Result<(), CallFault> {
-        let Engine::Interrupted(_, often) = &self.engine else {
-            return Ok(());
-        };
-        if self.interruptions < *often {
-            self.interruptions = self.interruptions.saturating_add(1);
-            add(&self.log.interrupted, 1);
-            return Err(CallFault::Interrupted);
+        match self.fault {
+            Fault::Stop(number) if genmove && number == self.genmoves => {
+                self.is_stopped = true;
+                Ok(())
+            }
+            Fault::Cut(number, kept) if genmove && number == self.genmoves => {
+                self.is_stopped = true;
+                let kept = reply.len().min(kept as usize);
+                self.written.extend_from_slice(&reply[..kept])
+            }
+            Fault::Junk(number) if genmove && number == self.genmoves => {
+                self.written.extend_from_slice(b"hello\n\n")
+            }
+            Fault::Flood(number) if genmove && number == self.genmoves => {
+                self.written.extend_from_slice(&[b'\n'; 8193])
+            }
+            _ => self.written.extend_from_slice(reply),
         }
-        self.interruptions = 0;
-        Ok(())
     }
 }
 
-/// Feeds the text to a session, and collects its replies.
+/// A conversation with an engine in memory.
+pub struct Talk {
+    engine: Engine,
+    said: Said,
+    counts: Rc<Counts>,
+}
+
+/// Feeds the text to a session, and writes its replies until it stops.
 fn answer<P: Policy>(
     session: &mut Session<P>,
     text: &[u8],
-    written: &mut Vec<u8>,
+    said: &mut Said,
 ) -> Result<(), AllocError> {
     let mut rest = text;
     for _ in 0..text.len() {
-        let Fed {
-            used,
-            reply,
-            ended: _,
-            genmove: _,
-        } = session.feed(rest);
-        match reply {
-            Some(reply) => written.extend_from_slice(reply.as_slice())?,
-            None => return Ok(()),
+        let fed = session.feed(rest);
+        match fed.reply {
+            Some(reply) if !said.is_stopped => said.add(reply.as_slice(), fed.genmove)?,
+            _ => return Ok(()),
         }
-        rest = &rest[used..];
-    }
-    Ok(())
-}
-
-/// Answers each command of the text by the next answer.
-fn answer_next(
-    answers: &[u8],
-    used: &mut usize,
-    text: &[u8],
-    written: &mut Vec<u8>,
-) -> Result<(), AllocError> {
-    for byte in text {
-        if *byte == b'\n' {
-            write_next(answers, used, written)?;
-        }
-    }
-    Ok(())
-}
-
-/// Writes the next answer, if there is one.
-fn write_next(answers: &[u8], used: &mut usize, written: &mut Vec<u8>) -> Result<(), AllocError> {
-    let Some(left) = answers.get(*used..) else {
-        return Ok(());
-    };
-    for byte in left {
-        *used = used.saturating_add(1);
-        match *byte {
-            b';' => return written.extend_from_slice(b"\n\n"),
-            b'_' => written.push(b' ')?,
-            byte => written.push(byte)?,
-        }
+        rest = &rest[fed.used..];
     }
     Ok(())
 }
@@ -144,16 +113,12 @@ impl Process for Talk {
     ghost flushed = { λ _. ⊤ };
 
     fn read(&mut self, buffer: &mut [u8]) -> Result<usize, CallFault> {
-        if self.is_broken() || matches!(&self.engine, Engine::Mute) {
-            return Err(CallFault::Other);
-        }
-        self.interrupt()?;
-        let Some(mut left) = self.written.get(self.read..) else {
+        let Some(mut left) = self.said.written.get(self.said.read..) else {
             return Err(CallFault::Other);
         };
         match left.read(buffer) {
             Ok(count) => {
-                self.read = self.read.saturating_add(count);
+                self.said.read = self.said.read.saturating_add(count);
                 Ok(count)
             }
             Err(_) => Err(CallFault::Other),
@@ -161,81 +126,53 @@ impl Process for Talk {
     }
 
     fn write(&mut self, text: &[u8]) -> Result<usize, CallFault> {
-        if self.is_broken() {
+        if self.said.is_stopped {
             return Err(CallFault::Other);
         }
-        self.interrupt()?;
-        let text = match &self.engine {
-            Engine::Interrupted(..) => &text[..text.len().min(1)],
-            _ => text,
+        let answered = match &mut self.engine {
+            Engine::First(session) => answer(session, text, &mut self.said),
+            Engine::Book(session) => answer(session, text, &mut self.said),
+            Engine::Echoes => self.said.written.extend_from_slice(text),
+            Engine::Says => Ok(()),
         };
-        if text == b"quit\n".as_slice() {
-            add(&self.log.quits, 1);
-            self.log.ended_by_quit.set(self.log.ended.get());
-            add(&self.log.flushed_by_quits, self.log.flushed.get());
-        }
-        let taken = match &mut self.engine {
-            Engine::First(session) | Engine::Interrupted(session, _) => {
-                answer(session, text, &mut self.written)
-            }
-            Engine::Book(session) => answer(session, text, &mut self.written),
-            Engine::Answers => answer_next(
-                self.answers.as_slice(),
-                &mut self.used,
-                text,
-                &mut self.written,
-            ),
-            Engine::Echoes => self.written.extend_from_slice(text),
-            Engine::Says | Engine::Stops | Engine::Mute | Engine::Broken => Ok(()),
-        };
-        match taken {
-            Ok(()) => {
-                add(&self.log.writes, 1);
-                Ok(text.len())
-            }
+        match answered {
+            Ok(()) => Ok(text.len()),
             Err(AllocError) => Err(CallFault::Other),
         }
     }
 
     fn flush(&mut self) -> Result<(), CallFault> {
-        self.interrupt()
+        Ok(())
     }
 
-    fn let_run_first(&self) {
-        add(&self.log.let_run_first, 1);
-    }
+    fn let_run_first(&self) {}
 
     fn let_read(&self) {}
 
     fn end(self) -> Ending {
         let Talk {
             engine,
-            answers,
-            used: _,
-            written,
-            read: _,
-            interruptions: _,
-            log,
+            said,
+            counts,
         } = self;
-        add(&log.ended, 1);
+        add_one(&counts.ended);
         drop(engine);
-        drop(answers);
-        drop(written);
-        drop(log);
+        drop(said);
+        drop(counts);
         Ending::Status(7)
     }
 }
 
-/// Counts `more`.
-fn add(count: &Cell<usize>, more: usize) {
-    count.set(count.get().saturating_add(more));
+/// Counts one more.
+fn add_one(count: &Cell<usize>) {
+    count.set(count.get().saturating_add(1));
 }
 
-/// Starts engines in memory, by the name and the options that the program has, and some that misbehave.
+/// Starts engines in memory: those of a policy, or of a book and a fault, and some that are no engines.
 #[derive(Drop)]
 pub struct InMemory {
     pub alloc: Global,
-    pub log: Log,
+    pub counts: Rc<Counts>,
     /// The number of the start, from 1, at which memory runs out; 0 for none.
     pub refused: usize,
 }
@@ -246,59 +183,54 @@ impl Starter for InMemory {
     ghost asked = { λ _. None };
 
     fn start(&mut self, words: &[&str]) -> Result<Talk, StartFault> {
-        let engine = match words {
-            ["gtp_engine"] => Engine::First(Session::new(First)),
-            ["gtp_engine", "--policy", "first"] => Engine::First(Session::new(First)),
-            ["gtp_engine", "--policy", "book"] => book_engine("")?,
-            ["gtp_engine", "--policy", "book", "--book", text] => book_engine(text)?,
-            ["says", ..] | ["refuses"] => Engine::Says,
-            ["stops", _] => Engine::Stops,
-            ["answers", _] => Engine::Answers,
-            ["echoes"] => Engine::Echoes,
-            ["mute"] => Engine::Mute,
-            ["broken"] => Engine::Broken,
-            ["interrupted", "once"] => Engine::Interrupted(Session::new(First), 1),
-            ["interrupted", "often"] => Engine::Interrupted(Session::new(First), 1000),
+        let (engine, text, fault) = match words {
+            ["first"] => (Engine::First(Session::new(First)), "", "none"),
+            ["positional"] => {
+                let session = Session::with_rule(First, KoRule::Positional);
+                (Engine::First(session), "", "none")
+            }
+            ["book", book] => (book_engine(book)?, "", "none"),
+            ["book", book, fault] => (book_engine(book)?, "", *fault),
+            ["cat"] => (Engine::Echoes, "", "none"),
+            ["echo", "hello"] => (Engine::Says, "hello\n", "none"),
+            ["refuses"] => (Engine::Says, "?1 no\n\n", "none"),
             _ => return Err(StartFault::NotStarted(StartReason::NotFound)),
         };
-        add(&self.log.started, 1);
-        add(&self.log.flushed_by_starts, self.log.flushed.get());
-        if self.log.started.get() == self.refused {
+        add_one(&self.counts.started);
+        if self.counts.started.get() == self.refused {
             return Err(StartFault::OutOfMemory);
         }
-        let (text, answers) = match words {
-            ["says", text] | ["stops", text] => (*text, ""),
-            ["refuses"] => ("?1 no\n\n", ""),
-            ["answers", answers] => ("", *answers),
-            _ => ("", ""),
+        let Some(fault) = Fault::read(fault.as_bytes()) else {
+            return Err(StartFault::NotStarted(StartReason::NoProgram));
         };
-        match make_talk(self.alloc, engine, text, answers, &self.log) {
+        match make_talk(self.alloc, engine, fault, text, &self.counts) {
             Ok(started) => Ok(started),
             Err(AllocError) => Err(StartFault::OutOfMemory),
         }
     }
 }
 
-/// A conversation with an engine that wrote this text at once and has these answers.
+/// A conversation with an engine that wrote this text at once.
 fn make_talk(
     alloc: Global,
     engine: Engine,
+    fault: Fault,
     text: &str,
-    answers: &str,
-    log: &Log,
+    counts: &Rc<Counts>,
 ) -> Result<Talk, AllocError> {
     let mut written = Vec::new(alloc);
     written.extend_from_slice(text.as_bytes())?;
-    let mut kept = Vec::new(alloc);
-    kept.extend_from_slice(answers.as_bytes())?;
-    Ok(Talk {
-        engine,
-        answers: kept,
-        used: 0,
+    let said = Said {
         written,
         read: 0,
-        interruptions: 0,
-        log: log.clone()?,
+        fault,
+        genmoves: 0,
+        is_stopped: false,
+    };
+    Ok(Talk {
+        engine,
+        said,
+        counts: counts.clone()?,
     })
 }
 
