@@ -28,7 +28,7 @@ from pathlib import Path
 sys.dont_write_bytecode = True
 sys.path[0] = str(Path(__file__).resolve().parents[2])
 
-from tests.references.controller import drawn, matches, mutants, worked  # noqa: E402
+from tests.references.controller import drawn, matches, mutants  # noqa: E402
 from tests.references.controller.controller import MOST_UNANSWERED, SIDES  # noqa: E402
 from tests.references.controller.matches import PATIENT, TIMINGS, Result, as_reported, fits  # noqa: E402
 from tests.references.mutator import Limit, Mutant  # noqa: E402
@@ -84,13 +84,7 @@ class Trial:
 
     def command(self):
         """The command of the program."""
-        match = self.match
-        words = ["twogtp", "--size", match.size, f"--komi={match.komi}", "--handicap", match.handicap, "--games", match.games]
-        words += ["--max-moves", match.most_moves, "--restarts", match.restarts]
-        words += ["--record"] * match.record + ["--show"] * match.show + ["--why"] * match.why
-        for side in SIDES:
-            words += [f"--{side}", " ".join(match.engines[side].command(str(self.notes(side))))]
-        return [str(word) for word in words]
+        return matches.command(self.match, {side: self.notes(side) for side in SIDES})
 
     def notes(self, side):
         """The file in which the engine of this side notes what it is sent."""
@@ -170,15 +164,6 @@ def have_differed():
 # ---- the checks
 
 
-class Reference(checks.Case):
-    """The reference beside what was worked out."""
-
-    def test_reference(self):
-        """The reference gives the worked matches."""
-        wrong, count = worked.failures()
-        self.check(f"the reference gives the {count} worked matches, and the worked calls", [], wrong)
-
-
 def group_named(numbers):
     """What is checked of these matches."""
     first, last = numbers[0], numbers[-1]
@@ -245,4 +230,4 @@ class Mutants(checks.Case):
 
 
 if __name__ == "__main__":
-    checks.main(OPTIONS, [Reference, Drawn, Lines, Doubled, Mutants] if WITH_MUTANTS else [Reference, Drawn, Lines])
+    checks.main(OPTIONS, [Drawn, Lines, Doubled, Mutants] if WITH_MUTANTS else [Drawn, Lines])

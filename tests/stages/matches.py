@@ -1,287 +1,37 @@
 #!/usr/bin/env python3
-"""Plays matches by the built programs, and looks at all that `twogtp` writes and at the status that it ends with.
+"""Plays matches by the built `twogtp` and by the plain reference of the controller, and compares both with what was worked out by hand.
 
-There are whole games, engines under positional ko, refused moves, missing programs, mistakes in the arguments, and outputs that can't be
-written. Games in which an engine is killed or fails on request have the same record, board and result as without. What is wanted was
-worked out by hand from docs/matches.md and docs/controller.md.
+The matches are the rows of tests/references/controller/worked.py, whose head says where they come from. Of each, the program's status,
+output and standard error have to be those of the row. Where a row says that the match waits, the program must still run a second after
+its engines were sent what the row says. Else it has to end by itself within 30 seconds, and each process that it started has to be gone
+then. By the reference the same has to come of each match, for quick and slow engines. And by both the engines that note it have to be
+sent the same commands.
+
+Then come engines that are ended early or late, a controller that is killed while it waits, outputs that can't be written, and 1,000 games
+between two of our engines, and 100 with engines that die. The controller may use 8 MB, no more data in the last games than in the
+first, and no file that stays open.
 """
-from __future__ import annotations
-
 import os
-import re
+import shlex
 import sys
 import tempfile
-from functools import lru_cache
+import time
+from contextlib import suppress
 from pathlib import Path
-from typing import NamedTuple
 
 sys.dont_write_bytecode = True
 sys.path[0] = str(Path(__file__).resolve().parents[2])
 
+from tests.references.controller import matches, worked  # noqa: E402
+from tests.references.controller.controller import MOST_UNANSWERED, SIDES  # noqa: E402
+from tests.references.controller.matches import PATIENT, TIMINGS, Result, as_reported  # noqa: E402
+from tests.references.controller.worked import BLACK, PASSED, WAITS, WHITE, book, passing, refusing  # noqa: E402
 from tests.shared import checks, running  # noqa: E402
 
-HOSTILE = running.TOP / "tests/engines/hostile"
+LIMIT = 30  # seconds that a match may take
+PATIENCE = 1  # seconds in which nothing comes of a match that waits
 AT_ONCE = 2  # matches that are played at a time
-FIRST = "gtp_engine --policy first"
-POSITIONAL = f"{FIRST} --ko positional"
-PASSES = "gtp_engine --policy book"
-WALL = f"{PASSES} --book B1,,B2,,B3"
-PASSED = "game 1: W+6.5 moves 2 restarts 0 0\n"
-
-
-class Match(NamedTuple):
-    """A match: its name; the status, the output and what is reported; the commands of both engines, and the options."""
-
-    name: str
-    status: int
-    output: str
-    black: str
-    white: str
-    options: str = ""
-    errors: str = ""
-
-
-# ---- whole games
-
-SMALL = "--size 2 --komi 0 --max-moves 10"
-SMALL_BOARD = ". O 2\n. O 1\nA B\ncaptures B 3 W 5\n\n"
-SMALL_RECORD = "A1 B1 A2 B2 A1 A2 A1 B1 A2 B2\n"
-LIMIT = "game 1: limit moves 10 restarts 0 0\n"
-WALLS = "--size 3 --komi 0.5 --record --show"
-WALL_BOARD = ". X . 3\n. X . 2\n. X . 1\nA B C\ncaptures B 0 W 0\n\n"
-WALL_RECORD = "B1 pass B2 pass B3 pass pass\n"
-EMPTY_19 = "".join(f"{19 * '. '}{row}\n" for row in range(19, 0, -1)) + "A B C D E F G H J K L M N O P Q R S T\ncaptures B 0 W 0\n\n"
-
-
-def whole_games():
-    """Games from their first move to their last."""
-    yield Match("a first match: both pass on a board of one point", 0, PASSED, FIRST, FIRST, "--size 1 --komi 6.5")
-    yield Match("a match at the limit of its moves, with the board", 0, LIMIT + SMALL_BOARD, FIRST, FIRST, f"{SMALL} --show")
-    yield Match("the record comes before the board", 0, LIMIT + SMALL_RECORD + SMALL_BOARD, FIRST, FIRST, f"{SMALL} --show --record")
-    yield Match("the record without the board", 0, LIMIT + SMALL_RECORD, FIRST, FIRST, f"{SMALL} --record")
-    yield Match("a book against a book, with the board", 0, f"game 1: B+8.5 moves 7 restarts 0 0\n{WALL_BOARD}", WALL, WALL,
-                "--size 3 --komi 0.5 --show")  # fmt: skip
-    yield Match("with handicap White moves first", 0, "game 1: B+74.5 moves 2 restarts 0 0\n", PASSES, PASSES, "--size 9 --handicap 2")
-    yield Match("two games", 0, PASSED + PASSED.replace("1", "2", 1), FIRST, FIRST, "--size 1 --komi 6.5 --games 2")
-    # Komi below zero is Black's: nobody has a point of the board, and so Black wins by it.
-    yield Match("a komi below zero", 0, "game 1: B+3.5 moves 2 restarts 0 0\n", FIRST, FIRST, "--size 1 --komi=-3.5")
-    yield Match("a score of zero", 0, "game 1: 0 moves 2 restarts 0 0\n", PASSES, PASSES, "--komi 0")
-    # 19x19 and a komi of 6.5 are what is played where nothing is said: the board is empty, so White wins by the komi.
-    yield Match("what is played where nothing is said", 0, PASSED + EMPTY_19, PASSES, PASSES, "--show")
-    yield Match("a resignation; a record without moves is an empty line", 0, "game 1: W+R moves 0 restarts 0 0\n\n",
-                f"{PASSES} --book resign", FIRST, "--record")  # fmt: skip
-    yield Match("White resigns", 0, "game 1: B+R moves 1 restarts 0 0\nA1\n", FIRST, f"{PASSES} --book ,resign", "--size 9 --record")
-    yield Match("a command is split at runs of spaces", 0, "game 1: W+R moves 0 restarts 0 0\n",
-                "  gtp_engine   --policy book  --book  resign ", f"  {PASSES}")  # fmt: skip
-
-
-# ---- the rule of ko
-
-
-def of_ko():
-    """Engines under positional ko."""
-    # Move 7 of the small game makes the board again that Black made by move 1. By positional ko Black passes instead, and so does White,
-    # whose play would be suicide: three points with a stone, and one that only they surround.
-    board = "O O 2\n. O 1\nA B\ncaptures B 0 W 3\n\n"
-    for white in (POSITIONAL, FIRST):
-        yield Match(f"Black by positional ko, White by {white.split()[-1]}", 0, f"game 1: W+4 moves 8 restarts 0 0\n{board}",
-                    POSITIONAL, white, f"{SMALL} --show")  # fmt: skip
-    # White refuses move 7. Black takes it back three times, and makes it again each time.
-    refused = "game 1: B+F(refused play) moves 7 restarts 0 0\n"
-    board = "A1 B1 A2 B2 A1 A2 A1\n. . 2\nX . 1\nA B\ncaptures B 3 W 3\n\n"
-    yield Match("White by positional ko, Black by simple ko", 0, refused + board, FIRST, POSITIONAL, f"{SMALL} --record --show")
-    line = 'twogtp: game 1: white: 1 unanswered, "{0} play b A1": the play was refused{1}; it wrote "?{0} illegal move\\n\\n"\n'
-    retakes = [(10, " (retake 1 of 3)"), (11, " (retake 2 of 3)"), (12, " (retake 3 of 3)"), (13, "")]
-    yield Match("White by positional ko: --why reports each move that it refuses", 0, refused, FIRST, POSITIONAL, f"--why {SMALL}",
-                "".join(line.format(*retake) for retake in retakes))  # fmt: skip
-
-
-# ---- engines that are missing or are none
-
-
-def no_engines():
-    """Engines that are missing or are none."""
-    black = "game 1: abandoned black moves 0 restarts 1 0\n"
-    yield Match("a program that is missing", 1, black, "no_such_program", "gtp_engine", "--restarts 1 --size 9")
-    for side in ("black", "white"):
-        engines = {"black": "gtp_engine", "white": "gtp_engine", side: "no_such_program --mode gtp"}
-        yield Match(f"--why names a program that is missing: {side}", 1, f"game 1: abandoned {side} moves 0 restarts 0 0\n",
-                    engines["black"], engines["white"], "--why --restarts 0",
-                    f'twogtp: game 1: {side}: not started: no such file: "no_such_program"\n')  # fmt: skip
-    yield Match("the other side is missing", 1, "game 1: abandoned white moves 0 restarts 0 2\n", "gtp_engine", "no_such_program")
-    yield Match("a folder is no program", 1, "game 1: abandoned black moves 0 restarts 0 0\n", str(HOSTILE), "gtp_engine", "--restarts 0")
-    yield Match("the games after one that was given up are still played", 1,
-                "game 1: abandoned black moves 0 restarts 0 0\n\ngame 2: abandoned black moves 0 restarts 0 0\n\n",
-                "no_such_program", "gtp_engine", "--restarts 0 --games 2 --record")  # fmt: skip
-    yield Match("the program cat as Black", 1, black, "cat", "gtp_engine", "--restarts 1 --size 9")
-    yield Match("the program echo as Black", 1, black, "echo hello", "gtp_engine", "--restarts 1 --size 9")
-    yield Match("the program cat as White", 1, "game 1: abandoned white moves 0 restarts 0 1\n", "gtp_engine", "cat",
-                "--restarts 1 --size 9")  # fmt: skip
-    yield Match("an engine's standard error is the controller's", 1, "game 1: abandoned black moves 0 restarts 0 0\n",
-                f"{HOSTILE}/engine /dev/null unknown", "gtp_engine", "--restarts 0",
-                "tests/engines/hostile/engine: no kind unknown\n")  # fmt: skip
-
-
-# ---- engines that are killed in the middle of a game: the same game, and restarts that are counted
-
-# a record that lacks the last pass, and the board of it
-UNENDED = f"B1 pass B2 pass B3 pass\n{WALL_BOARD}"
-
-
-def dies(genmove, kept, command):
-    """The command of an engine that is killed at this genmove, after so many bytes of its reply."""
-    return f"{HOSTILE}/dies {genmove} {kept} {command}"
-
-
-def wall(name, black, white, *restarts, options=""):
-    """The game of both walls, with so many restarts of each side."""
-    line = f"game 1: B+8.5 moves 7 restarts {' '.join(map(str, restarts))}\n"
-    return Match(name, 0, line + WALL_RECORD + WALL_BOARD, black, white, f"{WALLS} {options}")
-
-
-def killed():
-    """Engines that are killed in the game of both walls. Black moves at 1, 3, 5 and 7."""
-    yield wall("the game that is broken off below, unbroken", WALL, WALL, 0, 0)
-    # Black's third genmove is for move 5. A new engine is asked for move 5 and, as its second, for move 7.
-    yield wall("Black is killed once, before its reply: the same game", dies(3, 0, WALL), WALL, 1, 0)
-    yield wall("Black is killed once, in the middle of its reply: the same game", dies(3, 6, WALL), WALL, 1, 0)
-    # The move that was heard whole stays, and the new engine is sent it.
-    yield wall("Black is killed once, after its whole reply: the same game", dies(3, 100, WALL), WALL, 1, 0)
-    # The reply to its fourth genmove ends the game, so nobody needs Black any longer.
-    yield wall("Black is killed after the reply that ends the game", dies(4, 100, WALL), WALL, 0, 0)
-    three = dict(options="--restarts 3")
-    yield wall("Black is killed at each second genmove", dies(2, 0, WALL), WALL, 3, 0, **three)
-    yield wall("Black is killed in the middle of each second reply", dies(2, 6, WALL), WALL, 3, 0, **three)
-    yield wall("both are killed at each second genmove", dies(2, 0, WALL), dies(2, 0, WALL), 3, 2, **three)
-    yield Match("Black is killed once more than it may be", 1, f"game 1: abandoned black moves 6 restarts 2 0\n{UNENDED}",
-                dies(2, 0, WALL), WALL, f"{WALLS} --restarts 2")  # fmt: skip
-    yield Match("Black is killed at each genmove", 1, "game 1: abandoned black moves 0 restarts 2 0\n\n", dies(1, 0, WALL), WALL,
-                "--size 3 --komi 0.5 --restarts 2 --record")  # fmt: skip
-
-
-def killed_elsewhere():
-    """Engines that are killed in games with captures or handicap."""
-    # Of its five genmoves the fourth is for move 7 of Black and move 8 of White; a new engine is asked for two more or one.
-    game, options = f"{SMALL_RECORD}{SMALL_BOARD}", f"{SMALL} --record --show"
-    yield Match("Black is killed in a game with captures", 0, f"game 1: limit moves 10 restarts 1 0\n{game}",
-                dies(4, 0, FIRST), FIRST, options)  # fmt: skip
-    yield Match("White is killed in a game with captures", 0, f"game 1: limit moves 10 restarts 0 1\n{game}",
-                FIRST, dies(4, 3, FIRST), options)  # fmt: skip
-    # White moves first: E5, E4 and a pass, which is its third genmove. Two stones each, and the rest is nobody's.
-    game = """E5 pass E4 pass pass
-. . . . . . . . . 9
-. . . . . . . . . 8
-. . . . . . X . . 7
-. . . . . . . . . 6
-. . . . O . . . . 5
-. . . . O . . . . 4
-. . X . . . . . . 3
-. . . . . . . . . 2
-. . . . . . . . . 1
-A B C D E F G H J
-captures B 0 W 0
-
-"""
-    book, options = f"{PASSES} --book E5,,E4", "--size 9 --handicap 2 --record --show"
-    yield Match("White is killed in a game with handicap", 0, f"game 1: W+6.5 moves 5 restarts 0 1\n{game}",
-                PASSES, dies(3, 0, book), options)  # fmt: skip
-    yield Match("Black is killed in a game with handicap", 0, f"game 1: W+6.5 moves 5 restarts 1 0\n{game}",
-                dies(2, 0, PASSES), book, options)  # fmt: skip
-
-
-# ---- engines that fail on request
-
-
-def failing():
-    """Engines that fail on request in the game of both walls."""
-    # The engine counts the genmoves that succeed since it was started, so it fails at each second one: Black at move 3, and then
-    # each new engine of Black at the move after the one that it is asked for first: 5 and 7. White moves at 2, 4 and 6.
-    three = dict(options="--restarts 3")
-    for fault in ("stop:2", "cut:2:6", "junk:2", "flood:2"):
-        fails = f"{WALL} --fault {fault}"
-        yield wall(f"Black fails by {fault}: the same game", fails, WALL, 3, 0, **three)
-        yield wall(f"White fails by {fault}: the same game", WALL, fails, 0, 2, **three)
-        yield wall(f"both fail by {fault}: the same game", fails, fails, 3, 2, **three)
-        yield Match(f"Black fails by {fault} once more than it may", 1, f"game 1: abandoned black moves 6 restarts 2 0\n{UNENDED}",
-                    fails, WALL, f"{WALLS} --restarts 2")  # fmt: skip
-    board = "\n. . . 3\n. . . 2\n. . . 1\nA B C\ncaptures B 0 W 0\n\n"
-    yield Match("Black stops at each genmove", 1, f"game 1: abandoned black moves 0 restarts 2 0\n{board}", f"{WALL} --fault stop:1", WALL,
-                f"{WALLS} --restarts 2")  # fmt: skip
-    yield wall("a fault that does not come changes nothing", f"{WALL} --fault stop:5", f"{WALL} --fault none", 0, 0)
-
-
-def at_the_limits():
-    """The least and the greatest numbers that the options take."""
-    yield Match("the ends of the limits are allowed", 0, PASSED, PASSES, PASSES, "--size 25 --max-moves 2000 --restarts 1000 --games 1")
-    yield Match("the other ends of the limits are allowed", 0, "game 1: limit moves 1 restarts 0 0\n", PASSES, PASSES,
-                "--size 1 --max-moves 1 --restarts 0 --handicap 0")  # fmt: skip
-
-
-MATCHES = [*whole_games(), *of_ko(), *no_engines(), *killed(), *killed_elsewhere(), *failing(), *at_the_limits()]
-
-
-# ---- mistakes in the command line: each is reported, and nothing is started
-
-
-class Mistake(NamedTuple):
-    """Arguments that have a mistake, and how what is reported of it begins, or all of it. Where they name no command of an engine, there
-    is one that leaves a file."""
-
-    name: str
-    errors: str
-    words: list
-    has_sides: bool = True  # are both commands there, by the words or else by those that leave a file?
-
-
-CLAP = "error: "  # how clap begins, which says what is wrong in its own words
-LIMITS = ["size=0", "size=26", "size=nine", "handicap=10", "games=0", "games=1001", "max-moves=0", "max-moves=2001", "restarts=1001",
-          "restarts=-1"]  # fmt: skip
-MISTAKES = [
-    Mistake("no command for Black", "twogtp: no command for black\n", ["--black", ""]),
-    Mistake("no command for White", "twogtp: no command for white\n", ["--white", ""]),
-    Mistake("a command of spaces is none", "twogtp: no command for black\n", ["--black", "   "]),
-    Mistake("a komi that is none", "twogtp: bad komi\n", ["--komi", "6.7"]),
-    Mistake("a handicap that the size does not allow", "twogtp: bad handicap\n", ["--size", "6", "--handicap", "2"]),
-    Mistake("a handicap of one stone", "twogtp: bad handicap\n", ["--handicap", "1"]),
-    Mistake("komi is looked at before the handicap", "twogtp: bad komi\n", ["--komi", "6.7", "--handicap", "1"]),
-    Mistake("Black is looked at before White", "twogtp: no command for black\n", ["--black", "", "--white", ""]),
-    Mistake("White is looked at before the komi", "twogtp: no command for white\n", ["--white", "", "--komi", "6.7"]),
-    Mistake("Black is looked at before the handicap", "twogtp: no command for black\n", ["--black", "", "--size", "6", "--handicap", "2"]),
-    Mistake("the limits of the numbers are looked at before the commands", CLAP, ["--size", "26", "--komi", "6.7"]),
-    *[Mistake(f"past a limit: --{limit}", CLAP, [f"--{limit}"]) for limit in LIMITS],
-    Mistake("an option that is not there", CLAP, ["--threads", "4"]),
-    Mistake("an option twice", CLAP, ["--size", "9", "--size", "9"]),
-    Mistake("a komi below zero without the sign =", CLAP, ["--komi", "-3.5"]),
-    Mistake("without a command for White", CLAP, ["--black", "touch {}/started"], False),
-    Mistake("without a word", CLAP, [], False),
-]
-
-
-# ---- playing
-
-
-def twogtp(*words, **how):
-    """What comes of `twogtp` with these arguments."""
-    return running.run(["twogtp", *words], env=running.programs_in(None), **how)
-
-
-def play(match):
-    """What comes of a match of the table."""
-    return twogtp("--black", match.black, "--white", match.white, *match.options.split())
-
-
-@lru_cache(maxsize=None)
-def tried(number):
-    """What comes of a mistake, and whether something was started."""
-    mistake = MISTAKES[number]
-    with tempfile.TemporaryDirectory() as room:
-        words = [word.format(room) for word in mistake.words]
-        for side in ("--black", "--white") if mistake.has_sides else ():
-            words += [] if side in words else [side, f"touch {room}/started"]
-        return twogtp(*words), os.listdir(room)
-
-
-# ---- the checks
+LINE = f"game 1: {PASSED}\n"
 
 
 def setUpModule():
@@ -289,83 +39,197 @@ def setUpModule():
     running.need("gtp_engine", "twogtp")
 
 
-@checks.table(MATCHES, lambda match: match.name, play, AT_ONCE)
+# ---- playing
+
+
+class Played:
+    """A match that the program plays: the files in which its engines note what they are sent, and its process."""
+
+    def __init__(self, folder, match):
+        self.notes = {side: Path(folder) / side for side in SIDES}
+        for file in self.notes.values():
+            file.touch()
+        self.words = matches.command(match, self.notes)
+
+    def started(self, limit=LIMIT, **how):
+        """The process of the program."""
+        return running.started(self.words, limit, env=running.programs_in(None), **how)
+
+    def sent(self):
+        """What the engines were sent."""
+        return {side: file.read_bytes() for side, file in self.notes.items()}
+
+
+def played(match):
+    """What comes of a match that ends, and whether a process is left then."""
+    with tempfile.TemporaryDirectory() as folder:
+        it = Played(folder, match)
+        with it.started() as process:
+            output, errors = process.communicate()
+            return Result(process.returncode, output, errors, it.sent()), running.is_there(process.pid)
+
+
+def waited(match, sent):
+    """What comes of a match that waits once these engines were sent this."""
+    with tempfile.TemporaryDirectory() as folder, open(f"{folder}/output", "w+b") as output, open(f"{folder}/errors", "w+b") as errors:
+        it = Played(folder, match)
+        with it.started(stdout=output, stderr=errors) as process:
+            late = time.monotonic() + LIMIT / 2
+            while time.monotonic() < late and commands(it.sent(), sent) != sent:
+                time.sleep(0.01)
+            time.sleep(PATIENCE)
+            status = WAITS if process.poll() is None else process.returncode
+            return Result(status, *(Path(file.name).read_bytes() for file in (output, errors)), it.sent()), False
+
+
+def commands(notes, sides):
+    """The commands of these sides, by what was noted."""
+    return {side: notes[side].replace(b"start\n", b"").decode() for side in sides}
+
+
+def by_reference(match, timing):
+    """What comes of a match by the reference. Where it waits, the reference says so."""
+    try:
+        return matches.play(match, timing)
+    except matches.Undetermined:
+        return WAITS
+
+
+def has_lines(errors, wanted):
+    """Is the standard error this: of each line one of its texts?"""
+    lines = errors.decode(errors="backslashreplace").splitlines(keepends=True)
+    return len(lines) == len(wanted) and all(line in texts for line, texts in zip(lines, wanted))
+
+
+def odd(row):
+    """What is odd about what comes of a row."""
+    match, status, output, errors, sent = row
+    found = []
+
+    def expect(what, wanted, got):
+        if wanted != got:
+            found.append(f"{what}, wanted\n{wanted}\n--- {what}, got\n{got}")
+
+    came, is_left = waited(match, sent) if status == WAITS else played(match)
+    expect("the status", status, came.status)
+    expect("the output", output, came.output.decode())
+    if not has_lines(came.errors, errors):
+        expect("the standard error", errors, came.errors.decode(errors="backslashreplace"))
+    expect("what the engines are sent", sent, commands(came.notes, sent))
+    expect("a process is left", False, is_left)
+    for timing in TIMINGS:
+        result = by_reference(match, timing)
+        if status == WAITS or result == WAITS:
+            expect(f"the reference, {timing}", status, result)
+            continue
+        expect(f"the reference, {timing}", (status, output.encode()), result[:2])
+        reported = as_reported(result).errors
+        if timing.most == MOST_UNANSWERED and not has_lines(reported, errors):  # else fewer are owed than are reported
+            expect(f"the reference's standard error, {timing}", errors, reported)
+        if timing == PATIENT:
+            texts = [{text.decode() for text in texts} for texts in result.errors]
+            expect("all that may be reported, by the reference", [set(texts) for texts in errors], texts)
+            expect("what the engines are sent, by the reference", result.notes, came.notes)
+    return "\n--- ".join([*found, f"the command\n{shlex.join(matches.command(match, {it: it for it in SIDES}))}"]) if found else None
+
+
+@checks.table(worked.rows(), lambda it: it[0], lambda it: odd(it[1]), AT_ONCE)
 class Matches(checks.Case):
     """The matches of the table."""
 
-    def row(self, match, came):
-        self.same((match.status, match.output, match.errors), tuple(came))
+    def row(self, row, odd):
+        self.nothing(odd)
 
 
-class Retaken(checks.Case):
-    """What both engines are sent where White refuses a move."""
-
-    # an engine whose commands are noted in a file before it is sent them
-    HEARD = '#!/bin/bash\nwhile IFS= read -r line; do\n    echo "$line" >> "$1"\n    echo "$line"\ndone | "${@:2}"\n'
-
-    def test_retaken(self):
-        """A move that is refused four times. It is move 7, and seven commands came before."""
-        room = self.room()
-        heard = room / "heard"
-        heard.write_text(self.HEARD)
-        heard.chmod(0o755)
-        twogtp("--black", f"{heard} {room}/b {FIRST}", "--white", f"{heard} {room}/w {POSITIONAL}", *SMALL.split())
-        black, white = ([line for line in (room / side).read_text().splitlines() if "quit" not in line][7:] for side in "bw")
-        self.check("Black takes the move back that White refuses, three times",
-                   ["8 genmove b", "9 play w A2", "10 genmove b", "11 undo", "12 genmove b", "13 undo", "14 genmove b", "15 undo",
-                    "16 genmove b"], black)  # fmt: skip
-        self.check("White is sent the move that it refuses four times",
-                   ["8 play b A1", "9 genmove w", "10 play b A1", "11 play b A1", "12 play b A1", "13 play b A1"], white)  # fmt: skip
+# ---- what is no match of the table
 
 
-@checks.table(range(len(MISTAKES)), lambda number: MISTAKES[number].name, tried, AT_ONCE)
-class Mistakes(checks.Case):
-    """Mistakes in the command line."""
+class Ended(checks.Case):
+    """An engine whose output ended has 200 milliseconds to end by itself, and one that is ended for what it wrote has none."""
 
-    def row(self, number, came):
-        wanted = MISTAKES[number].errors
-        (status, output, errors), _ = came
-        self.same((2, "", wanted), (status, output, errors[: len(wanted)] if wanted == CLAP else errors))
+    def seconds(self, plan, started):
+        """How long a match takes in which Black goes down so often."""
+        begin = time.monotonic()
+        came, is_left = played(worked.match(passing(plan), worked.FIRST, restarts=started - 1))
+        wanted = f"game 1: abandoned black moves 0 restarts {started - 1} 0\n"
+        self.check(f"{plan}: it goes down {started} times", (wanted.encode(), False), (came.output, is_left))
+        return time.monotonic() - begin
 
-    def test_nothing_started(self):
-        """after no mistake anything was started."""
-        self.same([], [it.name for number, it in enumerate(MISTAKES) if tried(number)[1]])
+    def test_wrote(self):
+        """what writes no reply and reads on is ended at once."""
+        self.check("41 engines that write no reply take less than so much each", True, self.seconds(r"*/c1/hello\n/on", 41) < 41 * 0.2)
 
-    def test_started(self):
-        """without a mistake it would have been."""
-        room = self.room()
-        twogtp("--black", f"touch {room}/started", "--white", PASSES, "--restarts", "0")
-        self.same(["started"], os.listdir(room))
+    def test_closed(self):
+        """what closes its output and lives on is ended a little later."""
+        self.check("6 engines that close their output take at least so much each", True, self.seconds("*/0//closes", 6) >= 6 * 0.2)
 
 
-class Help(checks.Case):
-    """The help and the version."""
+class Killed(checks.Case):
+    """A controller that is killed while it waits."""
 
-    def test_help(self):
-        """The help."""
-        status, output, errors = twogtp("--help")
-        lines = output.splitlines()
-        options = "black white size komi handicap games max-moves restarts record show why help version".split()
-        named = [it for it in options if re.search(rf"^ +(-[hV], )?--{it}( |$)", output, re.MULTILINE)]
-        self.check("help ends with status 0", 0, status)
-        self.check("help writes nothing to the standard error", "", errors)
-        self.check("help names each option", options, named)
-        self.check("help has the last status", ["  3  the program could not go on: write fault, out of memory, too many turns"],
-                   [line for line in lines if line.startswith("  3 ")])  # fmt: skip
-        self.check("the last line of the help says where more is", ["More: man twogtp"], lines[-1:])
-        self.check("no line of the help has 80 columns", [], [line for line in lines if len(line) >= 80])
+    def test_killed(self):
+        """engines that read their input end with a controller that is killed."""
+        it = Played(self.room(), worked.match(passing("*/c1-9//refuses"), passing()))
+        with it.started() as process:
+            late = time.monotonic() + LIMIT / 2
+            while time.monotonic() < late and any(not sent.startswith(b"start\n") for sent in it.sent().values()):
+                time.sleep(0.05)
+            process.kill()
+            process.wait()
+            self.check("both engines were started", True, all(it.sent().values()))
+            late = time.monotonic() + 5
+            while time.monotonic() < late and running.is_there(process.pid):
+                time.sleep(0.05)
+            self.check("no process is left", False, running.is_there(process.pid))
 
-    def test_version(self):
-        """the version is printed."""
-        self.same((0, "twogtp 1.0\n", ""), tuple(twogtp("--version")))
+
+class ManyGames(checks.Case):
+    """Many games: nothing is left, and nothing grows. What the controller takes is looked at after each game."""
+
+    def many(self, what, status, result, black, white, games):
+        """Plays so many games that each end with this result; checks that, and what was taken."""
+        it = Played(self.room(), worked.match(black, white, games=games))
+        taken, lines = [], []
+        with it.started(300) as process:
+            for line in process.stdout:
+                lines.append(line.decode())
+                with suppress(OSError, KeyError):  # it may have ended by now
+                    taken.append(taken_by(process.pid))
+            came = process.wait(), "".join(lines), running.is_there(process.pid)
+        wanted = "".join(f"game {number}: {result}\n" for number in range(1, games + 1))
+        self.check(f"{what}: each game ends as one alone, and no process is left", (status, wanted, False), came)
+        peaks, rooms, files = zip(*taken)
+        self.check(f"{what}: the peak of the controller's memory is below 8 MB", True, 0 < max(peaks) < 8192)
+        # While a process is started there is a little more for a moment, and the first few games may still bring in what all need.
+        self.check(f"{what}: the room of its data does not grow", True, min(rooms[-50:]) <= max(rooms[10:60]))
+        # Three streams and two pipes for each engine, and for a moment the other ends of the pipes.
+        self.check(f"{what}: no file stays open", True, 0 < max(files) < 16)
+
+    def test_thousand(self):
+        """1,000 games."""
+        self.many("1,000 games", 0, PASSED, book(""), book(""), 1000)
+
+    def test_dying(self):
+        """Each game has two processes of Black that die, and one of White."""
+        black = passing("*/g1/<reply:5>/ends")
+        self.many("100 games with engines that die", 1, "abandoned black moves 0 restarts 1 0", black, book(""), 100)
+
+
+def taken_by(process):
+    """What a process takes: the peak of its memory and the room of its data, in kB, and how many files it has open."""
+    status = dict(line.split(":", 1) for line in Path(f"/proc/{process}/status").read_text().splitlines())
+    peak, room = (int(status[name].split()[0]) for name in ("VmHWM", "VmData"))
+    return peak, room, len(os.listdir(f"/proc/{process}/fd"))
 
 
 class Streams(checks.Case):
     """Outputs that can't be written."""
 
-    SMALLEST = ("--black", PASSES, "--white", PASSES, "--size", "1")
-    # White refuses Black's pass once; else nothing is reported.
-    REFUSED = ("--size", "9", "--black", PASSES, "--white", f"{HOSTILE}/engine /dev/null play_refused_once")
+    def ends(self, match, **streams):
+        """How a match with these streams ends: its status, its output and its standard error."""
+        it = Played(self.room(), match)
+        with it.started(encoding="utf-8", **streams) as process:
+            return (*process.communicate()[::-1], process.returncode)
 
     def opened(self, place="/dev/full"):
         """A file that is open for writing as long as the test runs, which here takes nothing."""
@@ -373,35 +237,20 @@ class Streams(checks.Case):
         self.addCleanup(file.close)
         return file
 
-    def is_reported(self, what, words, output):
-        """Checks that a run with this output ends with a write fault."""
-        status, _, errors = twogtp(*words, stdout=output)
-        self.check(f"{what} is status 3", 3, status)
-        self.check(f"{what} is reported", "twogtp: write fault\n", errors)
-
-    def test_full(self):
-        """A standard output that takes nothing."""
-        self.is_reported("an output that is full", self.SMALLEST, self.opened())
-
-    def test_pipe(self):
-        """A pipe that nobody reads."""
+    def test_output(self):
+        """An output that is full, and a pipe that nobody reads."""
         reader, writer = os.pipe()
         os.close(reader)
-        self.is_reported("a pipe that nobody reads", self.SMALLEST, self.opened(writer))
+        for what, output in (("an output that is full", self.opened()), ("a pipe that nobody reads", self.opened(writer))):
+            ended = self.ends(worked.match(book(""), book(""), size=1), stdout=output)
+            self.check(f"{what} is reported, and status 3", ("twogtp: write fault\n", None, 3), ended)
 
-    def test_help(self):
-        """The help, where it can't be written."""
-        self.is_reported("help that cannot be written", ["--help"], self.opened())
-
-    def test_refused(self):
-        """A refused move, where what is reported of it can't be written."""
-        came = twogtp("--why", *self.REFUSED, stderr=self.opened())
-        self.check("a refused move that cannot be reported is status 3", 3, came.status)
-        self.check("a game of which something cannot be reported has no line", "", came.output)
-
-    def test_quiet(self):
-        """without --why nothing is reported of a refused move."""
-        self.same((0, PASSED), twogtp(*self.REFUSED, stderr=self.opened())[:2])
+    def test_errors(self):
+        """A refused move, where what is reported of it can't be written, and without --why."""
+        refused = worked.match(book(""), refusing("1/p1"), why=True)
+        self.check("a game of which something can't be reported has no line", (None, "", 3), self.ends(refused, stderr=self.opened()))
+        quiet = refused._replace(why=False)
+        self.check("without --why nothing is reported of a refused move", (None, LINE, 0), self.ends(quiet, stderr=self.opened()))
 
 
 if __name__ == "__main__":

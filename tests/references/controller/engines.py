@@ -80,6 +80,14 @@ class Planned:
         return Faulty(self.seed, self.passes, self.style, self.plan, life)
 
 
+class Timed(Planned):
+    """The same behind `timeout`. Where it ends with status 124 by its plan, it is `timeout` that ends it, and its program is silent."""
+
+    def command(self, notes):
+        """The words of its command."""
+        return ["timeout", "--foreground", "2", *(word.replace("ends:124", "on") for word in super().command(notes))]
+
+
 class Ours:
     """Our own engine. In memory it is the reference of it. What it answered once to a list of commands is kept, since the reference
     is slow."""

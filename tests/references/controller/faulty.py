@@ -10,8 +10,17 @@ STYLE is a template, by which all replies are written, `<reply>` for the plain o
 LIFE/PLACE/TEMPLATE/THEN. LIFE counts the processes that were started with this file NOTES, from 1; `*` is each of them. PLACE is 0
 before the first command, cN at the N-th command of this life, gN at its N-th genmove, pN at its N-th play, uN at its N-th undo, h
 at a handicap, q at quit; pN-M is each play from the N-th to the M-th. There the template is written in place of the reply, in one
-write. THEN is `on`; `ends`, and the process ends; `closes`, and its output ends; `shuts`, and its input is closed before that
-write, and the process goes on; `forgets`, and it does not do what it was sent; or `refuses`, which is the same, but the notes go on.
+write. THEN is
+
+    on               it goes on
+    ends ends:N      the process ends, with status N, or by signal N where that is below zero
+    closes closes:N  its output ends, and the process goes on, or soon ends so
+    shuts            its input is closed before that write, and the process goes on
+    forgets          it does not do what it was sent
+    refuses          the same, but the notes go on
+    late             that write comes a second later, and the process ends
+    floods           the template is written again and again
+    bytes         each byte is a write of its own
 
 In a template `_` is a space, \\n \\r \\t and \\xHH are bytes, and in angle brackets are
 
@@ -34,6 +43,7 @@ import time
 
 COLUMNS = b"ABCDEFGHJKLMNOPQRSTUVWXYZ"
 ENDS, CLOSES, SHUTS, FORGETS, REFUSES = "ends", "closes", "shuts", "forgets", "refuses"
+LATE, FLOODS, BYTES = "late", "floods", "bytes"
 LONG = 100  # seconds, more than any match takes
 
 
@@ -228,21 +238,39 @@ class Output:
 
     def take(self, text, then):
         """Writes this text, and does what comes then. A controller that doesn't read it is gone."""
+        then, _, status = then.partition(":")
         if then == SHUTS:
             os.close(0)
+        if then == LATE:
+            time.sleep(1)
         try:
             while text and self.is_open:
-                text = text[os.write(1, text) :]
+                written = os.write(1, text[:1] if then == BYTES else text)
+                text = text if then == FLOODS else text[written:]
         except BrokenPipeError:
             os._exit(0)
-        if then == ENDS:
-            os._exit(0)
+        if then in (ENDS, LATE):
+            end(int(status or 0))
         if then == CLOSES and self.is_open:
             os.close(1)
             self.is_open = False
+            if status:
+                time.sleep(0.05)
+                end(int(status))
         if then == SHUTS:
             time.sleep(LONG)
             os._exit(0)
+
+
+def end(status):
+    """Ends the process with this status, or by this signal, which may stop it instead."""
+    if status < 0:
+        import resource
+
+        resource.setrlimit(resource.RLIMIT_CORE, (0, 0))
+        os.kill(os.getpid(), -status)
+        time.sleep(LONG)
+    os._exit(status)
 
 
 if __name__ == "__main__":

@@ -7,7 +7,7 @@ from ..engine.values import BLACK, WHITE
 
 from . import replies, why
 from .controller import DONE, MOST_UNANSWERED, SEND, SIDES, START, Controller, Loss, Setup
-from .faulty import CLOSES, ENDS, SHUTS
+from .faulty import CLOSES, ENDS, FLOODS, LATE, SHUTS
 
 # What is left to the controller, to the processes and to the pipes: how many script commands are unanswered at a time, whether an
 # engine answers as soon as it is sent something or only when it is waited for, and whether a write to an engine that has ended
@@ -26,6 +26,7 @@ TIMINGS = [
     Timing(1, False, True),
 ]
 MOST_TURNS = 100_000
+FLOOD = 9000  # how often a text is written that is written without end: more bytes than a reply may have
 
 # The number of the game in its own line, with the restarts of both sides; in a line of `--why`; and in one of a retake, with its count.
 GAME_LINE = re.compile(rb"^game (\d+): .* restarts (\d+) (\d+)$", re.MULTILINE)
@@ -37,6 +38,9 @@ RETAKE_LINE = re.compile(
 
 # What a match is: the options of `twogtp`, komi as it is spelled, and the engine of each side.
 Match = namedtuple("Match", "size komi handicap games most_moves restarts record show why engines")
+
+# .. as it is where nothing is said.
+PLAIN = Match(19, "6.5", 0, 1, 1000, 2, False, False, False, None)
 
 # What comes of it: the status, the standard output, the lines of the standard error, and what the engines of each side noted. By the
 # reference each of these lines is a list of texts: what is written in this timing, and what may be written in others.
@@ -57,6 +61,7 @@ class Process:
         self.has_ended = False
         self.has_closed = False  # its output
         self.has_shut = False  # its input
+        self.status = None  # with which it ends, where that isn't the engine's own; a signal is below zero
         self.writes = 0  # to it
         self.reading = 0  # the write of which it reads, or 0 before the first
         self.last = 0  # the one of which it read when it ended
@@ -64,12 +69,16 @@ class Process:
 
     def does(self, text, then):
         """It writes this, and does what comes then."""
+        then, _, status = then.partition(":")
+        if status:
+            self.status = int(status)
         if not self.has_closed:
-            self.output += text
-        if then == ENDS and not self.has_ended:
+            self.output += text * (FLOOD if then == FLOODS else 1)
+        ends = then in (ENDS, LATE)
+        if ends and not self.has_ended:
             self.last = self.reading
-        self.has_ended = self.has_ended or then == ENDS
-        self.has_closed = self.has_closed or then in (ENDS, CLOSES)
+        self.has_ended = self.has_ended or ends
+        self.has_closed = self.has_closed or ends or then == CLOSES
         self.has_shut = self.has_shut or then == SHUTS
 
     def write(self, lines):
@@ -102,8 +111,12 @@ class Process:
         return self.has_ended and self.writes > self.last
 
     def ending(self):
-        """How it had ended when it failed by its pipes. One that goes on is ended then. Until that its input stays open."""
-        return f"exit status {self.engine.status}" if self.has_ended else why.RAN_ON
+        """How it had ended when it failed by its pipes. One that goes on, and doesn't soon end, is ended then. Until that its input stays
+        open."""
+        if not self.has_ended and self.status is None:
+            return why.RAN_ON
+        status = self.engine.status if self.status is None else self.status
+        return f"exit status {status}" if status >= 0 else f"signal {-status}"
 
     def is_silent(self):
         """Does it go on, and has it written nothing that a controller would take for a reply, or for none?"""
@@ -149,6 +162,22 @@ class Starter:
     def reason(self, side):
         """Why no process of this side can be started, and the program that can't."""
         return self.engines[side].reason, self.engines[side].program
+
+
+def options(match):
+    """The options of the program for a match; those that it takes where nothing is said aren't named."""
+    words = []
+    for name, value in match._asdict().items():
+        option = {"most_moves": "max-moves"}.get(name, name)
+        if name != "engines" and value != getattr(PLAIN, name):
+            words.append(f"--{option}" if value is True else f"--{option}={value}")
+    return words
+
+
+def command(match, notes):
+    """The command of the program, whose engines note what they are sent in these files."""
+    sides = [[f"--{side}", " ".join(match.engines[side].command(str(notes[side])))] for side in SIDES]
+    return ["twogtp", *options(match), *sides[0], *sides[1]]
 
 
 def play(match, timing=TIMINGS[0]):

@@ -34,6 +34,7 @@ WHERE_IT_IS = [
     Case("a path that is too long", ABANDONED, 1, "./" + 300 * "x", why=no_start("too long", "./" + 78 * "x")),
     Case("a tab for a space", ABANDONED, 1, "gtp_engine\t--policy book", why=no_start(NO_FILE, r"gtp_engine\t--policy")),
     Case("a newline for a space", ABANDONED, 1, "gtp_engine\n--policy book", why=no_start(NO_FILE, r"gtp_engine\n--policy")),
+    Case("runs of spaces, which are no mistake", "game 1: W+R moves 0 restarts 0 0", 0, "  gtp_engine   --policy book  --book  resign "),
     Case("a backslash for a slash", ABANDONED, 1, r"\bin/engine", path="bin/engine", why=no_start(NO_FILE, r"\\bin/engine")),
     Case("a path with letters beyond ASCII, mistyped", ABANDONED, 1, "./möter/engine", path="motör/engine",
          why=no_start(NO_FILE, r"./m\xC3\xB6ter/engine")),
@@ -264,32 +265,28 @@ def printed(name, *parts, run):
     return Case(name, parts, 0, run=run, why=None)
 
 
-# `clap` says what it can't read, and how to get help. With --why a second line says which komis or handicaps are allowed.
-KOMI_LIMITS = (
-    "twogtp: komi may be a multiple of 0.5 from -999999999.5 to 999999999.5, with at most nine digits on each side of the point; "
-    "write a negative one as --komi=-3.5\n"
-)
+ALL_OPTIONS = "black white size komi handicap games max-moves restarts record show why help version".split()
+
+# `clap` says what it can't read, and how to get help.
 OPTIONS = [
     mistyped("a komi below zero without the sign =", ("error: ", "-3", "--help"), "--komi", "-3.5"),
-    mistyped("a komi that is no multiple of a half", "twogtp: bad komi\n", "--komi", "3.75"),
-    mistyped("a komi that is no multiple of a half, with --why", "twogtp: bad komi\n" + KOMI_LIMITS, "--komi", "3.75", "--why"),
     mistyped("restarts below zero", ("error: ", "-1", "--help"), "--restarts", "-1"),
-    mistyped("a size of 26", ("error: ", "--size", "26", "--help"), "--size", "26"),
-    mistyped("a handicap that the size doesn't allow", "twogtp: bad handicap\n", "--size", "6", "--handicap", "2"),
-    mistyped("a handicap that an even size doesn't allow", "twogtp: bad handicap\n", "--size", "10", "--handicap", "9"),
-    mistyped("a handicap that the size doesn't allow, with --why",
-             "twogtp: bad handicap\ntwogtp: on size 6 the handicap may only be 0\n", "--size", "6", "--handicap", "2", "--why"),
-    mistyped("a handicap that an even size doesn't allow, with --why",
-             "twogtp: bad handicap\ntwogtp: on size 10 the handicap may be 0, or 2 to 4\n", "--size", "10", "--handicap", "9", "--why"),
-    mistyped("a handicap of one, with --why",
-             "twogtp: bad handicap\ntwogtp: on size 19 the handicap may be 0, or 2 to 9\n", "--handicap", "1", "--why"),
+    mistyped("a size of 26 is looked at before the komi", ("error: ", "--size", "26", "--help"), "--size", "26", "--komi", "6.7"),
+    *(mistyped(f"past a limit: --{name} {number}", ("error: ", f"--{name}", number, "--help"), f"--{name}", number)
+      for name, number in (("size", "0"), ("size", "nine"), ("handicap", "10"), ("games", "0"), ("games", "1001"), ("max-moves", "0"),
+                           ("max-moves", "2001"), ("restarts", "1001"))),
     printed("the help says which handicaps a size allows", "0, or 2 to 9", "2 to 4", "even sizes", "size 7", run=("twogtp", "--help")),
     printed("the help of the engine says which options go together", "--policy random", "--policy book", run=("gtp_engine", "--help")),
     Case("nobody reads the help", "", 3, run=("twogtp", "--help"), is_read=False, errors="twogtp: write fault\n", why=None),
     mistyped("an option twice", ("error: ", "--size", "--help"), "--size", "9", "--size", "13"),
     mistyped("an option that isn't there", ("error: ", "--boardsize", "--help"), "--boardsize", "9"),
+    Case("no command for White", "", 2, run=("twogtp", "--black", "touch started"), errors=("error: ", "--white", "--help"), why=None),
+    Case("no word at all", "", 2, run=("twogtp",), errors=("error: ", "--black", "--white", "--help"), why=None),
+    Case("without a mistake what isn't to be started is", ABANDONED_AT_ONCE, 1, "touch started", options=("--restarts", "0"), why=None),
+    printed("the help names each option", *(f"--{name}" for name in ALL_OPTIONS), "3 the program could not go on: write fault, out of memory, "
+            "too many turns", "More: man twogtp", run=("twogtp", "--help")),
+    Case("the version", "twogtp 1.0", 0, run=("twogtp", "--version"), why=None),
 ]
-
 
 
 def checked(name, errors, *options):

@@ -148,8 +148,8 @@ def differences(case, result):
         wanted.append(("standard error", f"{case.errors[0]}.. with all of {case.errors[1:]}", result.errors))
     if case.sent is not None:
         wanted.append(("what the engine was sent", case.sent, result.sent))
-    if case.status == 2:
-        wanted.append(("an engine was started", False, result.started))
+    if case.status == 2 or case.command == "touch started":
+        wanted.append(("an engine was started", case.status != 2, result.started))
     return [row for row in wanted if row[1] != row[2]]
 
 
