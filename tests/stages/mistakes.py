@@ -1,24 +1,15 @@
 #!/usr/bin/env python3
-"""Makes each mistake that people make with a match program anew, and looks at what `twogtp` does.
+"""Makes each mistake that people make with the command lines of the programs anew, and looks at what comes of it.
 
-That is its standard output, its status, and its standard error, on which nothing may be but what an engine writes there, or what is
+That is the standard output, the status, and the standard error, on which nothing may be but what an engine writes there, or what is
 reported of a mistake in the arguments.
 
-Each mistake is a row of of_mistakes/rows.py, in a folder of its own, in which there is an engine of a few lines of Python. What is wanted
-was worked out by hand from README.md, docs/matches.md and docs/protocol.md; beside each group the script says why.
+Each mistake is a row of of_mistakes/rows.py, in a folder of its own, in which there is an engine that always passes. What is wanted was
+worked out by hand from README.md, docs/matches.md and docs/protocol.md; beside each group the table says why. Some rows run the
+program with fewer files or processes than it needs. Root has no limit of processes, so there another user plays.
 
-The table has some 100 rows, in the order of docs/troubleshooting.md. Each is a mistake as a person makes it, by a
-command line or by an engine, which else always passes. Some run the program with fewer files or processes than it needs. Root has
-no limit of processes, so there another user plays.
-
-A row has the status and all that goes to both outputs; of clap's text the beginning, and the words that name the mistake. GNU Go
-is imitated by the bytes that GNU Go 3.8 writes.
-
-Where a row says WAITS, the program must not end. The engine notes what it is sent. When that is all that the rules say, nothing
-more may be sent or written for a second.
-
-Each match is played once more with --why, whose lines the field why of its row has. Where time decides what is written, other
-fields have what else is right (hastens, follows).
+A row has the status and all that goes to both outputs; of clap's text the beginning, and the words that name the mistake. Each match is
+played once more with --why, whose lines the field why of its row has.
 """
 import shlex
 import sys

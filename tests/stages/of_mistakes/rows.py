@@ -1,12 +1,10 @@
-"""The rows, most in the order of docs/troubleshooting.md. Beside each group it is said why it comes out so."""
+"""The rows, most in the order of docs/troubleshooting.md. Beside each group it is said why it comes out so. What an engine does wrong in a
+match is a row of tests/references/controller/worked.py."""
 import sys
 
 from .cases import (
-    ABANDONED, ABANDONED_AT_ONCE, ALL, ALL_BUT_ONE, FAILED, FOURTH_GENMOVE, GENMOVE, GENMOVE_OF_WHITE, KEPT_MOVE, NOT_ALLOWED, NO_FILE,
-    NO_POINT, NO_PROGRAM, NO_REPLY, NO_VERTEX, NO_VERTEX_OF_WHITE, PLAYED, PLAY_OF_BLACK, REFUSED, SAID, SETUP, STONES, UNFIT, WAITS,
-    WRONG_ID, Case, Said, ended, explained, lost, no_start, ran_on, retaken,
+    ABANDONED, ABANDONED_AT_ONCE, NOT_ALLOWED, NO_FILE, NO_LIBRARY, NO_PROGRAM, PASSES, PLAYED, SAID, SETUP, Case, Said, ended, no_start,
 )  # fmt: skip
-from .engines import GNU_GO, GNU_GO_FOR_A_PERSON, NO_LIBRARY, PASSES, PLAYS, answers, formed, in_turn, polite
 
 # The program can't be started, three times (`--restarts` is 2). Black is started first, so White isn't asked for where both are wrong.
 # A command is cut at spaces, without quoting and without a shell. The file `engine` plays where it is named rightly. A pipe for each
@@ -70,188 +68,22 @@ SHELL = [
     Case("VAR=1 engine", ABANDONED, 1, "VAR=1 ./engine", why=no_start(NO_FILE, "VAR=1")),
 ]
 
-# It writes no reply, or ends at once: the side goes down, and is started again twice. The words on the standard error are its own. GNU
-# Go is imitated, also where it is there: it has words of its own for the end of its input, if it isn't killed before it writes them.
-# A shell takes the commands for its own, and writes on the standard error alone; Python reads to the end of its input. Both are ended by
-# `timeout`. A book is used under its policy alone; without it our engine plays A1.
+# It is no engine, or says something on its standard error, which is the program's. A shell takes the commands for its own, and writes there
+# alone; Python reads to the end of its input. Both are ended by `timeout`. A book is used under its policy alone; without it our engine
+# plays A1.
 START = [
-    Case("GNU Go without --mode gtp", ABANDONED, 1, made=polite(GNU_GO), why=lost(ALL, NO_REPLY, r"\x01\xA1\xA0\x80", 3)),
-    Case("GNU Go in the mode for a person", ABANDONED, 1, made=polite(GNU_GO_FOR_A_PERSON),  # the first 80 bytes
-         why=lost(ALL, NO_REPLY, r"GNU Go 3.8\nCopyright 1999, 2000, 2001, 2002, 2003, 2004, 2005, 2006, 2007, 2008\n", 3)),
     Case("a wrong option of the engine", ABANDONED, 1, "gtp_engine --polcy book", errors=Said(("gtp_engine", "--polcy", "book")),
          why=ended("exit status 2", said=SAID), hastens="exit status 2"),
-    Case("an engine that writes its help and ends", ABANDONED, 1, made="#!/bin/sh\necho 'usage: mygo [options]'\n",
-         why=lost(ALL, NO_REPLY, r"usage: mygo [options]\n", 3), hastens="exit status 0"),
     Case("a shell in place of an engine", ABANDONED_AT_ONCE, 1, "timeout 2 /bin/sh", options=("--size", "9", "--restarts", "0"),
          errors=Said(("/bin/sh",), 1, SETUP), why=ended("exit status 124", said=SAID, times=1)),
     Case("Python in place of an engine", ABANDONED_AT_ONCE, 1, f"timeout 2 {sys.executable}", options=("--size", "9", "--restarts", "0"),
          why=ended("exit status 124", times=1)),
     Case("a book without --policy book", "game 1: limit moves 1 restarts 0 0\nA1", 0, "gtp_engine --book D4",
          options=("--size", "9", "--max-moves", "1", "--record")),
-    Case("a library of the engine is missing", ABANDONED, 1, made=polite(f"sys.stderr.write({NO_LIBRARY!r})\nos._exit(127)"),
-         errors=NO_LIBRARY * 3, why=ended("exit status 127", said=NO_LIBRARY), hastens="exit status 127"),
-]
-
-# An engine that is gone is started again, twice. After the game nothing is asked of it but to quit: the line is there by then.
-# The move that ends a match isn't sent to the other side. One that closes its input passes, and White plays A1, B1 and C1: none of them
-# can be written, and nothing is read of an engine after that. One that closes its output may be about to end, so it has some 200
-# milliseconds for that: how it ends then is shown, or that it ran on.
-END = [
-    Case("it crashes at its start", ABANDONED, 1,
-         made=polite("resource.setrlimit(resource.RLIMIT_CORE, (0, 0))\nos.kill(os.getpid(), signal.SIGSEGV)"),
-         why=ended("signal 11"), hastens="signal 11"),
-    Case("it crashes at genmove", ABANDONED, 1, made=polite("""\
-resource.setrlimit(resource.RLIMIT_CORE, (0, 0))
-at["genmove"] = lambda: os.kill(os.getpid(), signal.SIGSEGV)"""),
-         why=ended("signal 11", GENMOVE)),
-    Case("it is killed from outside at genmove", ABANDONED, 1, made=polite('''\
-at["genmove"] = lambda: os.system(f"kill -KILL {os.getpid()}")'''), why=ended("signal 9", GENMOVE)),
-    Case("it ends silently at genmove", ABANDONED, 1, made=polite('at["genmove"] = sys.exit'), why=ended("exit status 0", GENMOVE)),
-    Case("it closes its input after each of its moves", "game 1: abandoned black moves 6 restarts 2 0", 1, made=polite("""\
-def passes_and_closes():
-    os.close(0)
-    write(plain(words[0], "=", "pass"))
-    time.sleep(1000)
-
-at["genmove"] = passes_and_closes"""), other=PLAYS,
-         why="".join(explained(f'1 unanswered, "{id} play w {vertex}": writing failed, but it ran on; nothing of it was read')
-                     for id, vertex in ((5, "A1"), (7, "B1"), (9, "C1")))),
-    Case("it closes its output at its start, and sleeps", ABANDONED, 1, made=polite("os.close(1)\ntime.sleep(1000)"), why=ran_on()),
-    Case("it closes its output at genmove, and reads on", ABANDONED, 1, made=polite('at["genmove"] = lambda: os.close(1)'),
-         why=ran_on(GENMOVE)),
-    Case("it closes its output in the middle of an answer", ABANDONED, 1, made=polite("""\
-def begins_and_closes():
-    write("=4 D")
-    os.close(1)
-
-at["genmove"] = begins_and_closes"""), why=ran_on(GENMOVE, "=4 D")),
-    Case("it closes its output at genmove, and soon ends with a status", ABANDONED, 1, made=polite("""\
-def closes_and_ends():
-    os.close(1)
-    time.sleep(0.05)
-    os._exit(7)
-
-at["genmove"] = closes_and_ends"""), why=ended("exit status 7", GENMOVE)),
-    Case("it closes its output at genmove, and a signal soon ends it", ABANDONED, 1, made=polite("""\
-def closes_and_ends():
-    os.close(1)
-    time.sleep(0.05)
-    os.kill(os.getpid(), signal.SIGTERM)
-
-at["genmove"] = closes_and_ends"""), why=ended("signal 15", GENMOVE)),
-    Case("it ends without an answer to quit", PLAYED, 0, made=polite('at["quit"] = sys.exit'), side="white"),
-    Case("it hangs on quit", PLAYED, WAITS, made=polite('at["quit"] = lambda: time.sleep(1000)'), sent=SETUP + "4 genmove b\nquit\n"),
-    Case("it hangs on quit, as White", PLAYED, WAITS, made=polite('at["quit"] = lambda: time.sleep(1000)'), side="white",
-         sent=SETUP + "4 play b pass\n5 genmove w\nquit\n"),
-]
-
-# A line that begins with neither `=` nor `?` puts the side down. So does a reply whose id is missing, or another than that of the
-# oldest unanswered command. The text of the answer to `genmove` is one word; there are no comments. A line after the answer comes with
-# it: the move counts, and the side goes down. Its next process is sent the move, and so moves 1, 3 and 5 are made. Of what is no
-# reply all is shown that was read: what comes in one write, and what was written after it by then (`follows`).
-WRITES = [
-    Case("a banner on the standard output", ABANDONED, 1, made=polite('write("My Engine 1.0, 8 threads\\n")'),
-         why=lost(ALL, NO_REPLY, r"My Engine 1.0, 8 threads\n", 3), follows=(r"=1\n\n", r"=2\n\n", r"=3\n\n")),
-    Case("a prompt", ABANDONED, 1, made=polite('write("GTP> ")\nform = lambda *reply: plain(*reply) + "GTP> "'),
-         why=lost(ALL, NO_REPLY, "GTP> ", 3), follows=(r"=1\n\nGTP> ", r"=2\n\nGTP> ", r"=3\n\nGTP> ")),
-    Case("a log line before each reply", ABANDONED, 1, made=formed('"playouts 1000\\n" + plain(id, status, text)'),
-         why=lost(ALL, NO_REPLY, r"playouts 1000\n=1\n\n", 3), follows=(r"playouts 1000\n=2\n\n", r"playouts 1000\n=3\n\n")),
-    Case("a log line before the answer to genmove", ABANDONED, 1,
-         made=formed('("playouts 1000\\n" if text else "") + plain(id, status, text)'),
-         why=lost(GENMOVE, NO_REPLY, r"playouts 1000\n=4 pass\n\n", 3)),
-    Case("a log line after the answer to genmove", "game 1: abandoned black moves 5 restarts 2 0", 1, made=polite("""\
-at["genmove"] = lambda: ("=", ["D4", "E5", "F6", "G7"][moves // 2])
-form = lambda id, status, text: plain(id, status, text) + ("playouts 1000\\n" if text else "")"""),
-         why=lost("0 unanswered", NO_REPLY, r"playouts 1000\n", 3)),
-    Case("a log line after each reply", ABANDONED, 1, made=formed('plain(id, status, text) + "ready\\n"'),
-         why=lost(ALL_BUT_ONE, NO_REPLY, r"ready\n", 3), follows=(r"=2\n\nready\n", r"=3\n\nready\n")),
-    Case("ids that are not repeated", ABANDONED, 1, made=formed('plain("", status, text)'), why=lost(ALL, WRONG_ID, r"=\n\n", 3)),
-    Case("ids that are counted from 0", ABANDONED, 1, made=formed("plain(str(int(id or 1) - 1), status, text)"),
-         why=lost(ALL, WRONG_ID, r"=0\n\n", 3)),
-    Case("a space before the id", ABANDONED, 1, made=formed('plain(" " + id, status, text)'), why=lost(ALL, WRONG_ID, r"= 1\n\n", 3)),
-    Case("a comment in the answer to genmove", NO_VERTEX, 0, made=answers("genmove", "=", "D4 # the best of 1000"),
-         why=lost(GENMOVE, NO_POINT, r"=4 D4 # the best of 1000\n\n")),
-    Case("a second line in the answer to genmove", NO_VERTEX, 0, made=answers("genmove", "=", "D4\nwinrate 55%"),
-         why=lost(GENMOVE, NO_POINT, r"=4 D4\nwinrate 55%\n\n")),
-]
-
-# A command of the script that fails makes the side unfit, and so does a handicap that isn't placed on the points of the table, which
-# are C3 and G7. Of one that is ignored the next reply has another id than is due, and after the last one nothing comes.
-HANDICAP = ("--size", "9", "--handicap", "2")
-COMMANDS = [
-    Case("it has no komi", UNFIT, 1, made=answers("komi", "?", "unknown command"),
-         why=lost(ALL_BUT_ONE, FAILED, r"?2 unknown command\n\n")),
-    Case("it has no fixed_handicap", UNFIT, 1, made=answers("fixed_handicap", "?", "unknown command"), options=HANDICAP,
-         why=lost(STONES, FAILED, r"?4 unknown command\n\n")),
-    Case("an empty answer to fixed_handicap", UNFIT, 1, options=HANDICAP, why=lost(STONES, FAILED, r"=4\n\n")),
-    Case("other points in the answer to fixed_handicap", UNFIT, 1, made=answers("fixed_handicap", "=", "C7 G3"), options=HANDICAP,
-         why=lost(STONES, FAILED, r"=4 C7 G3\n\n")),
-    Case("it plays on 9x9 alone", UNFIT, 1, made=answers("boardsize", "?", "unacceptable size"), options=(),
-         why=lost('3 unanswered, the first "1 boardsize 19"', FAILED, r"?1 unacceptable size\n\n")),
-    Case("it ignores komi", ABANDONED, 1, made=polite('at["komi"] = lambda: None'), why=lost(ALL_BUT_ONE, WRONG_ID, r"=3\n\n", 3)),
-    Case("it ignores clear_board", "", WAITS, made=polite('at["clear_board"] = lambda: None'), sent=SETUP),
-]
-
-# These forfeit, each with its cause. The other side refuses Black's A1 four times, and Black takes it back three times; each of these
-# is reported too. One that fills 2x2 alone leaves itself no liberty; on 3x3 White has just taken B1 by A1, and Black would take it back.
-# One that refuses J3 and J8 is sent D4 then, and both pass. Where the same write brings a log line, White goes down besides:
-# three times, and A1 stays. In the last row both sides refuse what the other one plays, and neither can take a move back.
-REFUSES_ALL = """\
-at["play"] = lambda: ("?", "illegal move")
-at["undo"] = lambda: ("?", "unknown command")"""
-KNOWS_NO_J = """\
-mine = iter(["J3", "J8", "D4", "pass"])
-at["genmove"] = lambda: ("=", next(mine) if words[-1] == "b" else "pass")
-at["play"] = lambda: ("?", "illegal move") if words[-1].startswith("J") else ("=", "")"""
-MOVES = [
-    Case("I5", NO_VERTEX, 0, made=answers("genmove", "=", "I5"), why=lost(GENMOVE, NO_POINT, r"=4 I5\n\n")),
-    Case("letters of SGF", NO_VERTEX, 0, made=answers("genmove", "=", "dd"), why=lost(GENMOVE, NO_POINT, r"=4 dd\n\n")),
-    Case("numbers in place of a vertex", NO_VERTEX, 0, made=answers("genmove", "=", "4-4"), why=lost(GENMOVE, NO_POINT, r"=4 4-4\n\n")),
-    Case("an empty answer to genmove", NO_VERTEX, 0, made=answers("genmove", "="), why=lost(GENMOVE, NO_POINT, r"=4\n\n")),
-    Case("a vertex and its value", NO_VERTEX_OF_WHITE, 0, made=answers("genmove", "=", "D4 # 55%"), side="white",
-         why=lost(GENMOVE_OF_WHITE, NO_POINT, r"=5 D4 # 55%\n\n", side="white")),
-    Case("two vertices on two lines", NO_VERTEX_OF_WHITE, 0, made=answers("genmove", "=", "D4\nE5"), side="white",
-         why=lost(GENMOVE_OF_WHITE, NO_POINT, r"=5 D4\nE5\n\n", side="white")),
-    Case("a point off the board", "game 1: W+F(illegal move) moves 0 restarts 0 0", 0, made=answers("genmove", "=", "T19"),
-         why=lost(GENMOVE, "an illegal move: off the board", r"=4 T19\n\n")),
-    Case("a point that is taken", "game 1: B+F(illegal move) moves 1 restarts 0 0", 0, made=answers("genmove", "=", "A1"),
-         side="white", other=PLAYS, why=lost(GENMOVE_OF_WHITE, "an illegal move: the point is occupied", r"=5 A1\n\n", side="white")),
-    Case("a suicide", "game 1: W+F(illegal move) moves 6 restarts 0 0", 0, made=in_turn("A1", "B1", "A2", "B2"), options=("--size", "2"),
-         why=lost(FOURTH_GENMOVE, "an illegal move: suicide", r"=10 B2\n\n")),
-    Case("a ko", "game 1: W+F(illegal move) moves 6 restarts 0 0", 0, made=in_turn("A2", "B1", "pass", "B1"), options=("--size", "3"),
-         other=f"{PASSES} --book ,B2,,C1,,A1", why=lost(FOURTH_GENMOVE, "an illegal move: ko", r"=10 B1\n\n")),
-    Case("genmove fails with a text", "game 1: W+F(no move) moves 0 restarts 0 0", 0, made=answers("genmove", "?", "no time left"),
-         why=lost(GENMOVE, "no move: the genmove failed", r"?4 no time left\n\n")),
-    Case("the other side refuses a legal move", "game 1: B+F(refused play) moves 1 restarts 0 0", 0,
-         made=answers("play", "?", "illegal move"), side="white", other=PLAYS,
-         why=retaken(4, "A1", 1) + retaken(5, "A1", 2) + retaken(6, "A1", 3)
-         + lost(PLAY_OF_BLACK.format(7, "A1"), REFUSED, r"?7 illegal move\n\n", side="white")),
-    Case("it reads J as the tenth column", "game 1: B+74.5 moves 3 restarts 0 0\nD4 pass pass", 0, made=polite(KNOWS_NO_J), side="white",
-         other="./engine", options=("--size", "9", "--record"), why=retaken(4, "J3", 1) + retaken(5, "J8", 2)),
-    Case("it refuses a legal move, and a log line follows", "game 1: abandoned white moves 1 restarts 0 2", 1, made=polite("""\
-at["play"] = lambda: ("?", "illegal move")
-form = lambda id, status, text: plain(id, status, text) + ("playouts 1000\\n" if status == "?" else "")"""), side="white", other=PLAYS,
-         why="".join(retaken(4, "A1", count) + lost("0 unanswered", NO_REPLY, r"playouts 1000\n", side="white") for count in (1, 2, 3))),
-    Case("the other side refuses a legal move, and it has no undo", "game 1: B+F(refused play) moves 1 restarts 0 0", 0,
-         made=polite(REFUSES_ALL), other="./engine",
-         why=retaken(4, "pass", 1) + lost('1 unanswered, "5 undo"', KEPT_MOVE, r"?5 unknown command\n\n")),
-]
-
-# A reply ends with two newlines. Until it does, the match waits. Up to eight commands of the script are sent without waiting, and of
-# these there are three, so all three are sent to an engine of whose replies none is heard.
-FORM = [
-    Case("one newline after a reply", "", WAITS, made=formed("plain(id, status, text)[:-1]"), sent=SETUP),
-    Case("replies ended by CR alone", "", WAITS, made=formed('plain(id, status, text).replace("\\n", "\\r")'), sent=SETUP),
-    Case("buffered output", "", WAITS, made=polite("write = sys.stdout.write"), sent=SETUP),
-    Case("it hangs at its start", "", WAITS, made=polite('note("started\\n")\ntime.sleep(1000)'), sent="started\n"),
-    Case("it hangs at genmove", "", WAITS, made=polite('at["genmove"] = lambda: time.sleep(1000)'), sent=SETUP + "4 genmove b\n"),
-    Case("it hangs at genmove, as White", "", WAITS, made=polite('at["genmove"] = lambda: time.sleep(1000)'), side="white",
-         sent=SETUP + "4 play b pass\n5 genmove w\n"),
-    Case("replies ended by CR LF", PLAYED, 0, made=formed('plain(id, status, text).replace("\\n", "\\r\\n")')),
-    Case("a banner on the standard error", PLAYED, 0, made=polite('sys.stderr.write("My Engine 1.0\\n")'), errors="My Engine 1.0\n",
-         why="My Engine 1.0\n"),
-    Case("it ends on quit without a reply", PLAYED, 0, made=polite('at["quit"] = sys.exit')),
-    Case("it is slow to quit", PLAYED, 0, made=polite('at["quit"] = lambda: time.sleep(1) or ("=", "")')),
+    Case("a library of the engine is missing", ABANDONED, 1, made=f"#!/bin/sh\nprintf '{NO_LIBRARY}' >&2\nexit 127\n", errors=NO_LIBRARY * 3,
+         why=ended("exit status 127", said=NO_LIBRARY), hastens="exit status 127"),
+    Case("a banner on the standard error", PLAYED, 0, made=f"#!/bin/sh\necho 'My Engine 1.0' >&2\nexec {PASSES}\n",
+         errors="My Engine 1.0\n", why="My Engine 1.0\n"),
 ]
 
 
@@ -322,11 +154,6 @@ TABLE = {
     "not started": WHERE_IT_IS,
     "shell syntax": SHELL,
     "exits at the start": START,
-    "exits and crashes": END,
-    "stray output": WRITES,
-    "setup refused": COMMANDS,
-    "forfeits and refused moves": MOVES,
-    "the match hangs": FORM,
     "errors of twogtp": OPTIONS,
     "errors of gtp_check": CHECKER,
 }

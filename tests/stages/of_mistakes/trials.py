@@ -4,28 +4,25 @@ from __future__ import annotations
 import os
 import re
 import shutil
-import signal
 import subprocess
-import time
 from contextlib import nullcontext
 from dataclasses import dataclass, replace
 
-from .cases import ALL, SAID, WAITS, WROTE, Said, ended, explained
+from tests.shared import running
 
+from .cases import ALL, SAID, Said
 
 OTHER_USER = ("setpriv", "--reuid=64321", "--regid=64321", "--clear-groups")  # one who runs nothing else
 LIMIT = 30  # seconds that a match may take, on a machine with other work
-PATIENCE = 1  # seconds in which nothing comes of a match that waits
 
 
 @dataclass(frozen=True)
 class Result:
     """What came of a match."""
 
-    status: object
+    status: int | None  # None where it didn't end
     output: str
     errors: str
-    sent: str
     started: bool  # whether something was started that a mistake in the options should have kept from it
 
 
@@ -85,33 +82,15 @@ class Trial:
 
     def play(self, *more):
         """Plays the match with these further options, and answers what came of it."""
-        sent, started = self.room / "sent", self.room / "started"
-        for left in (sent, started):
-            left.unlink(missing_ok=True)
+        started = self.room / "started"
+        started.unlink(missing_ok=True)
         search = {} if self.case.search is None else {"PATH": self.case.search}
         environment = {**self.programs, "HOME": str(self.folder), **search}
         held = open(self.folder / self.case.path, "ab") if self.case.is_held else nullcontext()
         with held, self.output() as output, open(self.folder / "errors", "w+b") as errors:
-            # It leads a group of its own, in which all that it starts is, so all of that can be ended.
-            process = subprocess.Popen(self.command(*more), cwd=self.room, stdin=subprocess.DEVNULL, stdout=output, stderr=errors,
-                                       env=environment, start_new_session=True)
-            try:
-                ended = self.wait(process, sent)
-            finally:
-                os.killpg(process.pid, signal.SIGKILL)
-                status = process.wait()
-        texts = [text_of(self.folder / name, errors="backslashreplace") for name in ("output", "errors")]
-        return Result(status if ended else WAITS, *texts, text_of(sent), started.exists())
-
-    def wait(self, process, sent):
-        """Waits until the program has ended; or, where it has to wait, a while after it came that far. Has it ended?"""
-        late = time.monotonic() + LIMIT
-        far = False
-        while time.monotonic() < late and not has_ended(process):
-            if not far and self.case.status == WAITS and text_of(sent) == self.case.sent:
-                far, late = True, time.monotonic() + PATIENCE
-            time.sleep(0.01)
-        return has_ended(process)
+            status = running.run(self.command(*more), limit=LIMIT, cwd=self.room, stdout=output, stderr=errors, env=environment).status
+        texts = [text_of(self.folder / name) for name in ("output", "errors")]
+        return Result(status, *texts, started.exists())
 
 
 def limited(case):
@@ -125,14 +104,9 @@ def can_be_tried(case):
     return not case.limits or subprocess.run([*limited(case), "true"], stderr=subprocess.DEVNULL).returncode == 0
 
 
-def text_of(file, errors="strict"):
+def text_of(file):
     """What the file holds, or nothing where it isn't there."""
-    return file.read_text(errors=errors) if file.exists() else ""
-
-
-def has_ended(process):
-    """Has the program ended? It keeps its process id all the same."""
-    return os.waitid(os.P_PID, process.pid, os.WEXITED | os.WNOHANG | os.WNOWAIT) is not None
+    return file.read_text(errors="backslashreplace") if file.exists() else ""
 
 
 def differences(case, result):
@@ -146,8 +120,6 @@ def differences(case, result):
         wanted.append(("standard error", case.errors, result.errors))
     elif not result.errors.startswith(case.errors[0]) or not all(part in result.errors for part in case.errors):
         wanted.append(("standard error", f"{case.errors[0]}.. with all of {case.errors[1:]}", result.errors))
-    if case.sent is not None:
-        wanted.append(("what the engine was sent", case.sent, result.sent))
     if case.status == 2 or case.command == "touch started":
         wanted.append(("an engine was started", case.status != 2, result.started))
     return [row for row in wanted if row[1] != row[2]]
@@ -157,11 +129,8 @@ def with_why(case, result):
     """The row and the result of a match that was played with `--why`, to be compared. What is a question of time is the same in both."""
     errors = result.errors
     if case.hastens:
-        unread = explained(f"{ALL}: writing failed, {case.hastens}; nothing of it was read")
+        unread = f"twogtp: game 1: black: {ALL}: writing failed, {case.hastens}; nothing of it was read\n"
         errors = errors.replace(unread, re.findall("^twogtp: .*\n", case.why, re.MULTILINE)[0])
-    for wrote in set(re.findall(WROTE, case.why)):
-        for count in range(1, len(case.follows) + 1):
-            errors = errors.replace(f'; it wrote "{wrote}{"".join(case.follows[:count])}"\n', f'; it wrote "{wrote}"\n')
     return replace(case, errors=case.why), replace(result, errors=errors)
 
 
