@@ -9,9 +9,6 @@ still differ, what is left is shown with both results, and the input is kept in 
 Two kinds are all under --ko positional, and made so that boards come back: by kos and captures on small boards, or by handicap
 stones that are played again. Of the other kinds a quarter is under it. Of the plays that positional ko refuses and simple ko
 allows 1,000 have to be there.
-
-With --mutants wrong bodies are put into the reference, one at a time. With each some conversation has to come out otherwise, and
-with the right body none.
 """
 import sys
 from functools import lru_cache
@@ -20,13 +17,11 @@ from pathlib import Path
 sys.dont_write_bytecode = True
 sys.path[0] = str(Path(__file__).resolve().parents[2])
 
-from tests.references.engine import mutants, selftest  # noqa: E402
+from tests.references.engine import selftest  # noqa: E402
 from tests.references.engine.conversations import KINDS  # noqa: E402
-from tests.references.engine.game import Game  # noqa: E402
-from tests.references.mutator import Limit, Mutant  # noqa: E402
 from tests.shared import checks, running  # noqa: E402
 from tests.stages.of_conversations.giving import at_once, byte_after_byte  # noqa: E402
-from tests.stages.of_conversations.trials import PIPES, Trial, compared, name_of, one_in, results_shown, wanted_of  # noqa: E402
+from tests.stages.of_conversations.trials import PIPES, Trial, compared, name_of, one_in, results_shown  # noqa: E402
 
 EXPLAINED = """\
 kinds of random conversations:
@@ -49,14 +44,10 @@ PARSER.add_argument("--count", metavar="N", type=checks.at_least_one, default=10
                     help="how many random conversations of each kind; else 100")  # fmt: skip
 PARSER.add_argument("--seed", metavar="S", type=int, default=1, help="which conversations; else 1")
 PARSER.add_argument("--kind", metavar="K", choices=[*KINDS, PIPES], help="one kind of random conversations alone")
-PARSER.add_argument("--mutants", action="store_true", help="puts wrong bodies into the reference; each has to be noticed")
-PARSER.add_argument("--all-mutants", action="store_true", help="the same with all of them, and not a sample")
 OPTIONS = PARSER.options(__name__)
 PROGRAM = str(OPTIONS.engine.resolve())
 WORKED = selftest.worked()
-WITH_MUTANTS = OPTIONS.mutants or OPTIONS.all_mutants
 FEWEST_REFUSALS = 0 if OPTIONS.kind or OPTIONS.count < 100 else 1000
-RIGHT_BODY = ("the reference without a wrong body", Game, "play", Game.play)
 
 
 def setUpModule():
@@ -137,59 +128,5 @@ class Refusals(checks.Case):
         self.check(f"{counted}: plays that positional ko refuses and simple ko allows", True, number >= FEWEST_REFUSALS)
 
 
-# ---- wrong bodies of the reference
-
-
-@lru_cache(maxsize=None)
-def given():
-    """The kind of each random conversation, the conversation, and what the program gives: the short ones first, and all kinds in turn."""
-    found = []
-    for kind in kinds():
-        for place, trial in enumerate(sorted(trials(kind), key=lambda it: len(it.conversation.data)), 1):
-            found.append((place * one_in(kind), kind, trial, trial.at_once()))
-    return [row for _, *row in sorted(found, key=lambda it: it[0])]
-
-
-def gives_otherwise(trial, got):
-    """Does the reference, which a wrong body may stop, give something else?"""
-    with Limit():
-        try:
-            return wanted_of(trial.conversation) != got
-        except Exception:
-            return True
-
-
-def noticed_by(row):
-    """The kind of the first conversation of which the reference gives something else with this body in it, or None."""
-    _, owner, attribute, body = row
-    with Mutant(owner, attribute, body):
-        return next((kind for kind, trial, got in given() if gives_otherwise(trial, got)), None)
-
-
-@lru_cache(maxsize=None)
-def noticed_by_right_body():
-    """The same of the right body."""
-    return noticed_by(RIGHT_BODY)
-
-
-def body_named(row):
-    """What is checked of a body."""
-    return f"{RIGHT_BODY[0]} agrees in all {sum(map(numbered, kinds()))} conversations" if row == RIGHT_BODY else f"'{row[0]}' is noticed"
-
-
-@checks.table([RIGHT_BODY, *(mutants.chosen(OPTIONS.all_mutants) if WITH_MUTANTS else [])], body_named)
-class Mutants(checks.Case):
-    """The reference with each body in it. Where the program differs from the right one, a difference with a wrong one says nothing."""
-
-    def row(self, row):
-        if row == RIGHT_BODY:
-            self.same(None, noticed_by_right_body())
-        elif noticed_by_right_body():
-            self.skipTest(f"{RIGHT_BODY[0]} differs")
-        else:
-            by = noticed_by(row)
-            self.check(body_named(row) + (f", by {name_of(by)}" if by else ""), True, by is not None)
-
-
 if __name__ == "__main__":
-    checks.main(OPTIONS, [Mutants] if WITH_MUTANTS else [Reference, Worked, Drawn, Refusals])
+    checks.main(OPTIONS)

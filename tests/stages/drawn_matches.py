@@ -15,12 +15,9 @@ most three lines of retakes for each move that is allowed.
 Only what has one outcome, whenever a process happens to run, is drawn; the head of the reference's drawn.py has what is left out.
 The reference plays each match three times, with quick and slow engines, and all three have to come out alike. For a line of --why
 it gives all texts that may be written, mostly one; the head of the reference's matches.py has where there are more.
-
-With --mutants wrong bodies are put into the reference, one at a time. With each some match has to come out otherwise.
 """
 import shlex
 import sys
-import time
 import unittest
 from functools import lru_cache
 from pathlib import Path
@@ -28,10 +25,9 @@ from pathlib import Path
 sys.dont_write_bytecode = True
 sys.path[0] = str(Path(__file__).resolve().parents[2])
 
-from tests.references.controller import drawn, matches, mutants  # noqa: E402
+from tests.references.controller import drawn, matches  # noqa: E402
 from tests.references.controller.controller import MOST_UNANSWERED, SIDES  # noqa: E402
 from tests.references.controller.matches import PATIENT, TIMINGS, Result, as_reported, fits  # noqa: E402
-from tests.references.mutator import Limit, Mutant  # noqa: E402
 from tests.shared import checks, running  # noqa: E402
 
 GROUP = 40  # matches that are compared in one check
@@ -45,11 +41,8 @@ PARSER.epilog = EXPLAINED
 PARSER.add_argument("--matches", metavar="N", type=checks.at_least_one, default=ALL, help=f"how many matches; else {ALL}")
 PARSER.add_argument("--seed", metavar="S", type=int, default=1, help="which matches; else 1")
 PARSER.add_argument("--match", metavar="N", type=int, help="the match of this number alone")
-PARSER.add_argument("--mutants", action="store_true", help="then puts wrong bodies into the reference; each has to be noticed")
-PARSER.add_argument("--all-mutants", action="store_true", help="the same with all of them, and not a sample")
 PARSER.add_argument("--programs", metavar="FOLDER", help="where both programs are; else bin/")
 OPTIONS = PARSER.options(__name__)
-WITH_MUTANTS = OPTIONS.mutants or OPTIONS.all_mutants
 NUMBERS = [OPTIONS.match] if OPTIONS.match else range(1, OPTIONS.matches + 1)
 GROUPS = [tuple(NUMBERS[first : first + GROUP]) for first in range(0, len(NUMBERS), GROUP)]
 
@@ -68,16 +61,13 @@ class Trial:
     def __init__(self, number):
         self.number = number
         self.match = drawn.match_of(OPTIONS.seed, number)
-        self.cost = 0  # seconds that the reference takes
 
     def wanted(self):
         """What comes of it by the reference, or, where that isn't the same whenever a process runs, a text that says so."""
-        began = time.process_time()
         try:
             results = {timing: matches.play(self.match, timing) for timing in TIMINGS}
         except matches.Undetermined as undetermined:
             return f"not determined: {undetermined}"
-        self.cost = time.process_time() - began
         wanted = results[PATIENT]
         alike = all(fits(as_reported(results[timing]), wanted, timing.most < MOST_UNANSWERED) for timing in TIMINGS)
         return wanted if alike else "not determined: it is a question of time"
@@ -156,11 +146,6 @@ def all_played():
     return [it for numbers in GROUPS for it in compared(numbers)[1]]
 
 
-def have_differed():
-    """Did some match not end as the reference says?"""
-    return any(compared(numbers)[0] for numbers in GROUPS)
-
-
 # ---- the checks
 
 
@@ -191,43 +176,5 @@ class Lines(checks.Case):
         self.check(f"of {games} games with {lines} lines of --why, {retakes} of them of retakes, none has more than it may", [], wrong)
 
 
-class Doubled(checks.Case):
-    """Is that count sharp enough?"""
-
-    def test_doubled(self):
-        """More lines of --why than a game may have are noticed."""
-        noticed = sum(trial.has_too_many_lines(got._replace(errors=got.errors * 2)) for trial, got in all_played())
-        self.check(f"in {noticed} matches there were more of them, were each written twice", True, noticed > 0)
-
-
-@lru_cache(maxsize=None)
-def quick_first():
-    """All matches, with what came of each; first those that the reference plays quickly."""
-    return sorted(all_played(), key=lambda played: played[0].cost)
-
-
-def comes_out_otherwise(trial, got):
-    """Does the reference, which a wrong body may stop, give something else?"""
-    with Limit():
-        try:
-            wanted = matches.play(trial.match, PATIENT)
-        except Exception:
-            return True
-    return not fits(got, wanted)
-
-
-@checks.table(mutants.chosen(OPTIONS.all_mutants) if WITH_MUTANTS else [], lambda it: f"'{it[0]}' is noticed")
-class Mutants(checks.Case):
-    """The reference with a wrong body in it. Where a match ends otherwise with the right ones, a difference says nothing."""
-
-    def row(self, row):
-        if have_differed():
-            self.skipTest("a match doesn't end as the reference says")
-        what, owner, attribute, body = row
-        with Mutant(owner, attribute, body):
-            by = next((trial.number for trial, got in quick_first() if comes_out_otherwise(trial, got)), None)
-        self.check(f"'{what}' is noticed" + (f", by match {by}" if by else ""), True, by is not None)
-
-
 if __name__ == "__main__":
-    checks.main(OPTIONS, [Drawn, Lines, Doubled, Mutants] if WITH_MUTANTS else [Drawn, Lines])
+    checks.main(OPTIONS)

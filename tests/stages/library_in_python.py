@@ -12,7 +12,6 @@ It needs the programs in bin/, and bin/libvintsaky.so.1; what isn't there is ski
 """
 import importlib
 import importlib.util
-import os
 import random
 import re
 import shutil
@@ -162,13 +161,13 @@ def differences(vintsaky, r):
         if game.legal_points(own) != legal:
             return f"the legal points after {plain.moves}"
         if after is not None:
-            before = plain.board()
+            before = plain.board
             game.play(own, own_vertex)
             plain.play(colour, vertex)
             taken = [point for point in rules.points(size) if point in before and point not in after]
             if game.taken != taken:
                 return f"the stones taken after {plain.moves}"
-        if (str(game).encode(), game.score * 2, len(game.moves)) != (plain.show(), plain.score(), len(plain.moves)):
+        if (str(game), game.score * 2, len(game.moves)) != (plain.show(), plain.score(), len(plain.moves)):
             return f"the board after {plain.moves}"
     return None
 
@@ -211,7 +210,7 @@ class Engine(Needing):
 
 def odd_conversations(kind):
     """What is wrong in the drawn conversations of this kind."""
-    return chosen.failures([*ENGINE.split(), "5"], kind, chosen.counted(kind, 6), "python", name=b"random_engine")
+    return chosen.failures([*ENGINE.split(), "5"], kind, chosen.counted(kind, 6), "python", name="random_engine")
 
 
 @checks.table(KINDS, lambda kind: f"{chosen.counted(kind, 6)} conversations of {KINDS[kind][0]} are the reference's", odd_conversations,

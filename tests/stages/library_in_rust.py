@@ -274,7 +274,7 @@ class Searching(Played):
 
 def odd_conversations(kind):
     """What is wrong in the drawn conversations of this kind."""
-    return chosen.failures([str(example("random_engine")), "5"], kind, chosen.counted(kind, 10), "rust", name=b"random_engine")
+    return chosen.failures([str(example("random_engine")), "5"], kind, chosen.counted(kind, 10), "rust", name="random_engine")
 
 
 @checks.table(KINDS, lambda kind: f"{chosen.counted(kind, 10)} conversations of {KINDS[kind][0]} are the reference's", odd_conversations,

@@ -3,8 +3,7 @@
 
 The reference is tests/references/search. Games are drawn on all sizes, by both ko rules, half played and with handicaps; some have a ko,
 some a record that is all but full. Of each the library is asked all that a search asks, and then for a rollout and a playout: record,
-board and score have to be the reference's. The generator of the reference stands beside vectors from elsewhere. Each of its wrong
-playouts has to make other moves in some drawn game, and each of its wrong answers has to be another one. The board by hand of
+board and score have to be the reference's. The generator of the reference stands beside vectors from elsewhere. The board by hand of
 bench/playouts makes the same moves too.
 
 It needs libvintsaky.so.1 in bin/, and for the board by hand cc; what isn't there is skipped. --games 100000 is a search of some hours.
@@ -19,11 +18,10 @@ from pathlib import Path
 sys.dont_write_bytecode = True
 sys.path[0] = str(Path(__file__).resolve().parents[2])
 
-from tests.references.engine import game as rules  # noqa: E402
-from tests.references.engine.game import POSITIONAL, SIMPLE, points  # noqa: E402
+from tests.references.engine.game import POSITIONAL, SIMPLE, Board, Game, points  # noqa: E402
 from tests.references.engine.values import BLACK, PASS, WHITE, other  # noqa: E402
-from tests.references.search import answers, drawn, hashes, playouts  # noqa: E402
-from tests.references.search.drawn import WRONG, played  # noqa: E402
+from tests.references.search import drawn, hashes, playouts  # noqa: E402
+from tests.references.search.drawn import played  # noqa: E402
 from tests.references.search.generator import Pcg64  # noqa: E402
 from tests.shared import checks, library, running  # noqa: E402
 from tests.shared.library import SHARED, TOP  # noqa: E402
@@ -70,10 +68,10 @@ EYES = [
 def board_of(text):
     """A game with these stones and without a move."""
     rows = text.split()[::-1]
-    game = playouts.Game()
+    game = Game()
     game.begin(len(rows))
     stones = {"X": BLACK, "O": WHITE}
-    game.boards = [{(at + 1, up + 1): stones[mark] for up, row in enumerate(rows) for at, mark in enumerate(row) if mark in stones}]
+    game.board = Board({(at + 1, up + 1): stones[mark] for up, row in enumerate(rows) for at, mark in enumerate(row) if mark in stones})
     return game
 
 
@@ -97,19 +95,6 @@ class Reference(checks.Case):
         """its keys are draws of SplitMix64."""
         self.same(FIRST_KEYS, [hashes.key(number) for number in range(1, 1 + len(FIRST_KEYS))])
 
-    def test_quick(self):
-        """its game, which looks beside a play alone, has the boards of the engine's reference."""
-        odd = []
-        for number in range(0, KINDS, 8):
-            game = played(number)[1]
-            slow = rules.Game(game.rule)
-            slow.begin(game.size)
-            slow.boards = game.boards[:1]
-            made = [slow.play(*move) for move in game.moves]
-            if not all(made) or slow.boards != game.boards or playouts.legal_mask(slow, BLACK) != playouts.legal_mask(game, BLACK):
-                odd.append(number)
-        self.same([], odd)
-
     def test_draws(self):
         """the points of n words in a row are all candidates, each once."""
         odd = []
@@ -130,22 +115,6 @@ class Kinds(checks.Case):
         """the drawn games show each kind that there is."""
         kinds = [drawn.kinds_of(number) for number in range(KINDS)]
         self.same([], [kind for kind in kinds[0] if not any(of[kind] for of in kinds)])
-
-
-@checks.table(WRONG, lambda wrong: f"noticed would be: {wrong.__doc__[0].lower()}{wrong.__doc__[1:-1]}")
-class Noticed(checks.Case):
-    """Each wrong playout makes other moves in some drawn game."""
-
-    def row(self, wrong):
-        self.assertTrue(any(drawn.differs(wrong, number) for number in range(KINDS)), "no drawn game shows it")
-
-
-@checks.table(answers.WRONG, lambda wrong: f"noticed would be: {wrong.text}")
-class Answers(checks.Case):
-    """Each wrong answer to what a search asks is another one in some drawn game."""
-
-    def row(self, wrong):
-        self.assertTrue(any(wrong.is_seen(number) for number in range(KINDS)), "no drawn game shows it")
 
 
 # ---- the board by hand in C
@@ -174,7 +143,7 @@ def vertex_number(vertex):
 def line_of(number):
     """What the program is asked for a drawn game, or None where it can't be: it has simple ko alone, and no handicap."""
     of, _ = played(number)
-    if of.game.rule != SIMPLE or of.game.boards[0]:
+    if of.game.rule != SIMPLE or of.game.first_board():
         return None
     moves = [part for colour, vertex in of.game.moves for part in (NUMBERS[colour], vertex_number(vertex))]
     return " ".join(map(str, [of.game.size, of.game.komi, NUMBERS[of.colour], of.seed, of.limit, len(of.game.moves), *moves]))
@@ -224,8 +193,8 @@ class Asked:
         self.colours = {BLACK: vintsaky.BLACK, WHITE: vintsaky.WHITE}
         rule = {SIMPLE: vintsaky.KoRule.SIMPLE, POSITIONAL: vintsaky.KoRule.POSITIONAL}[of.game.rule]
         self.game = vintsaky.Game(self.size, of.game.komi / 2, rule)
-        if of.game.boards[0]:
-            self.game.place_handicap(len(of.game.boards[0]))
+        if of.game.first_board():
+            self.game.place_handicap(len(of.game.first_board()))
         for colour, vertex in of.game.moves:
             self.play(colour, vertex)
 
@@ -310,7 +279,7 @@ def questions(number, of, asked):
     yield "board_hash", hashes.board_hash(game), asked.board_hash()
     for point in points(game.size):
         yield f"chain {point}", playouts.chain(game, point), asked.chain(point)
-    for point in sorted(game.board()):
+    for point in sorted(game.board):
         yield f"chain_points {point}", playouts.chain_points(game, point), asked.chain_points(point)
         yield f"chain_liberties {point}", playouts.chain_liberties(game, point), asked.chain_liberties(point)
     for colour in (BLACK, WHITE):
@@ -341,7 +310,7 @@ def compared(number):
     asked.playout(of.colour, of.seed, of.limit)
     results += [("playout", *first_difference(after.moves, asked.moves())), ("score after it", after.score(), asked.score()),
                 ("board after it", playouts.stones_of(after), asked.stones()),
-                ("text after it", after.show().decode(), str(asked.game))]  # fmt: skip
+                ("text after it", after.show(), str(asked.game))]  # fmt: skip
     return found + [it for it in results if it[1] != it[2]]
 
 
@@ -366,7 +335,7 @@ def positions(number):
 def hashed(game, asked):
     """Of both colours: size, stones, the colour to move and its ko point; and the hash."""
     for colour in (BLACK, WHITE):
-        yield (game.size, frozenset(game.board().items()), colour, playouts.ko_point(game, colour)), asked.position_hash(colour)
+        yield (game.size, frozenset(game.board.items()), colour, playouts.ko_point(game, colour)), asked.position_hash(colour)
 
 
 class OfLibrary(library.Needing):

@@ -5,7 +5,7 @@ It hears what happened, and says what to do next. A side is named by the colour 
 from collections import namedtuple
 
 from ..engine import values
-from ..engine.game import Game, has_liberty, is_on, joined, put
+from ..engine.game import Game, is_on
 from ..engine.values import BLACK, PASS, WHITE
 
 from . import replies, why
@@ -361,13 +361,12 @@ class Controller:
 
     def what_is_illegal(self, side, point):
         """Why this play isn't legal."""
-        board = self.game.board()
-        if not is_on(self.game.size, point):
+        game = self.game
+        if not is_on(game.size, point):
             return why.OFF_THE_BOARD
-        if point in board:
+        if point in game.board:
             return why.OCCUPIED
-        after = put(board, self.game.size, side, point)
-        return why.KO if has_liberty(after, self.game.size, joined(after, self.game.size, point)) else why.SUICIDE
+        return why.SUICIDE if game.is_suicide(game.put(side, point), side, point) else why.KO
 
     # ---- what is reported
 

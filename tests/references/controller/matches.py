@@ -294,7 +294,7 @@ def text_of(match, number, played):
     """What is written of a game: its line, its record, its board and an empty line."""
     lines = [played.result_line(number)]
     lines += [played.record_line()] if match.record else []
-    lines += [played.game.show().decode(), ""] if match.show else []
+    lines += [played.game.show(), ""] if match.show else []
     return "".join(line + "\n" for line in lines).encode()
 
 

@@ -44,18 +44,6 @@ class Wrong(Exception):
     """The engine wrote something that it may not write: what it is."""
 
 
-class Named(engine.Engine):
-    """The reference with a name and a version of the author's own."""
-
-    def __init__(self, policy, texts):
-        super().__init__(policy)
-        self.texts = texts
-
-    def execute(self, words):
-        """As the reference does, but for these two commands."""
-        return self.texts[words[0]] if words and words[0] in self.texts else super().execute(words)
-
-
 class Chosen:
     """The policy that takes its choice from what the engine wrote. `place` is where the reply to the genmove begins."""
 
@@ -70,7 +58,7 @@ class Chosen:
         choice = policies.read_entry(reply[1]) if reply else None
         if choice is None:
             raise Wrong(f"a genmove is answered by {self.output[self.place:self.place + 40]!r}")
-        if choice != RESIGN and game.after(colour, choice) is None:
+        if choice != RESIGN and not game.is_legal(colour, choice):
             raise Wrong(f"{colour} chose {values.write_vertex(choice).decode()}, which isn't lawful")
         if not self.allowed(game, colour, choice):
             raise Wrong(f"{colour} chose {reply[1].decode()}, which the engine's own rule forbids")
@@ -82,7 +70,7 @@ def no_own_eye(game, colour, choice):
     is none."""
     if choice == PASS:
         return not policies.candidates(game, colour)
-    return choice != RESIGN and policies.is_candidate(game, colour, choice)
+    return choice != RESIGN and game.is_candidate(colour, choice)
 
 
 def anything(game, colour, choice):
@@ -90,12 +78,13 @@ def anything(game, colour, choice):
     return True
 
 
-def examine(output, data, texts, allowed):
-    """Raises Wrong where an engine that is given this input may not write this output."""
+def examine(output, data, name, version, allowed):
+    """Raises Wrong where an engine of this name and version that is given this input may not write this output."""
     policy = Chosen(output, allowed)
-    reference = Named(policy, texts)
+    reference = engine.Engine(policy)
+    reference.own_name, reference.own_version = name, version
     for line in data.split(b"\n")[:-1]:
-        reply = reference.answer(line)
+        reply = reference.feed(line + b"\n")
         got = output[policy.place : policy.place + len(reply)]
         if got != reply:
             raise Wrong(f"the reply to {line[:80]!r} is {got[:80]!r}, and not {reply[:80]!r}")
@@ -136,7 +125,7 @@ def misjudged():
     for allowed, right, outputs in [(no_own_eye, True, RIGHT), (no_own_eye, False, WRONG), (anything, True, EYES)]:
         for output in outputs:
             try:
-                examine(output, SAID, {}, allowed)
+                examine(output, SAID, "", "", allowed)
                 said = True
             except Wrong:
                 said = False
@@ -144,19 +133,18 @@ def misjudged():
     return found
 
 
-def failures(command, kind, count, seed, name=b"stepgo", version=b"1.0", allowed=no_own_eye):
+def failures(command, kind, count, seed, name="stepgo", version="1.0", allowed=no_own_eye):
     """What is wrong in `count` drawn conversations of this kind, a text each. It names the file that keeps the input.
 
     The command is a list of words. `allowed(game, colour, choice)` says which lawful choices the engine's own rule
     allows."""
     found = []
-    texts = {b"name": name, b"version": version}
     for number in range(count):
         r = random.Random(f"{seed} {kind} {number}")
         data = conversations.conversation(kind, f"{seed} {kind} {number}").data
         try:
             output = heard(command, data, r.choice([0, 0, 3, 200]) if len(data) < 20000 else 0, r)
-            examine(output, data, texts, allowed)
+            examine(output, data, name, version, allowed)
         except Wrong as wrong:
             kept = Path(tempfile.mkdtemp(prefix="chosen-")) / "input"
             kept.write_bytes(data)
@@ -189,7 +177,7 @@ def main():
     say("the worked outputs are judged rightly", wrong)
     for kind, (what, *_) in KINDS.items():
         count = counted(kind, options.count)
-        wrong = failures(options.command, kind, count, options.seed, options.name.encode(), options.version.encode(),
+        wrong = failures(options.command, kind, count, options.seed, options.name, options.version,
                          anything if options.eyes else no_own_eye)  # fmt: skip
         passed, failed = passed + (not wrong), failed + bool(wrong)
         say(f"{count} conversations of {what} are the reference's", wrong)

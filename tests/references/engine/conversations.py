@@ -112,22 +112,22 @@ def aimed_vertex(r, game, wild):
     points = rules.points(game.size)
     if r.random() < wild:
         return r.choice([PASS, (r.randint(1, 25), r.randint(1, 25)), r.choice(points)])
-    emptied = sorted(set(game.boards[-2]) - set(game.board())) if game.moves else []
+    emptied = sorted(set(game.boards[-1]) - set(game.board)) if game.moves else []
     if emptied and r.random() < 0.5:
         return r.choice(emptied)
     point = r.choice(points)
-    if point not in game.board():
+    if point not in game.board:
         return point
-    chain = rules.joined(game.board(), game.size, point)
-    liberties = {near for stone in chain for near in rules.neighbours(game.size, stone)} - set(game.board())
+    chain = game.chain(game.board, point)
+    liberties = game.liberties(game.board, chain)
     return r.choice(sorted(liberties)) if 0 < len(liberties) <= 2 else r.choice(points)
 
 
 def returning_move(r, game, colour):
     """A move of this colour. Some points are tried: it is one that makes an earlier board again, where there is one, or at times the
     one that leaves the fewest stones; else an aimed move."""
-    empty = [point for point in rules.points(game.size) if point not in game.board()]
-    made = {point: rules.put(game.board(), game.size, colour, point) for point in r.sample(empty, min(len(empty), 8))}
+    empty = [point for point in rules.points(game.size) if point not in game.board]
+    made = {point: game.put(colour, point) for point in r.sample(empty, min(len(empty), 8))}
     back = [point for point in made if made[point] in game.boards]
     if back and r.random() < 0.8:
         return r.choice(back)
@@ -239,7 +239,7 @@ def play_some(r, talk, size, steps, sizes):
         elif kind < talk.other + talk.generated:
             talk.say(b"genmove", colour_word(r, colour))
         else:
-            talk.say(b"play", colour_word(r, colour), vertex_word(r, aimed_vertex(r, talk.engine.game, talk.wild)))
+            talk.say(b"play", colour_word(r, colour), vertex_word(r, aimed_vertex(r, talk.engine, talk.wild)))
     if r.random() < 0.3:
         for _ in range(r.randint(1, 40)):
             talk.say(b"undo")
@@ -341,7 +341,7 @@ def full_records(r, talk):
     """Games of 2,000 moves and what comes then, and at times all of it taken back."""
     size = r.choice([2, 3, 4, 5, 7, 9, 19])
     talk.line(b"boardsize %d" % size)
-    game = talk.engine.game
+    game = talk.engine
     while not game.is_full():
         colour = r.choice([b"b", b"w"])
         if size <= 4 and r.random() < 0.2:
@@ -374,7 +374,7 @@ def returning_boards(r, talk):
             colour = values.other(colour) if r.random() < 0.85 else colour
             own = b"b" if colour == BLACK else b"w"
             if r.random() < 0.75:
-                talk.line(b"play " + own + b" " + values.write_vertex(returning_move(r, talk.engine.game, colour)))
+                talk.line(b"play " + own + b" " + values.write_vertex(returning_move(r, talk.engine, colour)))
             elif r.random() < talk.generated:
                 talk.line(b"genmove " + own)
             else:

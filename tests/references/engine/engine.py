@@ -1,198 +1,268 @@
 """The reference engine: the bytes of a conversation in, the bytes of the answers out. docs/protocol.md in Python.
 
-It states the rules in the most literal way, and shares no code with the program.
+It states the rules in the most literal way, and shares no code with the program. Lines and texts are strings here, in which each character
+is a byte. There is a method for each step and each command, so that an engine with one bug is a class that has another one of them.
 """
+import os
+
 from . import policies, values
-from .game import SIMPLE, Game
+from .game import SIMPLE, Game, is_on
+from .policies import RESIGN
+from .values import PASS
 
 LONGEST_LINE = 1000
-TOO_LONG = "too long"
-
-
-def read_line(line):
-    """What a line says, given without its newline: None where it is passed over, TOO_LONG, or a pair of its id (or None) and its words.
-
-    1. CR and all other control characters (0 to 31, and 127) are removed, except HT and LF; bytes 128 to 255 are ordinary ones (own).
-    2. A # and all that follows it is removed. 3. HT becomes a space. 4. A line without a word is passed over. (The standard,
-    preprocessing.)
-
-    Words are the longest runs without a space. Joined by single spaces, the id's word included, they have at most 1,000 bytes (own).
-    The first word is the id where it is an int. (The standard, command structure.)
-    """
-    kept = bytes(byte for byte in line if byte == 9 or 32 <= byte <= 126 or byte >= 128)
-    text = kept.split(b"#")[0].replace(b"\t", b" ")
-    words = [word for word in text.split(b" ") if word != b""]
-    if not words:
-        return None
-    if len(b" ".join(words)) > LONGEST_LINE:
-        return TOO_LONG
-    number = values.read_int(words[0])
-    return (None, words) if number is None else (number, words[1:])
-
-
-def write_reply(mark, number, text):
-    """A reply: = or ?, the id where there is one, a space and the text where it isn't empty, and two newlines. (The standard,
-    response structure.)"""
-    written = b"" if number is None else b"%d" % number
-    return mark + written + (b" " + text if text else b"") + b"\n\n"
+CONTROL = {code: None for code in [*range(9), *range(10, 32), 127]}
 
 
 class Failure(Exception):
     """A command fails, with this text; it has changed nothing."""
 
 
-class Engine:
+class Engine(Game):
     """A session of the engine: size 19, komi 0 and no moves at first. It ends with quit. The rule of ko stays as it was given (own)."""
 
+    # the commands, in the order of the table, each with a method whose name begins with `do_`
+    names = (
+        "protocol_version name version known_command list_commands quit boardsize clear_board komi play genmove"
+        " fixed_handicap undo final_score showboard"
+    ).split()
+    own_name = "stepgo"
+    own_version = "1.0"
+
     def __init__(self, policy, rule=SIMPLE):
-        self.game = Game(rule)
+        super().__init__(rule)
         self.policy = policy
         self.ended = False
-        self.unfinished = b""
+        self.unfinished = ""
+
+    # ---- from bytes to replies
 
     def feed(self, data):
-        """The replies to the lines that these bytes end, up to and with a quit. An unfinished last line is never executed (own)."""
-        *lines, self.unfinished = (self.unfinished + data).split(b"\n")
-        return b"".join(self.answer(line) for line in lines)
+        """The replies to the lines that these bytes end, up to and with a quit."""
+        lines = self.lines(data.decode("latin-1"))
+        return "".join(self.answer(line) for line in lines if not self.ended).encode("latin-1")
+
+    def run(self):
+        """Answers the lines of standard input, each before the next one is executed, up to `quit` or the end."""
+        while not self.ended and (text := self.receive()):
+            for line in self.lines(text):
+                if not self.ended:
+                    self.send(self.answer(line))
+
+    def receive(self):
+        """What the next read gives; nothing at the end of the input."""
+        return os.read(0, 65536).decode("latin-1")
+
+    def send(self, text):
+        """Writes a text at once."""
+        data = text.encode("latin-1")
+        while data:
+            data = data[os.write(1, data) :]
+
+    def lines(self, text):
+        """The lines that this text ends. An unfinished last one is kept for the next text, and never executed (own)."""
+        *lines, self.unfinished = (self.unfinished + text).split("\n")
+        return lines
 
     def answer(self, line):
-        """The reply to one line, given without its newline; no bytes where there is none. Nothing is executed after quit."""
-        said = None if self.ended else read_line(line)
-        if said is None:
-            return b""
-        if said == TOO_LONG:
-            return write_reply(b"?", None, b"syntax error")
-        number, words = said
+        """The reply to a line, given without its newline; nothing where it has no word and is passed over. (The standard,
+        preprocessing.) Joined by single spaces, the id's word included, the words have at most 1,000 bytes (own)."""
+        words = self.words(line)
+        if not words:
+            return ""
+        if len(" ".join(words)) > LONGEST_LINE:
+            return self.reply(False, None, "syntax error")
+        number, words = self.split_id(words)
         try:
-            return write_reply(b"=", number, self.execute(words))
+            return self.reply(True, number, self.execute(words))
         except Failure as failure:
-            return write_reply(b"?", number, failure.args[0])
+            return self.reply(False, number, str(failure))
+
+    def words(self, line):
+        """The words of a line: the longest runs without a space. A # and all that follows it is removed, and HT becomes a space. (The
+        standard, preprocessing.)"""
+        text = self.cleaned(line).split("#")[0].replace("\t", " ")
+        return [word for word in text.split(" ") if word != ""]
+
+    def cleaned(self, line):
+        """A line without CR and all other control characters (0 to 31, and 127) but HT and LF; bytes 128 to 255 are ordinary ones (own).
+        (The standard, preprocessing.)"""
+        return line.translate(CONTROL)
+
+    def split_id(self, words):
+        """The id, or None, and the words after it. The first word is the id where it is an int. (The standard, command structure.)"""
+        number = self.read_int(words[0])
+        return (None, words) if number is None else (number, words[1:])
+
+    def reply(self, good, number, text):
+        """A reply: = or ?, the id where there is one, a space and the text where it isn't empty, and two newlines. (The standard,
+        response structure.)"""
+        return self.head(good, number, text) + (f" {text}" if text else "") + "\n\n"
+
+    def head(self, good, number, text):
+        """The mark and the id of a reply."""
+        return ("=" if good else "?") + ("" if number is None else str(number))
 
     def execute(self, words):
         """The text of a success, or a Failure. A line with an id alone is an unknown command, and surplus arguments are ignored
         (own). (The standard, standard error messages.)"""
-        if not words or words[0] not in COMMANDS:
-            raise Failure(b"unknown command")
-        return COMMANDS[words[0]](self, words[1:]) or b""
+        if not words or words[0] not in self.names:
+            raise Failure("unknown command")
+        return getattr(self, "do_" + words[0])(words[1:]) or ""
 
-    def protocol_version(self, arguments):
-        """The protocol's version. (The standard, administrative commands.)"""
-        return b"2"
+    # ---- values
 
-    def name(self, arguments):
-        """The engine's name. (The standard, administrative commands.)"""
-        return b"stepgo"
+    def argument(self, arguments, number, read):
+        """The argument of this number, counted from 0, as `read` reads it; a syntax error where it is missing or can't be read. (The
+        standard, standard error messages.)"""
+        value = read(arguments[number]) if number < len(arguments) else None
+        if value is None:
+            raise Failure("syntax error")
+        return value
 
-    def version(self, arguments):
-        """The engine's version. (The standard, administrative commands.)"""
-        return b"1.0"
+    def read_int(self, text):
+        return values.read_int(text.encode("latin-1"))
 
-    def known_command(self, arguments):
-        """Is this, letter for letter, a command's name? (The standard, administrative commands.)"""
+    def read_colour(self, text):
+        return values.read_colour(text.encode("latin-1"))
+
+    def read_vertex(self, text):
+        return values.read_vertex(text.encode("latin-1"))
+
+    def read_komi(self, text):
+        return values.read_komi(text.encode("latin-1"))
+
+    def place(self, vertex):
+        """The point of the board that was read, or a pass; None where it is off the board."""
+        return vertex if vertex == PASS or is_on(self.size, vertex) else None
+
+    def write_vertex(self, vertex):
+        return values.write_vertex(vertex).decode()
+
+    def write_score(self, lead):
+        """The text of a score, from Black's lead in half points: who leads and by how much, or 0."""
+        if lead == 0:
+            return "0"
+        return ("B+" if lead > 0 else "W+") + values.write_half_points(abs(lead)).decode()
+
+    # ---- the commands. (The standard, from administrative to debug commands.)
+
+    def do_protocol_version(self, arguments):
+        return "2"
+
+    def do_name(self, arguments):
+        return self.own_name
+
+    def do_version(self, arguments):
+        return self.own_version
+
+    def do_known_command(self, arguments):
+        """Is this, letter for letter, a command's name?"""
         if not arguments:
-            raise Failure(b"syntax error")
-        return b"true" if arguments[0] in COMMANDS else b"false"
+            raise Failure("syntax error")
+        return "true" if arguments[0] in self.names else "false"
 
-    def list_commands(self, arguments):
-        """The names, a line each, in the order of the table. (The standard, administrative commands; the order is own.)"""
-        return b"\n".join(COMMANDS)
+    def do_list_commands(self, arguments):
+        """The names, a line each, in the order of the table. (The order is own.)"""
+        return "\n".join(self.names)
 
-    def quit(self, arguments):
-        """Ends the session. (The standard, administrative commands.)"""
+    def do_quit(self, arguments):
+        """Ends the session."""
         self.ended = True
 
-    def boardsize(self, arguments):
-        """Sets the size, 1 to 25, and empties the game; komi stays. (The standard, setup commands; sizes and what is emptied: own.)"""
-        size = argument(arguments, 0, values.read_int)
+    def do_boardsize(self, arguments):
+        """Sets the size, 1 to 25, and empties the game; komi stays. (Sizes and what is emptied: own.)"""
+        size = self.argument(arguments, 0, self.read_int)
         if not 1 <= size <= 25:
-            raise Failure(b"unacceptable size")
-        self.game.begin(size)
+            raise Failure("unacceptable size")
+        self.begin(size)
 
-    def clear_board(self, arguments):
-        """Empties the game; size and komi stay. (The standard, setup commands.)"""
-        self.game.begin(self.game.size)
+    def do_clear_board(self, arguments):
+        """Empties the game; size and komi stay."""
+        self.begin(self.size)
 
-    def komi(self, arguments):
-        """Sets komi. (The standard, setup commands.)"""
-        self.game.komi = argument(arguments, 0, values.read_komi)
+    def do_komi(self, arguments):
+        """Sets komi."""
+        self.komi = self.argument(arguments, 0, self.read_komi)
 
-    def play(self, arguments):
-        """Adds a move. (The standard, core play commands; that a record has room for 2,000 moves is own.)"""
-        colour = argument(arguments, 0, values.read_colour)
-        vertex = argument(arguments, 1, values.read_vertex)
-        if self.game.is_full():
-            raise Failure(b"record full")
-        if not self.game.play(colour, vertex):
-            raise Failure(b"illegal move")
+    def do_play(self, arguments):
+        """Adds a move."""
+        colour = self.argument(arguments, 0, self.read_colour)
+        point = self.place(self.argument(arguments, 1, self.read_vertex))
+        self.need_room()
+        if point is None or not self.is_legal(colour, point):
+            self.refuse(colour, point)
+        self.move(colour, point)
 
-    def genmove(self, arguments):
-        """Adds and answers the move that the policy chooses, or answers that it resigns, which changes nothing. The policy is asked only
-        where the record has room. (The standard, core play commands; what is chosen is own.)"""
-        colour = argument(arguments, 0, values.read_colour)
-        if self.game.is_full():
-            raise Failure(b"record full")
-        chosen = self.policy.choose(self.game, colour)
-        if chosen == policies.RESIGN:
-            return b"resign"
-        if not self.game.play(colour, chosen):
-            raise AssertionError("a policy chose an illegal move")
-        return values.write_vertex(chosen)
+    def refuse(self, colour, point):
+        """Fails as an illegal move. The point is None where it is off the board."""
+        raise Failure("illegal move")
 
-    def fixed_handicap(self, arguments):
-        """Places a handicap, where there is no stone and no move, and answers its points. (The standard, setup commands; own points.)"""
-        number = argument(arguments, 0, values.read_int)
-        if self.game.moves or self.game.board():
-            raise Failure(b"board not empty")
-        stones = values.handicap_points(self.game.size, number)
-        if stones is None:
-            raise Failure(b"invalid number of stones")
-        self.game.place_handicap(stones)
-        return b" ".join(values.write_vertex(stone) for stone in stones)
+    def need_room(self):
+        """Fails where the record is full. (That it has room for 2,000 moves is own.)"""
+        if self.is_full():
+            raise Failure("record full")
 
-    def undo(self, arguments):
-        """Takes the last move back. (The standard, core play commands.)"""
-        if not self.game.moves:
-            raise Failure(b"cannot undo")
-        self.game.undo()
+    def do_genmove(self, arguments):
+        """Adds and answers the move that is chosen, or answers that it resigns, which changes nothing. It is chosen only where the record
+        has room."""
+        colour = self.argument(arguments, 0, self.read_colour)
+        self.need_room()
+        chosen = self.choose(colour)
+        if chosen == RESIGN:
+            return RESIGN
+        self.move(colour, chosen)
+        return self.write_vertex(chosen)
 
-    def final_score(self, arguments):
-        """Who leads and by how much, or 0. (The standard, tournament commands; that every stone is alive is own.)"""
-        score = self.game.score()
-        if score == 0:
-            return b"0"
-        return (b"B+" if score > 0 else b"W+") + values.write_half_points(abs(score))
+    def choose(self, colour):
+        """What the policy chooses. (Own.)"""
+        return self.policy.choose(self, colour)
 
-    def showboard(self, arguments):
-        """The board as text. (The standard, debug commands; its form is own.)"""
-        return self.game.show()
+    def is_candidate(self, colour, point):
+        """Is a play here legal, and has the point a neighbour which is empty or holds a stone of the other colour? (Own.)"""
+        return self.is_legal(colour, point) and any(self.board.get(near) != colour for near in self.near[point])
 
+    def do_fixed_handicap(self, arguments):
+        """Places a handicap, where there is no stone and no move, and answers its points. (The points are own.)"""
+        number = self.argument(arguments, 0, self.read_int)
+        if not self.is_untouched():
+            raise Failure("board not empty")
+        if not self.allows(number):
+            raise Failure("invalid number of stones")
+        stones = self.handicap(number)
+        self.place_handicap(stones)
+        return " ".join(self.write_vertex(stone) for stone in stones)
 
-COMMANDS = {
-    b"protocol_version": Engine.protocol_version,
-    b"name": Engine.name,
-    b"version": Engine.version,
-    b"known_command": Engine.known_command,
-    b"list_commands": Engine.list_commands,
-    b"quit": Engine.quit,
-    b"boardsize": Engine.boardsize,
-    b"clear_board": Engine.clear_board,
-    b"komi": Engine.komi,
-    b"play": Engine.play,
-    b"genmove": Engine.genmove,
-    b"fixed_handicap": Engine.fixed_handicap,
-    b"undo": Engine.undo,
-    b"final_score": Engine.final_score,
-    b"showboard": Engine.showboard,
-}
+    def is_untouched(self):
+        """Is there no move, and no stone of a handicap?"""
+        return not self.moves and not self.board
 
+    def allows(self, number):
+        """May so many stones be placed?"""
+        return 2 <= number <= self.most_handicap_stones()
 
-def argument(arguments, number, read):
-    """The argument of this number, counted from 0, as `read` reads it; a syntax error where it is missing or can't be read. (The
-    standard, standard error messages.)"""
-    value = read(arguments[number]) if number < len(arguments) else None
-    if value is None:
-        raise Failure(b"syntax error")
-    return value
+    def most_handicap_stones(self):
+        return values.most_handicap_stones(self.size)
+
+    def low_line(self):
+        return values.low_line(self.size)
+
+    def handicap(self, number):
+        return values.handicap(self.size, number, self.low_line())
+
+    def do_undo(self, arguments):
+        """Takes the last move back."""
+        if not self.moves:
+            raise Failure("cannot undo")
+        self.undo()
+
+    def do_final_score(self, arguments):
+        """Who leads and by how much, or 0. (That every stone is alive is own.)"""
+        return self.write_score(self.score())
+
+    def do_showboard(self, arguments):
+        """The board as text. (Its form is own.)"""
+        return self.show()
 
 
 def start(policy, seed, book, rule=SIMPLE):

@@ -1,23 +1,29 @@
 """The rules of play: docs/rules.md in Python, as literal as they are slow.
 
-A board is a dictionary from the points that have a stone to the stone's colour. A game keeps a whole board for each of its moves,
-so that taking a move back, and ko, need no thought. All rules here are own, except where a function says otherwise.
+A game keeps a whole board for each of its moves, so that taking a move back, and ko, need no thought. Its methods are small: an engine with
+one bug is a class that has another one of them (tests/engines/wrong). All rules here are own, except where a function says otherwise.
 """
 from functools import lru_cache
 
 from . import values
-from .values import BLACK, PASS, WHITE
+from .values import BLACK, PASS, WHITE, other
 
 MOST_MOVES = 2000
 # The rules of ko.
 SIMPLE = "simple"
 POSITIONAL = "positional"
+EMPTY = None
 
 
 @lru_cache(maxsize=None)
 def points(size):
     """All points of a board, in the order A1, B1, .., A2, B2, .."""
     return [(column, row) for row in range(1, size + 1) for column in range(1, size + 1)]
+
+
+def in_order(found):
+    """These points in the board's order."""
+    return sorted(found, key=lambda point: point[::-1])
 
 
 def is_on(size, point):
@@ -28,64 +34,39 @@ def is_on(size, point):
 
 @lru_cache(maxsize=None)
 def neighbours(size, point):
-    """The points of the board that share a side with this one."""
+    """The points of the board that share a side with this one: left, right, below, above."""
     column, row = point
     beside = [(column - 1, row), (column + 1, row), (column, row - 1), (column, row + 1)]
-    return [other for other in beside if is_on(size, other)]
+    return [near for near in beside if is_on(size, near)]
 
 
-def joined(board, size, point):
-    """The points that are joined to this one by neighbours that are all like it: a stone's chain, or an empty point's region."""
-    found = {point}
-    todo = [point]
-    while todo:
-        for beside in neighbours(size, todo.pop()):
-            if beside not in found and board.get(beside) == board.get(point):
-                found.add(beside)
-                todo.append(beside)
-    return found
+class Board(dict):
+    """The stones of a board: the colour of each point that has one. Any other point is EMPTY. Once it is made it isn't changed."""
+
+    def __missing__(self, point):
+        return EMPTY
+
+    def __hash__(self):
+        return hash(frozenset(self.items()))
+
+    def count(self, colour):
+        """How many stones of this colour there are."""
+        return list(self.values()).count(colour)
 
 
-def chains(board, size, colour):
-    """All chains of this colour."""
-    return parts(board, size, [point for point, stone in board.items() if stone == colour])
-
-
-def regions(board, size):
-    """All empty regions."""
-    return parts(board, size, [point for point in points(size) if point not in board])
-
-
-def parts(board, size, alike):
-    """These points, which are all that are alike, as the sets of those that are joined."""
-    found = []
-    seen = set()
-    for point in alike:
-        if point not in seen:
-            part = joined(board, size, point)
-            seen |= part
-            found.append(part)
-    return found
-
-
-def has_liberty(board, size, chain):
-    """Is there an empty point next to one of the chain's stones?"""
-    return any(beside not in board for stone in chain for beside in neighbours(size, stone))
-
-
-def put(board, size, colour, point):
-    """The board after a stone of this colour is put on this point, and then every stone of the other colour whose chain has no
-    liberty is removed, all at once."""
-    board = {**board, point: colour}
-    captured = [chain for chain in chains(board, size, values.other(colour)) if not has_liberty(board, size, chain)]
-    for chain in captured:
-        for stone in chain:
-            del board[stone]
+def filled(board, places, stone=EMPTY):
+    """The board with this stone on these points, or with none there."""
+    board = Board(board)
+    for point in places:
+        if stone is EMPTY:
+            board.pop(point, None)
+        else:
+            board[point] = stone
     return board
 
 
 class Game:
-    """A game: the rule of ko, size, komi, handicap stones, and the record of its moves, each a pair (colour, vertex)."""
+    """A game: the rule of ko, size, komi in half points, the board, and the record of its moves, each a pair (colour, vertex)."""
 
     def __init__(self, rule=SIMPLE):
         self.rule = rule
@@ -93,41 +74,100 @@ class Game:
         self.begin(19)
 
     def begin(self, size):
-        """Sets the size and empties board, handicap, record and captures. Komi and the rule of ko stay. (The standard, setup commands,
-        leaves to the engine which sizes there are and what is emptied.)"""
+        """Sets the size and empties board and record. Komi and the rule of ko stay. (The standard, setup commands, leaves to the engine
+        which sizes there are and what is emptied.)"""
         self.size = size
+        self.board = Board()
         self.moves = []
-        self.boards = [{}]  # boards[k] is the board after k moves
+        self.boards = []  # the board before each of the moves
+        self.near = {point: self.beside(point) for point in points(size)}
 
-    def board(self):
-        """The board as it is."""
-        return self.boards[-1]
+    def first_board(self):
+        """The board before the first move."""
+        return self.boards[0] if self.boards else self.board
 
-    def after(self, colour, vertex):
-        """The board that this move makes, or None where the move is illegal.
+    def beside(self, point):
+        """The points that are neighbours of this one."""
+        return neighbours(self.size, point)
+
+    # ---- chains and liberties
+
+    def chain(self, board, point):
+        """The points that are joined to this one by neighbours that are all like it: a stone's chain, or an empty point's region."""
+        like, found, todo = board.get(point), {point}, [point]
+        while todo:
+            for near in self.near[todo.pop()]:
+                if near not in found and board.get(near) == like:
+                    found.add(near)
+                    todo.append(near)
+        return found
+
+    def is_free(self, board, chain):
+        """Has the chain a liberty: an empty point next to one of its stones?"""
+        return any(near not in board for stone in chain for near in self.near[stone])
+
+    def liberties(self, board, chain):
+        """The liberties of a chain."""
+        return {near for stone in chain for near in self.near[stone] if near not in board}
+
+    # ---- plays
+
+    def put(self, colour, point):
+        """The board after a stone of this colour is put on this point, and then every stone of the other colour whose chain has no
+        liberty is removed, all at once."""
+        board = filled(self.board, [point], colour)
+        return filled(board, self.captures(board, colour, point))
+
+    def captures(self, board, colour, point):
+        """The stones that a stone of this colour on this point takes. It is on the board already. No other chains than those beside it can
+        have lost a liberty."""
+        return self.dead(board, other(colour), self.near[point])
+
+    def dead(self, board, colour, places):
+        """The stones of this colour whose chain is on one of these points and has no liberty."""
+        found = set()
+        for point in places:
+            if board.get(point) == colour and point not in found:
+                chain = self.chain(board, point)
+                if not self.is_free(board, chain):
+                    found |= chain
+        return found
+
+    def is_legal(self, colour, vertex):
+        """May this colour move so?
 
         A pass is always legal and changes no stone. A play is illegal off the board, on a stone, where its chain then has no liberty
         (suicide), and where it is ko. Any colour may move at any time.
         """
         if vertex == PASS:
-            return self.board()
-        if not is_on(self.size, vertex) or vertex in self.board():
-            return None
-        board = put(self.board(), self.size, colour, vertex)
-        if not has_liberty(board, self.size, joined(board, self.size, vertex)):
-            return None
-        return None if self.is_ko(board) else board
+            return True
+        if not is_on(self.size, vertex) or vertex in self.board:
+            return False
+        board = self.put(colour, vertex)
+        return not self.is_suicide(board, colour, vertex) and not self.is_ko(board, colour, vertex)
 
-    def is_ko(self, board):
-        """Is a play that makes this board ko?
+    def is_suicide(self, board, colour, point):
+        """Is the play that makes this board suicide?"""
+        return not self.is_free(board, self.chain(board, point))
+
+    def is_ko(self, board, colour, point):
+        """Is the play that makes this board ko?
 
         By the simple rule it is where that board stood before the previous move. A pass counts as a previous move, and with an empty
         record there is no ko. By the positional rule it is where that board stood at any time, at the start or after any of the moves,
-        whoever was to move.
+        whoever was to move. (A play puts a stone down, so it never leaves the board as it is.)
         """
         if self.rule == POSITIONAL:
             return board in self.boards
-        return bool(self.moves) and board == self.boards[-2]
+        return bool(self.boards) and board == self.boards[-1]
+
+    def after(self, colour, vertex):
+        """The board that this move makes, or None where the move is illegal."""
+        if not self.is_legal(colour, vertex):
+            return None
+        return self.board if vertex == PASS else self.put(colour, vertex)
+
+    # ---- moves
 
     def is_full(self):
         """Has the record no room for a further move?"""
@@ -135,27 +175,35 @@ class Game:
 
     def play(self, colour, vertex):
         """Adds this move, and returns whether it is legal; where it isn't, nothing changes."""
-        board = self.after(colour, vertex)
-        if board is None:
-            return False
+        is_legal = self.is_legal(colour, vertex)
+        if is_legal:
+            self.move(colour, vertex)
+        return is_legal
+
+    def move(self, colour, vertex):
+        """Adds a legal move."""
+        before = self.board
+        if vertex != PASS:
+            self.board = self.put(colour, vertex)
+        self.boards.append(before)
         self.moves.append((colour, vertex))
-        self.boards.append(board)
-        return True
 
     def undo(self):
         """Takes the last move back, with what it captured. There is one. (The standard, core play commands.)"""
+        self.board = self.boards.pop()
         self.moves.pop()
-        self.boards.pop()
 
     def place_handicap(self, stones):
         """Puts Black's stones on these points. They are no moves, so they are never taken back."""
-        self.boards = [{stone: BLACK for stone in stones}]
+        self.board = filled(self.board, stones, BLACK)
+
+    # ---- what is counted and shown
 
     def captured(self, colour):
         """How many stones this colour's moves have taken: a play that takes none makes the board one stone richer."""
         return sum(
             len(before) + 1 - len(after)
-            for (mover, vertex), before, after in zip(self.moves, self.boards, self.boards[1:])
+            for (mover, vertex), before, after in zip(self.moves, self.boards, [*self.boards[1:], self.board])
             if mover == colour and vertex != PASS
         )
 
@@ -165,23 +213,23 @@ class Game:
         A stone counts for its colour; an empty region counts for a colour where the stones next to it are all of that colour and
         there is at least one. Every stone is alive. The score is Black's area less White's area less komi.
         """
-        area = {BLACK: 0, WHITE: 0}
-        for colour in self.board().values():
-            area[colour] += 1
-        for region in regions(self.board(), self.size):
-            beside = {self.board().get(near) for point in region for near in neighbours(self.size, point)} - {None}
-            if len(beside) == 1:
-                area[beside.pop()] += len(region)
+        area = {colour: self.board.count(colour) for colour in (BLACK, WHITE)}
+        seen = set()
+        for point in points(self.size):
+            if point not in self.board and point not in seen:
+                region = self.chain(self.board, point)
+                seen |= region
+                beside = {self.board.get(near) for place in region for near in self.near[place]} - {EMPTY}
+                if len(beside) == 1:
+                    area[beside.pop()] += len(region)
         return 2 * (area[BLACK] - area[WHITE]) - self.komi
 
     def show(self):
         """The board as text: a line for each row from the highest down, with the row's number; the columns' letters; the stones
         that each colour has taken."""
-        marks = {None: b". ", BLACK: b"X ", WHITE: b"O "}
+        marks = {EMPTY: ". ", BLACK: "X ", WHITE: "O "}
         columns = range(1, self.size + 1)
-        lines = []
-        for row in reversed(columns):
-            lines.append(b"".join(marks[self.board().get((column, row))] for column in columns) + b"%d" % row)
-        lines.append(b" ".join(b"%c" % values.COLUMNS[column - 1] for column in columns))
-        lines.append(b"captures B %d W %d" % (self.captured(BLACK), self.captured(WHITE)))
-        return b"\n".join(lines)
+        lines = ["".join(marks[self.board[column, row]] for column in columns) + str(row) for row in reversed(columns)]
+        lines.append(" ".join(values.COLUMNS.decode()[: self.size]))
+        lines.append(f"captures B {self.captured(BLACK)} W {self.captured(WHITE)}")
+        return "\n".join(lines)

@@ -2,8 +2,8 @@
 
 A policy is asked by choose(game, colour), and answers a vertex that is legal for the colour, or RESIGN.
 """
-from . import game as rules
 from . import values
+from .game import points
 from .values import PASS
 
 RESIGN = "resign"
@@ -12,20 +12,14 @@ MOST_ENTRIES = 2000
 
 def candidates(game, colour):
     """The legal points that have a neighbour which is empty or holds a stone of the other colour, from A1 on, row by row."""
-    return [point for point in rules.points(game.size) if is_candidate(game, colour, point)]
-
-
-def is_candidate(game, colour, point):
-    """Is this point a candidate? (Which is asked first, the neighbours or the legality, makes no difference.)"""
-    beside = rules.neighbours(game.size, point)
-    return any(game.board().get(near) != colour for near in beside) and game.after(colour, point) is not None
+    return [point for point in points(game.size) if game.is_candidate(colour, point)]
 
 
 class First:
     """The first candidate, or a pass where there is none."""
 
     def choose(self, game, colour):
-        return next((point for point in rules.points(game.size) if is_candidate(game, colour, point)), PASS)
+        return next((point for point in points(game.size) if game.is_candidate(colour, point)), PASS)
 
 
 class Random:
@@ -54,7 +48,7 @@ class Book:
         entry = self.entries[number] if number < len(self.entries) else None
         if entry == RESIGN:
             return RESIGN
-        if entry is None or game.after(colour, entry) is None:
+        if entry is None or not game.is_legal(colour, entry):
             return PASS
         return entry
 

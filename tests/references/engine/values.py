@@ -79,19 +79,20 @@ def write_half_points(half_points):
     return b"%d" % (half_points // 2) + (b".5" if half_points % 2 == 1 else b"")
 
 
-def handicap_points(size, number):
-    """The points of this many handicap stones in their order, or None where the size doesn't allow the number.
+def most_handicap_stones(size):
+    """How many stones a handicap has at most: 9 on odd sizes from 9 up, 4 on size 7 and even sizes from 8 up, none below. (Own.)"""
+    return 0 if size < 7 else 9 if size % 2 == 1 and size >= 9 else 4
 
-    Odd sizes from 9 up allow 2 to 9 stones, size 7 and even sizes from 8 up 2 to 4, sizes below 7 none. The low line is the third
-    on sizes below 13 and the fourth from 13 up, and the high line is as far from the other edge. (The standard, fixed handicap
-    placement, describes such points; the table, its order and its sizes are own.)
-    """
-    most = 0 if size < 7 else 9 if size % 2 == 1 and size >= 9 else 4
-    if not 2 <= number <= most:
-        return None
-    low = 3 if size < 13 else 4
-    high = size + 1 - low
-    middle = (size + 1) // 2
+
+def low_line(size):
+    """The line of handicap points near an edge: the third on sizes below 13 and the fourth from 13 up. (Own.)"""
+    return 3 if size < 13 else 4
+
+
+def handicap(size, number, low):
+    """The points of this many handicap stones in their order. The high line is as far from the other edge as the low one. (The
+    standard, fixed handicap placement, describes such points; the table and its order are own.)"""
+    high, middle = size + 1 - low, size // 2 + 1
     corners = [(low, low), (high, high), (low, high), (high, low)]
     sides = [(low, middle), (high, middle)]
     ends = [(middle, low), (middle, high)]
@@ -106,3 +107,8 @@ def handicap_points(size, number):
         8: corners + sides + ends,
         9: corners + sides + ends + centre,
     }[number]
+
+
+def handicap_points(size, number):
+    """The points of this many handicap stones in their order, or None where the size doesn't allow the number."""
+    return handicap(size, number, low_line(size)) if 2 <= number <= most_handicap_stones(size) else None

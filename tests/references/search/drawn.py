@@ -4,7 +4,7 @@ from functools import lru_cache
 from typing import NamedTuple
 
 from tests.references.engine import values
-from tests.references.engine.game import MOST_MOVES, POSITIONAL, SIMPLE, neighbours, points
+from tests.references.engine.game import MOST_MOVES, POSITIONAL, SIMPLE, Game, neighbours, points
 from tests.references.engine.values import BLACK, PASS, WHITE, other
 
 from . import playouts
@@ -17,7 +17,7 @@ NO_LIMIT = 2**32 - 1  # the most that a limit may be
 class Drawn(NamedTuple):
     """A game of the reference, and a playout: who begins it, its seed, and how many moves it may make at most."""
 
-    game: playouts.Game
+    game: Game
     colour: str
     seed: int
     limit: int
@@ -28,9 +28,10 @@ class Drawn(NamedTuple):
 
     def copy(self):
         """A copy of the game, to play on."""
-        copied = playouts.Game(self.game.rule)
+        copied = Game(self.game.rule)
         copied.begin(self.game.size)
-        copied.komi, copied.moves, copied.boards = self.game.komi, list(self.game.moves), list(self.game.boards)
+        copied.komi, copied.board = self.game.komi, self.game.board
+        copied.moves, copied.boards = list(self.game.moves), list(self.game.boards)
         return copied
 
 
@@ -63,14 +64,14 @@ def play_some(game, draws, moves, until_ko):
 
 def surrounded(game, colour):
     """The empty points beside which there is nothing but stones of this colour: whoever takes there often makes a ko."""
-    board, size = game.board(), game.size
+    board, size = game.board, game.size
     empty = [point for point in points(size) if point not in board]
     return [point for point in empty if all(board.get(near) == colour for near in neighbours(size, point))]
 
 
 def begun(size, draws):
     """A game without a move."""
-    game = playouts.Game(draws.choice([SIMPLE, POSITIONAL]))
+    game = Game(draws.choice([SIMPLE, POSITIONAL]))
     game.begin(size)
     game.komi = draws.randrange(-30, 31)
     stones = values.handicap_points(size, draws.choice([2, 4, 9]))
@@ -81,9 +82,9 @@ def begun(size, draws):
 
 def drawn_vertex(game, colour, draws, first):
     """A point that may be played, one of these if that can be, an own eye too. At times, and where ten draws find none, a pass."""
-    board, size = game.board(), game.size
+    board, size = game.board, game.size
     tried = [(draws.randrange(1, size + 1), draws.randrange(1, size + 1)) for _ in range(10 if draws.randrange(30) else 0)]
-    return next((point for point in first + tried if point not in board and game.after(colour, point) is not None), PASS)
+    return next((point for point in first + tried if point not in board and game.is_legal(colour, point)), PASS)
 
 
 @lru_cache(maxsize=400)
@@ -102,182 +103,19 @@ def kinds_of(number):
     """What a drawn game and its playout show, by the name of each kind."""
     of, after = played(number)
     before, made = len(of.game.moves), after.moves[len(of.game.moves):]
+    boards = [*after.boards[before:], after.board]
     asked = [(colour, point) for colour in (BLACK, WHITE) for point in points(of.game.size)]
     beside = [point for colour, point in asked if playouts.is_own_eye(of.game, colour, point)]
     return {
         "a ko point": any(playouts.ko_point(of.game, colour) for colour in (BLACK, WHITE)),
         "an own eye": bool(beside),
         "positional ko": of.game.rule == POSITIONAL,
-        "a handicap": bool(of.game.boards[0]),
+        "a handicap": bool(of.game.first_board()),
         "no move": not made,
         "two passes": len(made) > 2 and playouts.Playout(after, None).is_finished(),
         "the limit": len(made) == of.limit and of.limit > 0,
         "a full record": after.is_full() and before < MOST_MOVES,
         "a pass and then a play": any(one == PASS != next_one for (_, one), (_, next_one) in zip(made, made[1:])),
-        "a take of two stones and more": any(len(one) > len(two) for one, two in zip(after.boards[before:], after.boards[before + 1:])),
+        "a take of two stones and more": any(len(one) > len(two) for one, two in zip(boards, boards[1:])),
         "a large board": of.game.size > 19,
     }  # fmt: skip
-
-
-# ---- wrong playouts, each by one rule
-
-
-class TakesTheLastOfThoseDrawn(playouts.Playout):
-    """The last point that could be drawn takes the place of the one that is played, and not the last of all."""
-
-    def turn(self, colour):
-        self.left = len(self.order)
-        super().turn(colour)
-
-    def draw(self, count):
-        self.left = count
-        return super().draw(count)
-
-    def play(self, colour, place):
-        last = self.left - 1
-        self.order[place], self.order[last] = self.order[last], self.order[place]
-        super().play(colour, last)
-
-
-class TakenComeReversed(playouts.Playout):
-    """What a play takes comes behind in the reverse of the board's order."""
-
-    def play(self, colour, place):
-        kept = len(self.order) - 1
-        super().play(colour, place)
-        self.order[kept:] = reversed(self.order[kept:])
-
-
-class StartsAnewAtEachTurn(playouts.Playout):
-    """The order at each turn is the board's."""
-
-    def turn(self, colour):
-        self.order = playouts.in_order(self.order)
-        super().turn(colour)
-
-
-class PutsNothingAside(playouts.Playout):
-    """What was put aside is forgotten when a pass comes."""
-
-    def turn(self, colour):
-        before = list(self.order)
-        super().turn(colour)
-        if self.game.moves[-1][1] == PASS:
-            self.order = before
-
-
-class DrawsByLowHalves(playouts.Playout):
-    """A place is drawn by the low half of a word."""
-
-    def draw(self, count):
-        return next(self.words) % 2**32 * count >> 32
-
-
-class DrawsRemainders(playouts.Playout):
-    """A place is what remains when a word is divided by the count."""
-
-    def draw(self, count):
-        return next(self.words) % count
-
-
-class GoesOnAfterPasses(playouts.Playout):
-    """Passes before the call don't count."""
-
-    def run(self, colour, limit):
-        self.start = len(self.game.moves)
-        super().run(colour, limit)
-
-    def is_finished(self):
-        return len(self.game.moves) > self.start + 1 and super().is_finished()
-
-
-class EndsAtOnePass(playouts.Playout):
-    """One pass ends it."""
-
-    def is_finished(self):
-        return bool(self.game.moves) and self.game.moves[-1][1] == PASS
-
-
-class HasNoLimit(playouts.Playout):
-    """The limit isn't looked at."""
-
-    def run(self, colour, limit):
-        super().run(colour, NO_LIMIT)
-
-
-class CountsTheRecord(playouts.Playout):
-    """The limit counts the moves before the call too."""
-
-    def run(self, colour, limit):
-        super().run(colour, max(0, limit - len(self.game.moves)))
-
-
-class OneColourMoves(playouts.Playout):
-    """The colours don't alternate."""
-
-    def turn(self, colour):
-        self.colour = getattr(self, "colour", colour)
-        super().turn(self.colour)
-
-
-class FillsEyes(playouts.Playout):
-    """An own eye is played."""
-
-    def turn(self, colour):
-        playouts.is_own_eye, kept = (lambda *_: False), playouts.is_own_eye
-        super().turn(colour)
-        playouts.is_own_eye = kept
-
-
-class LooksBesideAlone(playouts.Playout):
-    """The diagonal points of an eye aren't looked at."""
-
-    def turn(self, colour):
-        playouts.is_own_eye, kept = is_surrounded, playouts.is_own_eye
-        super().turn(colour)
-        playouts.is_own_eye = kept
-
-
-class TakesTheEdgeForOwn(playouts.Playout):
-    """At the edge too one diagonal point may have a stone of the other colour."""
-
-    def turn(self, colour):
-        playouts.is_own_eye, kept = is_lax_eye, playouts.is_own_eye
-        super().turn(colour)
-        playouts.is_own_eye = kept
-
-
-class AllowsKo(playouts.Playout):
-    """A stone that was taken may be taken back by ko."""
-
-    def turn(self, colour):
-        self.game.is_ko = lambda board: False
-        super().turn(colour)
-        del self.game.is_ko
-
-
-def is_surrounded(game, colour, point):
-    """An eye, whatever its diagonal points have."""
-    return point not in game.board() and all(game.board().get(near) == colour for near in playouts.neighbours(game.size, point))
-
-
-def is_lax_eye(game, colour, point):
-    """An eye with at most one diagonal point that the other colour has, wherever it is."""
-    column, row = point
-    diagonal = [(column + right, row + up) for right in (-1, 1) for up in (-1, 1)]
-    return is_surrounded(game, colour, point) and sum(game.board().get(near) == other(colour) for near in diagonal) < 2
-
-
-WRONG = [
-    TakesTheLastOfThoseDrawn, TakenComeReversed, StartsAnewAtEachTurn, PutsNothingAside, DrawsByLowHalves, DrawsRemainders,
-    GoesOnAfterPasses, EndsAtOnePass, HasNoLimit, CountsTheRecord, OneColourMoves, FillsEyes, LooksBesideAlone, TakesTheEdgeForOwn,
-    AllowsKo,
-]  # fmt: skip
-
-
-def differs(wrong, number):
-    """Does this wrong playout make other moves in the drawn game of this number?"""
-    of, after = played(number)
-    game = of.copy()
-    wrong(game, of.words()).run(of.colour, of.limit)
-    return game.moves != after.moves

@@ -24,7 +24,7 @@ def place(point):
 
 def board_hash(game):
     """The hash of the board and its size."""
-    stones = [2 * place(point) + (colour == WHITE) for point, colour in game.board().items()]
+    stones = [2 * place(point) + (colour == WHITE) for point, colour in game.board.items()]
     return sum(map(key, [SIZES + game.size, *stones])) % WORD
 
 

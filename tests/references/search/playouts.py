@@ -2,88 +2,45 @@
 
 A point, a colour and a vertex are as in tests/references/engine/values.py. A list of points is in the board's order: A1, B1, .., A2, B2, ..
 """
-from tests.references.engine import game as rules
-from tests.references.engine.game import is_on, neighbours, points, put
+from tests.references.engine.game import in_order, is_on, neighbours, points
 from tests.references.engine.values import PASS, other
-
-
-class Game(rules.Game):
-    """The same game, in which a play looks at no chains but those beside it. So thousands of playouts take no hours."""
-
-    def after(self, colour, vertex):
-        """The board that this move makes, or None where the move is illegal."""
-        board, size = self.board(), self.size
-        if vertex == PASS:
-            return board
-        if not is_on(size, vertex) or vertex in board:
-            return None
-        board = {**board, vertex: colour}
-        for near in neighbours(size, vertex):
-            if board.get(near) == other(colour) and not is_free(board, size, near):
-                for stone in rules.joined(board, size, near):
-                    del board[stone]
-        return None if not is_free(board, size, vertex) or self.is_ko(board) else board
-
-
-def is_free(board, size, stone):
-    """Has the chain of this stone a liberty?"""
-    colour, found, todo = board[stone], {stone}, [stone]
-    while todo:
-        for near in neighbours(size, todo.pop()):
-            if near not in board:
-                return True
-            if near not in found and board[near] == colour:
-                found.add(near)
-                todo.append(near)
-    return False
-
-
-def in_order(found):
-    """These points in the board's order."""
-    return sorted(found, key=lambda point: point[::-1])
-
 
 # ---- what a search asks
 
 
 def stones_of(game):
     """Of each point its stone, or None."""
-    return [game.board().get(point) for point in points(game.size)]
+    return [game.board.get(point) for point in points(game.size)]
 
 
 def legal_mask(game, colour):
     """Of each point whether a play of this colour is legal there."""
-    return [game.after(colour, point) is not None for point in points(game.size)]
+    return [game.is_legal(colour, point) for point in points(game.size)]
 
 
 def chain_points(game, point):
     """The stones of the chain of the stone on this point; none where there is no stone."""
-    return in_order(rules.joined(game.board(), game.size, point)) if point in game.board() else []
+    return in_order(game.chain(game.board, point)) if point in game.board else []
 
 
 def chain_liberties(game, point):
     """The empty points beside that chain."""
-    beside = {near for stone in chain_points(game, point) for near in neighbours(game.size, stone)}
-    return in_order(beside - game.board().keys())
+    return in_order(game.liberties(game.board, chain_points(game, point)))
 
 
 def chain(game, point):
     """How many stones and liberties the chain of the stone on this point has, or None where there is no stone."""
-    return (len(chain_points(game, point)), len(chain_liberties(game, point))) if point in game.board() else None
+    return (len(chain_points(game, point)), len(chain_liberties(game, point))) if point in game.board else None
 
 
 def taken_by_last(game):
     """The points of the stones that the last move took."""
-    return in_order(game.boards[-2].keys() - game.board().keys()) if game.moves else []
+    return in_order(game.boards[-1].keys() - game.board.keys()) if game.moves else []
 
 
 def ko_point(game, colour):
     """The empty point on which a play of this colour would bring back the board before the last move, or None."""
-    board, size = game.board(), game.size
-    if not game.moves:
-        return None
-    empty = [point for point in points(size) if point not in board and point in game.boards[-2]]
-    return next((point for point in empty if put(board, size, colour, point) == game.boards[-2]), None)
+    return next((point for point in taken_by_last(game) if game.put(colour, point) == game.boards[-1]), None)
 
 
 def is_own_eye(game, colour, point):
@@ -92,7 +49,7 @@ def is_own_eye(game, colour, point):
     It is an empty point, and each point beside it has a stone of this colour. Of the four diagonal points at most one has a stone of the
     other colour, and none of them where one of the four is off the board.
     """
-    board, size = game.board(), game.size
+    board, size = game.board, game.size
     if not is_on(size, point) or point in board or any(board.get(near) != colour for near in neighbours(size, point)):
         return False
     column, row = point
@@ -103,7 +60,7 @@ def is_own_eye(game, colour, point):
 
 def is_candidate(game, colour, point):
     """Is a play of this colour legal on the point, and the point no own eye?"""
-    return not is_own_eye(game, colour, point) and game.after(colour, point) is not None
+    return not is_own_eye(game, colour, point) and game.is_legal(colour, point)
 
 
 def random_move(game, colour, word):
@@ -121,7 +78,7 @@ class Playout:
     def __init__(self, game, words):
         self.game = game
         self.words = words
-        self.order = [point for point in points(game.size) if point not in game.board()]
+        self.order = [point for point in points(game.size) if point not in game.board]
 
     def run(self, colour, limit):
         """Makes moves of both colours by turns, until the last two are passes, so many are made, or the record is full."""
@@ -153,11 +110,11 @@ class Playout:
 
     def play(self, colour, place):
         """Plays the point at this place. The last of the order takes the place, and points that become empty come last."""
-        before, point = self.game.board(), self.order[place]
-        self.game.play(colour, point)
+        before, point = self.game.board, self.order[place]
+        self.game.move(colour, point)
         self.order[place] = self.order[-1]
         self.order.pop()
-        self.order += in_order(before.keys() - self.game.board().keys())
+        self.order += in_order(before.keys() - self.game.board.keys())
 
 
 def playout(game, colour, words, limit):

@@ -7,11 +7,12 @@ import re
 import tempfile
 import time
 from pathlib import Path
+from unittest import mock
 
 from tests.references.engine import conversations, engine
 from tests.references.engine.conversations import KINDS, Conversation
-from tests.references.engine.game import SIMPLE, Game
-from tests.references.mutator import Mutant
+from tests.references.engine.engine import Engine
+from tests.references.engine.game import SIMPLE
 
 from .giving import at_once, in_pieces
 
@@ -47,28 +48,20 @@ def wanted_of(conversation):
     return engine.run(conversation.policy, conversation.seed, conversation.book, conversation.data, conversation.rule)
 
 
-class Refusals:
-    """While it is open, counts the plays that the reference refuses by positional ko, and that are legal by simple ko."""
+@contextlib.contextmanager
+def counted_refusals():
+    """While it is open, its list gets each play that the reference refuses by positional ko, and that is legal by simple ko."""
+    found, right = [], Engine.refuse
 
-    def __init__(self):
-        self.number = 0
-        right_play = Game.play
+    def refuse(self, colour, point):
+        by_simple = copy.copy(self)
+        by_simple.rule = SIMPLE
+        if point is not None and by_simple.is_legal(colour, point):
+            found.append((colour, point))
+        right(self, colour, point)
 
-        def play(game, colour, vertex):
-            by_simple = copy.copy(game)
-            by_simple.rule = SIMPLE
-            legal = right_play(game, colour, vertex)
-            self.number += not legal and by_simple.after(colour, vertex) is not None
-            return legal
-
-        self.counting = Mutant(Game, "play", play)
-
-    def __enter__(self):
-        self.counting.__enter__()
-        return self
-
-    def __exit__(self, *_):
-        self.counting.__exit__()
+    with mock.patch.object(Engine, "refuse", refuse):
+        yield found
 
 
 class Trial:
@@ -133,13 +126,14 @@ class Trial:
 def compared(kind, trials):
     """Where the first of these trials that doesn't agree differs, or None; and how many plays positional ko alone refused. Refusals are
     not counted where conversations go through a pipe, since the reference hears such a one twice."""
-    refusals = Refusals()
+    refused = 0
     for trial in trials:
-        with contextlib.nullcontext() if kind == PIPES else refusals:
+        with counted_refusals() as found:
             agrees = trial.agrees()
+        refused += len(found) if kind != PIPES else 0
         if not agrees:
-            return f"that of the seed '{trial.seed}' doesn't\n--- {trial.difference()}", refusals.number
-    return None, refusals.number
+            return f"that of the seed '{trial.seed}' doesn't\n--- {trial.difference()}", refused
+    return None, refused
 
 
 # ---- what is shown

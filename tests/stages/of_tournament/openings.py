@@ -35,24 +35,24 @@ def drawn(seed):
     game = reference.Game()
     game.begin(size)
     game.place_handicap(values.handicap_points(size, stones) or [])
-    first, moves, broken = shown(game.board(), size), [], []
+    first, moves, broken = shown(game.board, size), [], []
     for _ in range(r.choice([20, 60, 150])):
         colour, move = move_of(r, game)
         broken.append(broken_by(game, colour, move))
         moves.append((1 + (colour == values.WHITE), move if move == values.PASS else values.write_vertex(move).decode()))
-    return (size, stones, moves), [first, *broken, shown(game.board(), size)]
+    return (size, stones, moves), [first, *broken, shown(game.board, size)]
 
 
 def move_of(r, game):
     """A drawn move: mostly of the other colour than the last one, and on an empty point; else anywhere, also off the board, or a pass.
     After a capture it is often one back to what was captured."""
-    captured = [it for it in game.boards[-2] if it not in game.board()] if game.moves else []
+    captured = [it for it in game.boards[-1] if it not in game.board] if game.moves else []
     if captured and r.random() < 0.6:
         point = r.choice(captured)
-        return game.boards[-2][point], point
+        return game.boards[-1][point], point
     last = game.moves[-1][0] if game.moves else values.WHITE
     colour = values.other(last) if r.random() < 0.9 else last
-    empty = [it for it in reference.points(game.size) if it not in game.board()]
+    empty = [it for it in reference.points(game.size) if it not in game.board]
     if empty and r.random() < 0.8:
         return colour, r.choice(empty)
     if r.random() < 0.2:
@@ -65,12 +65,10 @@ def broken_by(game, colour, move):
     """Which rule a move breaks in a game of the reference. Where it breaks none it is played."""
     if move != values.PASS and not reference.is_on(game.size, move):
         return RULES[0]
-    if move in game.board():
+    if move in game.board:
         return RULES[1]
-    if move != values.PASS:
-        board = reference.put(game.board(), game.size, colour, move)
-        if not reference.has_liberty(board, game.size, reference.joined(board, game.size, move)):
-            return RULES[2]
+    if move != values.PASS and game.is_suicide(game.put(colour, move), colour, move):
+        return RULES[2]
     return None if game.play(colour, move) else RULES[3]
 
 
