@@ -1,1 +1,1 @@
-"""Draws conversations with `gtp_engine` and matches of `twogtp`, and compares what two builds of the programs do in them."""
+"""Draws conversations with `gtp_engine`, matches of `twogtp` and courses of `gtp_check`, and compares what two builds do in them."""

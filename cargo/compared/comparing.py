@@ -29,8 +29,6 @@ class Figures:
 
     trials: int = 0
     lines: int = 0  # of the input
-    bytes_out: int = 0
-    bytes_of_errors: int = 0
     games: int = 0  # that twogtp wrote a line of
     statuses: Counter = field(default_factory=Counter)
 
@@ -38,8 +36,6 @@ class Figures:
         """Counts what came of a trial."""
         self.trials += 1
         self.lines += trial.text.count(b"\n")
-        self.bytes_out += len(ran.output)
-        self.bytes_of_errors += len(ran.errors)
         self.games += len(GAME_LINE.findall(ran.output))
         self.statuses[ran.status] += 1
 

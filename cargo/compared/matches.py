@@ -18,21 +18,21 @@ ODD_WORDS = [
 ]  # fmt: skip
 
 
-def match(seed, number, engines=None):
-    """The match of this number that a seed gives, between engines that this draws."""
+def match(seed, number):
+    """The match of this number that a seed gives."""
     r = random.Random(f"{seed} {number}")
-    return Trial(f"match {number} of seed {seed}", "twogtp", words_of(r, engines or engine))
+    return Trial(f"match {number} of seed {seed}", "twogtp", words_of(r))
 
 
-def matches(seed, count, engines=None):
+def matches(seed, count):
     """So many matches."""
-    return (match(seed, number, engines) for number in range(1, count + 1))
+    return (match(seed, number) for number in range(1, count + 1))
 
 
-def words_of(r, engines):
+def words_of(r):
     """The words of the command line."""
     size = r.choice(SIZES)
-    options = [["--black", engines(r)], ["--white", engines(r)], ["--size", str(size)]]
+    options = [["--black", engine(r)], ["--white", engine(r)], ["--size", str(size)]]
     if r.random() < 0.5:
         options.append(["--komi=" + r.choice(KOMIS)])
     if r.random() < 0.3:

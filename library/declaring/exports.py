@@ -11,7 +11,7 @@ FOLDER = "crates/vintsaky/src/"
 ATTRIBUTE = "#[unsafe(no_mangle)]\n"
 EXPORT = re.compile(
     r"((?:^///[^\n]*\n)*)^#\[unsafe\(no_mangle\)\]\n"
-    r'pub (?:unsafe )?extern "C" fn (vintsaky_\w+)\(([^()]*)\)(?:\s*-> (\w+))?(?:\n((?:    [^\n]*\n)*)\{\n(.*?)^\}| \{\})$',
+    r'pub (?:unsafe )?extern "C" fn (vintsaky_\w+)\(([^()]*)\)(?:\s*-> (\w+))?(?:\n(?:    [^\n]*\n)*\{\n(.*?)^\}| \{\})$',
     re.MULTILINE | re.DOTALL,
 )
 # what a number is called in C, and in ctypes
@@ -38,8 +38,7 @@ class Argument:
 
 @dataclass(frozen=True)
 class Call:
-    """A call: its name, what its comment says, and what it says of errors; its result in C and in ctypes, and its arguments; and of the
-    export its arguments, each a name and a type, and its contract."""
+    """A call: its name, what its comment says, and what it says of errors; its result in C and in ctypes, and its arguments."""
 
     name: str
     said: str
@@ -47,8 +46,6 @@ class Call:
     c: str
     python: str
     arguments: tuple
-    given: tuple
-    contract: str
 
 
 # ---- types
@@ -91,15 +88,10 @@ def given(name, kind):
     return [Argument(name, f"{c} *", f"POINTER({python})")]
 
 
-def pairs_of(text):
-    """The arguments of an export: of each its name and its type."""
-    return tuple(tuple(" ".join(it.split()).split(": ", 1)) for it in text.split(",") if it.strip())
-
-
-def arguments_of(pairs, where):
+def arguments_of(text, where):
     """The arguments of C that those of an export become."""
     arguments = []
-    for name, kind in pairs:
+    for name, kind in (" ".join(it.split()).split(": ", 1) for it in text.split(",") if it.strip()):
         try:
             arguments += given(name, kind)
         except KeyError:
@@ -126,7 +118,7 @@ def said_of(comment, where):
 
 def call_of(found, path):
     """The call of an export."""
-    comment, name, arguments, result, contract, body = found.groups()
+    comment, name, arguments, result, body = found.groups()
     where = f"{path}: {name}"
     said, errors = said_of(comment, where)
     if ("code_of(" in (body or "")) != bool(errors):
@@ -134,8 +126,7 @@ def call_of(found, path):
     if result and result not in NUMBERS:
         raise Mistake(f"{where}: it returns what C can't: {result}")
     c, python = NUMBERS[result] if result else ("void", "None")
-    pairs = pairs_of(arguments)
-    return Call(name, said, errors, c, python, arguments_of(pairs, where), pairs, contract or "")
+    return Call(name, said, errors, c, python, arguments_of(arguments, where))
 
 
 @once
@@ -170,14 +161,3 @@ def all_calls(files):
                 raise Mistake(f"{path}: {call.name} is exported twice")
             calls[call.name] = call
     return calls
-
-
-def causes_of(call, calls):
-    """The errors of a call, in the order in which its comment lists them. It may refer to those of another call."""
-    other = re.search(r"Those of \[`(vintsaky_\w+)`\]", call.errors)
-    named = re.findall(r"`([A-Z]\w*)`", call.errors)
-    if not other:
-        return named
-    if other[1] not in calls:
-        raise Mistake(f"{call.name}: its errors are those of {other[1]}, which isn't a call")
-    return [it for it in causes_of(calls[other[1]], calls) if it not in named]

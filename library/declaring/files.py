@@ -1,14 +1,14 @@
 """The files that are read, and those that are made of them."""
 from pathlib import Path
 
-from . import header, python, rows, sentences
+from . import header, python, sentences
 from .texts import Mistake
 
 # what is read, by patterns from the top of the repository
 READ = (
     "crates/vintsaky/src/**/*.rt",
     "crates/vintsaky_calls/src/*.rt",
-    "crates/vintsaky_calls/specs/*.antt",
+    sentences.DEFINITION,
     "crates/go_board/src/**/*.rt",
     "crates/gtp_match/src/**/*.rt",
     "crates/gtp_referee/src/**/*.rt",
@@ -17,7 +17,6 @@ READ = (
     "library/vintsaky.h",
     "library/rust/src/**/*.rs",
     "library/python/vintsaky/*.py",
-    "tests/stages/of_library_in_c/rows.h",
 )
 MADE = {
     sentences.CODE: sentences.code,
@@ -26,7 +25,6 @@ MADE = {
     sentences.RUST: sentences.rust,
     python.DECLARED: python.declared,
     python.NUMBERS: python.named,
-    rows.PATH: rows.table,
 }
 
 

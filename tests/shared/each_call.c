@@ -1,14 +1,22 @@
 /* Calls each function of the library, in C99 or in C++. What has to come of a call is worked out by hand from the pages in docs/.
  *
- * Prints a line for each result that is another one. Status 1 where there is such a line, 2 where there is no memory. */
+ * Prints a line for each result that is another one. Status 1 where there is such a line, 2 where there is no memory. With THREADS that
+ * many threads do all this at once, ROUNDS times each, on objects of their own and on STACK_KB kB of stack. With NO_MAIN it is included
+ * by a program that calls the functions itself. */
 #include "vintsaky.h"
 #include <stdio.h>
 #include <string.h>
+#ifdef THREADS
+#include <pthread.h>
+#define OF_THREAD __thread
+#else
+#define OF_THREAD
+#endif
 
 enum { A1 = 257, B1 = 258, C1 = 259, A2 = 513, B2 = 514, A3 = 769, D4 = 1028, F1 = 262, Q16 = 4112 };
-static char text[1024];
-static size_t count, used;
-static int wrong;
+static OF_THREAD char text[1024];
+static OF_THREAD size_t count, used;
+static OF_THREAD int wrong;
 
 static void is(const char *file, int line, long long wanted, long long got) {
     if (wanted == got) return;
@@ -168,6 +176,45 @@ static void of_random_moves(vintsaky_game *game) {
     IS(C1, vertex);
 }
 
+/* A buffer of so many bytes, each of them an x, as malloc gives it: valgrind and a sanitizer see each byte beyond. */
+static char *buffer(size_t bytes) {
+    char *made = (char *)malloc(bytes);
+    if (!made) exit(2);
+    memset(made, 'x', bytes);
+    return made;
+}
+
+/* All of a buffer is written where there is room for all, else none. */
+static void is_written(char *made, size_t room, size_t needed) {
+    size_t at, kept = 0;
+    for (at = 0; at < room; at++) kept += made[at] == 'x';
+    IS(room < needed ? room : room - needed, kept);
+    free(made);
+}
+
+/* Buffers that are too short, as long as what is written, and longer: of a text with its NUL, of points, and of bytes. */
+static void of_rooms(vintsaky_game *game) {
+    size_t room;
+    char *made;
+    IS(VINTSAKY_DONE, vintsaky_game_begin(game, VINTSAKY_SIMPLE, 2, 0));
+    for (room = 0; room < 40; room++) {
+        made = buffer(room);
+        IS(32, vintsaky_game_board_text(game, made, room));
+        is_written(made, room, 33);
+        made = buffer(room);
+        IS(VINTSAKY_DONE, vintsaky_vertex_text(Q16, made, room, &count));
+        IS(3, count);
+        is_written(made, room, 4);
+        made = buffer(room * sizeof(uint32_t));
+        IS(VINTSAKY_DONE, vintsaky_game_legal_points(game, VINTSAKY_BLACK, (uint32_t *)(void *)made, room, &count));
+        IS(4, count);
+        is_written(made, room * sizeof(uint32_t), 4 * sizeof(uint32_t));
+        made = buffer(room);
+        IS(4, vintsaky_game_board(game, (uint8_t *)made, room));
+        is_written(made, room, 4);
+    }
+}
+
 /* Where Black has a ko point: after a pass he has none, and all else of the position is the same. */
 static void of_hashes(vintsaky_game *game) {
     uint64_t black = 9, white = 9, later = 9;
@@ -228,6 +275,7 @@ static void of_searches(void) {
     of_points(&game);
     of_random_moves(&game);
     of_a_ko(&game);
+    of_rooms(&game);
     of_playouts(&game);
     vintsaky_game_free(&game);
 }
@@ -329,6 +377,7 @@ static void set_up(vintsaky_match *held, uint32_t side) {
     uint32_t other = 9, confirmed = 9, unanswered = 9, asked = 9, holds = 9;
     char wrote[8];
     size_t wrote_count = 9;
+    IS(VINTSAKY_NO_ROOM, vintsaky_match_send(held, side, text, sizeof "1 boardsize 2\n" - 1, &count));
     SENDS(side, "1 boardsize 2\n");
     SENDS(side, "2 komi 0\n");
     SENDS(side, "3 clear_board\n");
@@ -411,6 +460,32 @@ static void of_rulings(vintsaky_match *held) {
     SAYS("game 4: W+F(too late) moves 0 restarts 0 0", count);
 }
 
+/* On 7x7 Black has two stones, and White begins. Two passes end the match: all points are Black's, less a komi of half a point. */
+static void of_a_handicap(vintsaky_match *held) {
+    static const char *const owed[] = {"1 boardsize 7\n", "2 komi 0.5\n", "3 clear_board\n", "4 fixed_handicap 2\n"};
+    uint32_t ending = 9, side = 9, number;
+    int32_t half_points = 9;
+    IS(VINTSAKY_DONE, vintsaky_match_begin(held, 7, 1, 2, 10, 0));
+    for (side = VINTSAKY_BLACK; side <= VINTSAKY_WHITE; side++) IS(VINTSAKY_DONE, vintsaky_match_started(held, side));
+    for (side = VINTSAKY_BLACK; side <= VINTSAKY_WHITE; side++) {
+        for (number = 0; number < 4; number++) SENDS(side, owed[number]);
+        HEARS(side, "=1\n\n=2\n\n=3\n\n=4 C3 E5\n\n");
+    }
+    SENDS(VINTSAKY_WHITE, "5 genmove w\n");
+    HEARS(VINTSAKY_WHITE, "=5 pass\n\n");
+    SENDS(VINTSAKY_BLACK, "5 play w pass\n");
+    HEARS(VINTSAKY_BLACK, "=5\n\n");
+    SENDS(VINTSAKY_BLACK, "6 genmove b\n");
+    HEARS(VINTSAKY_BLACK, "=6 PASS\n\n");
+    IS(VINTSAKY_OVER, vintsaky_match_next(held, &side));
+    IS(VINTSAKY_DONE, vintsaky_match_verdict(held, &ending, &side, &half_points));
+    IS(VINTSAKY_BY_SCORE, ending);
+    IS(0, side);
+    IS(98 - 1, half_points);
+    IS(VINTSAKY_DONE, vintsaky_match_result(held, 1, TEXT, &count));
+    SAYS("game 1: B+48.5 moves 2 restarts 0 0", count);
+}
+
 static void of_matches(void) {
     vintsaky_match match, *held = &match;
     vintsaky_game game;
@@ -445,6 +520,7 @@ static void of_matches(void) {
     SAYS("B1", vintsaky_match_record(held, TEXT));
     vintsaky_match_copy_game(held, &game);
     IS(1, vintsaky_game_length(&game));
+    of_a_handicap(held);
     of_rulings(held);
     vintsaky_match_free(held);
     vintsaky_game_free(&game);
@@ -479,7 +555,8 @@ static void of_replies(void) {
     vintsaky_replies_free(&replies);
 }
 
-int main(void) {
+#ifndef NO_MAIN
+static void each_call(void) {
     of_the_library();
     of_values();
     of_games();
@@ -489,5 +566,34 @@ int main(void) {
     of_matches();
     of_lines();
     of_replies();
+}
+
+#ifdef THREADS
+static void *run(void *given) {
+    int round;
+    for (round = 0; round < ROUNDS && !wrong; round++) each_call();
+    *(int *)given = wrong;
+    return NULL;
+}
+
+int main(void) {
+    pthread_t threads[THREADS];
+    pthread_attr_t attributes;
+    int came[THREADS], failed = 0, at;
+    pthread_attr_init(&attributes);
+    if (pthread_attr_setstacksize(&attributes, STACK_KB * 1024)) return 2;
+    for (at = 0; at < THREADS; at++)
+        if (pthread_create(&threads[at], &attributes, run, &came[at])) return 2;
+    for (at = 0; at < THREADS; at++) {
+        pthread_join(threads[at], NULL);
+        failed += came[at];
+    }
+    return failed != 0;
+}
+#else
+int main(void) {
+    each_call();
     return wrong;
 }
+#endif
+#endif

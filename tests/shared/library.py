@@ -8,6 +8,7 @@ import random
 import re
 import shutil
 import sys
+from functools import lru_cache
 from typing import NamedTuple
 from unittest import SkipTest
 
@@ -42,6 +43,18 @@ class Needing(checks.Case):
         why = lacks(cls.FILES, cls.TOOLS)
         if why:
             raise SkipTest(why)
+
+
+@lru_cache(maxsize=None)
+def is_proved():
+    """Is the library proved, as far as it is known? Else cargo built it."""
+    came = running.run(["packaging/built", "libvintsaky.a"])
+    return came.status != 0 or came.output == "proved\n"
+
+
+def sizes():
+    """What tests/shared/each_call.c is told of the sizes of the library in bin/."""
+    return [] if is_proved() else ["-DAT_MOST"]
 
 
 def python_with_numpy():

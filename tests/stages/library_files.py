@@ -15,14 +15,13 @@ import os
 import re
 import shutil
 import sys
-from functools import lru_cache
 from pathlib import Path
 
 sys.dont_write_bytecode = True
 sys.path[0] = str(Path(__file__).resolve().parents[2])
 
 from tests.shared import checks, library, running  # noqa: E402
-from tests.shared.library import ARCHIVE, SHARED, WARN, Needing, lacks, said  # noqa: E402
+from tests.shared.library import ARCHIVE, SHARED, WARN, Needing, is_proved, lacks, said, sizes  # noqa: E402
 
 TOP = running.TOP
 HEADER = (TOP / "library/vintsaky.h").read_text()
@@ -33,18 +32,6 @@ COMPILERS = ("gcc -std=c99", "clang -std=c99", "g++ -x c++", "clang++ -x c++")
 ASKED = ["memcpy", "memmove", "memset"]  # what a proved library asks for
 OF_C = r"(libc|libgcc_s|libm|ld-linux[a-z0-9_-]*)\.so\.[0-9]+"  # the libraries of C and of the compiler
 EMPTY = '#include "vintsaky.h"\nint main(void) { return 0; }\n'
-
-
-@lru_cache(maxsize=None)
-def is_proved():
-    """Is the library proved, as far as it is known? Else cargo built it."""
-    came = running.run(["packaging/built", "libvintsaky.a"])
-    return came.status != 0 or came.output == "proved\n"
-
-
-def sizes():
-    """What tests/shared/each_call.c is told of the sizes."""
-    return [] if is_proved() else ["-DAT_MOST"]
 
 
 def calls_in(text):

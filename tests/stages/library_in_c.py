@@ -1,18 +1,15 @@
 #!/usr/bin/env python3
-"""Calls the library from C: drawn calls, threads, the two examples in whole games, and matches beside those of twogtp.
+"""Calls the library from C: each call, also under tools that look at memory and threads, and the examples in whole games and matches.
 
-The drawn calls have arguments inside and outside their limits, on objects and buffers between pages that can't be touched
-(of_library_in_c/ beside it). The same comes under valgrind and in eight threads. Calls over many games do what single calls do. Wrong
-copies of calls are noticed. The engine of the examples plays whole games under twogtp in which it is killed, and stands beside the plain
-reference. The example of a match has twogtp's lines in drawn matches.
+tests/shared/each_call.c runs under valgrind, under sanitizers and in threads, and keeps to the limits of the stack. The engine of the
+examples plays whole games under twogtp in which it is killed, and stands beside the plain reference. The example of a match has twogtp's
+lines in drawn matches. With --long more conversations are drawn.
 
-It takes some seconds: 10^5 drawn calls a seed, 2 * 10^4 under valgrind; with --long some minutes: 10^7, and 10^5 under valgrind.
-It needs cc, the programs and libvintsaky.a in bin/; what isn't there is skipped.
+It needs cc, the programs and the library in bin/; what isn't there is skipped, and so are tools.
 """
-import os
 import re
-import shutil
 import sys
+import tempfile
 from functools import lru_cache
 from pathlib import Path
 from typing import NamedTuple
@@ -22,134 +19,48 @@ sys.dont_write_bytecode = True
 sys.path[0] = str(Path(__file__).resolve().parents[2])
 
 from tests.shared import checks, library, running  # noqa: E402
-from tests.shared.library import SHARED, TOP, most_lines, twogtp  # noqa: E402
-from tests.stages.of_library_in_c.copies import Wrong, WrongBatches  # noqa: E402, F401
-from tests.stages.of_library_in_c.making import AT_ONCE, LIMIT, ROOM, Calls, Needing, linked, made, said  # noqa: E402
+from tests.shared.library import ARCHIVE, TOP, most_lines, twogtp  # noqa: E402
+from tests.stages.of_library_in_c import each_call  # noqa: E402
 
 PARSER = checks.Parser(__doc__)
-PARSER.add_argument("--long", action="store_true", help="some minutes, with many more calls")
+PARSER.add_argument("--long", action="store_true", help="with 20 conversations that are drawn, and not 2")
 OPTIONS = PARSER.options(__name__)
-CALLS, SLOW_CALLS, THREADED, CONVERSATIONS = (10**7, 10**5, 200_000, 20) if OPTIONS.long else (10**5, 20_000, 20_000, 2)
+CONVERSATIONS = 20 if OPTIONS.long else 2
+AT_ONCE = 2  # matches that run at a time
+LIMIT = 3600  # seconds that a conversation or a match may take
+FOLDER = tempfile.TemporaryDirectory()  # in which the examples are compiled
+ROOM = Path(FOLDER.name).resolve()
 EXAMPLES = (*library.EXAMPLES, "uct_engine")
 ENGINE, MATCH, UCT = (ROOM / name for name in EXAMPLES)
 
 
-# ---- drawn calls
+class Needing(library.Needing):
+    """Checks that are skipped where a program, the archive or the compiler isn't there."""
+
+    FILES, TOOLS = (ARCHIVE, TOP / "bin/twogtp", TOP / "bin/gtp_engine"), ("cc",)
 
 
-@lru_cache(maxsize=None)
-def drawn(seed):
-    """The lines of the drawn calls with this seed: the causes that didn't come, and what else is said."""
-    lines = said([ROOM / "right/draw", "--missing", seed, CALLS]).splitlines()
-    missing = [line for line in lines if line.startswith("missing: ")]
-    return missing, [line for line in lines if line not in missing]
+# ---- each call
 
 
-class Compiled(Needing):
-    """The programs of the drawn calls."""
+@each_call.table
+class EachCall(each_call.EachCall):
+    """tests/shared/each_call.c."""
 
-    def test_compiled(self):
-        """the drawn calls are C99."""
-        self.same("", made("right") + made("plain", "-DPLAIN"))
-
-
-@checks.table((1, 2, 3), lambda seed: f"{CALLS} drawn calls with seed {seed} touch nothing but what is theirs", drawn, AT_ONCE)
-class Drawn(Calls):
-    """Drawn calls."""
-
-    def row(self, _, came):
-        self.same([f"{CALLS} calls"], came[1])
+    SIZES = library.sizes()
 
 
-class Causes(Calls):
-    """What the drawn calls show together."""
-
-    def test_causes(self):
-        """each cause that the comment of a call names came."""
-        self.same(set(), set.intersection(*(set(drawn(seed)[0]) for seed in (1, 2, 3))))
-
-    def test_shared(self):
-        """the shared library returns and writes the same as the archive."""
-        if not SHARED.is_file():
-            self.skipTest("bin/libvintsaky.so.1 is not there")
-        told = linked(ROOM / "right", "draw", "calls", "shared", SHARED)
-        archive, shared = (
-            library.said([ROOM / "right" / name, 6, 20_000], env={**os.environ, "LD_LIBRARY_PATH": f"{TOP}/bin"})
-            for name in ("draw", "shared")
-        )
-        self.same(archive, told + shared)
-        self.assertIn("20000 calls, digest ", archive)
-
-
-@checks.table((1, 2, 3), lambda seed: f"{CALLS // 10} drawn calls over many games with seed {seed} do what single calls do")
-class Batches(Calls):
-    """Drawn calls over many games."""
-
-    def row(self, seed):
-        self.same(f"{CALLS // 10} calls", said([ROOM / "right/batches", seed, CALLS // 10]))
-
-
-# ---- under valgrind and sanitizers, in threads, and what they take of the stack
-
-
-@lru_cache(maxsize=None)
-def sanitizes(kind):
-    """Can a program run that this sanitizer looks at? Under some kernels not even one that does nothing."""
-    source, program = ROOM / "nothing.c", ROOM / f"nothing_{kind}"
-    source.write_text("int main(void) { return 0; }\n")
-    compiled = running.run(["cc", f"-fsanitize={kind}", "-o", program, source], env=library.leaving(ROOM))
-    return compiled.status == 0 and running.run([program]).status == 0
-
-
-class Looked(Calls):
-    """Drawn calls at which another program looks."""
-
-    def test_valgrind(self):
-        """Drawn calls under valgrind."""
-        if not shutil.which("valgrind"):
-            self.skipTest("it is not there")
-        made("plain", "-DPLAIN")
-        self.check(f"{SLOW_CALLS} drawn calls under valgrind", f"{SLOW_CALLS} calls",
-                   said(["valgrind", "-q", "--error-exitcode=9", ROOM / "plain/draw", 4, SLOW_CALLS]))  # fmt: skip
-
-    def test_batches(self):
-        """Drawn calls over many games where a sanitizer looks at the buffers."""
-        if not sanitizes("address,undefined"):
-            self.skipTest("it does not run here")
-        told = made("sane", "-DPLAIN", "-fsanitize=address,undefined")
-        env = {**os.environ, "ASAN_OPTIONS": "detect_leaks=0"}
-        self.same(f"{SLOW_CALLS} calls", told or said([ROOM / "sane/batches", 4, SLOW_CALLS], env=env))
-
-    def test_sanitizer(self):
-        """Drawn calls under a sanitizer."""
-        if not sanitizes("address,undefined"):
-            self.skipTest("it does not run here")
-        told = made("sane", "-DPLAIN", "-fsanitize=address,undefined")
-        self.check(f"{CALLS} drawn calls where a sanitizer looks at the buffers", f"{CALLS} calls",
-                   told or said([ROOM / "sane/draw", 5, CALLS]))  # fmt: skip
-
-    def test_threads(self):
-        """eight threads, each with 384 kB of stack, do what one after the other does."""
-        self.same("0 of 8 differ", said([ROOM / "right/draw", "--threads", 1, THREADED]))
-
-    def test_sanitized_threads(self):
-        """the same where a sanitizer looks at the threads."""
-        if not sanitizes("thread"):
-            self.skipTest("it does not run here")
-        told = made("threads", "-fsanitize=thread", "-DSTACK_KB=4096")
-        self.same("0 of 8 differ", told or said([ROOM / "threads/draw", "--threads", 1, 300]))
+class Stack(Needing):
+    """How much of the stack the calls take."""
 
     def test_stack(self):
         """no call takes more than 160 kB of stack, and none of a match more than 320 kB."""
-        status, output, errors = running.run([ROOM / "right/stack", 1, 20_000, 160 * 1024, 320 * 1024], limit=LIMIT)
-        lines = (output + errors).splitlines()
+        program = self.room() / "stack"
+        said = each_call.compiled(each_call.STACK, program, ARCHIVE, *library.sizes())
+        status, output, errors = running.run([program, 160 * 1024, 320 * 1024])
+        lines = (said + output + errors).splitlines()
         self.same((0, []), (status, [line for line in lines if not re.fullmatch("[a-z]+ [0-9]+", line)]))
-        self.assertTrue(lines, "it measured no family")
-
-    def test_stack_of_batches(self):
-        """no call over many games takes more than 160 kB of stack, with all else of its program."""
-        words = ["bash", "-c", 'ulimit -s 160 && exec env -i "$0" 1 5000', ROOM / "right/batches"]
-        self.same("5000 calls", said(words))
+        self.same(5, len(lines))
 
 
 # ---- the examples
@@ -227,7 +138,7 @@ SAID = ["boardsize 7", "genmove b", "genmove w", "undo", "no_command", "play b p
         "boardsize 1", "genmove b", "boardsize 25", "genmove w"]  # fmt: skip
 TALK = "".join(f"{line}\n" for line in SAID)
 TALKS = {"a quit": TALK + "quit\n", "the end of the input": TALK, "a quit before all else": "quit\n", "no input": ""}
-SANE = ("-g", "-fsanitize=address,undefined", "-fno-sanitize-recover=all")
+SANE = ("-g", f"-fsanitize={each_call.MEMORY}", "-fno-sanitize-recover=all")
 
 
 class Searching(Played):
@@ -256,9 +167,9 @@ class Leaving(Needing):
     @classmethod
     def setUpClass(cls):
         super().setUpClass()
-        if not sanitizes("address,undefined"):
-            raise SkipTest("the sanitizer does not run here")
         cls.folder = folder = cls.room_of_all()
+        if not each_call.runs(each_call.MEMORY, folder):
+            raise SkipTest("the sanitizer does not run here")
         cls.told = {name: library.compiled(name, folder, *SANE) for name in ("random_engine", "uct_engine", "play_match")}
 
     def row(self, row):
