@@ -8,7 +8,7 @@ import re
 import textwrap
 
 from . import exports, numbers
-from .texts import C_COMMENT, Mistake, bare, once, snake
+from .texts import C_COMMENT, Mistake, bare, snake
 
 PATH = "library/vintsaky.h"
 TEMPLATE = "library/declaring/vintsaky.h.in"
@@ -148,20 +148,3 @@ def declared_names(text):
     """The names of all that a header defines in capitals."""
     text = bare(text, C_COMMENT)
     return set(re.findall(r"\b(VINTSAKY_\w+) = ", text)) | set(re.findall(r"^#define (VINTSAKY_\w+)", text, re.MULTILINE))
-
-
-@once
-def declared_numbers(text):
-    """The numbers of a header, by their names without VINTSAKY_."""
-    text = bare(text, C_COMMENT)
-    number = r"(0x[0-9a-f]+|\d+)\b"
-    found = re.findall(r"\bVINTSAKY_(\w+) = " + number, text)
-    found += re.findall(r"^#define VINTSAKY_(\w+) (?:\(\(uint32_t\))?" + number, text, re.MULTILINE)
-    return {name: int(it, 0) for name, it in found}
-
-
-@once
-def groups_of(text):
-    """The names of each enumeration of a header."""
-    blocks = re.findall(r"enum \{(.*?)\}", bare(text, C_COMMENT), re.DOTALL)
-    return [re.findall(r"\bVINTSAKY_(\w+) =", it) for it in blocks]

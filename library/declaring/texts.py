@@ -2,9 +2,7 @@
 import re
 from functools import lru_cache
 
-# of wrong copies one text alone is new: what was read of the others is kept
-once = lru_cache(maxsize=64)
-LINES = r"//[^\n]*"  # the comments of Rattle and of Rust
+once = lru_cache(maxsize=64)  # what was read of a text is kept
 C_COMMENT = r"/\*.*?\*/"
 
 

@@ -1,10 +1,8 @@
 #!/usr/bin/env python3
-"""Compares what declares the library with what library/declare makes of its sources, and with what is written by hand.
+"""Compares what declares the library with what library/declare makes of its sources.
 
-The header, the table and the numbers of the Python package, and the sentences of the causes have to be as they are made. The definitions
-have the same numbers. The Rust crate has each call by its name, with its arguments, and is refused for the same causes in the same order;
-the Python package makes each call, and its enumerations are whole. Then words are made wrong in copies of all these, and each wrong copy
-has to be noticed.
+The header, the table and the numbers of the Python package, and the sentences of the causes have to be as they are made. The Rust crate
+and the Python package have each call.
 """
 import subprocess
 import sys
@@ -15,8 +13,8 @@ sys.path[0] = str(Path(__file__).resolve().parents[2])
 
 from library.declaring import checks as declared  # noqa: E402
 from library.declaring import files as made  # noqa: E402
+from library.declaring import names  # noqa: E402
 from tests.shared import checks  # noqa: E402
-from tests.stages.of_interface.wrong_copies import KINDS, copies_of  # noqa: E402
 
 FILES = made.read(checks.TOP)
 FOUND = declared.differences(FILES)
@@ -30,14 +28,14 @@ class Compared(checks.Case):
         self.same("", "\n".join(FOUND[what]))
 
 
-@checks.table(KINDS, lambda kind: f"noticed would be: {kind.what}")
-class Noticed(checks.Case):
-    """Wrong copies of each kind."""
+class Names(checks.Case):
+    """A call that is nowhere."""
 
-    def row(self, kind):
-        copies = list(copies_of(kind, FILES))
-        self.assertTrue(copies, "there is no place for it")
-        self.same("", "\n".join(where for where, files in copies if declared.differences(files) == FOUND))
+    def test_names(self):
+        """a call that Rust and Python lack is seen."""
+        export = "/// Nothing.\n#[unsafe(no_mangle)]\npub extern \"C\" fn vintsaky_game_moves_of() {}\n"
+        lines = names.differing({**FILES, "crates/vintsaky/src/game.rt": export})
+        self.same(2, len([it for it in lines if it.startswith("vintsaky_game_moves_of is ")]))
 
 
 class Written(checks.Case):

@@ -1,1 +1,0 @@
-"""What is written by hand and has to have all of the library: the definitions, the Rust crate and the Python package."""

@@ -1,1 +1,0 @@
-"""The wrong copies of tests/stages/interface.py."""
