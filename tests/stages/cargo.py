@@ -2,9 +2,9 @@
 """Builds the same sources by cargo, and compares what comes of them with the proved programs.
 
 What the stripper doesn't know it refuses. Two clones make the same workspace. Cargo builds it without a network and without a warning;
-the crates' tests pass, which look for overflows, and clippy finds nothing. Drawn conversations and drawn matches come out as with the
-programs in bin/, where these are proved: output, standard error and status. Mistakes that are planted in the shims and in the stripper
-are each noticed.
+the crates' tests pass, which look for overflows, and clippy finds nothing. Drawn conversations, matches and courses of gtp_check come out
+as with the programs in bin/, where these are proved: output, standard error and status; so do broken streams and refused memory. The
+library makes each call under valgrind, sanitizers and in threads.
 
 With --all both commands of the README are run instead, ./demo and ./test programs, twice, in a clone of its own where no `rt` is found.
 
@@ -21,18 +21,20 @@ sys.dont_write_bytecode = True
 TOP = Path(__file__).resolve().parents[2]
 sys.path[:1] = [str(TOP), str(TOP / "cargo")]
 
-from compared import comparing, conversations, matches  # noqa: E402
+from compared import comparing, conversations, courses, matches  # noqa: E402
 from tests.shared import checks, running  # noqa: E402
 from tests.stages.of_cargo.building import BUILT, PROVED, OfWorkspace, need_proved  # noqa: E402
 from tests.stages.of_cargo.building import Build, Clippy, Clones, Documentation, Tests  # noqa: E402
 from tests.stages.of_cargo.commands import run  # noqa: E402
-from tests.stages.of_cargo.mutants import Mutants  # noqa: E402
+from tests.stages.of_cargo.ends import Ends  # noqa: E402
 from tests.stages.of_cargo.refusals import Files, Inlined, Message, Refusals, Taken, Traits  # noqa: E402
+from tests.stages.of_library_in_c import each_call  # noqa: E402
 
 PARSER = checks.Parser(__doc__)
 PARSER.add_argument("--all", action="store_true", help="both commands of the README where there is no kit, and nothing else")
 PARSER.add_argument("--conversations", metavar="N", type=checks.at_least_one, default=1000, help="how many are drawn; else 1000")
 PARSER.add_argument("--matches", metavar="N", type=checks.at_least_one, default=300, help="how many are drawn; else 300")
+PARSER.add_argument("--courses", metavar="N", type=checks.at_least_one, default=6, help="how many are drawn; else 6")
 PARSER.add_argument("--seed", metavar="TEXT", default="1", help="of what is drawn; else 1")
 OPTIONS = PARSER.options(__name__)
 HOURS = 3  # that one run of ./test programs may take
@@ -62,6 +64,17 @@ class Compared(OfWorkspace):
     def test_matches(self):
         """Drawn matches come out alike."""
         self.alike("matches", matches.matches(OPTIONS.seed, OPTIONS.matches))
+
+    def test_courses(self):
+        """Drawn courses of gtp_check come out alike."""
+        self.alike("courses", courses.courses(OPTIONS.seed, OPTIONS.courses))
+
+
+@each_call.table
+class EachCall(OfWorkspace, each_call.EachCall):
+    """tests/shared/each_call.c with the library that cargo builds."""
+
+    FILES, FOLDER, SIZES = (), BUILT, ("-DAT_MOST",)
 
 
 class All(checks.Case):
@@ -100,4 +113,4 @@ class All(checks.Case):
 
 if __name__ == "__main__":
     of_sources = [Refusals, Traits, Taken, Inlined, Files, Message, Clones]
-    checks.main(OPTIONS, [All] if OPTIONS.all else [*of_sources, Build, Tests, Clippy, Documentation, Compared, Mutants])
+    checks.main(OPTIONS, [All] if OPTIONS.all else [*of_sources, Build, Tests, Clippy, Documentation, Compared, Ends, EachCall])
