@@ -27,7 +27,6 @@ PAGES = [
 # the pages whose examples this stage doesn't run, and why
 NOT_RUN = {
     "docs/interop.md": "they need GNU Go and Leela Zero, which they name without a path",
-    "interop/scripts.md": "they need the scripts of GNU Go's source, and Perl and Pike",
     "packaging/README.release.md": "tests/stages/release.py runs them, in the archive and in the package",
 }
 OTHERS = r"/usr/games/\w+"  # somebody else's programs
