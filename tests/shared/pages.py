@@ -63,16 +63,6 @@ def spans_of(text: str) -> list[str]:
     return [found[2] for found in SPAN.finditer(without_blocks(text))]
 
 
-def code_of(text: str) -> list[str]:
-    """All code of a page: its blocks, and what is in its lines."""
-    return blocks_of(text) + spans_of(text)
-
-
-def prose_of(text: str) -> str:
-    """The words of a page that are no code, no target of a link, no address and no comment, with spaces in place of the rest."""
-    return re.sub(r"https?://[^\s)>]+", blank, COMMENT.sub(blank, TARGET.sub(blank, without_code(text))))
-
-
 def line_of(text: str, place: int) -> int:
     """The number of the line in which this place of a text is."""
     return text.count("\n", 0, place) + 1
