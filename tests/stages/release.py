@@ -6,9 +6,8 @@ the repository, whose folders, umask, time zone and language differ; one of them
 that has nothing else, where the programs have to write what the built ones write. The packages are unpacked, and their files looked at.
 The library is called by a program that is compiled with it, as it lies in the archive and in the packages, and by Python. The sources
 are built by cargo, in a folder where it has nothing from before and finds no kit.
-Each page of both is searched for links, commands and files that aren't there, and the examples of their README are run. So is what the
-page of the library shows: an engine and a search in C, an engine, a loop of self-play and a server in Python, and in the sources an
-engine in Rust. At last ./release is run with a file changed, with a tool missing, on a full disk and so on, and has to leave nothing.
+Each link of the pages leads somewhere, and the examples of the READMEs are run. So is what the page of the library shows: an engine and a
+search in C, an engine and a server in Python, and in the sources an engine in Rust. At last ./release is run with a file changed, with a tool missing, on a full disk and so on, and has to leave nothing.
 
 What a check needs and the machine hasn't is a line 'skipped: ..'.
 """
@@ -29,7 +28,7 @@ CASES = [
     package.Package, package.Control, library.LibraryOfArchive, library.Packages,
     library_shown.ShownInArchive, library_shown.ShownInPackages,
     source.Files, source.Notices, source.ProvenanceOfSources, source.PagesOfSources, source.BuiltSources, archive.Readme,
-    stopped.OtherCommit, stopped.Changed, stopped.Missing, stopped.Full, stopped.Ended, stopped.Words, stopped.Pages,
+    stopped.OtherCommit, stopped.Changed, stopped.Missing, stopped.Full, stopped.Ended, stopped.Pages,
 ]  # fmt: skip
 
 

@@ -6,11 +6,11 @@ import shutil
 import struct
 from pathlib import Path
 
-from . import pages
-from .commands import PROGRAMS, TOP, beside, run, sum_of
+from tests.shared import pages
+
+from .commands import PROGRAMS, TOP, beside, pages_of, run, sum_of
 from .making import GATE, OfReleases, object_of
 
-MOST_WORDS = 350  # in the README of a release
 SCRIPTS = {"archive": "share/tournament", "package": "usr/share/vintsaky/tournament"}  # where the scripts for tournaments lie
 
 
@@ -99,21 +99,12 @@ class OfBoth(OfReleases):
         came = (status, output.splitlines()[-1:], errors)
         self.check(f"{what}: its script plays a tournament of two games", (0, ["2 of 2 games have a result"], ""), came)
 
-    def check_pages(self, what, root, top, folders):
-        """Each link of a page leads to what is there, and no page names a command or a file that isn't.
-
-        `root` has the pages. `top` is the folder of the archive, or the root folder of a machine that has the package, with `folders`
-        in PATH.
-        """
-        found = pages.pages_of(root)
+    def check_pages(self, what, root):
+        """Each link of the pages below this folder leads to what is there, and no mark is left in them."""
+        found = pages_of(root)
         self.check(f"{what}: it has pages", True, {"README.md", "CHANGELOG.md", "library.md", "tournaments.md"} <= {it.name for it in found})
         lost = [it for page in found for it in pages.lost_links(page)]
         self.check(f"{what}: each link of its pages leads to a file and a heading in it", [], lost)
-        self.check(f"{what}: no page names a file that it hasn't", [], [it for page in found for it in pages.lost_files(page, root)])
-        lost = [it for page in found for it in pages.lost_commands(page, top, folders)]
-        self.check(f"{what}: no page shows a command that it hasn't", [], lost)
-        count = pages.words_of((root / "README.md").read_text())
-        self.check(f"{what}: its README has at most {MOST_WORDS} words: {count}", True, count <= MOST_WORDS)
         marks = [it.name for it in found if re.search(r"<!--|@[A-Z]+@", it.read_text())]
         self.check(f"{what}: no page has a mark that is left", [], marks)
 
@@ -166,9 +157,7 @@ class Archive(OfBoth):
         tree = self.four.tree
         self.check_tree("the archive", tree)
         self.check_scripts("the archive", tree / SCRIPTS["archive"])
-        self.check_pages("the archive", tree, tree, [])
-        named = [f"{page.name}: {it}" for page in pages.pages_of(tree) for it in pages.installed_files(page)]
-        self.check("the archive: no page names a place of the package", [], named)
+        self.check_pages("the archive", tree)
 
     def test_programs(self):
         """The programs of the archive."""

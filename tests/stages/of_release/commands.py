@@ -29,6 +29,11 @@ def sum_of(file):
     return hashlib.sha256(Path(file).read_bytes()).hexdigest()
 
 
+def pages_of(tree):
+    """The pages in a folder, and below it."""
+    return sorted(Path(tree).rglob("*.md"))
+
+
 @lru_cache(maxsize=None)
 def room_of_all():
     """The folder of all that is made, until the end of the stage."""

@@ -3,17 +3,14 @@ import os
 import re
 import shutil
 
-from tests.shared import checks
-from tests.shared.library import python_with_numpy
+from tests.shared import checks, pages
 
-from . import pages
 from .commands import LIMIT, run
 from .library import LIBRARIES, MODULES
 from .making import OfReleases
 
 GAME = r"game 1: \S+ moves \d+ restarts 0 0\n"
 SERVED = rf"\d+\n{GAME}"  # the number of a port comes first
-LEARNED = "True\n"  # what the loop prints where games have ended
 PACKAGES = ("programs", "shared", "header", "python")
 # what the page shows in each form, in this order, and what each prints; Rust's engine is in the sources alone
 SHOWN = {"an engine in C": GAME, "an engine in Python": GAME, "an engine in Rust": GAME, "a search in C": GAME, "a server": SERVED}
@@ -31,7 +28,7 @@ class Shown(checks.Case):
     """Checks of what the page of the library shows."""
 
     def check_page(self, what, root, folder, environment, left_out=(), as_here=str):
-        """Each block of commands ends with the line of a game, and the loop learns from games that end.
+        """Each block of commands ends with the line of a game.
 
         `root` has the pages. The commands run in `folder`, after `as_here` has made a block one for this machine. The page may leave out
         some of what is shown.
@@ -43,25 +40,13 @@ class Shown(checks.Case):
         self.write_programs(what, text, folder)
         for name, block in zip(shown, map(as_here, blocks)):
             self.check_block(f"{what}, as the page of the library shows: {name}", block, SHOWN[name], folder, environment)
-            if "my_engine.py" in block:
-                self.check_loop(f"{what}, as the page of the library shows: a loop of self-play", block, folder, environment)
-
-    def check_loop(self, what, block, folder, environment):
-        """The loop learns, by the Python that has numpy, where the package is found as for the engine of this block."""
-        before, python = "".join(it for it in block.splitlines(True) if "twogtp" not in it), python_with_numpy()
-        if python:
-            self.check_block(what, f"{before}{python} self_play.py\n", LEARNED, folder, environment)
-        else:
-            self.skip(what, "there is no numpy (apt-get install python3-numpy)")
 
     def write_programs(self, what, text, folder):
-        """Writes the two programs in Python that the page shows: the engine by the name that it has there, and the loop."""
-        programs = pages.blocks_in(text, "python")
+        """Writes the engine in Python that the page shows, by the name that it has there."""
+        programs = [it for it in pages.blocks_in(text, "python") if "vintsaky.Engine" in it]
         name = re.search(r"^With these lines as `([\w.]+)`:", text, re.MULTILINE)
-        found = (len(programs), name is not None, ["vintsaky.Engine" in it for it in programs])
-        self.check(f"{what}: the page of the library shows an engine and a loop in Python", (2, True, [True, False]), found)
-        for file, program in zip((name[1] if name else "lost.py", "self_play.py"), programs):
-            (folder / file).write_text(program)
+        self.check(f"{what}: the page of the library shows an engine in Python", (1, True), (len(programs), name is not None))
+        (folder / (name[1] if name else "lost.py")).write_text("".join(programs))
 
     def check_block(self, what, block, wanted, folder, environment):
         """The block ends well, prints what is wanted, and nothing warns."""
@@ -93,13 +78,8 @@ class ShownInPackages(OfReleases, Shown):
         cls.pages = cls.root / "usr/share/doc/vintsaky"
 
     def test_files(self):
-        """What its page names is there."""
+        """They can be unpacked."""
         self.check("the packages: all are unpacked into one folder", [0] * len(PACKAGES), self.unpacked)
-        named = pages.installed_files(self.pages / "docs/library.md")
-        lost = [it for it in named if not (self.root / it[1:]).exists()]
-        self.check("the packages: what the page of the library names below /usr is there", [], lost)
-        wanted = {"/usr/include/vintsaky.h", "/usr/share/doc/libvintsaky-dev/examples/random_engine.c"}
-        self.check("the packages: the page of the library names header and example", True, wanted <= set(named))
 
     def test_shown(self):
         """Its commands, by what is in the root folder."""

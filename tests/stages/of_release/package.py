@@ -4,9 +4,8 @@ import shlex
 import shutil
 from pathlib import Path
 
-from . import pages
 from .archive import SCRIPTS, OfBoth, examples_of, way_into
-from .commands import run, sum_of, with_path
+from .commands import pages_of, run, sum_of, with_path
 from .making import OfReleases
 
 DOCS = "usr/share/doc/vintsaky"
@@ -44,15 +43,9 @@ class Package(OfBoth):
     def test_pages(self):
         """Its pages name its programs and files as they lie on a machine that has it."""
         docs = self.folder / DOCS
-        self.check_pages("the package", docs, self.folder, ["/usr/bin"])
-        found = pages.pages_of(docs)
-        named = [f"{page.name}: {it}" for page in found for it in re.findall(IN_A_CLONE, page.read_text())]
+        self.check_pages("the package", docs)
+        named = [f"{page.name}: {it}" for page in pages_of(docs) for it in re.findall(IN_A_CLONE, page.read_text())]
         self.check("the package: no page names programs as they lie in a clone", [], named)
-        named = [(page.name, it) for page in found for it in pages.installed_files(page) if "vintsaky" in Path(it).parts]
-        lost = [it for it in named if not (self.folder / it[1][1:]).exists()]
-        self.check("the package: what its pages name below /usr/share is there", [], lost)
-        are_named = {f"/{SCRIPTS['package']}", f"/{DOCS}/docs"} <= {it for _, it in named}
-        self.check("the package: its pages name where its scripts and its pages lie", True, are_named)
 
     def test_readme(self):
         """The examples of its README, in a root folder that has the package alone, and beside what the machine has."""

@@ -3,8 +3,8 @@ import os
 import re
 import shutil
 
-from . import pages
-from .archive import MOST_WORDS
+from tests.shared import pages
+
 from .commands import PROGRAMS, TOP, run, sum_of
 from .library import InPython, sums_below
 from .library_shown import GAME, Shown
@@ -148,13 +148,12 @@ class PagesOfSources(OfSources):
         what = "the sources: the head of their README says what they are, and what isn't there"
         self.check(what, (True, sorted(places)), (-1 not in places, places))
         self.check("the sources: their README has the name of the release", True, readme.startswith(f"# Vintsaky {self.names[0]}: "))
-        self.check(f"the sources: their README has at most {MOST_WORDS} words", True, pages.words_of(readme) <= MOST_WORDS)
 
     def test_pages(self):
         """Their pages."""
         found = [self.tree / it for it in PAGES]
-        lost = [it for page in found for it in [*pages.lost_links(page), *pages.lost_files(page, self.tree)]]
-        self.check("the sources: no page has a link to what isn't there, or names such a file", [], lost)
+        lost = [it for page in found for it in pages.lost_links(page)]
+        self.check("the sources: no page has a link to what isn't there", [], lost)
         named = [it.name for it in found if "tournament/" in it.read_text()]
         self.check("the sources: no page names the scripts for tournaments", [], named)
         marks = [it.name for it in found if re.search(r"<!--|@[A-Z]+@", it.read_text())]

@@ -11,7 +11,7 @@ from pathlib import Path
 from tests.shared import running
 
 from .commands import LIMIT, run
-from .making import GATE, OfReleases, commit, git, made, object_of, release
+from .making import OfReleases, commit, git, made, object_of, release
 
 # the commands of machines that lack something
 OLD = {"cargo": 'echo "cargo 1.86.0 (x)"', "dpkg-query": "exit 1"}
@@ -179,36 +179,6 @@ class Ended(OfStops):
             process.send_signal(signal.SIGTERM)
             came = (process.wait(LIMIT), made(self.folder))
             self.check("a release that is ended: its status, and nothing in dist/", (143, []), came)
-
-
-NO_LINE = "--gate needs the last line of ./test after it, such as '9 passed, 0 failed'"
-# arguments, and what is wrong with them
-MISTAKES = {
-    ("--gate",): NO_LINE,
-    ("--gate", "fine"): NO_LINE,
-    ("--gate", "1 passed, 0 failed\n2"): NO_LINE,
-    ("now",): "there is no option 'now'",
-    ("--final", "now"): "there is no option 'now'",
-    ("--final", "--final"): "--final is given twice",
-    ("--final", "--gate"): NO_LINE,
-    ("--gate", "--final"): NO_LINE,
-    ("--gate", GATE, "--gate", GATE): "--gate is given twice",
-    ("--final=1.0",): "there is no option '--final=1.0'",
-    ("--help", "--final"): "there is no option '--help'",
-    ("",): "there is no option ''",
-}
-
-
-class Words(OfStops):
-    """The words on its command line."""
-
-    def test_words(self):
-        """Its help, and mistakes."""
-        status, output, _ = release(self.folder, "--help")
-        came = (status, len(output.splitlines()), output[:27])
-        self.check("--help says it in seven lines", (0, 7, "usage: ./release [--final] "), came)
-        for words, said in MISTAKES.items():
-            self.check(f"a usage error: {words}", (2, "", f"release: {said}\n{output}"), release(self.folder, *words))
 
 
 # what a page may not have, and what is said of it
