@@ -1,14 +1,14 @@
 #!/usr/bin/env python3
 """Measures GTP commands through a pipe, for several engines in turn in one run.
 
-usage: bench/commands.py [--work NAME] [--size N] [--half] [--count N] [--rounds N] [--singly] ENGINE..
+usage: bench/commands/commands.py [--work NAME] [--size N] [--half] [--count N] [--rounds N] [--singly] ENGINE..
 
 Each ENGINE is a command line, split at spaces. All get the same lines, in one burst; or with --singly one at a time, as a
 controller sends them, each after the reply to the one before. A round is one run of each program, one after the other, and
 the best round of each counts.
 
 The works:
-  name        `name`, again and again; compared with the machine's limit, bench/copy.c, which only copies its input with
+  name        `name`, again and again; compared with the machine's limit, bench/commands/copy.c, which only copies its input with
               one write a line
   pairs       a `play` and an `undo`, on an empty 19x19
   deep        an `undo` and the same `play`, after a game of 200 moves on 19x19 in which each colour has one chain; with
@@ -32,6 +32,7 @@ except those that the first ENGINE refuses. Each other ENGINE has to accept them
 
 import argparse
 import os
+import pathlib
 import random
 import shutil
 import subprocess
@@ -41,7 +42,7 @@ import threading
 import time
 
 LETTERS = "ABCDEFGHJKLMNOPQRSTUVWXYZ"
-TOP = os.path.dirname(os.path.dirname(os.path.realpath(__file__)))
+TOP = str(pathlib.Path(__file__).resolve().parents[2])
 GAMES = "/usr/games"  # where Debian puts games, which is not in every PATH
 POSITION_WORKS = {"showboard": "showboard", "final_score": "final_score", "genmove": "genmove b"}
 BETWEEN = {"final_score": ["play b {free}", "final_score", "undo"], "genmove": ["undo"]}
@@ -271,7 +272,7 @@ def main():
     options = parser.parse_args()
     options.engines = [found(engine) for engine in options.engines]
     if options.work == "name" and shutil.which("cc") is None:
-        sys.exit("bench: there is no cc, which compiles the limit of this work, bench/copy.c (apt-get install gcc libc6-dev)")
+        sys.exit("bench: there is no cc, which compiles the limit of this work, bench/commands/copy.c (apt-get install gcc libc6-dev)")
     if options.work in POSITION_WORKS:
         position_table(options)
         return
