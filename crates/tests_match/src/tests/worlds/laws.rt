@@ -16,21 +16,10 @@ fn the_laws_hold_of_each_maker() {
     laws::no_side_is_blamed::<Kind, Kind>();
     laws::only_breaks_put_a_side_down::<Kind, Kind>();
     laws::worlds_settle::<Kind, Kind>();
-    laws::breaks_put_a_side_down::<Kind, Kind>();
-    laws::a_side_that_is_down_has_nothing::<Kind, Kind>();
-    laws::a_crash_stops_and_cuts::<Kind, Kind>();
-    laws::the_other_side_stays::<Kind, Kind>();
-    laws::the_table_is_of_both_sides::<Kind, Kind>();
-    laws::an_engine_is_given_as_many_bytes_as_come::<Kind, Kind>();
-    laws::the_controller_is_given_as_many_bytes_as_come::<Kind, Kind>();
-    laws::the_words_are_as_strong::<Kind, Kind>();
     laws::engines_in_step_are_there::<Kind, Kind>();
     laws::settled_worlds_are_caught_up::<Kind, Kind>();
-    laws::a_side_with_no_start_left_is_up::<Kind, Kind>();
-    laws::events_do_what_they_say::<Kind, Kind>();
     laws::worlds_of_sessions_are_worlds::<Kind, Kind>();
     laws::worlds_of_steps_go_along::<Kind>();
     laws::engines_in_steps_are_there::<Kind>();
     laws::worlds_of_steps_catch_up::<Kind>();
-    laws::events_of_steps_do_what_they_say::<Kind>();
 }

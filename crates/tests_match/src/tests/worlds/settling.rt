@@ -1,9 +1,6 @@
 //! Worlds that settle.
-use super::SIDES;
-use super::any::{Doing, Doings, Engines};
-use super::policies::Kind;
-use super::same::assert_same_game;
-use super::scenes::{BLACK_IS_LOST, BLACK_MOVES, IN_STEP, Recorded};
+use super::rows::{BLACK_IS_LOST, BLACK_MOVES, IN_STEP};
+use super::scenes::{Events, Recorded, SIDES, assert_same_game};
 use crate::asserts::{assert_equal, assert_true, some};
 use gtp_match::{Match, Status};
 use gtp_world::Event;
@@ -11,11 +8,11 @@ use std::process::Abort;
 
 /// The events that start each side that is down, and bring both sides into step: one `Act` for each side that is down,
 /// and then for Black, and then for White, a round for each script command that it has left.
-fn settling(rt: &impl Abort, played: &Match) -> Doings {
-    let mut events = Doings::new();
+fn settling(rt: &impl Abort, played: &Match) -> Events {
+    let mut events = Events::new();
     for side in SIDES {
         if played.status(side) == Status::Down {
-            events.add(rt, &Doing::Happens(Event::Act));
+            events.add(rt, Event::Act);
         }
     }
     for side in SIDES {
@@ -31,13 +28,9 @@ fn settling(rt: &impl Abort, played: &Match) -> Doings {
             {
                 break;
             }
-            for event in [
-                Event::Act,
-                Event::ToEngine(side, 100),
-                Event::ToController(side, 100),
-            ] {
-                events.add(rt, &Doing::Happens(event));
-            }
+            events.add(rt, Event::Act);
+            events.add(rt, Event::ToEngine(side, 100));
+            events.add(rt, Event::ToController(side, 100));
         }
     }
     events
@@ -50,20 +43,19 @@ fn assert_settles(rt: &impl Abort, recorded: &mut Recorded, count: usize) {
     let events = settling(rt, world.controller());
     assert_equal(rt, events.all(rt).len(), count);
     let before = world.controller().game().moves().len();
-    world.run(rt, events.all(rt));
+    world.run(events.all(rt));
     let played = world.controller();
     for side in SIDES {
         assert_true(rt, played.in_step(side));
-        assert_same_game(rt, some(rt, world.game(side)), played.game());
+        assert_same_game(rt, some(rt, world.running(side)), played.game());
     }
     assert_equal(rt, played.game().moves().len(), before);
 }
 
 #[test]
 fn a_new_world_settles_by_twenty_events_and_one_that_lost_an_engine_by_ten(rt: HostRuntime) {
-    let engines = Engines::Sessions(Kind::First, Kind::First);
-    assert_settles(&rt, &mut Recorded::new(&rt, engines, None), 20);
-    let mut recorded = Recorded::new(&rt, engines, None);
+    assert_settles(&rt, &mut Recorded::new(&rt, false), 20);
+    let mut recorded = Recorded::new(&rt, false);
     recorded.go(&rt, "both sides are brought into step", &IN_STEP);
     recorded.go(&rt, "Black moves", &BLACK_MOVES);
     recorded.go(&rt, "Black is lost", &BLACK_IS_LOST);
