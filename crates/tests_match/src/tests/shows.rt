@@ -14,8 +14,6 @@ pub enum Shows {
     Next(Action),
     /// It ended by this verdict, and has this line as game 1.
     Ended(Verdict, &'static [u8]),
-    /// It has this line as the game of this number.
-    Line(u32, &'static [u8]),
     /// It has no line.
     NoLine,
     /// A side is up, and was not asked for a move: this many commands are confirmed, and this many unanswered.
@@ -45,10 +43,6 @@ pub fn assert_shows(rt: &impl Abort, place: Place, played: &Match, what: &Shows)
         Shows::Ended(verdict, text) => {
             assert_equal_for(rt, place, played.next(), Action::Done(*verdict));
             let line = some(rt, result_line(1, played));
-            assert_equal_for(rt, place, line.as_slice(), *text);
-        }
-        Shows::Line(number, text) => {
-            let line = some(rt, result_line(*number, played));
             assert_equal_for(rt, place, line.as_slice(), *text);
         }
         Shows::NoLine => assert_equal_for(rt, place, result_line(1, played).is_none(), true),

@@ -55,28 +55,12 @@ fn each_fault_puts_its_side_down_and_gives_it_up_without_restarts(rt: HostRuntim
     }
 }
 
-static SCENES: [Scene; 6] = [
+static SCENES: [Scene; 3] = [
     (
         "carriage returns after an id",
         Opening::Sent(1),
         &[
             Step::Answer(Side::Black, b"\n=1\r\n\r\n"),
-            Step::See(Shows::Up(Side::Black, 1, 0)),
-        ],
-    ),
-    (
-        "blank lines before an id",
-        Opening::Sent(1),
-        &[
-            Step::Answer(Side::Black, b"\r\n \n\r\n=1\r \r\n\r\n"),
-            Step::See(Shows::Up(Side::Black, 1, 0)),
-        ],
-    ),
-    (
-        "zeros before an id",
-        Opening::Sent(1),
-        &[
-            Step::Answer(Side::Black, b"=0000000001\n\n"),
             Step::See(Shows::Up(Side::Black, 1, 0)),
         ],
     ),
@@ -88,17 +72,6 @@ static SCENES: [Scene; 6] = [
             Step::See(Shows::Ended(
                 Verdict::Unfit(Side::Black),
                 b"game 1: unfit black moves 0 restarts 0 0",
-            )),
-        ],
-    ),
-    (
-        "a side is lost without restarts",
-        Opening::Sent(0),
-        &[
-            Step::Lose(Side::White),
-            Step::See(Shows::Ended(
-                Verdict::Abandoned(Side::White),
-                b"game 1: abandoned white moves 0 restarts 0 0",
             )),
         ],
     ),
@@ -117,7 +90,7 @@ static SCENES: [Scene; 6] = [
 ];
 
 #[test]
-fn a_first_answer_in_any_spelling_a_refusal_and_a_loss(rt: HostRuntime) {
+fn a_first_answer_a_refusal_and_a_side_that_is_down(rt: HostRuntime) {
     play(&rt, &SCENES);
 }
 

@@ -6,39 +6,16 @@ use gtp_match::LossCause::{self, NoVertex, Shows};
 use gtp_match::SideFault::{NoStatus, WrongId};
 
 /// Bytes by which Black fails after its first command, the cause, and what is shown of the bytes.
-static FAILS: [(&str, &[u8], LossCause, &[u8]); 12] = [
+static FAILS: [(&str, &[u8], LossCause, &[u8]); 4] = [
     ("another id", b"=2 D4\n\nmore", Shows(WrongId), b"=2 D4\n\n"),
-    ("no id", b"\n= 1\n\n", Shows(WrongId), b"\n= 1\n\n"),
-    (
-        "a refusal",
-        b"?2 no\r\n\r\n",
-        Shows(WrongId),
-        b"?2 no\r\n\r\n",
-    ),
-    ("a letter", b"h", Shows(NoStatus), b"h"),
-    ("a word", b"hello", Shows(NoStatus), b"hello"),
     (
         "newlines and a word",
         b"\n\r\nhello",
         Shows(NoStatus),
         b"\n\r\nhello",
     ),
-    ("other bytes", b"\xe4\x00", Shows(NoStatus), b"\xe4\x00"),
-    (
-        "a line",
-        b"Welcome to MyGo 1.0\n",
-        Shows(NoStatus),
-        b"Welcome to MyGo 1.0\n",
-    ),
-    (
-        "then a reply",
-        b"MyGo 1.0\n=1\n\n",
-        Shows(NoStatus),
-        b"MyGo 1.0\n=1\n\n",
-    ),
     ("80 letters", &[b'W'; 80], Shows(NoStatus), &[b'W'; 80]),
     ("81 letters", &[b'W'; 81], Shows(NoStatus), &[b'W'; 80]),
-    ("9,000 letters", &[b'W'; 9000], Shows(NoStatus), &[b'W'; 80]),
 ];
 
 #[test]

@@ -1,4 +1,4 @@
-//! Matches to their ends.
+//! Matches that end, and matches that go on after a loss.
 use super::steps::{Opening, Played, Scene, Step, play};
 use crate::asserts::{assert_equal, some};
 use crate::tests::shows::Shows;
@@ -6,69 +6,30 @@ use arrayvec::ArrayVec;
 use go_base::Colour::{Black, White};
 use gtp_match::{Action, Verdict, record_line, result_line};
 
-static TWO_PASSES: [Scene; 2] = [
-    (
-        "on 2x2 without komi",
-        Opening::Asked(0),
-        &[
-            Step::See(Shows::Asked(Black, 3, 1)),
-            Step::Answer(Black, b"=4 pass\n\n"),
-            Step::See(Shows::InStep(Black, true)),
-            Step::See(Shows::InStep(White, false)),
-            Step::SendAndWait(White, b"4 play b pass\n"),
-            Step::Answer(White, b"=4\n\n"),
-            Step::SendAndWait(White, b"5 genmove w\n"),
-            Step::See(Shows::NoLine),
-            Step::Answer(White, b"=5 pass\n\n"),
-            Step::See(Shows::Ended(Verdict::Score(0), b"game 1: 0 moves 2 restarts 0 0")),
-            Step::See(Shows::Record(b"pass pass")),
-        ],
-    ),
-    (
-        "on 1x1 with two moves at most, where the score comes before the limit",
-        Opening::Started(1, -1_999_999_999, 2, 0),
-        &[
-            Step::Say(Black, b"1 boardsize 1\n", b"=1\n\n"),
-            Step::Say(Black, b"2 komi -999999999.5\n", b"=2\n\n"),
-            Step::Say(Black, b"3 clear_board\n", b"=3\n\n"),
-            Step::Say(White, b"1 boardsize 1\n", b"=1\n\n"),
-            Step::Say(White, b"2 komi -999999999.5\n", b"=2\n\n"),
-            Step::Say(White, b"3 clear_board\n", b"=3\n\n"),
-            Step::Say(Black, b"4 genmove b\n", b"=4 pass\n\n"),
-            Step::Say(White, b"4 play b pass\n", b"=4\n\n"),
-            Step::Say(White, b"5 genmove w\n", b"=5 PaSs\n\n"),
-            Step::See(Shows::Next(Action::Done(Verdict::Score(1_999_999_999)))),
-            Step::See(Shows::Line(
-                4_294_967_295,
-                b"game 4294967295: B+999999999.5 moves 2 restarts 0 0",
-            )),
-            Step::See(Shows::InStep(White, true)),
-            Step::See(Shows::InStep(Black, false)),
-            Step::Lose(White),
-            Step::See(Shows::Next(Action::Done(Verdict::Score(1_999_999_999)))),
-        ],
-    ),
-];
+static TWO_PASSES: [Scene; 1] = [(
+    "on 2x2 without komi",
+    Opening::Asked(0),
+    &[
+        Step::See(Shows::Asked(Black, 3, 1)),
+        Step::Answer(Black, b"=4 pass\n\n"),
+        Step::See(Shows::InStep(Black, true)),
+        Step::See(Shows::InStep(White, false)),
+        Step::SendAndWait(White, b"4 play b pass\n"),
+        Step::Answer(White, b"=4\n\n"),
+        Step::SendAndWait(White, b"5 genmove w\n"),
+        Step::See(Shows::NoLine),
+        Step::Answer(White, b"=5 pass\n\n"),
+        Step::See(Shows::Ended(Verdict::Score(0), b"game 1: 0 moves 2 restarts 0 0")),
+        Step::See(Shows::Record(b"pass pass")),
+    ],
+)];
 
 #[test]
 fn two_passes_end_by_score(rt: HostRuntime) {
     play(&rt, &TWO_PASSES);
 }
 
-static OTHER_ENDS: [Scene; 4] = [
-    (
-        "the last move that is allowed ends by the limit",
-        Opening::Started(2, 0, 2, 0),
-        &[
-            Step::Bring(Black),
-            Step::Bring(White),
-            Step::Say(Black, b"4 genmove b\n", b"=4 pass\n\n"),
-            Step::Say(White, b"4 play b pass\n", b"=4\n\n"),
-            Step::Say(White, b"5 genmove w\n", b"=5 B2\n\n"),
-            Step::See(Shows::Ended(Verdict::Limit, b"game 1: limit moves 2 restarts 0 0")),
-            Step::See(Shows::Record(b"pass B2")),
-        ],
-    ),
+static LOST: [Scene; 3] = [
     (
         "a side that went down gets the whole script again",
         Opening::Asked(1),
@@ -131,20 +92,20 @@ static OTHER_ENDS: [Scene; 4] = [
 ];
 
 #[test]
-fn a_match_ends_by_its_limit_and_goes_on_after_a_loss_while_a_restart_is_left(rt: HostRuntime) {
-    play(&rt, &OTHER_ENDS);
+fn a_match_goes_on_after_a_loss_while_a_restart_is_left(rt: HostRuntime) {
+    play(&rt, &LOST);
 }
 
 #[test]
 fn a_result_line_has_room_for_96_bytes_and_a_record_line_for_10_000(rt: HostRuntime) {
     let mut played = Played::new(&rt, "a resignation", Opening::Asked(1));
     played.hear(&rt, Black, b"=4 resign\n\n", 11, None);
-    let line: Option<ArrayVec<u8, 96>> = result_line(1, &played.game);
+    let line: Option<ArrayVec<u8, 96>> = result_line(4_294_967_295, &played.game);
     let record: ArrayVec<u8, 10_000> = record_line(&played.game);
     assert_equal(
         &rt,
         some(&rt, line).as_slice(),
-        b"game 1: W+R moves 0 restarts 0 0".as_slice(),
+        b"game 4294967295: W+R moves 0 restarts 0 0".as_slice(),
     );
     assert_equal(&rt, record.as_slice(), b"".as_slice());
 }

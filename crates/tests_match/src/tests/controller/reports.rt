@@ -1,5 +1,5 @@
 //! What is reported about a refused `play` that is retaken.
-use super::steps::{Opening, Played, Scene, Step, padded, play};
+use super::steps::{Opening, Played, Scene, Step, play};
 use crate::asserts::some;
 use crate::tests::shows::Shows;
 use go_base::Side;
@@ -38,14 +38,8 @@ static REPLAYED: [Scene; 1] = [(
 )];
 
 #[test]
-fn a_refusal_owes_one_command_and_its_first_80_bytes_are_kept(rt: HostRuntime) {
+fn a_refusal_after_other_answers_owes_one_command(rt: HostRuntime) {
     play(&rt, &REPLAYED);
-    let mut played = Played::new(&rt, "a long refusal", Opening::Asked(1));
-    played.go(&rt, &A1_SENT);
-    let bytes = padded::<100>(b"?4 ", b'y', b"\n\n");
-    let shown = padded::<80>(b"?4 ", b'y', b"");
-    let want = (1, b"4 play b A1\n".as_slice(), shown.as_slice());
-    played.report(&rt, Side::White, &bytes, Some(want), None);
 }
 
 #[test]

@@ -4,7 +4,7 @@ use go_base::Colour::{Black, White};
 use gtp_match::{ForfeitCause, Verdict};
 
 /// Black moved at A1, and White refused that.
-static SCENES: [Scene; 4] = [
+static SCENES: [Scene; 3] = [
     (
         "a refused move is taken back at its maker",
         Opening::Asked(1),
@@ -71,28 +71,9 @@ static SCENES: [Scene; 4] = [
             Step::See(Shows::InStep(White, false)),
         ],
     ),
-    (
-        "a side that refuses its own move forfeits",
-        Opening::Asked(1),
-        &[
-            Step::Answer(Black, b"=4 A1\n\n"),
-            Step::Lose(Black),
-            Step::Start(Black),
-            Step::Bring(Black),
-            Step::Say(Black, b"4 play b A1\n", b"?4 no\n\n"),
-            Step::See(Shows::Ended(
-                Verdict::Forfeit(Black, ForfeitCause::RefusedPlay),
-                b"game 1: W+F(refused play) moves 1 restarts 1 0",
-            )),
-            Step::See(Shows::Moves(1)),
-            Step::See(Shows::Retakes(1, 0)),
-        ],
-    ),
 ];
 
 #[test]
-fn a_refused_move_is_taken_back_and_refused_for_the_fourth_time_or_by_its_maker_forfeits(
-    rt: HostRuntime,
-) {
+fn a_refused_move_is_taken_back_and_refused_for_the_fourth_time_forfeits(rt: HostRuntime) {
     play(&rt, &SCENES);
 }

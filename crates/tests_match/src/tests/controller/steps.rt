@@ -47,12 +47,11 @@ pub enum Step {
 /// How a match begins.
 #[derive(Clone, Copy)]
 pub enum Opening {
-    /// Both sides are started: of this size, komi in half points, most moves and most restarts.
-    Started(u32, i32, u32, u32),
-    /// With size 2, komi 0, 10 moves and this many restarts, both sides are started, and Black is sent its first
-    /// command.
+    /// Both sides are started, with size 2, komi 0, 10 moves and this many restarts.
+    Started(u32),
+    /// Then Black is sent its first command.
     Sent(u32),
-    /// With the same size, komi, moves and restarts, both sides are in step, and Black is asked for the first move.
+    /// Then both sides are brought into step, and Black is asked for the first move.
     Asked(u32),
 }
 
@@ -88,11 +87,8 @@ impl Played {
     /// A match with this beginning, for the row of this name.
     pub fn new(rt: &impl Abort, name: &'static str, opening: Opening) -> Self {
         let setup = match opening {
-            Opening::Started(size, half_points, max_moves, max_restarts) => {
-                setup_with(rt, (size, half_points, 0), max_moves, max_restarts)
-            }
-            Opening::Sent(max_restarts) | Opening::Asked(max_restarts) => {
-                setup_with(rt, (2, 0, 0), 10, max_restarts)
+            Opening::Started(restarts) | Opening::Sent(restarts) | Opening::Asked(restarts) => {
+                setup_with(rt, (2, 0, 0), 10, restarts)
             }
         };
         let mut played = Played {
