@@ -1,5 +1,5 @@
 //! Runs of `gtp_engine` in memory.
-use super::streams::{Narrow, Source, WIDE, narrow_stream};
+use super::streams::{Narrow, Source, WIDE, narrow_stream, new_counts};
 use crate::asserts::{assert_equal, assert_equal_for, assert_true, text_of};
 use gtp_engine_app::failure::{Failure, report};
 use gtp_engine_app::run::run;
@@ -31,8 +31,9 @@ fn run_over<R: Abort + AllocGlobal>(
     for word in arguments.split_whitespace() {
         assert_true(rt, words.push(word).is_ok());
     }
-    let mut output = narrow_stream(rt, rooms.0);
-    let mut errors = narrow_stream(rt, rooms.1);
+    let counts = new_counts(rt);
+    let mut output = narrow_stream(rt, rooms.0, &counts);
+    let mut errors = narrow_stream(rt, rooms.1, &counts);
     let status = run(
         rt.alloc(),
         words.as_slice(),

@@ -6,13 +6,19 @@ use gtp_match::LossCause::{self, NoVertex, Shows};
 use gtp_match::SideFault::{NoStatus, WrongId};
 
 /// Bytes by which Black fails after its first command, the cause, and what is shown of the bytes.
-static FAILS: [(&str, &[u8], LossCause, &[u8]); 4] = [
+static FAILS: [(&str, &[u8], LossCause, &[u8]); 5] = [
     ("another id", b"=2 D4\n\nmore", Shows(WrongId), b"=2 D4\n\n"),
     (
         "newlines and a word",
         b"\n\r\nhello",
         Shows(NoStatus),
         b"\n\r\nhello",
+    ),
+    (
+        "a line",
+        b"Welcome to MyGo 1.0\n",
+        Shows(NoStatus),
+        b"Welcome to MyGo 1.0\n",
     ),
     ("80 letters", &[b'W'; 80], Shows(NoStatus), &[b'W'; 80]),
     ("81 letters", &[b'W'; 81], Shows(NoStatus), &[b'W'; 80]),

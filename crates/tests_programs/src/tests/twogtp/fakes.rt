@@ -1,6 +1,7 @@
 //! Engines in memory, in place of processes.
 ghost use Rattle.std.specs.Prelude.{⊤, None};
 
+use crate::tests::streams::Counts;
 use byte_streams::CallFault;
 use go_board::KoRule;
 use gtp_process::{Ending, Process, StartFault, StartReason, Starter};
@@ -13,13 +14,6 @@ use std::alloc::{AllocError, Global};
 use std::cell::Cell;
 use std::io::Read;
 use std::rc::Rc;
-
-/// How many engines were started, and how many were ended.
-#[derive(Drop)]
-pub struct Counts {
-    pub started: Cell<usize>,
-    pub ended: Cell<usize>,
-}
 
 /// What an engine in memory does.
 #[derive(Drop)]
@@ -72,11 +66,26 @@ impl Said {
     }
 }
 
-/// A conversation with an engine in memory.
+/// A conversation with an engine in memory. Each call of its pipes is interrupted this often before it goes through.
 pub struct Talk {
     engine: Engine,
     said: Said,
+    often: u32,
+    interruptions: u32,
     counts: Rc<Counts>,
+}
+
+impl Talk {
+    /// Interrupts a call, unless it was interrupted often enough.
+    fn interrupt(&mut self) -> Result<(), CallFault> {
+        if self.interruptions < self.often {
+            self.interruptions = self.interruptions.saturating_add(1);
+            add(&self.counts.interrupted, 1);
+            return Err(CallFault::Interrupted);
+        }
+        self.interruptions = 0;
+        Ok(())
+    }
 }
 
 /// Feeds the text to a session, and writes its replies until it stops.
@@ -113,6 +122,7 @@ impl Process for Talk {
     ghost flushed = { λ _. ⊤ };
 
     fn read(&mut self, buffer: &mut [u8]) -> Result<usize, CallFault> {
+        self.interrupt()?;
         let Some(mut left) = self.said.written.get(self.said.read..) else {
             return Err(CallFault::Other);
         };
@@ -129,6 +139,12 @@ impl Process for Talk {
         if self.said.is_stopped {
             return Err(CallFault::Other);
         }
+        self.interrupt()?;
+        add(&self.counts.writes, 1);
+        if text == b"quit\n".as_slice() {
+            add(&self.counts.quits, 1);
+            add(&self.counts.flushed_by_quits, self.counts.flushed.get());
+        }
         let answered = match &mut self.engine {
             Engine::First(session) => answer(session, text, &mut self.said),
             Engine::Book(session) => answer(session, text, &mut self.said),
@@ -142,7 +158,7 @@ impl Process for Talk {
     }
 
     fn flush(&mut self) -> Result<(), CallFault> {
-        Ok(())
+        self.interrupt()
     }
 
     fn let_run_first(&self) {}
@@ -153,9 +169,11 @@ impl Process for Talk {
         let Talk {
             engine,
             said,
+            often: _,
+            interruptions: _,
             counts,
         } = self;
-        add_one(&counts.ended);
+        add(&counts.ended, 1);
         drop(engine);
         drop(said);
         drop(counts);
@@ -163,9 +181,9 @@ impl Process for Talk {
     }
 }
 
-/// Counts one more.
-fn add_one(count: &Cell<usize>) {
-    count.set(count.get().saturating_add(1));
+/// Counts this many more.
+fn add(count: &Cell<usize>, more: usize) {
+    count.set(count.get().saturating_add(more));
 }
 
 /// Starts engines in memory: those of a policy, or of a book and a fault, and some that are no engines.
@@ -184,7 +202,11 @@ impl Starter for InMemory {
 
     fn start(&mut self, words: &[&str]) -> Result<Talk, StartFault> {
         let (engine, text, fault) = match words {
-            ["first"] => (Engine::First(Session::new(First)), "", "none"),
+            ["first"] | ["first", "interrupted", _] => (
+                Engine::First(Session::new(First)),
+                "",
+                "none",
+            ),
             ["positional"] => {
                 let session = Session::with_rule(First, KoRule::Positional);
                 (Engine::First(session), "", "none")
@@ -196,14 +218,20 @@ impl Starter for InMemory {
             ["refuses"] => (Engine::Says, "?1 no\n\n", "none"),
             _ => return Err(StartFault::NotStarted(StartReason::NotFound)),
         };
-        add_one(&self.counts.started);
+        add(&self.counts.started, 1);
+        add(&self.counts.flushed_by_starts, self.counts.flushed.get());
         if self.counts.started.get() == self.refused {
             return Err(StartFault::OutOfMemory);
         }
         let Some(fault) = Fault::read(fault.as_bytes()) else {
             return Err(StartFault::NotStarted(StartReason::NoProgram));
         };
-        match make_talk(self.alloc, engine, fault, text, &self.counts) {
+        let often = match words {
+            ["first", "interrupted", "once"] => 1,
+            ["first", "interrupted", "often"] => 1000,
+            _ => 0,
+        };
+        match make_talk(self.alloc, engine, fault, text, often, &self.counts) {
             Ok(started) => Ok(started),
             Err(AllocError) => Err(StartFault::OutOfMemory),
         }
@@ -216,6 +244,7 @@ fn make_talk(
     engine: Engine,
     fault: Fault,
     text: &str,
+    often: u32,
     counts: &Rc<Counts>,
 ) -> Result<Talk, AllocError> {
     let mut written = Vec::new(alloc);
@@ -230,6 +259,8 @@ fn make_talk(
     Ok(Talk {
         engine,
         said,
+        often,
+        interruptions: 0,
         counts: counts.clone()?,
     })
 }
