@@ -9,8 +9,8 @@ Wrong engines (tests/engines/wrong) are noticed by the lessons that show their b
 the wrong engine and of the right one. One that takes each piece of a line for a line (tests/engines/wrong/pieces) is noticed. Of one that
 no short conversation shows (tests/engines/wrong/late) the last game is shown alone, and it is counted how many shorter
 ones are tried. One whose failures end by one newline (tests/engines/wrong/unended) is shown in few lines.
-of_gtp_check/table.py says what shows each bug, and what isn't noticed. Engines that misbehave (tests/engines/hostile/engine) end as was
-worked out by hand. Where standard error is a terminal, what is waited for is on it, and the output is the same. At last no process may be
+of_gtp_check/table.py says what shows each bug, and what isn't noticed. Engines that misbehave (of_gtp_check/hostile.py) end as was worked
+out by hand. Where standard error is a terminal, what is waited for is on it, and the output is the same. At last no process may be
 left.
 
 With --all each wrong engine is tried, and the whole course where nothing may be noticed: some ten minutes. With --seeds N the whole

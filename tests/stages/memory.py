@@ -20,6 +20,7 @@ from typing import NamedTuple
 sys.dont_write_bytecode = True
 sys.path[0] = str(Path(__file__).resolve().parents[2])
 
+from tests.references.controller.engines import Planned  # noqa: E402
 from tests.shared import checks, library, running  # noqa: E402
 
 PARSER = checks.Parser(__doc__)
@@ -28,7 +29,11 @@ OPTIONS = PARSER.options(__name__)
 PROGRAMS = ("twogtp", "gtp_engine", "gtp_check")
 AT_ONCE = 2  # runs that are tried at a time
 ENGINE = f"{running.TOP}/bin/gtp_engine"
-HOSTILE = f"{running.TOP}/tests/engines/hostile/engine /dev/null"
+
+
+def hostile(plan, style="<reply>"):
+    """The command of an engine that misbehaves."""
+    return " ".join(Planned(1, 1, style, plan).command("/dev/null"))
 
 
 class Run(NamedTuple):
@@ -69,7 +74,7 @@ def matches():
     wall = f"{ENGINE} --policy book --book B1,,B2,,B3"
     yield Run("a program that is given up and started again", 0, "game 1: B+8.5 moves 7 restarts 3 0\nB1 pass B2 pass B3 pass pass\n", "",
               match(f"{wall} --fault stop:2", wall, "--size", "3", "--komi", "0.5", "--restarts", "3", "--record"))  # fmt: skip
-    # White refuses Black's seventh move, which makes the board again that stood after the first; tests/stages/matches.py has this game.
+    # White refuses Black's seventh move, which makes the board again that stood after the first.
     line = 'twogtp: game 1: white: 1 unanswered, "{0} play b A1": the play was refused{1}; it wrote "?{0} illegal move\\n\\n"\n'
     retakes = [(10, " (retake 1 of 3)"), (11, " (retake 2 of 3)"), (12, " (retake 3 of 3)"), (13, "")]
     yield Run("a game in which a move is refused, with --why", 0, "game 1: B+F(refused play) moves 7 restarts 0 0\n",
@@ -80,7 +85,7 @@ def matches():
               match("./no_such_engine", ENGINE, "--restarts", "1", "--why"))  # fmt: skip
     # Black's doesn't end by itself. White's is asked for once Black's runs.
     yield Run("a game with a program that has to be killed", 1, "game 1: abandoned white moves 0 restarts 0 0\n", "",
-              match(f"{HOSTILE} greets", "./no_such_engine", "--restarts", "0"))  # fmt: skip
+              match(hostile(r"*/0/Welcome_to_Go\n/on"), "./no_such_engine", "--restarts", "0"))  # fmt: skip
 
 
 def conversation():
@@ -99,7 +104,7 @@ def checks_of_engines():
     yield Run("a check in which nothing is found and no move is asked", 4,
               f'check: "", version "", seed 1, simple ko\n{asked}check: record: no play and no genmove was answered rightly on any board of it\n'
               f"check: it refuses the sizes {sizes}\ncheck: 71 commands, 1 start, 0 complaints\n", "",
-              ["gtp_check", "--only", "record", f"{HOSTILE} refuses"])  # fmt: skip
+              ["gtp_check", "--only", "record", hostile("-", r"?<id>_no\n\n")])  # fmt: skip
     # It ends at once, three times, and a lesson is over after three losses.
     found = "".join(f'# {number} komi: "1 name": its output ended, exit status 1\n1 name\n# it wrote: ""\n'
                     "# right: an engine answers each command, and reads on until quit\n\n" for number in (1, 2, 3))  # fmt: skip
@@ -108,7 +113,7 @@ def checks_of_engines():
               f"check: an engine without a name, version unknown, seed 1, simple ko\n{found}{others}"
               "check: komi: no play and no genmove was answered rightly on any board of it\n"
               "check: 3 commands, 3 starts, 3 complaints\n", "",
-              ["gtp_check", "--only", "komi", "--singly", f"{HOSTILE} exits"])  # fmt: skip
+              ["gtp_check", "--only", "komi", "--singly", hostile("*/0//ends:1")])  # fmt: skip
 
 
 def mistakes(*rows):

@@ -1,4 +1,4 @@
-"""Engines that misbehave, tests/engines/hostile/engine, and programs that can't be started.
+"""Engines that misbehave, by plans of tests/references/controller/faulty.py, and programs that can't be started.
 
 What each check has to come to was worked out by hand. An engine is asked `name`, `version`, three times `known_command`, `boardsize 5`,
 which finds the size of scenes, `boardsize 5`, `komi 6.5`, `clear_board`, and then, in the lesson of the start, `play b E5`, `undo` and
@@ -12,9 +12,10 @@ is lost three times in a lesson, it has three.
 import tempfile
 from pathlib import Path
 
+from tests.references.controller.engines import Planned
+
 from .running import TOP, checked, read
 
-HOSTILE = f"{TOP}/tests/engines/hostile/engine"
 START = ("--only", "start", "--restarts", "0", "--singly")
 KOMI = ("--only", "komi", "--restarts", "3", "--singly")
 OWN = ("--only", "genmoves", "--size", "5", "--restarts", "3", "--singly")
@@ -27,6 +28,60 @@ TAKEN = "it was accepted"
 ENDED = "its output ended, "
 WITHIN = "its output ended within a reply, "
 NO_VERTEX = "neither a vertex nor resign"
+
+NO = r"?<id>_no\n\n"
+# What each kind does in place of a plain reply: its plan. It passes at each move, and its replies to all else have no text.
+PLANS = {
+    # from the first command on
+    "exits": "*/0//ends:1",
+    "reads_and_exits": "*/c1//ends",
+    "closes_its_output": "*/0//closes",
+    "greets": r"*/0/Welcome_to_Go\n/on",
+    "newlines_without_end": r"*/0/<1000*\n>/floods",
+    "a_reply_without_end": "*/0/=1_/floods",
+    "replies_without_end": r"*/0/=1\n\n/floods",
+    "half_a_reply": "*/c1/<reply:2>/ends",
+    "all_but_the_last_newline": "*/c1/<reply:3>/ends",
+    "silent": "*/c1-999//on",
+    "odd": r"*/c1-999/\r\n_\n=00<id>_some\r\nwords\r\n\r\n/bytes",
+    # asked for a move
+    "move_exits": "*/g1//ends",
+    "move_half": "*/g1/<reply:5>/ends",
+    "move_without_its_end": r"*/g1/=<id>_pass\n/ends",
+    "move_twice": "*/g1-99/<reply><reply>/on",
+    "move_sleeps_closed": "*/g1//closes",
+    "no_move": f"*/g1-99/{NO}/on",
+    "no_vertex": r"*/g1-99/=<id>_I5\n\n/on",
+    "two_vertices": r"*/g1-99/=<id>_A1_B2\n\n/on",
+    "empty_move": r"*/g1-99/=<id>\n\n/on",
+    "off_the_board": r"*/g1-99/=<id>_T19\n\n/on",
+    "always_A1": r"*/g1-99/=<id>_A1\n\n/on",
+    "resigns": r"*/g1-99/=<id>_RESIGN\n\n/on",
+    # sent a move, or asked to take one back
+    "play_refused": f"*/p1-999/{NO}/on",
+    "play_half": "*/p1/<reply:2>/ends",
+    "undo_refused": f"*/u1-99/{NO}/on",
+    "undo_exits": "*/u1//ends",
+    # asked to quit
+    "quits": "-",
+    "quit_sleeps": "*/q/<reply>/shuts",
+    "quit_stops": "*/q/<reply>/ends:-19",
+    "quit_closes": "*/q//closes",
+    "quit_junk": r"*/q/hello\n/on",
+    "quit_newlines": r"*/q/<1000*\n>/floods",
+    "quit_late": "*/q//late",
+    "quit_never": "*/q//shuts",
+}
+# .. and how others write all of their replies.
+STYLES = {
+    "junk": r"hello\n",
+    "echoes": r"<id>_name\n",
+    "wrong_id": r"=<id+1>\n\n",
+    "no_id": r"=\n\n",
+    "old_id": r"=1\n\n",
+    "twice": r"=<id>\n\n=<id>\n\n",
+    "refuses": NO,
+}
 
 # Nothing that they write is a right answer, so there are three starts: the first command is answered wrongly each time.
 FRUITLESS = {
@@ -45,10 +100,8 @@ FRUITLESS = {
 }
 # Their answer to `name` is right. What they write to the second command has the first one's id.
 SECOND = {"old_id": NO_ID, "twice": NO_ID, "replies_without_end": NO_ID}
-# They answer each command by a success, but those that are named here: the point off the board too.
-POLITE = """move_exits move_half move_without_its_end move_twice move_closes_its_input move_sleeps_closed no_move no_vertex two_vertices
-    empty_move off_the_board always_A1 resigns other_stones quits quit_sleeps quit_stops quit_closes quit_junk
-    quit_newlines quit_late quit_never odd""".split()
+# They answer each command by a success, the point off the board too, and then don't end as they should.
+POLITE = "quits quit_sleeps quit_stops quit_closes quit_junk quit_newlines quit_late quit_never odd".split()
 # What they do at their move: the command, what is wrong, how many commands each start has, on 5x5, 9x9, 1x1 and 2x2. A lesson is over
 # after three losses.
 MOVES = {
@@ -77,7 +130,7 @@ LIMITED = {
 
 def command(kind, folder):
     """The command of an engine of this kind, whose processes are noted."""
-    return f"{HOSTILE} {folder}/started {kind}"
+    return " ".join(Planned(1, 1, STYLES.get(kind, "<reply>"), PLANS.get(kind, "-")).command(f"{folder}/started"))
 
 
 def rows():
@@ -87,10 +140,9 @@ def rows():
     for kind, fault in SECOND.items():
         yield kind, KOMI, kind, ("2 version", fault, 4, 8)
     for kind in POLITE:
-        # The replies of `odd` have a text, and its handicap has stones; the others' don't. None of that is asked by then.
+        # The replies of `odd` have a text, which is not asked by then.
         yield kind, START, kind, (OFF, TAKEN, 1, 12)
     yield "play_refused", START, "play_refused", ("10 play b E5", "it was refused", 1, 10)
-    yield "play_refused_once", START, "play_refused_once", ("10 play b E5", "it was refused", 1, 10)
     yield "undo_refused", START, "undo_refused", ("11 undo", "it was refused", 1, 11)
     yield "undo_exits", START, "undo_exits", ("11 undo", ENDED + "exit status 0", 1, 11)
     yield "play_half", START, "play_half", ("10 play b E5", WITHIN + "exit status 0", 1, 10)
@@ -110,7 +162,7 @@ def faults(row):
     before, errors = LIMITED.get(name, ("", ""))
     with tempfile.TemporaryDirectory() as folder:
         result = checked(options, before + command(kind, folder), folder=folder)
-        started = len((Path(folder) / "started").read_text().splitlines())
+        started = (Path(folder) / "started").read_text().count("start\n")
     report = read(result.output)
     if isinstance(report, str):
         return f"{report}: {result}"
