@@ -4,7 +4,7 @@ use crate::asserts::{assert_equal, some};
 use crate::tests::shows::Shows;
 use arrayvec::ArrayVec;
 use go_base::Colour::{Black, White};
-use gtp_match::{Action, Verdict, record_line, result_line};
+use gtp_match::{Verdict, record_line, result_line};
 
 static TWO_PASSES: [Scene; 1] = [(
     "on 2x2 without komi",
