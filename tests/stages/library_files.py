@@ -3,12 +3,12 @@
 
 The header is C99 and C++ without a warning. Header, archive and shared library name the same calls, and ask for nothing but memcpy,
 memmove and memset. A program that was compiled for another interface isn't linked. tests/shared/each_call.c makes each call, of the
-archive and of the shared library as pkg-config finds it. The examples play: the engine under twogtp, and the controller beside it.
+archive and of the shared library as pkg-config finds it. The examples are played by `library_in_c`.
 
 Of a library by cargo its objects may be smaller than the header says, it may ask for what Rust's library does, and its archive has that
 library's names besides.
 
-It takes the library that `./build library` leaves in bin/, and the programs there. What isn't there is a line 'skipped: ..': the library,
+It takes the library that `./build library` leaves in bin/. What isn't there is a line 'skipped: ..': the library,
 gcc, clang, nm and readelf (binutils), pkg-config, the kit.
 """
 import os
@@ -208,46 +208,6 @@ class Installed(Needing):
                    compiled or said([calls], env={**os.environ, "LD_LIBRARY_PATH": f"{self.usr}/lib"}))  # fmt: skip
         self.check("that program asks for the shared library", ["libvintsaky.so.1"],
                    [name for name in dynamic(calls, "NEEDED") if "vintsaky" in name])  # fmt: skip
-
-
-# ---- the examples
-
-
-@checks.table(range(1, 6), lambda seed: f"a game of the examples with seed {seed}")
-class Examples(Needing):
-    """the examples."""
-
-    FILES = (ARCHIVE, TOP / "bin/twogtp", TOP / "bin/gtp_engine")
-    TOOLS = ("cc",)
-
-    @classmethod
-    def setUpClass(cls):
-        super().setUpClass()
-        folder = cls.room_of_all()
-        cls.compiled = {name: library.compiled(name, folder) for name in library.EXAMPLES}
-        cls.engine, cls.match = (folder / name for name in library.EXAMPLES)
-
-    def test_c99(self):
-        """What the compiler says."""
-        for name, told in self.compiled.items():
-            self.check(f"{name} is C99", "", told)
-
-    def row(self, seed):
-        black, white = f"{self.engine} {seed}", f"bin/gtp_engine --policy random --seed {seed}"
-        _, *wanted = library.twogtp(black, white, "--size", "9", "--komi", "7.5")
-        self.same("".join(wanted), running.run([self.match, "9", "15", black, white]).output)
-
-    def test_killed(self):
-        """the engine is killed in the middle of no game."""
-        came = library.twogtp(f"{self.engine} 7", f"{self.engine} 8", "--size", "9", "--games", "3")
-        self.same(3 * [(0, 0)], library.restarts(came.output))
-
-    def test_checked(self):
-        """gtp_check finds nothing."""
-        why = lacks([TOP / "bin/gtp_check"])
-        if why:
-            self.skipTest(why)
-        self.same((0, "0 complaints"), library.complaints(self.engine))
 
 
 if __name__ == "__main__":

@@ -7,7 +7,7 @@ import unittest
 SPEC = importlib.util.spec_from_file_location("go_env", sys.argv.pop(1))
 go_env = importlib.util.module_from_spec(SPEC)
 SPEC.loader.exec_module(go_env)
-GoEnv, HAS_SPACES = go_env.GoEnv, go_env.batch_space is not None
+GoEnv = go_env.GoEnv
 
 
 class Environment(unittest.TestCase):
@@ -59,34 +59,6 @@ class Environment(unittest.TestCase):
             self.assertFalse(any(infos["refused"].tolist()))
             ends |= {(bool(was), bool(cut_off), float(reward)) for was, cut_off, reward in zip(ended, cut, rewards)}
         self.assertEqual(ends, {(False, False, 0), (True, False, 1), (True, False, -1), (False, True, 1), (False, True, -1)})
-
-    @unittest.skipUnless(HAS_SPACES, "there are no spaces")
-    def test_the_stand_in_notices(self):
-        class Wrong(GoEnv):
-            turned = None
-
-            def step(self, actions):
-                came = list(super().step(actions))
-                return came if self.turned is None else tuple(self.turned(*came))
-
-        def wrong(turned):
-            env = Wrong(2, 3)
-            env.turned = turned
-            with self.assertRaises((AssertionError, KeyError)):
-                env.step([4, 4])
-
-        wrong(None)  # a list, and no tuple
-        wrong(lambda planes, rewards, ended, cut, infos: (planes, rewards, ended, infos))
-        wrong(lambda planes, rewards, ended, cut, infos: (planes[:1], rewards, ended, cut, infos))
-        wrong(lambda planes, rewards, ended, cut, infos: (planes, rewards[:1], ended, cut, infos))
-        wrong(lambda planes, rewards, ended, cut, infos: (planes, ended, ended, cut, infos))
-        wrong(lambda planes, rewards, ended, cut, infos: (planes, rewards, ended, cut, {}))
-        with self.assertRaises(AssertionError):
-            GoEnv(2, 3).step([4, 10])
-        with self.assertRaises(AssertionError):
-            type("NoSeed", (GoEnv,), {"reset": lambda self: None})
-        with self.assertRaises(AssertionError):
-            type("NoMode", (GoEnv,), {"metadata": {"render_modes": [], "autoreset_mode": "SameStep"}})
 
 
 if __name__ == "__main__":

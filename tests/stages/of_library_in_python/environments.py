@@ -8,7 +8,7 @@ from tests.shared.library import TOP
 
 HERE = Path(__file__).resolve().parent
 EXAMPLE = TOP / "library/python/examples/go_env.py"
-LEAST = 6  # tests
+LEAST = 5  # tests
 
 
 def tried(python, folders):
