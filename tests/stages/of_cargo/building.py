@@ -12,13 +12,6 @@ from .commands import TOP, files_below, run
 PROGRAMS = ["twogtp", "gtp_engine", "gtp_check"]
 PROVED = TOP / "bin"
 BUILT = TOP / "cargo/workspace/target/release"
-# The tests that compare texts of clap's own. The kit's port has those of this version.
-CLAP_OF_KIT = (4, 5)
-TESTS_OF_CLAP = [
-    "help_goes_to_the_output_with_status_0",
-    "a_mistake_in_the_arguments_is_status_2_with_the_text_of_clap",
-    "mistakes_of_the_command_line_come_first",
-]
 CLIPPY = ["0.1.95", "0.1.96"]  # the versions at which it has to be silent
 LEAST_TESTS = 150
 SHOWN = "go_base/struct.Size.html"  # a page of the documentation whose functions have contracts
@@ -100,25 +93,15 @@ class Build(checks.Case):
         self.same((0, ""), (status, said[-3000:]))
 
 
-def clap_version():
-    """The version of clap that cargo took."""
-    lock = (TOP / "cargo/workspace/Cargo.lock").read_text()
-    return tuple(map(int, re.search(r'name = "clap"\nversion = "([0-9.]+)"', lock)[1].split(".")))
-
-
 class Tests(OfWorkspace):
     """The tests of the workspace."""
 
     def test_crates(self):
-        """The crates' own tests pass, which look for overflows. Where clap is another one, those of its texts are left out."""
-        left_out = TESTS_OF_CLAP if clap_version() < CLAP_OF_KIT else []
-        skips = [word for name in left_out for word in ("--skip", name)]
-        status, said = cargo("test", "--workspace", "--lib", "--quiet", "--", *skips)
+        """The crates' own tests pass, which look for overflows."""
+        status, said = cargo("test", "--workspace", "--lib", "--quiet")
         passed = sum(map(int, re.findall(r"^test result: ok\. ([0-9]+) passed; 0 failed; 0 ignored", said, re.M)))
-        clap = ".".join(map(str, clap_version()))
-        without = f", without {len(left_out)} of clap's texts, since this clap is {clap}" if left_out else ""
-        came = (status, passed >= LEAST_TESTS - len(left_out))
-        self.check(f"{passed} tests of the crates{without}", (0, True), came if came == (0, True) else (*came, said[-4000:]))
+        came = (status, passed >= LEAST_TESTS)
+        self.check(f"{passed} tests of the crates", (0, True), came if came == (0, True) else (*came, said[-4000:]))
 
     def test_memory(self):
         """2 tests of the programs' allocator. The test that is ignored is the process that it has to end: another test runs it."""
