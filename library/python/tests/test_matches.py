@@ -107,26 +107,28 @@ class Turns(Refusing):
 
 
 class Retakes(Refusing):
-    def test_a_refused_move_is_retaken_three_times(self):
+    def test_a_refused_move_is_retaken(self):
         match = begun()
         self.assertEqual(said(match, BLACK, b"=4 A1\n\n")[0], b"4 genmove b\n")
-        for retake in (1, 2, 3):
-            sent, number = match.send(WHITE), 3 + retake
-            self.assertEqual(sent, b"%d play b A1\n" % number)
-            refusal = b"?%d no\n\n" % number
-            owed = Owed(1, sent.decode().strip(), refusal)
-            self.assertEqual(match.report(WHITE, refusal), Report(None, retake, owed))
-            self.assertEqual((match.taking_back, match.retakes(1), match.retakes(2)), (BLACK, retake, 0))
-            undo, genmove = 3 + 2 * retake, 4 + 2 * retake
-            self.assertEqual(said(match, BLACK, b"=%d\n\n" % undo)[0], b"%d undo\n" % undo)
-            self.assertEqual((match.taking_back, match.record), (None, ""))
-            self.assertEqual(said(match, BLACK, b"=%d A1\n\n" % genmove)[0], b"%d genmove b\n" % genmove)
-        self.assertEqual(match.send(WHITE), b"7 play b A1\n")
-        report = match.report(WHITE, b"?7 no\n\n")
-        self.assertEqual(report, Report(Loss.REFUSES_PLAY, 0, Owed(1, "7 play b A1", b"?7 no\n\n")))
-        self.assertEqual(match.verdict, Verdict(Ending.BY_REFUSED_PLAY, WHITE, None))
-        self.assertEqual(match.result(), "game 1: B+F(refused play) moves 1 restarts 0 0")
+        self.assertEqual(match.send(WHITE), b"4 play b A1\n")
+        report = match.report(WHITE, b"?4 no\n\n")
+        self.assertEqual(report, Report(None, 1, Owed(1, "4 play b A1", b"?4 no\n\n")))
         self.assertRaises(dataclasses.FrozenInstanceError, setattr, report, "loss", None)
+        self.assertEqual((match.taking_back, match.retakes(1), match.retakes(2)), (BLACK, 1, 0))
+        self.assertEqual(said(match, BLACK, b"=5\n\n")[0], b"5 undo\n")
+        self.assertEqual((match.taking_back, match.record), (None, ""))
+
+    def test_an_own_move_that_is_refused(self):
+        match = begun(max_restarts=1)
+        said(match, BLACK, b"=4 A1\n\n")
+        match.lost(BLACK)
+        match.started(BLACK)
+        brought(match, BLACK, 1)
+        self.assertEqual(match.send(BLACK), b"4 play b A1\n")
+        report = match.report(BLACK, b"?4 no\n\n")
+        self.assertEqual(report, Report(Loss.REFUSES_PLAY, 0, Owed(1, "4 play b A1", b"?4 no\n\n")))
+        self.assertEqual(match.verdict, Verdict(Ending.BY_REFUSED_PLAY, BLACK, None))
+        self.assertEqual(match.result(), "game 1: W+F(refused play) moves 1 restarts 1 0")
 
     def test_a_move_that_is_kept(self):
         match = begun()
@@ -146,7 +148,7 @@ class Retakes(Refusing):
 
 
 class Rulings(Refusing):
-    """A referee ends a match: the side loses, and what comes later changes nothing."""
+    """A referee ends a match, and the side loses."""
 
     def test_both_sides_with_and_without_a_reason(self):
         for side, reason, ending, words in (
@@ -188,34 +190,6 @@ class Rulings(Refusing):
         said(match, BLACK, b"=4 resign\n\n")
         self.refused(Cause.IS_OVER, match.adjudicate, WHITE)
         self.assertEqual(match.verdict, Verdict(Ending.BY_RESIGNATION, BLACK, None))
-
-    def test_what_comes_later_changes_nothing(self):
-        match = begun(max_restarts=1)
-        said(match, BLACK, b"=4 A1\n\n")
-        self.assertEqual(match.send(WHITE), b"4 play b A1\n")
-        match.hear(WHITE, b"=")
-        before = (match.status(BLACK), match.status(WHITE), match.in_step(BLACK), match.record, match.restarts(WHITE))
-        match.adjudicate(WHITE)
-        self.assertIsNone(match.hear(WHITE, b"4\n\n"))
-        self.assertIsNone(match.hear(WHITE, b"no reply"))
-        self.assertEqual(match.report(WHITE, b"?4 no\n\n"), Report(None, 0, None))
-        self.refused(Cause.NOT_NEXT, match.send, WHITE)
-        for side in (BLACK, WHITE):
-            match.lost(side)
-            self.refused(Cause.NOT_NEXT, match.started, side)
-            self.refused(Cause.DOWN, match.owed, side)
-        after = (match.status(BLACK), match.status(WHITE), match.in_step(BLACK), match.record, match.restarts(WHITE))
-        self.assertEqual((after, match.taking_back, match.retakes(1)), (before, None, 0))
-        self.assertEqual(len(match.game.moves), 1)
-        self.assertEqual(match.result(), "game 1: B+T moves 1 restarts 0 0")
-
-    def test_a_move_that_is_to_be_taken_back_stays_so(self):
-        match = begun()
-        said(match, BLACK, b"=4 A1\n\n")
-        said(match, WHITE, b"?4\n\n")
-        match.adjudicate(BLACK)
-        match.lost(BLACK)
-        self.assertEqual((match.taking_back, match.retakes(1), match.record), (BLACK, 1, "A1"))
 
     def test_a_match_that_begins_anew_has_no_ruling(self):
         match = begun()

@@ -160,38 +160,22 @@ fn a_reply_that_is_too_long_or_unasked() {
     assert_eq!(held.hear(White, b"=\n\n"), Some(Loss::Unasked));
 }
 
-/// White refuses Black's move three times, and each time Black is asked again. The fourth refusal is White's loss.
 #[test]
 fn a_refused_play_is_retaken() {
-    let mut held = match_on(2, 0, 0);
-    for retake in 1..=4 {
-        choose(&mut held, "A1");
-        let (side, line) = sent(&mut held);
-        let play = line.lines().last().unwrap_or_default().to_string();
-        let lines = held_script(&mut held, side, &line);
-        let report = held.hear_reporting(White, format!("?{} no\n\n", lines).as_bytes());
-        assert_eq!((side, play.ends_with(" play b A1")), (Some(White), true), "{line}");
-        if retake == 4 {
-            assert_eq!((report.loss, report.retake), (Some(Loss::RefusesPlay), None));
-            break;
-        }
-        let owed = report.owed.expect("a retake says what was owed");
-        assert_eq!((report.loss, report.retake, owed.unanswered), (None, Some(retake), 1));
-        assert_eq!((owed.command.trim_end(), held.retakes(1)), (play.as_str(), retake));
-        assert_eq!(held.taking_back(), Some(Black));
-    }
-    assert_eq!((held.verdict(), held.retakes(1)), (Ok(Verdict::RefusedPlay(White)), 3));
-    assert_eq!(held.result(1).as_deref(), Ok("game 1: B+F(refused play) moves 1 restarts 0 0"));
-}
-
-/// Confirms all of these lines but the last, and returns the id of that.
-fn held_script(held: &mut Match, side: Option<Colour>, lines: &str) -> String {
-    let mut ids: Vec<&str> = lines.lines().filter_map(|line| line.split(' ').next()).collect();
-    let last = ids.pop().unwrap_or_default().to_string();
-    for id in ids {
-        held.hear(side.expect("a side is waited for"), format!("={id}\n\n").as_bytes());
-    }
-    last
+    let mut held = match_on(2, 0, 1);
+    choose(&mut held, "A1");
+    assert_eq!(sent(&mut held), (Some(White), "4 play b A1\n".to_string()));
+    let report = held.hear_reporting(White, b"?4 no\n\n");
+    let owed = report.owed.expect("a retake says what was owed");
+    assert_eq!((report.loss, report.retake, owed.unanswered), (None, Some(1), 1));
+    assert_eq!((owed.command.trim_end(), held.retakes(1), held.taking_back()), ("4 play b A1", 1, Some(Black)));
+    choose(&mut held, "A1");
+    held.lost(Black);
+    sent(&mut held);
+    // It refuses its own move.
+    assert_eq!(held.hear(Black, b"=1\n\n=2\n\n=3\n\n?4 no\n\n"), Some(Loss::RefusesPlay));
+    assert_eq!(held.verdict(), Ok(Verdict::RefusedPlay(Black)));
+    assert_eq!(held.result(1).as_deref(), Ok("game 1: W+F(refused play) moves 1 restarts 1 0"));
 }
 
 #[test]
