@@ -29,10 +29,13 @@ impl Policy for Chooser {
 
     fn choose(&mut self, game: &Game, colour: Colour) -> Choice {
         let moves = Some(game.moves().len());
-        let is_again = matches!(&self.kind, Kind::FirstOnce) && self.asked == moves;
+        if matches!(&self.kind, Kind::FirstOnce) && self.asked == moves {
+            return Choice::Play(Vertex::Pass);
+        }
         self.asked = moves;
-        match First.choose(game, colour) {
-            Choice::Play(vertex) if !is_again && game.legal(colour, vertex) => Choice::Play(vertex),
+        let choice = First.choose(game, colour);
+        match &choice {
+            Choice::Play(vertex) if game.legal(colour, *vertex) => Choice::Play(*vertex),
             _ => Choice::Play(Vertex::Pass),
         }
     }
