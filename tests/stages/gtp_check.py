@@ -1,7 +1,7 @@
 #!/usr/bin/env python3
 """Checks right and wrong engines by `gtp_check`.
 
-Right engines are never blamed: ours with each policy, both plain references, ours in other dresses (tests/engines/right/dressed), which
+Right engines are never blamed: ours with each policy, the plain reference, ours in other dresses (tests/engines/right/dressed), which
 are as right, and those that have what the standard leaves to engines (tests/engines/right/free). Who goes beyond that is noticed
 (tests/engines/wrong/beyond). The sample engine has no traceback where it is ended.
 

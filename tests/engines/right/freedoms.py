@@ -6,8 +6,11 @@ opinion: how stones are counted, and what an unfinished game is worth, is the en
 import math
 import struct
 
-from right import Engine, Failure
-from rules import BLACK, EMPTY, POSITIONAL, WHITE
+from plain import Plain
+from tests.references.engine.engine import Failure
+from tests.references.engine.game import POSITIONAL, filled
+from tests.references.engine.values import BLACK, WHITE
+
 
 
 def single(number):
@@ -18,7 +21,7 @@ def single(number):
 # ---- komi
 
 
-class RoundsKomi(Engine):
+class RoundsKomi(Plain):
     """Komi is a float of 32 bits, and another one is rounded. A score has one digit after the point always, but an even one."""
 
     def read_komi(self, text):
@@ -42,7 +45,7 @@ class RefusesKomi(RoundsKomi):
 # ---- history
 
 
-class KeepsMoves(Engine):
+class KeepsMoves(Plain):
     """The last moves alone can be taken back, `most` of them."""
 
     most = 400
@@ -71,7 +74,7 @@ class KeepsOneMove(KeepsMoves):
 # ---- scores
 
 
-class Estimates(Engine):
+class Estimates(Plain):
     """A score is what the engine thinks that the board is worth to Black, without komi, to a tenth of a point. The same board is worth the
     same each time."""
 
@@ -131,7 +134,7 @@ class EstimatesByChanceInWholePoints(EstimatesByChance):
     digits = 0
 
     def opinion(self):
-        return Engine.score(self) / 2 + self.komi / 2 + 0.25 + self.random.randrange(12)
+        return Plain.score(self) / 2 + self.komi / 2 + 0.25 + self.random.randrange(12)
 
 
 class KeepsAnEstimate(EstimatesByChance):
@@ -150,9 +153,9 @@ class KeepsAnEstimate(EstimatesByChance):
         self.keep_if(self.komi == before)
 
     def begin(self, size):
-        before = getattr(self, "board", None)
+        before = getattr(self, "size", None), getattr(self, "board", None)
         super().begin(size)
-        self.keep_if(self.board == before)
+        self.keep_if((self.size, self.board) == before)
 
     def move(self, colour, point):
         before = self.board
@@ -173,7 +176,7 @@ class KeepsAnEstimate(EstimatesByChance):
         self.kept = self.kept if is_same else None
 
 
-class WritesAsStreams(Engine):
+class WritesAsStreams(Plain):
     """A score is written as C++'s streams write a float: six digits at most, and an exponent where that is too few, as `W+8.38861e+06`."""
 
     form = ".6g"
@@ -192,7 +195,7 @@ class WritesExponents(WritesAsStreams):
         return super().write_score(halves) if self.random.random() < 0.5 else super().write_score(halves).replace("e", "E")
 
 
-class CountsTerritory(Engine):
+class CountsTerritory(Plain):
     """A score is territory and prisoners, of which those that an `undo` gives back are none any more."""
 
     def begin(self, size):
@@ -202,7 +205,7 @@ class CountsTerritory(Engine):
     def move(self, colour, point):
         before = self.board
         super().move(colour, point)
-        taken = [before[place] for place, stone in enumerate(self.board) if before[place] != EMPTY and stone == EMPTY]
+        taken = [stone for place, stone in before.items() if place not in self.board]
         self.leads.append(self.leads[-1] + taken.count(WHITE) - taken.count(BLACK))
 
     def undo(self):
@@ -214,7 +217,7 @@ class CountsTerritory(Engine):
         return super().score() - 2 * stones + 2 * self.leads[-1]
 
 
-class GivesPointsForAHandicap(Engine):
+class GivesPointsForAHandicap(Plain):
     """White gets a point for each stone of a handicap, and an even score is written with a colour."""
 
     stones = 0
@@ -237,23 +240,20 @@ class GivesPointsForAHandicap(Engine):
 # ---- suicide
 
 
-class AllowsSuicide(Engine):
+class AllowsSuicide(Plain):
     """A chain without a liberty may be made, and is taken off. The engine chooses such moves too."""
 
     def put(self, colour, point):
-        board = bytearray(super().put(colour, point))
+        board = super().put(colour, point)
         chain = self.chain(board, point)
-        if not self.is_free(board, chain):
-            for stone in chain:
-                board[stone] = EMPTY
-        return bytes(board)
+        return board if self.is_free(board, chain) else filled(board, chain)
 
     def is_suicide(self, board, colour, point):
         return False
 
     def is_ko(self, board, colour, point):
         """One stone's suicide leaves the board as it is, which positional ko forbids."""
-        return self.ko == POSITIONAL and board == self.board or super().is_ko(board, colour, point)
+        return self.rule == POSITIONAL and board == self.board or super().is_ko(board, colour, point)
 
 
 class AllowsSuicideOfChains(AllowsSuicide):
@@ -272,7 +272,7 @@ class FillsOnePoint(AllowsSuicide):
         super().do_boardsize(arguments)
 
     def choose(self, colour):
-        return 0
+        return 1, 1
 
 
 # ---- all of it
@@ -290,4 +290,4 @@ def snake(name):
     return "".join("_" * (at > 0 and it.isupper()) + it.lower() for at, it in enumerate(name))
 
 
-FREEDOMS = {snake(it.__name__): it for it in list(vars().values()) if isinstance(it, type) and issubclass(it, Engine) and it is not Engine}
+FREEDOMS = {snake(it.__name__): it for it in list(vars().values()) if isinstance(it, type) and issubclass(it, Plain) and it is not Plain}

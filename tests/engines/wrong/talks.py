@@ -17,8 +17,8 @@ hangs on the board begins with a `boardsize` and a `clear_board`: the standard d
 """
 import re
 
-from right import Engine
-from rules import EMPTY
+from plain import Plain
+from tests.references.engine.game import in_order
 
 AGAIN = "AGAIN"
 # White has just taken the stone on B1, and Black may not take back.
@@ -48,7 +48,7 @@ def passes(number):
 # ---- the three ways in which a bug is written
 
 
-class Bug(Engine):
+class Bug(Plain):
     """What a wrong engine has: its name and its subject, how it shows, and more for a few.
 
     `options` are the options that both engines are started with. `plain` says that the engine answers the opening of an
@@ -66,15 +66,22 @@ class Bug(Engine):
         words = self.words(line)
         return (self.split_id(words)[1] + [""])[0] if words else ""
 
-    def liberties(self, board, chain):
-        """The empty points beside these stones."""
-        return {near for stone in chain for near in self.near[stone] if board[near] == EMPTY}
-
     def dies(self, colour, point):
         """Is this an empty point of the board, where a play is suicide?"""
-        if point is None or self.board[point] != EMPTY:
-            return False
-        return self.is_suicide(self.put(colour, point), colour, point)
+        return self.is_empty(point) and self.is_suicide(self.put(colour, point), colour, point)
+
+    def is_empty(self, point):
+        """Is this an empty point of the board, and not None?"""
+        return point is not None and point not in self.board
+
+    def index(self, point):
+        """The number of a point in a row of all points, from 0: A1, B1, .., A2, B2, .."""
+        return (point[1] - 1) * self.size + point[0] - 1
+
+    def point(self, index):
+        """The point of this number."""
+        row, column = divmod(index, self.size)
+        return column + 1, row + 1
 
 
 def shown_by(shows, right=None, **more):
@@ -126,16 +133,8 @@ def made_of(module, name, what, wrong, shows, right, more):
 
 
 def gone(before, after):
-    """The points whose stones aren't there any more."""
-    return [point for point, stone in enumerate(before) if stone != EMPTY and after[point] == EMPTY]
-
-
-def filled(board, points, stone=EMPTY):
-    """A board with this stone on these points, or with none there."""
-    board = bytearray(board)
-    for point in points:
-        board[point] = stone
-    return bytes(board)
+    """The points whose stones aren't there any more, in the board's order."""
+    return in_order(before.keys() - after.keys())
 
 
 class Keeping(Bug):

@@ -11,7 +11,6 @@ from .running import PYTHON, checked, read
 
 OURS = "gtp_engine --policy {} --seed {} --ko {}"
 PLAIN = PYTHON + " tests/engines/right/plain {} {} {}"
-WRONGLESS = PYTHON + " tests/engines/wrong/engine --seed {1} --ko {2}"
 DRESSED = PYTHON + " tests/engines/right/dressed {} gtp_engine --policy random --seed 7"
 SAMPLE = PYTHON + " tournament/engine.py"
 BOOK = "gtp_engine --policy book --book C3,C4,,D3,resign,D4"
@@ -196,9 +195,8 @@ def rows():
         for seed, policy in enumerate(("first", "random", "book")):
             yield f"gtp_engine, {policy}, {rule} ko", ("--ko", rule, "--seed", str(seed)), OURS.format(policy, seed, rule), []
         for seed, policy in (("4294967295", "first"), ("3", "random")):
-            options = (*FEW, "--only", "ko") if policy == "first" else ("--quick",)
+            options = (*FEW, "--only", "ko") if policy == "first" else ()
             yield f"the plain reference, {policy}, {rule} ko", ("--ko", rule, "--seed", seed, *options), PLAIN.format(policy, 3, rule), []
-        yield f"the right engine of tests/engines/wrong, {rule} ko", ("--ko", rule, "--seed", "9"), WRONGLESS.format("", 9, rule), []
     yield "the sample engine", ("--seed", "8"), SAMPLE, ["check: it lacks final_score; nothing was asked that needs it"]
     yield "gtp_engine with a book", ("--only", "genmoves", "--only", "games", "--only", "start"), BOOK, []
     for size in ("6", "25"):
@@ -251,11 +249,11 @@ def unread(kept):
 
 
 def drawn(seed):
-    """The whole course on our engine, and in each tenth seed on the right one of tests/engines/wrong: what is odd, how many commands."""
+    """The whole course on our engine, and in each tenth seed on the plain reference: what is odd, how many commands."""
     rule = ("simple", "positional")[seed % 2]
     policy = ("first", "random", "book")[seed % 3]
     commands = 0
-    for command in (OURS.format(policy, seed, rule), WRONGLESS.format("", seed, rule))[: 1 + (seed % 10 == 0)]:
+    for command in (OURS.format(policy, seed, rule), PLAIN.format("random", seed, rule))[: 1 + (seed % 10 == 0)]:
         result = checked(("--ko", rule, "--seed", str(seed)), command)
         report = read(result.output)
         if isinstance(report, str) or (result.status, report.count) != (0, 0):

@@ -1,8 +1,9 @@
 """Captures, and the chains that are captured."""
 from itertools import takewhile
 
-from rules import EMPTY, PASS, other
-from talks import KO, Bug, Keeping, filled, gone, instead_of, on, patch, shown_by
+from tests.references.engine.game import EMPTY, Board, filled, in_order
+from tests.references.engine.values import BLACK, PASS, other
+from talks import KO, Bug, Keeping, gone, instead_of, on, patch, shown_by
 
 # Black's B5 takes 17 stones of White.
 SEVENTEEN = "w A1 w B1 w C1 w D1 w E1 w A2 w B2 w C2 w D2 w E2 w A3 w B3 w C3 w D3 w E3 w A4 w B4 b C4 b D4 b E4 b A5 b B5"
@@ -12,25 +13,25 @@ PATCHES = [
           on(5, "w A1 w B1 b A2 b B2 b C1", "play b A1"), "=",
           captures=lambda self, right, board, colour, point: right(board, colour, point) & set(self.near[point])),
     patch("white_takes_nothing", "Captures are looked for after Black's plays alone.", on(5, "b A1 w A2 w B1", "play w A1"), "=",
-          captures=lambda self, right, board, colour, point: right(board, colour, point) if colour == 1 else set()),
+          captures=lambda self, right, board, colour, point: right(board, colour, point) if colour == BLACK else set()),
     patch("top_row_stays", "Stones in the top row are never captured: the loop ends a row too early.",
           on(5, "b A5 w A4 w B5", "play w A5"), "=",
-          captures=lambda self, right, board, colour, point: right(board, colour, point) & set(range(len(board) - self.size))),
+          captures=lambda self, right, board, colour, point: {stone for stone in right(board, colour, point) if stone[1] < self.size}),
     patch("point_zero_is_no_point", "A1 is point 0, which is taken as no neighbour where captures are looked for.",
           on(5, "b A1 w A2 w B1", "play w A1"), "=",
-          captures=lambda self, right, board, colour, point: self.dead(board, other(colour), filter(None, self.near[point]))),
+          captures=lambda self, right, board, colour, point: self.dead(board, other(colour), {*self.near[point]} - {(1, 1)})),
     patch("nothing_below_is_taken", "The table of the four directions has one of them twice, so a chain below the play isn't looked at.",
           on(5, "b A1 w B1 w A2", "play w A1"), "=",
-          captures=lambda self, right, board, colour, point: self.dead(board, other(colour), {*self.near[point]} - {point - self.size})),
+          captures=lambda self, right, board, colour, point: self.dead(board, other(colour), {*self.near[point]} - {(point[0], point[1] - 1)})),
     patch("captures_end_at_an_empty_point",
           "Captures are looked for at one neighbour after the other, and no further once one of them is empty.",
           on(5, "w C1 b D1 b C2 b B1", "play b C1"), "=",
           captures=lambda self, right, board, colour, point: self.dead(
-              board, other(colour), takewhile(lambda near: board[near] != EMPTY, self.near[point]))),
+              board, other(colour), takewhile(lambda near: near in board, self.near[point]))),
     patch("every_second_stone_is_taken",
           "Each stone that is taken is removed from the list that the loop is in, so every second one is passed over.",
           on(5, "w A1 w B1 b A2 b B2 b C1", "play b B1"), "=",
-          captures=lambda self, right, board, colour, point: set(sorted(right(board, colour, point))[::2])),
+          captures=lambda self, right, board, colour, point: set(in_order(right(board, colour, point))[::2])),
     patch("sixteen_stones_at_most", "The list of a chain's stones has room for 16, and a longer chain is taken as alive.",
           on(5, SEVENTEEN, "play b A1"), "=",
           is_free=lambda self, right, board, chain: len(chain) > 16 or right(board, chain)),
@@ -65,8 +66,9 @@ class TwoChainsAreTaken(OneChainIsTaken):
 @instead_of("beside", on(5, "b E1 w D1 w E2", "play w E1"), "=")
 def edges_are_joined(self, right, point):
     """The last point of a row is a neighbour of the first point of the next row: the array has no margin."""
-    places = [point - 1, point + 1, point - self.size, point + self.size]
-    return [place for place in places if 0 <= place < len(self.board)]
+    index = self.index(point)
+    places = [index - 1, index + 1, index - self.size, index + self.size]
+    return [self.point(place) for place in places if 0 <= place < self.size**2]
 
 
 @shown_by(on(5, "w A1 w B2 b A2 b B1", "play b A1"), "=")
@@ -78,9 +80,8 @@ class ChainsAreSlanting(Bug):
 
     def is_joined(self, board, stone):
         """Does a stone of its colour that is free touch it at a corner?"""
-        row, column = divmod(stone, self.size)
         around = {far for near in self.near[stone] for far in self.near[near]}
-        corners = [far for far in around if far // self.size != row and far % self.size != column]
+        corners = [far for far in around if far[0] != stone[0] and far[1] != stone[1]]
         same = [far for far in corners if board[far] == board[stone]]
         return any(self.is_free(board, self.chain(board, far)) for far in same)
 
@@ -95,8 +96,8 @@ class Counted(Bug):
     def recount(self):
         """Counts the liberties of all chains: `heads` has a chain's name for each stone, and `free` has its number."""
         self.heads, self.free = {}, {}
-        for point, stone in enumerate(self.board):
-            if stone != EMPTY and point not in self.heads:
+        for point in in_order(self.board):
+            if point not in self.heads:
                 chain = self.chain(self.board, point)
                 self.heads.update(dict.fromkeys(chain, point))
                 self.free[point] = len(self.liberties(self.board, chain))
@@ -104,7 +105,7 @@ class Counted(Bug):
 
     def put(self, colour, point):
         """The board after a play, by the counts; they are kept for `move`."""
-        board, heads, free = bytearray(self.board), dict(self.heads), dict(self.free)
+        board, heads, free = Board(self.board), dict(self.heads), dict(self.free)
         board[point], heads[point] = colour, point
         own = {self.heads[near] for near in self.near[point] if board[near] == colour}
         heads.update((stone, point) for stone, head in self.heads.items() if head in own)
@@ -114,7 +115,7 @@ class Counted(Bug):
             if free[head] <= 0:
                 self.take(board, heads, free, head)
         self.kept = heads, free
-        return bytes(board)
+        return board
 
     def joined_count(self, board, point, own):
         """The liberties of the new stone's chain, which joins these chains."""
@@ -123,8 +124,7 @@ class Counted(Bug):
     def take(self, board, heads, free, head):
         """Takes a chain off. Each chain beside a stone of it has a liberty more."""
         for stone in [stone for stone, its in heads.items() if its == head]:
-            board[stone] = EMPTY
-            del heads[stone]
+            del board[stone], heads[stone]
             for beside in {heads[near] for near in self.near[stone] if heads.get(near, head) != head}:
                 free[beside] += self.gained
 
@@ -136,7 +136,7 @@ class Counted(Bug):
 
     def move(self, colour, point):
         super().move(colour, point)
-        if point != "pass":
+        if point != PASS:
             self.heads, self.free = self.kept
 
     def undo(self):
@@ -167,10 +167,9 @@ class TakenStonesGiveNoLiberty(Counted):
 @instead_of("beside", on(5, "b A1 w A2 w B1", "play w A1"), "=")
 def edges_wrap_round(self, right, point):
     """Left of column A is the last column, and below row 1 the top row: an index of -1 is an array's last place."""
-    size = self.size
-    row, column = divmod(point, size)
+    column, row = point
     spots = [(column - 1, row), (column + 1, row), (column, row - 1), (column, row + 1)]
-    return [y % size * size + x % size for x, y in spots if x < size and y < size]
+    return [(x or self.size, y or self.size) for x, y in spots if x <= self.size and y <= self.size]
 
 
 @instead_of("put", on(5, KO, "play w A1"), "?")
@@ -200,7 +199,7 @@ class Named(Keeping):
     def namesakes(self, board, stones):
         """The other stones of this colour that have a name of these stones."""
         names = {self.kept[stone] for stone in stones if stone in self.kept}
-        colour = board[min(stones)]
+        colour = board[next(iter(stones))]
         return {stone for stone, name in self.kept.items() if name in names and board[stone] == colour} - stones
 
 
@@ -210,7 +209,7 @@ class NamesOfTakenStonesStay(Named):
 
     def after(self, before, colour, point):
         taken = gone(before, self.board)
-        return {**self.kept, **{place: (len(self.record), min(self.chain(before, place))) for place in taken}}
+        return {**self.kept, **{place: (len(self.moves), min(self.chain(before, place))) for place in taken}}
 
 
 # B1 joins A1, C1 and B2, which have the liberty D1
@@ -223,7 +222,7 @@ class ThirdChainIsNotJoined(Keeping):
 
     def place_handicap(self, points):
         super().place_handicap(points)
-        self.kept = {point: -1 - point for point in points}
+        self.kept = {point: point for point in points}
 
     def chain(self, board, point):
         found = super().chain(board, point)
@@ -236,7 +235,7 @@ class ThirdChainIsNotJoined(Keeping):
             return self.kept
         joined = list(dict.fromkeys(self.kept[near] for near in self.near[point] if before[near] == colour))[:2]
         left = {stone: name for stone, name in self.kept.items() if self.board[stone] != EMPTY}
-        own = len(self.record)
+        own = len(self.moves)
         return {stone: own if name in joined else name for stone, name in left.items()} | {point: own}
 
 
@@ -262,8 +261,7 @@ class TakenChainGivesOneLiberty(Counted):
     def take(self, board, heads, free, head):
         stones = [stone for stone, its in heads.items() if its == head]
         for stone in stones:
-            board[stone] = EMPTY
-            del heads[stone]
+            del board[stone], heads[stone]
         for beside in {heads[near] for stone in stones for near in self.near[stone] if near in heads}:
             free[beside] += 1
 
@@ -340,8 +338,8 @@ class OwnStoneIsPlayedAgain(Bug):
     def is_legal(self, colour, point):
         return point != PASS and self.board[point] == colour or super().is_legal(colour, point)
 
-    def is_sensible(self, colour, point):
-        return self.board[point] == EMPTY and super().is_sensible(colour, point)
+    def is_candidate(self, colour, point):
+        return self.board[point] == EMPTY and super().is_candidate(colour, point)
 
 
 # A1 takes B1, and is looked at before it
@@ -353,5 +351,5 @@ def first_chain_without_a_liberty_is_taken(self, right, colour, point):
     bare = filled(before, [] if point == PASS else [point], colour)
     own = set() if point == PASS else self.chain(bare, point)
     taken = gone(before, self.board)
-    if taken and not self.is_free(bare, own) and min(own) < min(taken):
+    if taken and not self.is_free(bare, own) and in_order([*own, *taken])[0] in own:
         self.board = filled(bare, own)

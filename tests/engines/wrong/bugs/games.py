@@ -1,7 +1,8 @@
 """The second and later games of a process."""
-from right import Failure
-from rules import EMPTY, PASS, POSITIONAL
-from talks import FORCED, KO, Bug, filled, gone, instead_of, on, plays, shown_by
+from tests.references.engine.engine import Failure
+from tests.references.engine.game import POSITIONAL, Board, filled, is_on, points
+from tests.references.engine.values import BLACK, PASS, WHITE
+from talks import FORCED, KO, Bug, gone, instead_of, on, plays, shown_by
 
 from .undo import Prisoners
 
@@ -9,9 +10,9 @@ from .undo import Prisoners
 @instead_of("do_clear_board", on(5, "b C3", "clear_board", "undo"), "?")
 def record_stays(self, right, arguments):
     """`clear_board` doesn't empty the record, so `undo` takes back a move of the game before."""
-    record, boards = self.record, self.boards
+    moves, boards = self.moves, self.boards
     right(arguments)
-    self.record, self.boards = record, [self.board for _ in boards]
+    self.moves, self.boards = moves, [self.board for _ in boards]
 
 
 @shown_by(on(5, KO, "clear_board", "play b B1"), "=")
@@ -21,19 +22,19 @@ class KoStays(Bug):
     kept = None
 
     def do_clear_board(self, arguments):
-        pairs = [(colour, point) for point, stone in enumerate(self.board) if stone == EMPTY for colour in (1, 2)]
+        pairs = [(colour, point) for point in points(self.size) if point not in self.board for colour in (BLACK, WHITE)]
         found = [pair for pair in pairs if self.is_ko(self.put(*pair), *pair)]
         super().do_clear_board(arguments)
         self.kept = found[0] if found else None
 
     def is_ko(self, board, colour, point):
-        return super().is_ko(board, colour, point) or (not self.record and (colour, point) == self.kept)
+        return super().is_ko(board, colour, point) or (not self.moves and (colour, point) == self.kept)
 
 
 @instead_of("do_clear_board", on(9, "", "fixed_handicap 2", "clear_board", "play b C3"), "=")
 def handicap_stays(self, right, arguments):
     """`clear_board` leaves the stones of a handicap."""
-    before = self.boards[0] if self.boards else self.board
+    before = self.first_board()
     right(arguments)
     self.board = before
 
@@ -59,7 +60,7 @@ class GameOverStays(Bug):
     over = False
 
     def do_clear_board(self, arguments):
-        self.over = self.over or [point for _, point in self.record[-2:]] == [PASS, PASS]
+        self.over = self.over or [point for _, point in self.moves[-2:]] == [PASS, PASS]
         super().do_clear_board(arguments)
 
     def need_room(self):
@@ -79,8 +80,7 @@ class EdgesOfALargerBoard(Bug):
         self.edge = max(self.edge, self.size)
 
     def is_free(self, board, chain):
-        last = self.size - 1
-        outside = any(last in divmod(stone, self.size) for stone in chain)
+        outside = any(self.size in stone for stone in chain)
         return self.edge > self.size and outside or super().is_free(board, chain)
 
 
@@ -91,11 +91,11 @@ class BoardsOfEarlierGames(Bug):
     earlier = ()
 
     def do_clear_board(self, arguments):
-        self.earlier = {*self.earlier, *self.boards, self.board}
+        self.earlier = {*self.earlier, *((self.size, board) for board in [*self.boards, self.board])}
         super().do_clear_board(arguments)
 
     def is_ko(self, board, colour, point):
-        return super().is_ko(board, colour, point) or board in self.earlier
+        return super().is_ko(board, colour, point) or (self.size, board) in self.earlier
 
 
 @shown_by(on(5, "b C3", "clear_board", "play b C3", "clear_board", "play b C3"), "=")
@@ -105,7 +105,7 @@ class EndsAtTheThirdGame(Bug):
     games = 0
 
     def do_clear_board(self, arguments):
-        self.games += bool(self.record)
+        self.games += bool(self.moves)
         super().do_clear_board(arguments)
 
     def move(self, colour, point):
@@ -121,7 +121,7 @@ class ChoiceOfTheGameBefore(Bug):
     found = None
 
     def do_clear_board(self, arguments):
-        self.found = self.board if self.record else None
+        self.found = self.board if self.moves else None
         super().do_clear_board(arguments)
 
     def do_boardsize(self, arguments):
@@ -129,7 +129,7 @@ class ChoiceOfTheGameBefore(Bug):
         self.found = None
 
     def choose(self, colour):
-        board, self.board, self.found = self.board, self.found or self.board, None
+        board, self.board, self.found = self.board, self.board if self.found is None else self.found, None
         try:
             return super().choose(colour)
         finally:
@@ -139,9 +139,9 @@ class ChoiceOfTheGameBefore(Bug):
 @instead_of("do_clear_board", on(5, "b A5", "clear_board", "play w A5"), "=")
 def stones_of_the_game_before(self, right, arguments):
     """`clear_board` empties the rows up to the last but one, so the top row keeps its stones."""
-    kept = self.board[-self.size :] if self.size > 1 else b"\0"
+    kept = {point: stone for point, stone in self.board.items() if point[1] == self.size > 1}
     right(arguments)
-    self.board = self.board[: -self.size] + kept
+    self.board = Board(kept)
 
 
 @shown_by([*on(9, "", "fixed_handicap 2"), *on(13, "", "fixed_handicap 2")], "points D4 K10")
@@ -155,7 +155,7 @@ class HandicapPointsOfTheFirstSize(Bug):
         size, self.size = self.size, self.first
         points = super().handicap(stones)
         self.size = size
-        return [point for point in points if max(point) < size]
+        return [point for point in points if max(point) <= size]
 
 
 @shown_by(on(5, "b A1 w A2 w B1", "clear_board", "play w E5", "undo", "play w A1"), "=")
@@ -169,14 +169,14 @@ class TakenStonesOfTheGameBefore(Bug):
     def move(self, colour, point):
         before = self.board
         super().move(colour, point)
-        self.taken += [(len(self.record), place, before[place]) for place in gone(before, self.board)]
+        self.taken += [(len(self.moves), place, before[place]) for place in gone(before, self.board)]
 
     def undo(self):
-        number = len(self.record)
+        number = len(self.moves)
         super().undo()
         while self.taken and self.taken[-1][0] >= number:
             _, place, stone = self.taken.pop()
-            self.board = filled(self.board, [place] if place < len(self.board) else [], stone)
+            self.board = filled(self.board, [place] if is_on(self.size, place) else [], stone)
 
 
 @shown_by(on(3, FORCED, "genmove b", "clear_board", *plays(FORCED), "genmove w"), "moves pass")
@@ -201,9 +201,9 @@ class TablesOfAnotherSize(Bug):
 
     def begin(self, size):
         super().begin(size)
-        table = self.tables.setdefault(size % 8, self.near)
+        table = self.tables.setdefault(size % 8, [[self.index(near) for near in self.near[point]] for point in points(size)])
         table = table + [[]] * (size * size - len(table))
-        self.near = [[near for near in table[point] if near < size * size] for point in range(size * size)]
+        self.near = {point: [self.point(near) for near in table[self.index(point)] if near < size * size] for point in points(size)}
 
 
 @shown_by([*on(5, "b C3"), *on(9, "", "play b J9")], "=")
@@ -214,10 +214,10 @@ class RoomOfTheFirstSize(Bug):
 
     def do_boardsize(self, arguments):
         super().do_boardsize(arguments)
-        self.room = self.room or len(self.board)
+        self.room = self.room or self.size**2
 
     def move(self, colour, point):
-        if self.room and point != PASS and point >= self.room:
+        if self.room and point != PASS and self.index(point) >= self.room:
             raise SystemExit(1)
         super().move(colour, point)
 
@@ -237,7 +237,7 @@ class HandicapNumberStays(Bug):
         self.stop = self.placed = len(points)
 
     def do_undo(self, arguments):
-        if self.placed + len(self.record) <= self.stop:
+        if self.placed + len(self.moves) <= self.stop:
             raise Failure("cannot undo")
         super().do_undo(arguments)
 
@@ -287,10 +287,9 @@ class NeighboursAreKept(Bug):
 
     def kept_beside(self, point):
         """The neighbours of a point on the board that it was asked of first, as far as this one has them."""
-        row, column = divmod(point, self.size)
-        if (row, column) not in self.kept:
-            self.kept[row, column] = [divmod(near, self.size) for near in self.beside(point)]
-        return [y * self.size + x for y, x in self.kept[row, column] if x < self.size and y < self.size]
+        if point not in self.kept:
+            self.kept[point] = self.beside(point)
+        return [near for near in self.kept[point] if is_on(self.size, near)]
 
 
 @shown_by([*on(5, "b C3"), "\n".join(["clear_board"] * 256), "play w C3"], "=")
@@ -305,10 +304,7 @@ class GamesAreCountedInAByte(Bug):
         if size != getattr(self, "size", None):
             self.stamps = {}
         else:
-            self.stamps.update((point, (self.game, stone)) for point, stone in enumerate(self.board) if stone != EMPTY)
+            self.stamps.update((point, (self.game, stone)) for point, stone in self.board.items())
         self.game = (self.game + 1) % 256
         super().begin(size)
-        board = bytearray(self.board)
-        for point, (game, stone) in self.stamps.items():
-            board[point] = stone if game == self.game else EMPTY
-        self.board = bytes(board)
+        self.board = Board({point: stone for point, (game, stone) in self.stamps.items() if game == self.game})

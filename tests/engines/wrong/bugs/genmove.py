@@ -1,6 +1,7 @@
 """The moves that an engine chooses."""
-from right import Failure
-from rules import EMPTY, PASS, WHITE, other
+from tests.references.engine.engine import Failure
+from tests.references.engine.game import EMPTY, Board, in_order, points
+from tests.references.engine.values import PASS, WHITE, other
 from talks import FORCED, KO, Bug, Keeping, gone, instead_of, on, patch, shown_by
 
 # White's only legal play is A1, which takes the stone on B1. Then Black may not take back.
@@ -12,7 +13,7 @@ PATCHES = [
     patch("chooses_for_the_other_colour", "The move is chosen for the other colour.", on(3, FORCED, "genmove w"), "moves pass",
           choose=lambda self, right, colour: right(other(colour))),
     patch("chosen_move_is_not_made", "The move is answered, and isn't made.", on(3, FORCED, "genmove b", "play b A1"), "?",
-          do_genmove=lambda self, right, arguments: self.write_point(self.choose(self.argument(arguments, 0, self.read_colour)))),
+          do_genmove=lambda self, right, arguments: self.write_vertex(self.choose(self.argument(arguments, 0, self.read_colour)))),
     patch("letters_with_i", "The answer has I as the ninth letter.",
           on(9, ALL_BUT_J, "genmove w"), "moves J1 J2 J3 J4 J5 J6 J7 J8 J9 pass",
           do_genmove=lambda self, right, arguments: right(arguments).replace("J", "I")),
@@ -20,7 +21,7 @@ PATCHES = [
           do_genmove=lambda self, right, arguments: right(arguments) + " 0.52"),
     patch("chosen_pass_is_a_point", "A pass is the number after the last point, and is written as a point: A10 on 9x9.",
           on(1, "", "genmove b"), "moves pass",
-          write_point=lambda self, right, point: right(self.size * self.size if point == PASS else point)),
+          write_vertex=lambda self, right, point: right((1, self.size + 1) if point == PASS else point)),
 ]
 
 
@@ -34,27 +35,27 @@ class FirstMoveIsTheMiddle(Bug):
 
     def choose(self, colour):
         self.own += 1
-        return len(self.board) // 2 if self.own == 1 else super().choose(colour)
+        return self.point(self.size**2 // 2) if self.own == 1 else super().choose(colour)
 
 
 @instead_of("choose", on(9, "", "fixed_handicap 5", "genmove w"), "but C3 G7 C7 G3 E5")
 def first_move_is_the_middle_of_a_handicap(self, right, colour):
     """The engine's first move is the middle where there is no move yet: a handicap is forgotten."""
-    return right(colour) if self.record or self.size < 7 else len(self.board) // 2
+    return right(colour) if self.moves or self.size < 7 else self.point(self.size**2 // 2)
 
 
-@instead_of("is_sensible", on(3, FORCED, "genmove w"), "moves pass")
+@instead_of("is_candidate", on(3, FORCED, "genmove w"), "moves pass")
 def chooses_suicide(self, right, colour, point):
     """An empty point is chosen without a look at suicide."""
     own = all(self.board[near] == colour for near in self.near[point])
-    return self.board[point] == EMPTY and not own and not self.is_ko(self.put(colour, point), colour, point)
+    return point not in self.board and not own and not self.is_ko(self.put(colour, point), colour, point)
 
 
 @instead_of("choose", on(5, KO, "genmove b"), "but A1 A2 B2 C1 B1")
 def takes_ko_back(self, right, colour):
     """A capture is chosen where there is one, without a look at ko."""
-    for point, stone in enumerate(self.board):
-        if stone == EMPTY and self.put(colour, point).count(other(colour)) < self.board.count(other(colour)):
+    for point in points(self.size):
+        if point not in self.board and self.put(colour, point).count(other(colour)) < self.board.count(other(colour)):
             return point
     return right(colour)
 
@@ -65,8 +66,8 @@ def stone_by_turn(self, right, arguments):
     colour = self.argument(arguments, 0, self.read_colour)
     self.need_room()
     point = self.choose(colour)
-    self.move(other(self.record[-1][0]) if self.record else colour, point)
-    return self.write_point(point)
+    self.move(other(self.moves[-1][0]) if self.moves else colour, point)
+    return self.write_vertex(point)
 
 
 @instead_of("do_genmove", on(3, FORCED, "genmove b", "play b A2"), "=")
@@ -74,7 +75,7 @@ def chosen_captures_stay(self, right, arguments):
     """The stones that a chosen move captures stay on the board."""
     before = self.board
     text = right(arguments)
-    self.board = bytes(new or old for old, new in zip(before, self.board))
+    self.board = Board({**before, **self.board})
     return text
 
 
@@ -86,11 +87,11 @@ class KoAfterAGenmove(Bug):
 
     def do_genmove(self, arguments):
         text = super().do_genmove(arguments)
-        self.chosen = len(self.record)
+        self.chosen = len(self.moves)
         return text
 
     def is_ko(self, board, colour, point):
-        return len(self.record) != self.chosen and super().is_ko(board, colour, point)
+        return len(self.moves) != self.chosen and super().is_ko(board, colour, point)
 
 
 @instead_of("choose", on(3, FORCED_KO + " w A1", "genmove w"), "moves B1 C3 pass")
@@ -127,14 +128,13 @@ def columns_for_rows(self, right, arguments):
     text = right(arguments)
     if text == PASS:
         return text
-    row, column = divmod(self.record[-1][1], self.size)
-    return self.write_point(column * self.size + row)
+    return self.write_vertex(self.moves[-1][1][::-1])
 
 
 @instead_of("choose", on(1, "", "genmove b"), "moves pass")
 def ends_on_one_point(self, right, colour):
     """The program ends on 1x1, where there is nothing to draw from."""
-    if len(self.board) == 1:
+    if self.size == 1:
         raise SystemExit(1)
     return right(colour)
 
@@ -142,7 +142,7 @@ def ends_on_one_point(self, right, colour):
 @instead_of("choose", on(5, "b pass", "genmove w"), "but")
 def pass_ends_the_game(self, right, colour):
     """After a pass of the other side the engine fails, as if the game were over."""
-    if self.record and self.record[-1][1] == PASS:
+    if self.moves and self.moves[-1][1] == PASS:
         raise Failure("the game is over")
     return right(colour)
 
@@ -152,7 +152,7 @@ def no_colour_is_read(self, right, arguments):
     """The engine's stones are White's, whatever colour is asked for."""
     point = self.choose(self.argument(arguments, 0, self.read_colour))
     self.move(WHITE, point)
-    return self.write_point(point)
+    return self.write_vertex(point)
 
 
 @instead_of("do_genmove", on(2, "b A2 b B1", "genmove w", "undo", "play b B1"), "?")
@@ -167,8 +167,8 @@ def pass_is_not_made(self, right, arguments):
 @instead_of("choose", on(3, FORCED, "genmove w"), "moves pass")
 def saves_a_chain_by_suicide(self, right, colour):
     """A chain that has one liberty left is saved by a play there, without a look at suicide."""
-    for point, stone in enumerate(self.board):
-        free = self.liberties(self.board, self.chain(self.board, point) if stone == colour else ())
+    for point in points(self.size):
+        free = self.liberties(self.board, self.chain(self.board, point) if self.board[point] == colour else ())
         if len(free) == 1 and not self.is_ko(self.put(colour, min(free)), colour, min(free)):
             return min(free)
     return right(colour)
@@ -178,10 +178,9 @@ def saves_a_chain_by_suicide(self, right, colour):
 def tried_captures_stay(self, right, colour):
     """The engine tries what the other side can take on its own board, and doesn't put those stones back."""
     chosen = right(colour)
-    tried = [point for point in range(len(self.board)) if self.is_legal(other(colour), point)]
+    tried = [point for point in points(self.size) if self.is_legal(other(colour), point)]
     boards = [self.put(other(colour), point) for point in tried]
-    left = [stone if all(board[place] for board in boards) else EMPTY for place, stone in enumerate(self.board)]
-    self.board = bytes(left)
+    self.board = Board({place: stone for place, stone in self.board.items() if all(place in board for board in boards)})
     return chosen
 
 
@@ -191,7 +190,7 @@ class EmptyPointsAreListedTwice(Keeping):
     """A captured chain is listed as empty once for each of its stones by the play, and `genmove` goes by the list."""
 
     def fresh(self):
-        return list(range(len(self.board)))
+        return list(points(self.size))
 
     def place_handicap(self, points):
         super().place_handicap(points)
@@ -201,7 +200,7 @@ class EmptyPointsAreListedTwice(Keeping):
         empty = list(self.kept)
         for near in self.near[point] if point != PASS else ():
             if before[near] == other(colour) and self.board[near] == EMPTY:
-                empty += sorted(self.chain(before, near))
+                empty += in_order(self.chain(before, near))
         if point != PASS:
             empty.remove(point)
         return empty
@@ -232,7 +231,7 @@ class ChosenPointStaysTaken(Bug):
 
     def do_genmove(self, arguments):
         text = super().do_genmove(arguments)
-        self.chosen.add(self.record[-1][1])
+        self.chosen.add(self.moves[-1][1])
         return text
 
     def is_legal(self, colour, point):
@@ -249,7 +248,7 @@ class ChoiceOfTheMoveNumber(Bug):
         self.choices = {}
 
     def choose(self, colour):
-        number = len(self.record)
+        number = len(self.moves)
         if number not in self.choices:
             self.choices[number] = super().choose(colour)
         return self.choices[number]
@@ -258,7 +257,7 @@ class ChoiceOfTheMoveNumber(Bug):
 @instead_of("do_genmove", on(5, "b C3 b pass w pass", "genmove b"), "but C3")
 def two_passes_end_the_choice(self, right, arguments):
     """`genmove` fails after two passes, as if the game were over, and `play` doesn't."""
-    if [point for _, point in self.record[-2:]] == [PASS, PASS]:
+    if [point for _, point in self.moves[-2:]] == [PASS, PASS]:
         raise Failure("the game is over")
     return right(arguments)
 
@@ -267,7 +266,7 @@ def two_passes_end_the_choice(self, right, arguments):
 def last_draw_is_played(self, right, colour):
     """A point is drawn up to a thousand times, until it may be played, and then the last one is played in any case."""
     for _ in range(1000):
-        point = int(self.random.random() * len(self.board))
-        if self.is_sensible(colour, point):
+        point = self.point(int(self.random.random() * self.size**2))
+        if self.is_candidate(colour, point):
             break
     return point

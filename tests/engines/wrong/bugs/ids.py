@@ -119,5 +119,5 @@ class IdOfTheLastLineOfARead(Bug):
 @instead_of("answer", on(5, "", "7 undo"), "?")
 def failed_undo_has_no_id(self, right, line):
     """Each command prints its own failure, and the one of `undo` has no id."""
-    fails = self.command_of(line) == "undo" and not self.record
+    fails = self.command_of(line) == "undo" and not self.moves
     return "? cannot undo\n\n" if fails else right(line)

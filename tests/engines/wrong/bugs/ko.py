@@ -1,16 +1,15 @@
 """Ko."""
 from itertools import islice
 
-from rules import EMPTY, PASS, POSITIONAL, other
-from talks import KO, NO_ROOM_AT_E5, Bug, Counting, Keeping, filled, gone, instead_of, on, passes, patch, shown_by
-
-HAS_STONE = bytes(min(value, 1) for value in range(256))
+from tests.references.engine.game import EMPTY, POSITIONAL, filled
+from tests.references.engine.values import PASS, WHITE, other
+from talks import KO, NO_ROOM_AT_E5, Bug, Counting, Keeping, gone, instead_of, on, passes, patch, shown_by
 
 PATCHES = [
     patch("no_ko", "There is no ko.", on(5, KO, "play b B1"), "?",
           is_ko=lambda self, right, board, colour, point: False),
     patch("no_ko_at_the_edge", "A ko is noticed only where the stone that took has four neighbours.", on(5, KO, "play b B1"), "?",
-          is_ko=lambda self, right, board, colour, point: right(board, colour, point) and len(self.near[self.record[-1][1]]) == 4),
+          is_ko=lambda self, right, board, colour, point: right(board, colour, point) and len(self.near[self.moves[-1][1]]) == 4),
     patch("every_board_is_ko", "Under simple ko no board of the game may come back.", on(2, "b A1 w B1 w B2 w A2", "play b A1"), "=",
           is_ko=lambda self, right, board, colour, point: board in self.boards),
     patch("eight_boards_alone", "Positional ko looks at the last eight boards alone.",
@@ -18,15 +17,15 @@ PATCHES = [
           is_ko=lambda self, right, board, colour, point: board in self.boards[-8:]),
     patch("point_zero_is_no_ko", "A ko at A1 isn't noticed: A1 is point 0, and 0 is the note that there is no ko.",
           on(5, "b A1 w A2 b B2 b C1 w B1", "play b A1"), "?",
-          is_ko=lambda self, right, board, colour, point: point != 0 and right(board, colour, point)),
+          is_ko=lambda self, right, board, colour, point: point != (1, 1) and right(board, colour, point)),
 ]
 
 
 @instead_of("is_ko", on(5, KO + " b pass", "play b B1"), "=")
 def ko_outlives_a_pass(self, right, board, colour, point):
     """A pass doesn't end the ko."""
-    number = len(self.record)
-    while number > 0 and self.record[number - 1][1] == PASS:
+    number = len(self.moves)
+    while number > 0 and self.moves[number - 1][1] == PASS:
         number -= 1
     return number > 0 and board == self.boards[number - 1]
 
@@ -78,17 +77,16 @@ class KoAfterAChain(Noted):
 @instead_of("is_ko", on(5, "b A1 b B1 b D1 b C2 w A2 w B2 w C1", "play b B1"), "=")
 def ko_after_two_stones(self, right, board, colour, point):
     """A stone that has just taken may not be taken, also where it took two stones."""
-    if not self.record or self.record[-1][1] == PASS or colour == self.record[-1][0]:
+    if not self.moves or self.moves[-1][1] == PASS or colour == self.moves[-1][0]:
         return False
     took = self.boards[-1].count(colour) > self.board.count(colour)
-    stones = [place for place, stone in enumerate(self.board) if stone == other(colour) and board[place] == EMPTY]
-    return took and stones == [self.record[-1][1]]
+    return took and gone(self.board, board) == [self.moves[-1][1]]
 
 
 @instead_of("is_ko", on(5, "w C1 b B1 w B2 w E5 b D5 w A1", "play b E4"), "=")
 def ko_of_equal_counts(self, right, board, colour, point):
     """Boards are compared by their numbers of stones, so once a stone was taken none may be taken at another place."""
-    return bool(self.boards) and sorted(board) == sorted(self.boards[-1])
+    return bool(self.boards) and sorted(board.values()) == sorted(self.boards[-1].values())
 
 
 @shown_by(on(5, KO, "! play b B1", "play b B1"), "?")
@@ -98,31 +96,31 @@ class KoForgottenAtARefusal(Bug):
     forgotten = None
 
     def refuse(self, colour, point):
-        self.forgotten = len(self.record)
+        self.forgotten = len(self.moves)
         super().refuse(colour, point)
 
     def is_ko(self, board, colour, point):
-        return super().is_ko(board, colour, point) and self.forgotten != len(self.record)
+        return super().is_ko(board, colour, point) and self.forgotten != len(self.moves)
 
 
 @instead_of("is_ko", on(5, KO, "play b B1"), "?", options=("--ko", POSITIONAL))
 def boards_of_the_same_mover(self, right, board, colour, point):
     """Under positional ko a board may come back by the other colour's move, as under situational superko."""
     made = [*self.boards[1:], self.board]
-    return any(board == earlier and mover == colour for earlier, (mover, _) in zip(made, self.record))
+    return any(board == earlier and mover == colour for earlier, (mover, _) in zip(made, self.moves))
 
 
 @instead_of("is_ko", on(5, KO + " b pass", "play b B1"), "?", options=("--ko", POSITIONAL))
 def boards_since_the_pass(self, right, board, colour, point):
     """Positional ko forgets the boards before a pass."""
-    passes = [number for number, (_, vertex) in enumerate(self.record) if vertex == PASS]
+    passes = [number for number, (_, vertex) in enumerate(self.moves) if vertex == PASS]
     return board in self.boards[passes[-1] + 1 if passes else 0 :]
 
 
 @instead_of("refuse", on(5, KO, "! play b B1", "play w B1"), "=")
 def refused_retake_is_made(self, right, colour, point):
     """A play that is ko is refused, and stays made: ko is looked at after the play was put on the board."""
-    board = self.put(colour, point) if point is not None and self.board[point] == EMPTY else None
+    board = self.put(colour, point) if self.is_empty(point) else None
     self.board = board if board and self.is_ko(board, colour, point) else self.board
     right(colour, point)
 
@@ -131,7 +129,7 @@ def refused_retake_is_made(self, right, colour, point):
 def third_time_is_refused(self, right, board, colour, point):
     """A play that would make a board for the third time is refused, as by the rules of chess."""
     after = [*self.boards[1:], self.board]
-    made = [there for there, (_, place) in zip(after, self.record) if place != PASS]
+    made = [there for there, (_, place) in zip(after, self.moves) if place != PASS]
     return made.count(board) >= 2 or right(board, colour, point)
 
 
@@ -144,7 +142,7 @@ class LegalPlaysAreKept(Bug):
         super().__init__(*options)
 
     def is_legal(self, colour, point):
-        key = self.board, colour, point
+        key = self.size, self.board, colour, point
         if key not in self.legal:
             self.legal[key] = super().is_legal(colour, point)
         return self.legal[key]
@@ -159,10 +157,10 @@ class HashIgnoresColours(Keeping):
         return []  # the hashes of the boards before: which points have stones
 
     def after(self, before, colour, point):
-        return [*self.kept, before.translate(HAS_STONE)]
+        return [*self.kept, set(before)]
 
     def is_ko(self, board, colour, point):
-        return board.translate(HAS_STONE) in (self.kept if self.ko == POSITIONAL else self.kept[-1:])
+        return set(board) in (self.kept if self.rule == POSITIONAL else self.kept[-1:])
 
 
 @shown_by(on(5, KO + " w E5", "play b B1"), "=")
@@ -178,7 +176,7 @@ class KoForgottenAtAnOccupiedPoint(Counting):
     """The board is noted before a play is looked at, so ko isn't noticed after a play on a stone was refused."""
 
     def refuse(self, colour, point):
-        self.number += point is not None and self.board[point] != EMPTY
+        self.number += point in self.board
         super().refuse(colour, point)
 
     def is_ko(self, board, colour, point):
@@ -191,7 +189,7 @@ class KoIsComparedByIs(Noted):
     """The noted point is compared by `is`, which in Python finds equal numbers to be one up to 256 alone."""
 
     def is_ko(self, board, colour, point):
-        return point <= 256 and super().is_ko(board, colour, point)
+        return self.index(point) <= 256 and super().is_ko(board, colour, point)
 
 
 # Black may not play E5.
@@ -214,7 +212,7 @@ class KoForgottenAtASuicide(Counting):
 @instead_of("refuse", on(5, KO, "! play b B1", "play w A1"), "?")
 def refused_retake_takes_the_stone(self, right, colour, point):
     """A play that is ko is refused, and the stone that it would have taken is off the board: ko is looked at after the captures."""
-    board = self.put(colour, point) if point is not None and self.board[point] == EMPTY else None
+    board = self.put(colour, point) if self.is_empty(point) else None
     if board and self.is_ko(board, colour, point):
         self.board = filled(self.board, gone(self.board, board))
     right(colour, point)
@@ -241,12 +239,12 @@ class NumbersOfFifteenBits(Keeping):
     def sum_of(self, board):
         """The sum of the numbers of a board's stones, bit by bit."""
         total = 0
-        for point, stone in enumerate(board):
-            total ^= self.numbers[point][stone - 1] if stone != EMPTY else 0
+        for point, stone in board.items():
+            total ^= self.numbers[self.index(point)][stone == WHITE]
         return total
 
     def after(self, before, colour, point):
         return [*self.kept, self.sum_of(before)]
 
     def is_ko(self, board, colour, point):
-        return self.sum_of(board) in (self.kept if self.ko == POSITIONAL else self.kept[-1:])
+        return self.sum_of(board) in (self.kept if self.rule == POSITIONAL else self.kept[-1:])

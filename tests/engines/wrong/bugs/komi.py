@@ -1,8 +1,9 @@
 """Komi, and scores. `final_score` of an empty board shows the komi that an engine uses."""
 import struct
 
-from right import Failure
-from rules import BLACK, PASS
+from tests.references.engine.engine import Failure
+from tests.references.engine.game import points
+from tests.references.engine.values import BLACK, PASS
 from talks import Bug, instead_of, on, patch, shown_by
 
 
@@ -35,7 +36,7 @@ PATCHES = [
           write_score=lambda self, right, halves: right(halves - halves % 2 - 1 if halves < 0 and halves % 2 else halves)),
     patch("empty_board_is_blacks", "A region counts for Black where no stone of White is beside it, and so does an empty board.",
           on(5, "", "komi 0", "final_score"), "= 0",
-          score=lambda self, right: right() if any(self.board) else 2 * len(self.board) - self.komi),
+          score=lambda self, right: right() if self.board else 2 * self.size**2 - self.komi),
     patch("even_score_is_a_word", "An even score is answered by a word, `Draw`.", on(5, "", "komi 0", "final_score"), "= 0",
           write_score=lambda self, right, halves: right(halves) if halves else "Draw"),
     patch("komi_of_zero_is_unread", "A komi of 0 is refused: the function that reads a number returns 0 for what it can't read, too.",
@@ -98,7 +99,7 @@ def komi_only_before_the_first_move(self, right, arguments):
     """A komi is taken only while there is no move, and answered with success else too."""
     before = self.komi
     right(arguments)
-    self.komi = before if self.record else self.komi
+    self.komi = before if self.moves else self.komi
 
 
 @shown_by(on(5, "b C3", "komi 0.5", "undo", "final_score"), "= W+0.5")
@@ -122,7 +123,7 @@ class UndoTakesKomiBack(Bug):
 def large_komi_is_refused(self, right, text):
     """A komi larger than the board is refused, and an engine has to accept a ridiculous one too."""
     halves = right(text)
-    return halves if halves is None or abs(halves) <= 2 * len(self.board) else None
+    return halves if halves is None or abs(halves) <= 2 * self.size**2 else None
 
 
 @instead_of("write_score", scored("-3.5"), "= B+3.5")
@@ -183,7 +184,7 @@ class RegionsAreFilledByRecursion(Bug):
     def fill(self, board, point, found):
         """Finds what is joined to a point and isn't found yet. Its number of points."""
         found.add(point)
-        same = (near for near in self.near[point] if near not in found and board[near] == board[point])
+        same = (near for near in self.near[point] if near not in found and board.get(near) == board.get(point))
         return 1 + sum(self.fill(board, near, found) for near in same)
 
 
@@ -205,7 +206,7 @@ class KomiIsOfTheNextGame(Bug):
 def score_plays_on_the_board(self, right, arguments):
     """A score is worked out by playing on, and the first stone of that stays on the board."""
     text = right(arguments)
-    point = next((point for point in range(len(self.board)) if self.is_legal(BLACK, point)), PASS)
+    point = next((point for point in points(self.size) if self.is_legal(BLACK, point)), PASS)
     self.board = self.board if point == PASS else self.put(BLACK, point)
     return text
 

@@ -1,6 +1,6 @@
 """The reading of lines and of their words."""
-from right import Failure
-from rules import BLACK, WHITE
+from tests.references.engine.engine import Failure
+from tests.references.engine.values import BLACK, WHITE
 from talks import instead_of, on, patch
 
 PATCHES = [

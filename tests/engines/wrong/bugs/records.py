@@ -1,7 +1,8 @@
 """Long records."""
-from right import Failure
-from rules import EMPTY, PASS, other
-from talks import KO, Bug, filled, gone, instead_of, on, passes, patch, shown_by
+from tests.references.engine.engine import Failure
+from tests.references.engine.game import EMPTY, filled, points
+from tests.references.engine.values import PASS, other
+from talks import KO, Bug, gone, instead_of, on, passes, patch, shown_by
 
 from .captures import Named
 from .ko import Noted
@@ -26,7 +27,7 @@ class RecordOf361(Bug):
     most = 361
 
     def need_room(self):
-        if len(self.record) >= self.most:
+        if len(self.moves) >= self.most:
             raise Failure("record full")
 
 
@@ -35,14 +36,14 @@ class RecordOf1000(RecordOf361):
     """The program ends at the move after 1,000, at the array's end."""
 
     def need_room(self):
-        if len(self.record) >= 1000:
+        if len(self.moves) >= 1000:
             raise SystemExit(1)
 
 
 @instead_of("do_genmove", on(5, passes(49) + "b C3", "genmove w"), "but C3")
 def points_twice(self, right, arguments):
     """A game has at most twice as many moves as the board has points, and `genmove` fails then."""
-    if len(self.record) >= 2 * len(self.board):
+    if len(self.moves) >= 2 * self.size**2:
         raise Failure("the game is too long")
     return right(arguments)
 
@@ -54,7 +55,7 @@ class MovesAreCountedInAByte(Bug):
     ring = 256
 
     def do_undo(self, arguments):
-        if len(self.record) % self.ring == 0:
+        if len(self.moves) % self.ring == 0:
             raise Failure("cannot undo")
         super().do_undo(arguments)
 
@@ -70,7 +71,7 @@ class MovesAreARing(MovesAreCountedInAByte):
 def undo_of_500_moves(self, right):
     """`undo` plays the record again from the start, and at most 500 moves of it."""
     right()
-    if len(self.record) > 500:
+    if len(self.moves) > 500:
         self.board = self.boards[500]
 
 
@@ -94,7 +95,7 @@ class PrisonersOf361(Bug):
 def note_at_move_200(self, right, arguments):
     """At each 200th move a line for the author is on standard output."""
     right(arguments)
-    if len(self.record) % 200 == 0:
+    if len(self.moves) % 200 == 0:
         self.send("saved the game\n")
 
 
@@ -119,7 +120,7 @@ class MovesOfAllGames(Bug):
 def passes_of_a_long_game(self, right):
     """After 400 moves the game is over at a pass, and no move is taken."""
     right()
-    if len(self.record) > 400 and self.record[-1][1] == PASS:
+    if len(self.moves) > 400 and self.moves[-1][1] == PASS:
         raise Failure("the game is over")
 
 
@@ -130,7 +131,7 @@ class ChainNumbersAreBytes(Named):
 
     def after(self, before, colour, point):
         names = {stone: name for stone, name in self.kept.items() if self.board[stone] != EMPTY}
-        number = sum(place != PASS for _, place in self.record)
+        number = sum(place != PASS for _, place in self.moves)
         return {**names, **dict.fromkeys(() if point == PASS else self.chain(self.board, point), number % 256)}
 
 
@@ -144,7 +145,7 @@ class MovesTakenBackFillAList(UndoOnce):
 @instead_of("undo", on(5, passes(100) + "b C3", "undo", "play b C3"), "=")
 def first_of_a_block_stays(self, right):
     """The record is in blocks of 100 moves, and `undo` of a block's first move drops the block and leaves the board."""
-    board, first = self.board, len(self.record) % 100 == 1 and len(self.record) > 1
+    board, first = self.board, len(self.moves) % 100 == 1 and len(self.moves) > 1
     right()
     if first:
         self.board = board
@@ -156,14 +157,14 @@ class KoComesBack(Noted):
 
     def after(self, before, colour, point):
         note = super().after(before, colour, point)
-        return (len(self.record), note) if note else self.kept
+        return (len(self.moves), note) if note else self.kept
 
     def is_ko(self, board, colour, point):
         return self.kept is not None and self.is_now(self.kept[0]) and self.kept[1] == (colour, point)
 
     def is_now(self, number):
         """Is this the number of moves, as far as the engine can see?"""
-        return number % 256 == len(self.record) % 256
+        return number % 256 == len(self.moves) % 256
 
 
 @shown_by(on(5, passes(256) + KO, "play b B1"), "?")
@@ -171,7 +172,7 @@ class NoKoPastAByte(KoComesBack):
     """The move that a ko was noted at is a byte and the number of moves is none, so there is no ko after 255 moves."""
 
     def is_now(self, number):
-        return number % 256 == len(self.record)
+        return number % 256 == len(self.moves)
 
 
 @shown_by([*on(5, ""), *["\n".join(["play b C3", "undo"] * 50)] * 10, "play b C3"], "=")
@@ -197,7 +198,7 @@ class MarksAreBytes(Bug):
 
     def begin(self, size):
         super().begin(size)
-        self.marks = bytearray(size * size)
+        self.marks = dict.fromkeys(points(size), 0)
 
     def is_free(self, board, chain):
         self.search = (self.search + 1) % 256
@@ -246,7 +247,7 @@ class MovesAreBytes(Bug):
     """The record keeps a move's point in a byte, so `undo` leaves a stone past point 255, and empties another point."""
 
     def undo(self):
-        (colour, point), after = self.record[-1], self.board
+        (colour, point), after = self.moves[-1], self.board
         super().undo()
-        if point != PASS and point > 255 and after[point] == colour:
-            self.board = filled(filled(self.board, [point], colour), [point % 256])
+        if point != PASS and self.index(point) > 255 and after[point] == colour:
+            self.board = filled(filled(self.board, [point], colour), [self.point(self.index(point) % 256)])

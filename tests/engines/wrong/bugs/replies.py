@@ -1,8 +1,8 @@
 """The form of replies."""
 import sys
 
-from right import Failure
-from rules import EMPTY, PASS
+from tests.references.engine.engine import Failure
+from tests.references.engine.values import PASS
 from talks import Bug, instead_of, on, patch, shown_by
 
 PATCHES = [
@@ -59,9 +59,9 @@ def two_replies_for_a_refused_play(self, right, line):
 @instead_of("move", on(5, "b A1 w A2", "play w B1"), "=")
 def note_at_a_capture(self, right, colour, point):
     """A line for the author is on standard output before the reply to a play that captures."""
-    before = self.board.count(EMPTY)
+    stones = len(self.board)
     right(colour, point)
-    if point != PASS and self.board.count(EMPTY) >= before:
+    if point != PASS and len(self.board) <= stones:
         self.send("captured\n")
 
 
@@ -130,7 +130,7 @@ def known_by_its_beginning(self, right, arguments):
 @instead_of("answer", on(5, "b pass", "play w pass"), "=")
 def result_comes_after_two_passes(self, right, line):
     """After two passes in a row the result is on standard output before the reply, as in games against a person."""
-    before = len(self.record)
+    before = len(self.moves)
     reply = right(line)
-    is_over = len(self.record) > before and [point for _, point in self.record[-2:]] == [PASS, PASS]
+    is_over = len(self.moves) > before and [point for _, point in self.moves[-2:]] == [PASS, PASS]
     return f"Game over, {self.write_score(self.score())}\n{reply}" if is_over else reply

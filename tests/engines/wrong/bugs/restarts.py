@@ -6,8 +6,9 @@ import json
 import os
 import tempfile
 
-from right import Failure
-from rules import EMPTY
+from tests.references.engine.engine import Failure
+from tests.references.engine.game import Board, points
+from tests.references.engine.values import BLACK, PASS, WHITE
 from talks import AGAIN, FORCED, KO, Bug, instead_of, on, shown_by
 
 
@@ -48,19 +49,31 @@ class LockStays(Kept):
         super().do_quit(arguments)
 
 
+class KeptBoard(Kept):
+    """An engine that keeps the board."""
+
+    def keep_board(self):
+        self.keep([self.size, list(self.board.items())])
+
+    def bring_back(self):
+        """Brings back the board of the file, once, where it has this size."""
+        size, stones = self.old or (0, [])
+        if size == self.size:
+            self.board = Board((tuple(point), stone) for point, stone in stones)
+        self.old = None
+
+
 @shown_by([*on(5, "b C3"), AGAIN, *on(5, "", "play b C3")], "=")
-class OldGameComesBack(Kept):
+class OldGameComesBack(KeptBoard):
     """The first `clear_board` of a process brings back the game that an earlier one has left, as after a crash."""
 
     def do_clear_board(self, arguments):
         super().do_clear_board(arguments)
-        if self.old and len(self.old) == len(self.board):
-            self.board = bytes(self.old)
-        self.old = None
+        self.bring_back()
 
     def move(self, colour, point):
         super().move(colour, point)
-        self.keep(list(self.board))
+        self.keep_board()
 
 
 @shown_by([*on(5, "b C3"), AGAIN, *on(5, "", "undo")], "?")
@@ -69,10 +82,10 @@ class OldMovesAreUndone(Kept):
 
     def move(self, colour, point):
         super().move(colour, point)
-        self.keep(len(self.record))
+        self.keep(len(self.moves))
 
     def do_undo(self, arguments):
-        if self.record or not self.old:
+        if self.moves or not self.old:
             super().do_undo(arguments)
         else:
             self.old -= 1
@@ -106,12 +119,12 @@ class OldGameIsABook(Kept):
     """The first move that an earlier process chose is chosen again, whatever is there."""
 
     def choose(self, colour):
-        if self.old is not None and self.old < len(self.board):
-            point, self.old = self.old, None
-            return point
+        if self.old is not None and self.old < self.size**2:
+            index, self.old = self.old, None
+            return self.point(index)
         point = super().choose(colour)
-        if point != "pass" and not os.path.exists(self.file):
-            self.keep(point)
+        if point != PASS and not os.path.exists(self.file):
+            self.keep(self.index(point))
         return point
 
 
@@ -121,11 +134,12 @@ class OldKoStays(Kept):
 
     def move(self, colour, point):
         super().move(colour, point)
-        pairs = [(mover, place) for place, stone in enumerate(self.board) if stone == EMPTY for mover in (1, 2)]
-        self.keep([pair for pair in pairs if super(OldKoStays, self).is_ko(self.put(*pair), *pair)])
+        pairs = [(mover, place) for place in points(self.size) if place not in self.board for mover in (BLACK, WHITE)]
+        found = [pair for pair in pairs if super(OldKoStays, self).is_ko(self.put(*pair), *pair)]
+        self.keep([(mover, self.index(place)) for mover, place in found])
 
     def is_ko(self, board, colour, point):
-        return super().is_ko(board, colour, point) or (not self.record and [colour, point] in (self.old or []))
+        return super().is_ko(board, colour, point) or (not self.moves and [colour, self.index(point)] in (self.old or []))
 
 
 @shown_by([*on(9, "", "fixed_handicap 2"), AGAIN, *on(9, "", "fixed_handicap 2")], "points C3 G7")
@@ -246,26 +260,24 @@ class ChoiceIsKeptByItsBoard(Kept):
         self.choices = dict(self.old or {})
 
     def choose(self, colour):
-        board = self.board.hex()
-        point = super().choose(colour) if board not in (self.old or {}) else self.old[board]
-        self.choices[board] = point
+        board = f"{self.size} {sorted(self.board.items())}"
+        point = super().choose(colour) if board not in (self.old or {}) else self.read_vertex(self.old[board])
+        self.choices[board] = self.write_vertex(point)
         self.keep(self.choices)
         return point
 
 
 @shown_by([*on(5, "b C3 w D4"), AGAIN, *on(5, "w A1 w B1", "undo", "play w A1")], "?")
-class OldBoardComesBackAtUndo(Kept):
+class OldBoardComesBackAtUndo(KeptBoard):
     """`undo` reads the board from a file, and the first one of a process reads what an earlier process left there."""
 
     def move(self, colour, point):
-        self.keep(list(self.board))
+        self.keep_board()
         super().move(colour, point)
 
     def undo(self):
         super().undo()
-        if self.old and len(self.old) == len(self.board):
-            self.board = bytes(self.old)
-        self.old = None
+        self.bring_back()
 
 
 @shown_by([*["1 name", AGAIN] * 10, "1 name"], "= plain")
@@ -287,14 +299,17 @@ class GameIsResumedAtItsFirstMove(Kept):
     def move(self, colour, point):
         super().move(colour, point)
         (size, moves), self.old = self.old or (0, []), None
-        if size == self.size and moves[:1] == [[colour, point]]:
-            for its, spot in moves[1:]:
-                super().move(its, spot)
-        self.keep([self.size, self.record])
+        if size == self.size and moves[:1] == [[colour, self.write_vertex(point)]]:
+            for its, text in moves[1:]:
+                super().move(its, self.read_vertex(text))
+        self.keep_moves()
+
+    def keep_moves(self):
+        self.keep([self.size, [(colour, self.write_vertex(point)) for colour, point in self.moves]])
 
     def undo(self):
         super().undo()
-        self.keep([self.size, self.record])
+        self.keep_moves()
 
 
 @shown_by([*on(5, "b C3", "genmove w"), AGAIN, *on(5, "b C3", "genmove b")], "but C3")
@@ -327,11 +342,11 @@ class BookHasNoSizes(Bug):
             return file.readlines()
 
     def do_genmove(self, arguments):
-        if len(self.record) >= self.most:
+        if len(self.moves) >= self.most:
             return super().do_genmove(arguments)
         colour = self.argument(arguments, 0, self.read_colour)
-        moves = [f"{mover} {self.write_point(point)}" for mover, point in self.record]
-        page = ",".join([*moves, str(colour)])
+        moves = [f"{mover} {self.write_vertex(point)}" for mover, point in self.moves]
+        page = ",".join([*moves, colour])
         if page in self.book:
             return self.from_book(colour, self.book[page])
         answer = super().do_genmove(arguments)

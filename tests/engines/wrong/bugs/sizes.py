@@ -1,11 +1,11 @@
 """Sizes, columns and rows."""
-from rules import PASS
+from tests.references.engine.values import PASS
 from talks import Bug, instead_of, on, patch, shown_by
 
 PATCHES = [
     patch("array_ends_at_19", "Larger boards than 19x19 are taken, and the array of points has 19 columns and rows.",
           on(20, "", "play b A20"), "=",
-          place=lambda self, right, vertex: None if vertex != "pass" and max(vertex) >= 19 else right(vertex)),
+          place=lambda self, right, vertex: None if vertex != PASS and max(vertex) > 19 else right(vertex)),
     patch("letters_end_at_t", "The table of letters ends with T, and 20x20 is taken.", on(20, "", "play b U1"), "=",
           read_vertex=lambda self, right, text: None if text[0].upper() in "UVWXYZ" else right(text)),
     patch("z_is_unread", "The table of letters ends with Y, and 25x25 is taken.", on(25, "", "play b Z25"), "=",
@@ -14,21 +14,21 @@ PATCHES = [
           read_vertex=lambda self, right, text: right(text if text.lower() == "pass" else text[:2])),
     patch("tt_is_a_pass", "U20 is a pass: the engine keeps a point as a game file does, and `tt` is a pass there.",
           on(25, "b U20", "play w U20"), "?",
-          place=lambda self, right, vertex: PASS if vertex == (19, 19) else right(vertex)),
+          place=lambda self, right, vertex: PASS if vertex == (20, 20) else right(vertex)),
 ]
 
 
-@instead_of("column_of", on(9, "", "play b J1"), "=")
-def j_is_the_tenth_letter(self, right, letter):
+@instead_of("read_vertex", on(9, "", "play b J1"), "=")
+def j_is_the_tenth_letter(self, right, text):
     """A column is read as the letter's place in the alphabet, so I isn't skipped, and J1 is off a board of 9x9."""
-    return ord(letter) - ord("A")
+    vertex = right(text)
+    return vertex if vertex in (None, PASS) else (ord(text[0].upper()) - ord("A") + 1, vertex[1])
 
 
-@instead_of("column_of", on(9, "b H1", "play b J1"), "=")
-def j_is_read_as_h(self, right, letter):
+@instead_of("read_vertex", on(9, "b H1", "play b J1"), "=")
+def j_is_read_as_h(self, right, text):
     """J is read as H: the table of letters has H twice."""
-    column = right(letter)
-    return column - 1 if letter == "J" else column
+    return right(text.upper().replace("J", "H"))
 
 
 @instead_of("begin", on(11, "", "play b M1"), "?")
@@ -52,18 +52,18 @@ def clear_board_makes_19(self, right, arguments):
 @instead_of("place", on(5, "", "play b F1"), "?")
 def off_the_board_is_the_next_row(self, right, vertex):
     """A column past the board isn't refused: its point is in the row above."""
-    if vertex == "pass":
+    if vertex == PASS:
         return vertex
-    point = vertex[1] * self.size + vertex[0]
-    return point if point < len(self.board) else None
+    index = self.index(vertex)
+    return self.point(index) if index < self.size**2 else None
 
 
 @instead_of("place", on(9, "", "play b A10"), "?")
 def row_past_the_board_ends(self, right, vertex):
     """A row past the board isn't refused, and the program ends at the array's end."""
-    if vertex == "pass" or vertex[0] >= self.size:
+    if vertex == PASS or vertex[0] > self.size:
         return right(vertex)
-    if vertex[1] >= self.size:
+    if vertex[1] > self.size:
         raise SystemExit(1)
     return right(vertex)
 
@@ -88,7 +88,7 @@ def one_point_has_a_liberty(self, right, board, chain):
     return not any(self.near[stone] for stone in chain) or right(board, chain)
 
 
-@instead_of("write_point", on(13, "", "fixed_handicap 2"), "points D4 K10")
+@instead_of("write_vertex", on(13, "", "fixed_handicap 2"), "points D4 K10")
 def rows_are_one_character(self, right, point):
     """The row of a vertex is written as one character, so row 10 is a colon."""
     text = right(point)
@@ -99,7 +99,7 @@ def rows_are_one_character(self, right, point):
 def rows_are_sixteen_apart(self, right, vertex):
     """A point is its column and sixteen times its row, so R1 and A2 are one point."""
     point = right(vertex)
-    far = point not in (None, PASS) and vertex[0] >= 16
+    far = point not in (None, PASS) and vertex[0] > 16
     return right((vertex[0] - 16, vertex[1] + 1)) if far else point
 
 
@@ -107,7 +107,7 @@ def rows_are_sixteen_apart(self, right, vertex):
 def pass_is_point_361(self, right, vertex):
     """A pass is kept as point 361, which no board up to 19x19 has, and on 25x25 it is M15."""
     point = right(vertex)
-    return PASS if point == 361 else point
+    return PASS if point not in (None, PASS) and self.index(point) == 361 else point
 
 
 @instead_of("read_vertex", on(25, "b A10", "play w A20"), "=")
@@ -117,7 +117,7 @@ def rows_of_two_digits_are_tens(self, right, text):
     if vertex is None or vertex == PASS:
         return vertex
     column, row = vertex
-    return column, row if row < 9 else 9 + (row + 1) % 10
+    return column, row if row < 10 else 10 + row % 10
 
 
 @instead_of("do_boardsize", on(5, "b C3", "! boardsize 26", "play w C3"), "?")
@@ -127,7 +127,7 @@ def refused_size_clears_the_board(self, right, arguments):
     right(arguments)
 
 
-@instead_of("write_point", on(25, "", "fixed_handicap 2"), "points D4 W22")
+@instead_of("write_vertex", on(25, "", "fixed_handicap 2"), "points D4 W22")
 def written_letters_end_at_t(self, right, point):
     """Columns are read up to Z, and the table that they are written from ends with T: later ones have no letter."""
     text = right(point)

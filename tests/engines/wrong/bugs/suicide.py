@@ -1,6 +1,7 @@
 """Suicide, and plays that are taken for it."""
-from rules import EMPTY, PASS, other
-from talks import NO_ROOM_AT_E5, Bug, Keeping, filled, gone, instead_of, on, patch, plays, shown_by
+from tests.references.engine.game import filled
+from tests.references.engine.values import BLACK, PASS, other
+from talks import NO_ROOM_AT_E5, Bug, Keeping, gone, instead_of, on, patch, plays, shown_by
 
 from .captures import Counted
 
@@ -11,7 +12,7 @@ PATCHES = [
           on(5, "b A2 b B1", "play w A1"), "?",
           is_suicide=lambda self, right, board, colour, point: len(self.near[point]) > 2 and right(board, colour, point)),
     patch("white_may_die", "Suicide is looked for at Black's plays alone.", on(5, "b A2 b B1", "play w A1"), "?",
-          is_suicide=lambda self, right, board, colour, point: colour == 1 and right(board, colour, point)),
+          is_suicide=lambda self, right, board, colour, point: colour == BLACK and right(board, colour, point)),
 ]
 
 
@@ -37,15 +38,13 @@ class DeadStonesAreTakenOff(Bug):
 @instead_of("is_suicide", on(5, "b A2 w C1 b B1 w B2", "play w A1"), "=")
 def capture_is_suicide(self, right, board, colour, point):
     """Liberties are looked for before the other side's stones are taken off, so a capture can be refused."""
-    before = bytearray(self.board)
-    before[point] = colour
-    return right(bytes(before), colour, point)
+    return right(filled(self.board, [point], colour), colour, point)
 
 
 @instead_of("is_suicide", on(5, "b A2 w B1", "play b A1"), "=")
 def joining_is_suicide(self, right, board, colour, point):
     """A play without an empty neighbour that takes nothing is refused, also where it joins a chain with liberties."""
-    return all(board[near] != EMPTY for near in self.near[point])
+    return all(near in board for near in self.near[point])
 
 
 @instead_of("is_suicide", on(5, "b A2 b A3 w B1 w B2", "play b A1"), "=")
@@ -81,7 +80,7 @@ def refused_suicide_is_a_move(self, right, colour, point):
     """A suicide is refused, and is a move of the record that `undo` takes back."""
     if self.dies(colour, point):
         self.boards.append(self.board)
-        self.record.append((colour, point))
+        self.moves.append((colour, point))
     right(colour, point)
 
 
@@ -105,8 +104,7 @@ def joined_chains_may_die(self, right, board, colour, point):
 @instead_of("is_suicide", on(5, "b A1 b A2 b B2 b C1 w D1 w C2", "play w B1"), "=")
 def first_neighbour_decides(self, right, board, colour, point):
     """A play without a liberty is suicide where the first chain beside it isn't taken, also where another one is."""
-    bare = bytearray(self.board)
-    bare[point] = colour
+    bare = filled(self.board, [point], colour)
     if self.is_free(bare, self.chain(bare, point)):
         return False
     others = [near for near in self.near[point] if bare[near] == other(colour)]
@@ -157,7 +155,7 @@ class SuicideIsNoted(Bug):
         self.noted = {}
 
     def is_legal(self, colour, point):
-        if point == PASS or self.board[point] != EMPTY:
+        if point == PASS or point in self.board:
             return super().is_legal(colour, point)
         beside = [self.board[near] for near in self.near[point]]
         if self.dies(colour, point):

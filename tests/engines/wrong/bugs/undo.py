@@ -1,7 +1,8 @@
 """Undo."""
-from right import Failure
-from rules import BLACK, EMPTY, PASS, POSITIONAL, WHITE, other
-from talks import KO, Bug, Counting, filled, gone, instead_of, on, plays, shown_by
+from tests.references.engine.engine import Failure
+from tests.references.engine.game import EMPTY, POSITIONAL, Board, filled
+from tests.references.engine.values import BLACK, PASS, WHITE, other
+from talks import KO, Bug, Counting, gone, instead_of, on, plays, shown_by
 
 from .captures import Counted
 
@@ -9,7 +10,7 @@ from .captures import Counted
 @instead_of("do_undo", on(5, "b A1", "undo", "play b A1"), "=")
 def nothing_is_taken_back(self, right, arguments):
     """`undo` succeeds and does nothing."""
-    if not self.record:
+    if not self.moves:
         raise Failure("cannot undo")
 
 
@@ -17,14 +18,14 @@ def nothing_is_taken_back(self, right, arguments):
 def two_moves_are_taken_back(self, right):
     """`undo` takes back two moves, one of each side."""
     right()
-    if self.record:
+    if self.moves:
         right()
 
 
 @instead_of("undo", on(5, "b A1 w A2 w B1", "undo", "play b A1"), "?")
 def captured_stones_stay_away(self, right):
     """`undo` takes the stone back, and not the stones that it took."""
-    board, point = self.board, self.record[-1][1]
+    board, point = self.board, self.moves[-1][1]
     right()
     self.board = self.board if point == PASS else filled(board, [point])
 
@@ -40,7 +41,7 @@ def one_captured_stone_comes_back(self, right):
 @instead_of("undo", on(5, "b A1 w A2 w B1", "undo", "play w B1", "play w A1"), "=")
 def captured_stones_change_sides(self, right):
     """`undo` brings back the stones that were taken in the colour of the move."""
-    after, (colour, _) = self.board, self.record[-1]
+    after, (colour, _) = self.board, self.moves[-1]
     right()
     self.board = filled(self.board, gone(self.board, after), colour)
 
@@ -66,7 +67,7 @@ class KoOfTheTakenBackMove(Bug):
 @instead_of("do_undo", on(5, "", "undo"), "?")
 def empty_record_is_undone(self, right, arguments):
     """`undo` succeeds where there is no move."""
-    if self.record:
+    if self.moves:
         self.undo()
 
 
@@ -74,7 +75,7 @@ def empty_record_is_undone(self, right, arguments):
 def handicap_is_undone(self, right, points):
     """`undo` takes the stones of a handicap back."""
     self.boards.append(self.board)
-    self.record.append((BLACK, points[0]))
+    self.moves.append((BLACK, points[0]))
     right(points)
 
 
@@ -121,7 +122,7 @@ class EightMovesAreKept(Bug):
 def genmoves_stay(self, right, arguments):
     """The moves of `genmove` aren't in the record, so `undo` takes back the move before."""
     text = right(arguments)
-    self.record.pop()
+    self.moves.pop()
     self.boards.pop()
     return text
 
@@ -130,14 +131,14 @@ def genmoves_stay(self, right, arguments):
 def refused_play_is_undone(self, right, colour, point):
     """An illegal play is refused, and is a move of the record that `undo` takes back."""
     self.boards.append(self.board)
-    self.record.append((BLACK, PASS))
+    self.moves.append((BLACK, PASS))
     right(colour, point)
 
 
 @instead_of("do_undo", on(5, "b pass w pass", "undo"), "=")
 def last_pass_stays(self, right, arguments):
     """`undo` of the second of two passes fails: the game is over."""
-    if [point for _, point in self.record[-2:]] == [PASS, PASS]:
+    if [point for _, point in self.moves[-2:]] == [PASS, PASS]:
         raise Failure("the game is over")
     right(arguments)
 
@@ -145,14 +146,13 @@ def last_pass_stays(self, right, arguments):
 @instead_of("undo", on(5, "b A1 w A2 w B1 b pass", "undo", "play w A1"), "=")
 def pass_brings_stones_back(self, right):
     """`undo` of a pass brings back the stones of the last capture, whose list a pass doesn't empty."""
-    number = len(self.record) - 1
-    passed = self.record[number][1] == PASS
+    number = len(self.moves) - 1
+    passed = self.moves[number][1] == PASS
     right()
-    while passed and number > 0 and self.record[number - 1][1] == PASS:
+    while passed and number > 0 and self.moves[number - 1][1] == PASS:
         number -= 1
     if passed and number > 0:
-        pairs = zip(self.boards[number - 1], self.board)
-        self.board = bytes(now or before for before, now in pairs)
+        self.board = Board({**self.boards[number - 1], **self.board})
 
 
 @shown_by(on(5, "b A1 w A2", "undo", "play w B1", "play b A1"), "?")
@@ -168,11 +168,11 @@ class LibertiesStayAtUndo(Counted):
 @instead_of("undo", on(9, "", "fixed_handicap 2", "play w E5", "undo", "play b C3"), "?")
 def undo_forgets_the_handicap(self, right):
     """`undo` plays the record again from an empty board, without the stones of the handicap."""
-    placed, record = any(self.boards[0]), self.record[:-1]
+    placed, moves = bool(self.boards[0]), self.moves[:-1]
     right()
     if placed:
         self.begin(self.size)
-        for colour, point in record:
+        for colour, point in moves:
             self.move(colour, point)
 
 
@@ -187,7 +187,7 @@ class OneListOfTakenStones(Bug):
         self.kept = True
 
     def undo(self):
-        board, point = self.board, self.record[-1][1]
+        board, point = self.board, self.moves[-1][1]
         super().undo()
         self.board = self.board if self.kept or point == PASS else filled(board, [point])
         self.kept = False
@@ -219,11 +219,11 @@ class TakenBackMovesStayListed(Bug):
 @instead_of("undo", on(5, "b A1 w B2 w C3", "undo", "play w C3"), "=")
 def undo_goes_by_turns(self, right):
     """The moves are two lists, Black's and White's, and `undo` takes from the one whose turn it was by their number."""
-    mover = BLACK if len(self.record) % 2 else WHITE
-    moves = self.record
+    mover = BLACK if len(self.moves) % 2 else WHITE
+    moves = self.moves
     of_the_mover = [number for number, (colour, _) in enumerate(moves) if colour == mover]
     last = max(of_the_mover, default=len(moves) - 1)
-    self.board, self.record, self.boards = self.boards[0], [], []
+    self.board, self.moves, self.boards = self.boards[0], [], []
     for colour, point in moves[:last] + moves[last + 1 :]:
         self.move(colour, point)
 
@@ -231,15 +231,15 @@ def undo_goes_by_turns(self, right):
 @instead_of("undo", on(5, "b A1 w pass", "undo", "play w A1"), "?")
 def pass_is_taken_back_from_a1(self, right):
     """A pass is in the record as point 0, and `undo` empties the point of the last move, which is A1."""
-    point = self.record[-1][1]
+    point = self.moves[-1][1]
     right()
-    self.board = filled(self.board, [0]) if point == PASS else self.board
+    self.board = filled(self.board, [(1, 1)]) if point == PASS else self.board
 
 
 @instead_of("undo", on(5, "w A1 b A2 b B1", "undo", "play b B1"), "=")
 def taken_back_point_is_filled(self, right):
     """`undo` removes the stone, and then fills what the captured stones left, so the filling runs out by its point."""
-    (colour, point), after = self.record[-1], self.board
+    (colour, point), after = self.moves[-1], self.board
     right()
     taken = gone(self.board, after)
     if taken:
@@ -251,17 +251,17 @@ def taken_back_point_is_filled(self, right):
 @instead_of("undo", on(19, "w A19 b A18 b B19", "undo", "play b A19"), "?")
 def taken_stones_are_bytes(self, right):
     """The list of captured stones is of bytes, so those past point 255 come back at another point."""
-    (colour, point), after = self.record[-1], self.board
+    (colour, point), after = self.moves[-1], self.board
     right()
     if point != PASS:
-        self.board = filled(filled(after, [point]), [spot % 256 for spot in gone(self.board, after)], other(colour))
+        self.board = filled(filled(after, [point]), [self.point(self.index(spot) % 256) for spot in gone(self.board, after)], other(colour))
 
 
 # A1 takes B1, and then A2
 @instead_of("undo", on(5, "b A3 b B2 b C1 w A2 w B1 b A1", "undo", "play w B1"), "?")
 def last_taken_chain_comes_back(self, right):
     """A play has one list of captured stones, which each chain begins anew, so `undo` brings back the last chain."""
-    (colour, point), after = self.record[-1], self.board
+    (colour, point), after = self.moves[-1], self.board
     right()
     taken = [near for near in self.near[point] if self.board[near] != after[near]] if point != PASS else []
     if taken:
@@ -272,11 +272,11 @@ def last_taken_chain_comes_back(self, right):
 def undo_plays_in_turns(self, right):
     """`undo` plays the points of the record again, and gives them to the colours in turn."""
     right()
-    points = [point for _, point in self.record]
+    points = [point for _, point in self.moves]
     if points:
         self.board = self.boards[0]
-        self.record, self.boards = [], []
-        first = WHITE if any(self.board) else BLACK
+        self.moves, self.boards = [], []
+        first = WHITE if bool(self.board) else BLACK
         for number, point in enumerate(points):
             self.move(other(first) if number % 2 else first, point)
 
@@ -331,7 +331,7 @@ class JoinedChainsStayJoined(Bug):
         self.mates = {stone: mates for stone, mates in self.mates.items() if self.board[stone] != EMPTY}
 
     def undo(self):
-        point = self.record[-1][1]
+        point = self.moves[-1][1]
         rest = set() if point == PASS else self.chain(self.board, point) - {point}
         super().undo()
         self.mates.pop(point, None)

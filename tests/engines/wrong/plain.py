@@ -1,0 +1,64 @@
+"""The right engine that the engines here are made of, the plain reference (tests/references/engine) by another name; and how one is run."""
+import sys
+from pathlib import Path
+from random import Random
+
+sys.path.insert(0, str(Path(__file__).resolve().parents[3]))
+
+from tests.references.engine.engine import Engine  # noqa: E402
+from tests.references.engine.game import POSITIONAL, SIMPLE  # noqa: E402
+from tests.references.engine.policies import candidates  # noqa: E402
+from tests.references.engine.values import PASS  # noqa: E402
+
+
+class Chance:
+    """The policy that draws one of the candidates, or passes where there is none."""
+
+    def __init__(self, seed):
+        self.random = Random(seed)
+
+    def choose(self, game, colour):
+        found = candidates(game, colour)
+        return found[int(self.random.random() * len(found))] if found else PASS
+
+
+class Plain(Engine):
+    """The right engine."""
+
+    own_name = "plain"
+    own_version = "1"
+
+    @property
+    def random(self):
+        """What it draws by."""
+        return self.policy.random
+
+
+def run(kind, words, usage):
+    """Runs an engine of this kind, by options with their values: its rule of ko and its seed. Where they are wrong, it says how it is used."""
+    options = {"--ko": SIMPLE, "--seed": "1", **dict(zip(words[::2], words[1::2]))}
+    if len(words) % 2 or len(options) > 2 or options["--ko"] not in (SIMPLE, POSITIONAL) or not options["--seed"].isdecimal():
+        misused(usage)
+    try:
+        kind(Chance(int(options["--seed"])), options["--ko"]).run()
+    except BrokenPipeError:
+        sys.exit(3)
+
+
+def run_named(kinds, usage):
+    """Runs the engine that the first word names, or prints all of them, a line each."""
+    name, *words = sys.argv[1:] or misused(usage)
+    if name == "--list":
+        width = max(map(len, kinds))
+        for known, kind in kinds.items():
+            print(f"{known:{width}} {kind.__doc__.splitlines()[0]}")
+    elif name in kinds:
+        run(kinds[name], words, usage)
+    else:
+        misused(usage)
+
+
+def misused(usage):
+    """Prints how it is used, and ends with status 2."""
+    print(usage.rstrip(), file=sys.stderr)
+    sys.exit(2)
