@@ -13,7 +13,6 @@ sys.path[0] = str(Path(__file__).resolve().parents[2])
 
 from library.declaring import checks as declared  # noqa: E402
 from library.declaring import files as made  # noqa: E402
-from library.declaring import names  # noqa: E402
 from tests.shared import checks  # noqa: E402
 
 FILES = made.read(checks.TOP)
@@ -26,16 +25,6 @@ class Compared(checks.Case):
 
     def row(self, what):
         self.same("", "\n".join(FOUND[what]))
-
-
-class Names(checks.Case):
-    """A call that is nowhere."""
-
-    def test_names(self):
-        """a call that Rust and Python lack is seen."""
-        export = "/// Nothing.\n#[unsafe(no_mangle)]\npub extern \"C\" fn vintsaky_game_moves_of() {}\n"
-        lines = names.differing({**FILES, "crates/vintsaky/src/game.rt": export})
-        self.same(2, len([it for it in lines if it.startswith("vintsaky_game_moves_of is ")]))
 
 
 class Written(checks.Case):

@@ -19,8 +19,7 @@ TOP = checks.TOP
 FEWEST = 20  # pages that the repository has at least
 PAGES = pages.page_paths()
 NO_FILE = re.compile(r"^cargo/workspace/|NAME|CRATE")  # what cargo/strip makes, or stands for any file
-# files that name what isn't there
-OWN_PARTS = ("tests/stages/links.py", "tests/stages/of_release/stopped.py")
+NAMES_LOST = "tests/stages/of_release/stopped.py"  # it names pages that aren't there
 
 
 @lru_cache(maxsize=None)
@@ -63,29 +62,8 @@ class Others(checks.Case):
 
     def test_named(self):
         """each page that another file names by its path is there."""
-        others = [path for path in pages.files() if path not in PAGES and not path.startswith(OWN_PARTS)]
+        others = [path for path in pages.files() if path not in PAGES and path != NAMES_LOST]
         self.same([], [fault for path in others for fault in lost_pages(path, (TOP / path).read_text(errors="replace"))])
-
-
-HEADINGS = "# One\n\n## `Two`, or: [three](x.md)\n\n## Two or three\n\n### One\n\n```\n# none\n```\n"
-
-
-class Wrong(checks.Case):
-    """What leads nowhere is seen."""
-
-    def test_links(self):
-        """a link to a file or a heading that isn't there."""
-        room = self.room()
-        (room / "x.md").write_text(HEADINGS)
-        right = "# Me\n[a](x.md) [b](x.md#one-1) [c](#me) [d](https://x.org/y#z) `[e](none.md)` [`f`](x.md#two-or-three-1)\n"
-        for target in ("none.md", "x.md#two", "#one", "x.md#one-2", "../none/"):
-            (room / "page.md").write_text(f"{right}[g]({target})\n")
-            self.check(f"a link to {target}", [f"page.md:3: {target}"], pages.lost_links(room / "page.md"))
-
-    def test_named(self):
-        """a file and a page that aren't there."""
-        self.same(["p: tests/none.py"], lost_files("p", "`docs/map.md` `tests/none.py` `lib.rt` `docs/` docs/none.md\n"))
-        self.same(["f: docs/map.md#none", "f: docs/none.md"], lost_pages("f", "docs/map.md docs/map.md#none\n.Pa none.md .\n"))
 
 
 if __name__ == "__main__":

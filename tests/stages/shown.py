@@ -120,13 +120,6 @@ class Pages(checks.Case):
         self.same([], [fault for page, text in found.items() for fault in not_run(page, text)])
         self.same([], [page for page in NOT_RUN if not examples_of(found[page])])
 
-    def test_wrong_pages(self):
-        """an example that no stage runs is seen."""
-        one, late = "```\n$ one\n1\n```\n", "```\nfirst\n$ late\n```\n"
-        for page, text, wanted in (("README.md", one, []), ("none.md", one, ["none.md: $ one"]), ("README.md", late, ["README.md: $ late"]),
-                                   ("none.md", "```\n$(one)\n```\n`$ two`\n", [])):  # fmt: skip
-            self.check(f"{page}: {text!r}", wanted, not_run(page, text))
-
 
 def example_named(row):
     """The page, and the beginning of the command."""
