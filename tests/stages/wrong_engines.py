@@ -26,7 +26,6 @@ from talks import AGAIN  # noqa: E402
 
 PARSER = checks.Parser(__doc__)
 PARSER.add_argument("names", metavar="NAME", nargs="*", help="the bugs that are tried (all)")
-PARSER.add_argument("--off", metavar="NAME", choices=BUGS, help="a bug that is switched off, which has to fail")
 OPTIONS = PARSER.options(__name__)
 if set(OPTIONS.names) - set(BUGS):
     PARSER.error("no such bug")
@@ -150,9 +149,9 @@ def faults_before(steps, right, wrong):
             yield f"the right engine answers {step!r} by {by_right!r}"
 
 
-def faults(name, bug, off):
-    """What is odd about a bug. Where it is off, the wrong engine is right."""
-    wrong_options = bug.options if off else [*bug.options, "--bug", name]
+def faults(name, bug):
+    """What is odd about a bug."""
+    wrong_options = [*bug.options, "--bug", name]
     right, wrong = Talk(bug.shows, bug.options), Talk(bug.shows, wrong_options)
     yield from faults_before(bug.shows, right, wrong)
     if not is_right(bug.right, bug.shows, right.last) or right.status != 0:
@@ -177,7 +176,7 @@ def faults_of_the_opening(bug, options):
 # ---- the checks
 
 
-@checks.table(OPTIONS.names or list(BUGS), str, lambda name: list(faults(name, BUGS[name], name == OPTIONS.off)))
+@checks.table(OPTIONS.names or list(BUGS), str, lambda name: list(faults(name, BUGS[name])))
 class Bugs(checks.Case):
     """Each bug is shown by its conversation."""
 
@@ -193,10 +192,6 @@ class All(checks.Case):
         subjects = [bug.subject for bug in BUGS.values()]
         small = [subject for subject in dict.fromkeys(subjects) if subjects.count(subject) < FEWEST_OF_A_SUBJECT]
         self.check(f"{len(subjects)} bugs of {len(set(subjects))} subjects", (True, []), (len(subjects) >= FEWEST, small))
-
-    def test_off(self):
-        """a bug that is switched off is noticed."""
-        self.assertTrue(list(faults("no_ko", BUGS["no_ko"], True)), "it isn't")
 
 
 if __name__ == "__main__":

@@ -2,22 +2,23 @@
 import sys
 from pathlib import Path
 from random import Random
+from typing import Dict, List, NoReturn, Type
 
 sys.path.insert(0, str(Path(__file__).resolve().parents[3]))
 
 from tests.references.engine.engine import Engine  # noqa: E402
 from tests.references.engine.game import POSITIONAL, SIMPLE  # noqa: E402
 from tests.references.engine.policies import candidates  # noqa: E402
-from tests.references.engine.values import PASS  # noqa: E402
+from tests.references.engine.values import PASS, Colour, Vertex  # noqa: E402
 
 
 class Chance:
     """The policy that draws one of the candidates, or passes where there is none."""
 
-    def __init__(self, seed):
+    def __init__(self, seed: int) -> None:
         self.random = Random(seed)
 
-    def choose(self, game, colour):
+    def choose(self, game: Engine, colour: Colour) -> Vertex:
         found = candidates(game, colour)
         return found[int(self.random.random() * len(found))] if found else PASS
 
@@ -29,12 +30,12 @@ class Plain(Engine):
     own_version = "1"
 
     @property
-    def random(self):
+    def random(self) -> Random:
         """What it draws by."""
         return self.policy.random
 
 
-def run(kind, words, usage):
+def run(kind: Type[Engine], words: List[str], usage: str) -> None:
     """Runs an engine of this kind, by options with their values: its rule of ko and its seed. Where they are wrong, it says how it is used."""
     options = {"--ko": SIMPLE, "--seed": "1", **dict(zip(words[::2], words[1::2]))}
     if len(words) % 2 or len(options) > 2 or options["--ko"] not in (SIMPLE, POSITIONAL) or not options["--seed"].isdecimal():
@@ -45,7 +46,7 @@ def run(kind, words, usage):
         sys.exit(3)
 
 
-def run_named(kinds, usage):
+def run_named(kinds: Dict[str, Type[Engine]], usage: str) -> None:
     """Runs the engine that the first word names, or prints all of them, a line each."""
     name, *words = sys.argv[1:] or misused(usage)
     if name == "--list":
@@ -58,7 +59,7 @@ def run_named(kinds, usage):
         misused(usage)
 
 
-def misused(usage):
+def misused(usage: str) -> NoReturn:
     """Prints how it is used, and ends with status 2."""
     print(usage.rstrip(), file=sys.stderr)
     sys.exit(2)

@@ -4,13 +4,15 @@ It states the rules in the most literal way, and shares no code with the program
 is a byte. There is a method for each step and each command, so that an engine with one bug is a class that has another one of them.
 """
 import os
+from typing import Callable, List, Optional, Tuple, TypeVar
 
 from . import policies, values
 from .game import SIMPLE, Game, is_on
 from .policies import RESIGN
-from .values import PASS
+from .values import PASS, Colour, Point, Vertex
 
 LONGEST_LINE = 1000
+Value = TypeVar("Value")
 CONTROL = {code: None for code in [*range(9), *range(10, 32), 127]}
 
 
@@ -29,7 +31,7 @@ class Engine(Game):
     own_name = "stepgo"
     own_version = "1.0"
 
-    def __init__(self, policy, rule=SIMPLE):
+    def __init__(self, policy: policies.Policy, rule: str = SIMPLE) -> None:
         super().__init__(rule)
         self.policy = policy
         self.ended = False
@@ -37,34 +39,34 @@ class Engine(Game):
 
     # ---- from bytes to replies
 
-    def feed(self, data):
+    def feed(self, data: bytes) -> bytes:
         """The replies to the lines that these bytes end, up to and with a quit."""
         lines = self.lines(data.decode("latin-1"))
         return "".join(self.answer(line) for line in lines if not self.ended).encode("latin-1")
 
-    def run(self):
+    def run(self) -> None:
         """Answers the lines of standard input, each before the next one is executed, up to `quit` or the end."""
         while not self.ended and (text := self.receive()):
             for line in self.lines(text):
                 if not self.ended:
                     self.send(self.answer(line))
 
-    def receive(self):
+    def receive(self) -> str:
         """What the next read gives; nothing at the end of the input."""
         return os.read(0, 65536).decode("latin-1")
 
-    def send(self, text):
+    def send(self, text: str) -> None:
         """Writes a text at once."""
         data = text.encode("latin-1")
         while data:
             data = data[os.write(1, data) :]
 
-    def lines(self, text):
+    def lines(self, text: str) -> List[str]:
         """The lines that this text ends. An unfinished last one is kept for the next text, and never executed (own)."""
         *lines, self.unfinished = (self.unfinished + text).split("\n")
         return lines
 
-    def answer(self, line):
+    def answer(self, line: str) -> str:
         """The reply to a line, given without its newline; nothing where it has no word and is passed over. (The standard,
         preprocessing.) Joined by single spaces, the id's word included, the words have at most 1,000 bytes (own)."""
         words = self.words(line)
@@ -78,32 +80,32 @@ class Engine(Game):
         except Failure as failure:
             return self.reply(False, number, str(failure))
 
-    def words(self, line):
+    def words(self, line: str) -> List[str]:
         """The words of a line: the longest runs without a space. A # and all that follows it is removed, and HT becomes a space. (The
         standard, preprocessing.)"""
         text = self.cleaned(line).split("#")[0].replace("\t", " ")
         return [word for word in text.split(" ") if word != ""]
 
-    def cleaned(self, line):
+    def cleaned(self, line: str) -> str:
         """A line without CR and all other control characters (0 to 31, and 127) but HT and LF; bytes 128 to 255 are ordinary ones (own).
         (The standard, preprocessing.)"""
         return line.translate(CONTROL)
 
-    def split_id(self, words):
+    def split_id(self, words: List[str]) -> Tuple[Optional[int], List[str]]:
         """The id, or None, and the words after it. The first word is the id where it is an int. (The standard, command structure.)"""
         number = self.read_int(words[0])
         return (None, words) if number is None else (number, words[1:])
 
-    def reply(self, good, number, text):
+    def reply(self, good: bool, number: Optional[int], text: str) -> str:
         """A reply: = or ?, the id where there is one, a space and the text where it isn't empty, and two newlines. (The standard,
         response structure.)"""
         return self.head(good, number, text) + (f" {text}" if text else "") + "\n\n"
 
-    def head(self, good, number, text):
+    def head(self, good: bool, number: Optional[int], text: str) -> str:
         """The mark and the id of a reply."""
         return ("=" if good else "?") + ("" if number is None else str(number))
 
-    def execute(self, words):
+    def execute(self, words: List[str]) -> str:
         """The text of a success, or a Failure. A line with an id alone is an unknown command, and surplus arguments are ignored
         (own). (The standard, standard error messages.)"""
         if not words or words[0] not in self.names:
@@ -112,7 +114,7 @@ class Engine(Game):
 
     # ---- values
 
-    def argument(self, arguments, number, read):
+    def argument(self, arguments: List[str], number: int, read: Callable[[str], Optional[Value]]) -> Value:
         """The argument of this number, counted from 0, as `read` reads it; a syntax error where it is missing or can't be read. (The
         standard, standard error messages.)"""
         value = read(arguments[number]) if number < len(arguments) else None
@@ -120,26 +122,26 @@ class Engine(Game):
             raise Failure("syntax error")
         return value
 
-    def read_int(self, text):
+    def read_int(self, text: str) -> Optional[int]:
         return values.read_int(text.encode("latin-1"))
 
-    def read_colour(self, text):
+    def read_colour(self, text: str) -> Optional[Colour]:
         return values.read_colour(text.encode("latin-1"))
 
-    def read_vertex(self, text):
+    def read_vertex(self, text: str) -> Optional[Vertex]:
         return values.read_vertex(text.encode("latin-1"))
 
-    def read_komi(self, text):
+    def read_komi(self, text: str) -> Optional[int]:
         return values.read_komi(text.encode("latin-1"))
 
-    def place(self, vertex):
+    def place(self, vertex: Vertex) -> Optional[Vertex]:
         """The point of the board that was read, or a pass; None where it is off the board."""
         return vertex if vertex == PASS or is_on(self.size, vertex) else None
 
-    def write_vertex(self, vertex):
+    def write_vertex(self, vertex: Vertex) -> str:
         return values.write_vertex(vertex).decode()
 
-    def write_score(self, lead):
+    def write_score(self, lead: int) -> str:
         """The text of a score, from Black's lead in half points: who leads and by how much, or 0."""
         if lead == 0:
             return "0"
@@ -147,45 +149,45 @@ class Engine(Game):
 
     # ---- the commands. (The standard, from administrative to debug commands.)
 
-    def do_protocol_version(self, arguments):
+    def do_protocol_version(self, arguments: List[str]) -> str:
         return "2"
 
-    def do_name(self, arguments):
+    def do_name(self, arguments: List[str]) -> str:
         return self.own_name
 
-    def do_version(self, arguments):
+    def do_version(self, arguments: List[str]) -> str:
         return self.own_version
 
-    def do_known_command(self, arguments):
+    def do_known_command(self, arguments: List[str]) -> str:
         """Is this, letter for letter, a command's name?"""
         if not arguments:
             raise Failure("syntax error")
         return "true" if arguments[0] in self.names else "false"
 
-    def do_list_commands(self, arguments):
+    def do_list_commands(self, arguments: List[str]) -> str:
         """The names, a line each, in the order of the table. (The order is own.)"""
         return "\n".join(self.names)
 
-    def do_quit(self, arguments):
+    def do_quit(self, arguments: List[str]) -> None:
         """Ends the session."""
         self.ended = True
 
-    def do_boardsize(self, arguments):
+    def do_boardsize(self, arguments: List[str]) -> None:
         """Sets the size, 1 to 25, and empties the game; komi stays. (Sizes and what is emptied: own.)"""
         size = self.argument(arguments, 0, self.read_int)
         if not 1 <= size <= 25:
             raise Failure("unacceptable size")
         self.begin(size)
 
-    def do_clear_board(self, arguments):
+    def do_clear_board(self, arguments: List[str]) -> None:
         """Empties the game; size and komi stay."""
         self.begin(self.size)
 
-    def do_komi(self, arguments):
+    def do_komi(self, arguments: List[str]) -> None:
         """Sets komi."""
         self.komi = self.argument(arguments, 0, self.read_komi)
 
-    def do_play(self, arguments):
+    def do_play(self, arguments: List[str]) -> None:
         """Adds a move."""
         colour = self.argument(arguments, 0, self.read_colour)
         point = self.place(self.argument(arguments, 1, self.read_vertex))
@@ -194,16 +196,16 @@ class Engine(Game):
             self.refuse(colour, point)
         self.move(colour, point)
 
-    def refuse(self, colour, point):
+    def refuse(self, colour: Colour, point: Optional[Point]) -> None:
         """Fails as an illegal move. The point is None where it is off the board."""
         raise Failure("illegal move")
 
-    def need_room(self):
+    def need_room(self) -> None:
         """Fails where the record is full. (That it has room for 2,000 moves is own.)"""
         if self.is_full():
             raise Failure("record full")
 
-    def do_genmove(self, arguments):
+    def do_genmove(self, arguments: List[str]) -> str:
         """Adds and answers the move that is chosen, or answers that it resigns, which changes nothing. It is chosen only where the record
         has room."""
         colour = self.argument(arguments, 0, self.read_colour)
@@ -214,15 +216,15 @@ class Engine(Game):
         self.move(colour, chosen)
         return self.write_vertex(chosen)
 
-    def choose(self, colour):
+    def choose(self, colour: Colour) -> Vertex:
         """What the policy chooses. (Own.)"""
         return self.policy.choose(self, colour)
 
-    def is_candidate(self, colour, point):
+    def is_candidate(self, colour: Colour, point: Point) -> bool:
         """Is a play here legal, and has the point a neighbour which is empty or holds a stone of the other colour? (Own.)"""
         return self.is_legal(colour, point) and any(self.board.get(near) != colour for near in self.near[point])
 
-    def do_fixed_handicap(self, arguments):
+    def do_fixed_handicap(self, arguments: List[str]) -> str:
         """Places a handicap, where there is no stone and no move, and answers its points. (The points are own.)"""
         number = self.argument(arguments, 0, self.read_int)
         if not self.is_untouched():
@@ -233,39 +235,39 @@ class Engine(Game):
         self.place_handicap(stones)
         return " ".join(self.write_vertex(stone) for stone in stones)
 
-    def is_untouched(self):
+    def is_untouched(self) -> bool:
         """Is there no move, and no stone of a handicap?"""
         return not self.moves and not self.board
 
-    def allows(self, number):
+    def allows(self, number: int) -> bool:
         """May so many stones be placed?"""
         return 2 <= number <= self.most_handicap_stones()
 
-    def most_handicap_stones(self):
+    def most_handicap_stones(self) -> int:
         return values.most_handicap_stones(self.size)
 
-    def low_line(self):
+    def low_line(self) -> int:
         return values.low_line(self.size)
 
-    def handicap(self, number):
+    def handicap(self, number: int) -> List[Point]:
         return values.handicap(self.size, number, self.low_line())
 
-    def do_undo(self, arguments):
+    def do_undo(self, arguments: List[str]) -> None:
         """Takes the last move back."""
         if not self.moves:
             raise Failure("cannot undo")
         self.undo()
 
-    def do_final_score(self, arguments):
+    def do_final_score(self, arguments: List[str]) -> str:
         """Who leads and by how much, or 0. (That every stone is alive is own.)"""
         return self.write_score(self.score())
 
-    def do_showboard(self, arguments):
+    def do_showboard(self, arguments: List[str]) -> str:
         """The board as text. (Its form is own.)"""
         return self.show()
 
 
-def start(policy, seed, book, rule=SIMPLE):
+def start(policy: str, seed: int, book: bytes, rule: str = SIMPLE) -> Optional[Engine]:
     """The engine that the options start, or None where the book is no book, whatever the policy is (own)."""
     entries = policies.read_book(book)
     if entries is None:
@@ -275,7 +277,7 @@ def start(policy, seed, book, rule=SIMPLE):
     return Engine(policies.Random(seed) if policy == "random" else policies.Book(entries), rule)
 
 
-def run(policy, seed, book, data, rule=SIMPLE):
+def run(policy: str, seed: int, book: bytes, data: bytes, rule: str = SIMPLE) -> Tuple[int, bytes, bytes]:
     """What the program does with these options and this input: its status, its output, and what it writes to standard error. (Own.)"""
     engine = start(policy, seed, book, rule)
     if engine is None:

@@ -4,9 +4,10 @@ A game keeps a whole board for each of its moves, so that taking a move back, an
 one bug is a class that has another one of them (tests/engines/wrong). All rules here are own, except where a function says otherwise.
 """
 from functools import lru_cache
+from typing import Iterable, List, Optional, Set, Tuple
 
 from . import values
-from .values import BLACK, PASS, WHITE, other
+from .values import BLACK, PASS, WHITE, Colour, Point, Vertex, other
 
 MOST_MOVES = 2000
 # The rules of ko.
@@ -16,24 +17,24 @@ EMPTY = None
 
 
 @lru_cache(maxsize=None)
-def points(size):
+def points(size: int) -> List[Point]:
     """All points of a board, in the order A1, B1, .., A2, B2, .."""
     return [(column, row) for row in range(1, size + 1) for column in range(1, size + 1)]
 
 
-def in_order(found):
+def in_order(found: Iterable[Point]) -> List[Point]:
     """These points in the board's order."""
     return sorted(found, key=lambda point: point[::-1])
 
 
-def is_on(size, point):
+def is_on(size: int, point: Point) -> bool:
     """Does the board have this point?"""
     column, row = point
     return 1 <= column <= size and 1 <= row <= size
 
 
 @lru_cache(maxsize=None)
-def neighbours(size, point):
+def neighbours(size: int, point: Point) -> List[Point]:
     """The points of the board that share a side with this one: left, right, below, above."""
     column, row = point
     beside = [(column - 1, row), (column + 1, row), (column, row - 1), (column, row + 1)]
@@ -43,18 +44,18 @@ def neighbours(size, point):
 class Board(dict):
     """The stones of a board: the colour of each point that has one. Any other point is EMPTY. Once it is made it isn't changed."""
 
-    def __missing__(self, point):
+    def __missing__(self, point: Point) -> None:
         return EMPTY
 
-    def __hash__(self):
+    def __hash__(self) -> int:
         return hash(frozenset(self.items()))
 
-    def count(self, colour):
+    def count(self, colour: Colour) -> int:
         """How many stones of this colour there are."""
         return list(self.values()).count(colour)
 
 
-def filled(board, places, stone=EMPTY):
+def filled(board: Board, places: Iterable[Point], stone: Optional[Colour] = EMPTY) -> Board:
     """The board with this stone on these points, or with none there."""
     board = Board(board)
     for point in places:
@@ -68,31 +69,31 @@ def filled(board, places, stone=EMPTY):
 class Game:
     """A game: the rule of ko, size, komi in half points, the board, and the record of its moves, each a pair (colour, vertex)."""
 
-    def __init__(self, rule=SIMPLE):
+    def __init__(self, rule: str = SIMPLE) -> None:
         self.rule = rule
         self.komi = 0
         self.begin(19)
 
-    def begin(self, size):
+    def begin(self, size: int) -> None:
         """Sets the size and empties board and record. Komi and the rule of ko stay. (The standard, setup commands, leaves to the engine
         which sizes there are and what is emptied.)"""
         self.size = size
         self.board = Board()
-        self.moves = []
-        self.boards = []  # the board before each of the moves
+        self.moves: List[Tuple[Colour, Vertex]] = []
+        self.boards: List[Board] = []  # the board before each of the moves
         self.near = {point: self.beside(point) for point in points(size)}
 
-    def first_board(self):
+    def first_board(self) -> Board:
         """The board before the first move."""
         return self.boards[0] if self.boards else self.board
 
-    def beside(self, point):
+    def beside(self, point: Point) -> List[Point]:
         """The points that are neighbours of this one."""
         return neighbours(self.size, point)
 
     # ---- chains and liberties
 
-    def chain(self, board, point):
+    def chain(self, board: Board, point: Point) -> Set[Point]:
         """The points that are joined to this one by neighbours that are all like it: a stone's chain, or an empty point's region."""
         like, found, todo = board.get(point), {point}, [point]
         while todo:
@@ -102,28 +103,28 @@ class Game:
                     todo.append(near)
         return found
 
-    def is_free(self, board, chain):
+    def is_free(self, board: Board, chain: Iterable[Point]) -> bool:
         """Has the chain a liberty: an empty point next to one of its stones?"""
         return any(near not in board for stone in chain for near in self.near[stone])
 
-    def liberties(self, board, chain):
+    def liberties(self, board: Board, chain: Iterable[Point]) -> Set[Point]:
         """The liberties of a chain."""
         return {near for stone in chain for near in self.near[stone] if near not in board}
 
     # ---- plays
 
-    def put(self, colour, point):
+    def put(self, colour: Colour, point: Point) -> Board:
         """The board after a stone of this colour is put on this point, and then every stone of the other colour whose chain has no
         liberty is removed, all at once."""
         board = filled(self.board, [point], colour)
         return filled(board, self.captures(board, colour, point))
 
-    def captures(self, board, colour, point):
+    def captures(self, board: Board, colour: Colour, point: Point) -> Set[Point]:
         """The stones that a stone of this colour on this point takes. It is on the board already. No other chains than those beside it can
         have lost a liberty."""
         return self.dead(board, other(colour), self.near[point])
 
-    def dead(self, board, colour, places):
+    def dead(self, board: Board, colour: Colour, places: Iterable[Point]) -> Set[Point]:
         """The stones of this colour whose chain is on one of these points and has no liberty."""
         found = set()
         for point in places:
@@ -133,7 +134,7 @@ class Game:
                     found |= chain
         return found
 
-    def is_legal(self, colour, vertex):
+    def is_legal(self, colour: Colour, vertex: Vertex) -> bool:
         """May this colour move so?
 
         A pass is always legal and changes no stone. A play is illegal off the board, on a stone, where its chain then has no liberty
@@ -146,11 +147,11 @@ class Game:
         board = self.put(colour, vertex)
         return not self.is_suicide(board, colour, vertex) and not self.is_ko(board, colour, vertex)
 
-    def is_suicide(self, board, colour, point):
+    def is_suicide(self, board: Board, colour: Colour, point: Point) -> bool:
         """Is the play that makes this board suicide?"""
         return not self.is_free(board, self.chain(board, point))
 
-    def is_ko(self, board, colour, point):
+    def is_ko(self, board: Board, colour: Colour, point: Point) -> bool:
         """Is the play that makes this board ko?
 
         By the simple rule it is where that board stood before the previous move. A pass counts as a previous move, and with an empty
@@ -161,7 +162,7 @@ class Game:
             return board in self.boards
         return bool(self.boards) and board == self.boards[-1]
 
-    def after(self, colour, vertex):
+    def after(self, colour: Colour, vertex: Vertex) -> Optional[Board]:
         """The board that this move makes, or None where the move is illegal."""
         if not self.is_legal(colour, vertex):
             return None
@@ -169,18 +170,18 @@ class Game:
 
     # ---- moves
 
-    def is_full(self):
+    def is_full(self) -> bool:
         """Has the record no room for a further move?"""
         return len(self.moves) >= MOST_MOVES
 
-    def play(self, colour, vertex):
+    def play(self, colour: Colour, vertex: Vertex) -> bool:
         """Adds this move, and returns whether it is legal; where it isn't, nothing changes."""
         is_legal = self.is_legal(colour, vertex)
         if is_legal:
             self.move(colour, vertex)
         return is_legal
 
-    def move(self, colour, vertex):
+    def move(self, colour: Colour, vertex: Vertex) -> None:
         """Adds a legal move."""
         before = self.board
         if vertex != PASS:
@@ -188,18 +189,18 @@ class Game:
         self.boards.append(before)
         self.moves.append((colour, vertex))
 
-    def undo(self):
+    def undo(self) -> None:
         """Takes the last move back, with what it captured. There is one. (The standard, core play commands.)"""
         self.board = self.boards.pop()
         self.moves.pop()
 
-    def place_handicap(self, stones):
+    def place_handicap(self, stones: Iterable[Point]) -> None:
         """Puts Black's stones on these points. They are no moves, so they are never taken back."""
         self.board = filled(self.board, stones, BLACK)
 
     # ---- what is counted and shown
 
-    def captured(self, colour):
+    def captured(self, colour: Colour) -> int:
         """How many stones this colour's moves have taken: a play that takes none makes the board one stone richer."""
         return sum(
             len(before) + 1 - len(after)
@@ -207,7 +208,7 @@ class Game:
             if mover == colour and vertex != PASS
         )
 
-    def score(self):
+    def score(self) -> int:
         """Black's lead in half points, below zero where White leads.
 
         A stone counts for its colour; an empty region counts for a colour where the stones next to it are all of that colour and
@@ -224,7 +225,7 @@ class Game:
                     area[beside.pop()] += len(region)
         return 2 * (area[BLACK] - area[WHITE]) - self.komi
 
-    def show(self):
+    def show(self) -> str:
         """The board as text: a line for each row from the highest down, with the row's number; the columns' letters; the stones
         that each colour has taken."""
         marks = {EMPTY: ". ", BLACK: "X ", WHITE: "O "}

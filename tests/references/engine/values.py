@@ -4,20 +4,24 @@ Texts are bytes. A colour is BLACK or WHITE, a point is a pair (column, row), bo
 and a vertex is a point or PASS. Komi is a whole number of half points.
 """
 import re
+from typing import List, Optional, Tuple, Union
 
 BLACK = "black"
 WHITE = "white"
 PASS = "pass"
 COLUMNS = b"ABCDEFGHJKLMNOPQRSTUVWXYZ"
 GREATEST_INT = 2147483647
+Colour = str
+Point = Tuple[int, int]
+Vertex = Union[Point, str]
 
 
-def other(colour):
+def other(colour: Colour) -> Colour:
     """The other colour."""
     return WHITE if colour == BLACK else BLACK
 
 
-def read_int(text):
+def read_int(text: bytes) -> Optional[int]:
     """The int that this text spells, or None.
 
     An int is one digit or more and nothing else, of a value up to 2,147,483,647; leading zeros are allowed.
@@ -28,7 +32,7 @@ def read_int(text):
     return int(text)
 
 
-def read_colour(text):
+def read_colour(text: bytes) -> Optional[Colour]:
     """The colour that this text spells, or None.
 
     A colour is b, black, w or white, in small or capital letters or a mixture. (The standard, simple entities: color.)
@@ -36,7 +40,7 @@ def read_colour(text):
     return {b"b": BLACK, b"black": BLACK, b"w": WHITE, b"white": WHITE}.get(text.lower())
 
 
-def read_vertex(text):
+def read_vertex(text: bytes) -> Optional[Vertex]:
     """The vertex that this text spells, or None.
 
     A vertex is a column's letter, small or capital and never I, and a row from 1 to 25; or pass, in any letters. (The standard,
@@ -50,7 +54,7 @@ def read_vertex(text):
     return COLUMNS.index(spelled[1]) + 1, int(spelled[2])
 
 
-def write_vertex(vertex):
+def write_vertex(vertex: Vertex) -> bytes:
     """A vertex in its one written form: the capital letter and the row, or pass. (Own.)"""
     if vertex == PASS:
         return b"pass"
@@ -58,7 +62,7 @@ def write_vertex(vertex):
     return b"%c%d" % (COLUMNS[column - 1], row)
 
 
-def read_komi(text):
+def read_komi(text: bytes) -> Optional[int]:
     """The half points that this text spells as a komi, or None.
 
     A komi is a plus, a minus or neither; at most nine digits; then nothing, or a point and at most nine digits, which are zeros
@@ -74,22 +78,22 @@ def read_komi(text):
     return -half_points if sign == b"-" else half_points
 
 
-def write_half_points(half_points):
+def write_half_points(half_points: int) -> bytes:
     """A number of half points, zero or more, in points: 13 is 6.5, 14 is 7. (Own.)"""
     return b"%d" % (half_points // 2) + (b".5" if half_points % 2 == 1 else b"")
 
 
-def most_handicap_stones(size):
+def most_handicap_stones(size: int) -> int:
     """How many stones a handicap has at most: 9 on odd sizes from 9 up, 4 on size 7 and even sizes from 8 up, none below. (Own.)"""
     return 0 if size < 7 else 9 if size % 2 == 1 and size >= 9 else 4
 
 
-def low_line(size):
+def low_line(size: int) -> int:
     """The line of handicap points near an edge: the third on sizes below 13 and the fourth from 13 up. (Own.)"""
     return 3 if size < 13 else 4
 
 
-def handicap(size, number, low):
+def handicap(size: int, number: int, low: int) -> List[Point]:
     """The points of this many handicap stones in their order. The high line is as far from the other edge as the low one. (The
     standard, fixed handicap placement, describes such points; the table and its order are own.)"""
     high, middle = size + 1 - low, size // 2 + 1
@@ -109,6 +113,6 @@ def handicap(size, number, low):
     }[number]
 
 
-def handicap_points(size, number):
+def handicap_points(size: int, number: int) -> Optional[List[Point]]:
     """The points of this many handicap stones in their order, or None where the size doesn't allow the number."""
     return handicap(size, number, low_line(size)) if 2 <= number <= most_handicap_stones(size) else None
