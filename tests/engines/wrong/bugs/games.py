@@ -164,19 +164,19 @@ class TakenStonesOfTheGameBefore(Bug):
 
     def __init__(self, *options):
         super().__init__(*options)
-        self.taken = []  # each a move's number, a point and its stone
+        self.taken = []  # each a move's number, a point's number and its stone
 
     def move(self, colour, point):
         before = self.board
         super().move(colour, point)
-        self.taken += [(len(self.moves), place, before[place]) for place in gone(before, self.board)]
+        self.taken += [(len(self.moves), self.index(place), before[place]) for place in gone(before, self.board)]
 
     def undo(self):
         number = len(self.moves)
         super().undo()
         while self.taken and self.taken[-1][0] >= number:
             _, place, stone = self.taken.pop()
-            self.board = filled(self.board, [place] if is_on(self.size, place) else [], stone)
+            self.board = filled(self.board, [self.point(place)] if place < self.size**2 else [], stone)
 
 
 @shown_by(on(3, FORCED, "genmove b", "clear_board", *plays(FORCED), "genmove w"), "moves pass")
