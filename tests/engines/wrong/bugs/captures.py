@@ -22,7 +22,8 @@ PATCHES = [
           captures=lambda self, right, board, colour, point: self.dead(board, other(colour), {*self.near[point]} - {(1, 1)})),
     patch("nothing_below_is_taken", "The table of the four directions has one of them twice, so a chain below the play isn't looked at.",
           on(5, "b A1 w B1 w A2", "play w A1"), "=",
-          captures=lambda self, right, board, colour, point: self.dead(board, other(colour), {*self.near[point]} - {(point[0], point[1] - 1)})),
+          captures=lambda self, right, board, colour, point: self.dead(
+              board, other(colour), {*self.near[point]} - {(point[0], point[1] - 1)})),
     patch("captures_end_at_an_empty_point",
           "Captures are looked for at one neighbour after the other, and no further once one of them is empty.",
           on(5, "w C1 b D1 b C2 b B1", "play b C1"), "=",
