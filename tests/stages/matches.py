@@ -24,6 +24,7 @@ sys.path[0] = str(Path(__file__).resolve().parents[2])
 
 from tests.references.controller import matches, worked  # noqa: E402
 from tests.references.controller.controller import MOST_UNANSWERED, SIDES  # noqa: E402
+from tests.references.controller.engines import Other  # noqa: E402
 from tests.references.controller.matches import PATIENT, TIMINGS, Result, as_reported  # noqa: E402
 from tests.references.controller.worked import BLACK, PASSED, WAITS, WHITE, book, passing, refusing  # noqa: E402
 from tests.shared import checks, running  # noqa: E402
@@ -147,21 +148,21 @@ class Matches(checks.Case):
 class Ended(checks.Case):
     """An engine whose output ended has 200 milliseconds to end by itself, and one that is ended for what it wrote has none."""
 
-    def seconds(self, plan, started):
-        """How long a match takes in which Black goes down so often."""
+    def seconds(self, engine, started):
+        """How long a match takes in which Black, which is this engine, goes down so often."""
         begin = time.monotonic()
-        came, is_left = played(worked.match(passing(plan), worked.FIRST, restarts=started - 1))
+        came, is_left = played(worked.match(engine, worked.FIRST, restarts=started - 1))
         wanted = f"game 1: abandoned black moves 0 restarts {started - 1} 0\n"
-        self.check(f"{plan}: it goes down {started} times", (wanted.encode(), False), (came.output, is_left))
+        self.check(f"{started} processes of Black go down", (wanted.encode(), False), (came.output, is_left))
         return time.monotonic() - begin
 
     def test_wrote(self):
         """what writes no reply and reads on is ended at once."""
-        self.check("41 engines that write no reply take less than so much each", True, self.seconds(r"*/c1/hello\n/on", 41) < 41 * 0.2)
+        self.check("41 engines that write no reply take less than so much each", True, self.seconds(Other("cat"), 41) < 41 * 0.2)
 
     def test_closed(self):
         """what closes its output and lives on is ended a little later."""
-        self.check("6 engines that close their output take at least so much each", True, self.seconds("*/0//closes", 6) >= 6 * 0.2)
+        self.check("6 engines that close their output take at least so much each", True, self.seconds(passing("*/0//closes"), 6) >= 6 * 0.2)
 
 
 class Killed(checks.Case):

@@ -85,7 +85,7 @@ class Faulty:
         self.seed, self.passes, self.style, self.life = seed, passes, style, life
         self.plan = read_plan(plan)
         self.size = 1
-        self.points = []  # of the board, in the order in which it plays there
+        self.points = []  # of the board, in the order in which it plays there; None where that wasn't drawn yet
         self.named = []  # the vertices since the board was empty
         self.count = {}  # how many commands of each name there were, and of all
         self.notes = "*" not in style  # is what it is sent next to be noted? Not where each reply may be too long.
@@ -128,7 +128,7 @@ class Faulty:
         """The text of the plain reply to a command."""
         if name == b"boardsize":
             self.size = int(arguments[0])
-            self.points = drawn_order(self.size, self.seed)
+            self.points = None
         elif name == b"clear_board":
             self.named = []
         elif name == b"fixed_handicap":
@@ -149,6 +149,8 @@ class Faulty:
 
     def fresh(self):
         """The next vertex that wasn't named; none where all were."""
+        if self.points is None:
+            self.points = drawn_order(self.size, self.seed)
         return next((point for point in self.points if point not in self.named), b"")
 
     # ---- what it writes

@@ -123,8 +123,8 @@ MOVES = {
 
 # what stands before the engine in some rows, and what it writes on standard error for each start
 LIMITED = {
-    "silent, under timeout": ("timeout 1 ", ""),
-    "silent, under patience": (f"{TOP}/tournament/patience 1 ", "patience: no answer in time to '1 name'\n"),
+    "silent, under timeout": ("timeout 2 ", ""),
+    "silent, under patience": (f"{TOP}/tournament/patience 2 ", "patience: no answer in time to '1 name'\n"),
 }
 
 
