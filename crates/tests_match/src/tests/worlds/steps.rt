@@ -25,10 +25,14 @@ fn an_author_chooses_and_no_other_call_makes_the_move(rt: HostRuntime) {
             None => StepsWorld::new(setup),
             Some((black, white)) => StepsWorld::with_rules(setup, black, white),
         };
+        // Both sides are started, Black once more after a write that broke.
         world.run(&[
             StepsEvent::Happens(Event::Act),
             StepsEvent::Happens(Event::Act),
+            StepsEvent::Happens(Event::BrokenWrite(3)),
+            StepsEvent::Happens(Event::Act),
         ]);
+        assert_equal(&rt, world.controller().restarts(Black), 1);
         for side in [Black, Black, Black, White, White, White] {
             world.step(&StepsEvent::Happens(Event::Act));
             world.step(&StepsEvent::Happens(Event::ToEngine(side, 100)));
