@@ -1,5 +1,5 @@
 -- What trials leave as it is, and what a trial shows that ended like the conversation that was found.
-use Rattle.std.proofs.Common.{◌≡◌, ◌∙◌, ◌≤◌, arith, refl, subst, true, List, Option, None, Some}
+use Rattle.std.proofs.Common.{◌≡◌, ◌∙◌, refl, subst, true, List, Option, None, Some}
 use Rattle.go_board.specs.declared.rules.KoRule.{KoRule}
 use Rattle.gtp_process.specs.declared.starter.Ending.{Ending}
 use Rattle.gtp_process.specs.declared.starter.Process.{Ghosts}
@@ -17,7 +17,7 @@ use Rattle.gtp_check_talks.specs.Dialogues.{AsksForMore, Converses, Dialogue, En
 use Rattle.gtp_check_talks.specs.Dialogues.{Wrong}
 use Rattle.gtp_check_talks.specs.Dialogues.{begun_with, wrong_with}
 use Rattle.gtp_check_talks.specs.Laws.{ComplaintsAreJustified, KoRulesStay, LossesAreNoWrongAnswers}
-use Rattle.gtp_check_talks.specs.Laws.{RightAnswersEndStartsInVain, SilenceSaysAllIsRight}
+use Rattle.gtp_check_talks.specs.Laws.{SilenceSaysAllIsRight}
 use Rattle.gtp_check_plan.specs.declared.plan.Plan.{Plan}
 use Rattle.gtp_check_app.specs.RunLaws.{EndAlike, IsGrounded, IsShownBy, IsStarted, Starts, starts_of}
 use Rattle.gtp_check_talks.specs.Dialogues.{Standing, Trial}
@@ -31,22 +31,20 @@ use Rattle.gtp_check_app.proofs.Shortening.{one_asks, reduces_asks, shortens_ask
 pub one_there : {A : Type 0} {one other : A} → Some one ≡ Some other → one ≡ other
 one_there same = cc same
 
--- What was found, the engine and the ko rule are as before, and there are no more starts in vain.
+-- what was found, the engine and the ko rule are as before
 pub record Stays {P : Type 0} (before after : State P) : Type 0 where
   pub tally : after.tally ≡ before.tally
   pub engine : after.engine ≡ before.engine
   pub rule : after.check.exam.game.rule ≡ before.check.exam.game.rule
-  pub fruitless : after.notes.fruitless ≤ before.notes.fruitless
 
 pub unchanged : {P : Type 0} (now : State P) → Stays now now
-unchanged now = record { tally = refl; engine = refl; rule = refl; fruitless = omega arith }
+unchanged now = record { tally = refl; engine = refl; rule = refl }
 
 pub both_stay : {P : Type 0} (before mid after : State P) → Stays before mid → Stays mid after → Stays before after
 both_stay before mid after one other = record {
   tally = other.tally ∙ one.tally;
   engine = other.engine ∙ one.engine;
   rule = other.rule ∙ one.rule;
-  fruitless = omega (arith, one.fruitless, other.fruitless);
 }
 
 -- the laws of conversations that are used
@@ -55,7 +53,6 @@ pub record Laws {P : Type 0} (known : Ghosts P) : Type 0 where
   pub lost : LossesAreNoWrongAnswers known
   pub stays : KoRulesStay known
   pub silent : SilenceSaysAllIsRight known
-  pub vain : RightAnswersEndStartsInVain known
 
 module _ {P : Type 0} (known : Ghosts P) (plan : Plan) (found : Wrong) (rule : KoRule) where
   -- what was tried has its ground, and ended like what was found
@@ -157,18 +154,6 @@ module _ {P : Type 0} (known : Ghosts P) (laws : Laws known) where
       laws.stays (begun_with (started before.check).exam process before.notes) engine (Some fault)
       (ends_so tries.suicide (begun_with (started before.check).exam process before.notes) fault engine ends)
 
-  trial_less : (tries : Trial) (before : Standing P) {result : Option Wrong} {after : Standing P}
-      → IsTrial known tries before result after → after.notes.fruitless ≤ before.notes.fruitless
-  trial_less tries before (IsTrial.unstarted reason never) = omega arith
-  trial_less tries before
-      (IsTrial.right {engine = engine} process ending started_so spares asks left) =
-      laws.vain.talked before.check.exam.game.rule process before.notes None engine
-      (converses_so tries.suicide (begun_with (started before.check).exam process before.notes) spares)
-  trial_less tries before
-      (IsTrial.wrong {engine = engine} process ending fault started_so ends asks left) =
-      laws.vain.talked before.check.exam.game.rule process before.notes (Some fault) engine
-      (ends_so tries.suicide (begun_with (started before.check).exam process before.notes) fault engine ends)
-
   trial_grounded : (rule : KoRule) (tries : Trial) (before : Standing P) {result : Option Wrong} {after : Standing P}
       → before.check.exam.game.rule ≡ rule → IsTrial known tries before result after
       → (tried : Wrong) → result ≡ Some tried
@@ -194,7 +179,6 @@ module _ {P : Type 0} (known : Ghosts P) (laws : Laws known) where
       tally = refl;
       engine = refl;
       rule = trial_rule _ (standing_in before) held;
-      fruitless = trial_less _ (standing_in before) held;
     }
 
     tried_grounded : (commands : List CheckCommand) (before : Moment P) {result : Option Wrong} {after : Moment P}

@@ -21,8 +21,7 @@ use Rattle.gtp_check_questions.specs.declared.lessons.Lesson.{Lesson}
 use Rattle.gtp_check_talks.specs.Dialogues.{wrong_purpose}
 use Rattle.gtp_check_app.specs.declared.tally.Tally.{Tally}
 use Rattle.gtp_check_app.specs.Tally.{found, in_lesson, is_shown, started_again, with_hidden, with_known, without_start}
-use Rattle.gtp_check_app.specs.RunLaws.{IsGrounded, IsHeldWith, IsJustComplaint}
-use Rattle.gtp_check_app.specs.RunLaws.{came_in, complaints_in, ended_in, fault_in}
+use Rattle.gtp_check_app.specs.RunLaws.{IsGrounded, IsHeldWith, IsJustComplaint, came_in, complaints_in, fault_in}
 use Rattle.gtp_check_app.specs.RunLaws.{starts_of}
 use Rattle.gtp_check_app.specs.Unjudged.{is_blamed}
 use Rattle.gtp_check_app.specs.Sequence.{Beginning, Known, Point, Turns, first_point}
@@ -303,34 +302,6 @@ module _ {P : Type 0} {since : Attempts P} (known : Ghosts P) (laws : Laws known
   turn_just before sound
       (Turn.exchanges {mid = mid} {next = next} {fault = fault} {line = line} heard first complains) =
       complained_just (moment next before.asked) (written_sound before mid next fault line sound heard first) complains
-
-  -- ---- who is ended in a turn
-
-  -- an engine that is there is up
-  pub is_up : (now : Moment P) (engine : Engine P) → IsSound known laws plan since None now
-      → now.state.engine ≡ Some engine
-      → now.state.check.exam.up ≡ true
-  is_up now engine sound there =
-      let held = sound.engine engine there in
-      (laws.silent plan.rule held.process held.first (dialogue engine now.state.check.exam now.state.notes)
-      held.ends).up
-
-  pub turn_ends : (before : Moment P) {after : Moment P} {texts shows : List (List ℕ)}
-      → IsSound known laws plan since None before
-      → (turn : Turn known plan before after texts shows)
-      → (ends : State P) (engine : Engine P) → ended_in turn ≡ Some ends → ends.engine ≡ Some engine
-      → ends.check.exam.unanswered ≡ []
-  turn_ends before sound (Turn.starts {mid = mid} process steps next fruitful may tries quits fresh) ends engine is
-      there =
-      let at_mid : mid.engine ≡ Some engine = ap (λ (s : State P). s.engine) (one_there is) ∙ there in
-      let up = is_up (moment mid before.asked) engine (asked_sound before.state before.asked sound steps) at_mid in
-      let not_up = next.goes.0 in
-      absurd (let never : true ≡ false = sym up ∙ not_up in cc never)
-  turn_ends before sound (Turn.restarts {mid = mid} steps next quits) ends engine is there =
-      subst (λ (s : State P). s.check.exam.unanswered ≡ []) (one_there is) next.goes.0
-  turn_ends before sound (Turn.kills {mid = mid} steps next ended) ends engine is there =
-      subst (λ (s : State P). s.check.exam.unanswered ≡ []) (one_there is) next.goes.0
-  turn_ends before sound (Turn.exchanges heard first complains) ends engine is there = absurd (cc is)
 
 -- ---- turns
 

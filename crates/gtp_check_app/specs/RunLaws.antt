@@ -1,13 +1,11 @@
 -- Laws of a whole check: what holds of each turn of it, and of its end. (Own.)
-use Rattle.std.specs.Prelude.{◌≡◌, ◌⊎◌, ⊤, ℕ, ◌+◌, ◌<◌, ◌≤◌, Bool, true, false, All, List, [], ◌∷◌, ◌++◌, length}
-use Rattle.std.specs.Prelude.{nat_lt, slice_get, if◌then◌else◌, Option, None, Some, option_map, Ok}
+use Rattle.std.specs.Prelude.{◌≡◌, ◌⊎◌, ⊤, ℕ, ◌<◌, ◌≤◌, Bool, true, false, All, List, [], ◌∷◌, ◌++◌, length, slice_get}
+use Rattle.std.specs.Prelude.{Option, None, Some, option_map, Ok}
 use Rattle.byte_streams.specs.Writing.{LinesGoOut}
 use Rattle.go_board.specs.declared.rules.KoRule.{KoRule}
 use Rattle.gtp_process.specs.declared.causes.PipeCause.{PipeCause}
 use Rattle.gtp_process.specs.declared.starter.Ending.{Ending}
 use Rattle.gtp_process.specs.declared.starter.Process.{Ghosts}
-use Rattle.gtp_process.specs.Endings.{IsEnded}
-use Rattle.gtp_process.specs.Quitting.{QuitsIfAny}
 use Rattle.gtp_process.specs.Starts.{Attempt, Attempts, program_line}
 use Rattle.gtp_check_judge.specs.declared.asking.CheckCommand.{CheckCommand}
 use Rattle.gtp_check_judge.specs.declared.judging.Kind.{Kind}
@@ -29,13 +27,13 @@ use Rattle.gtp_process.specs.Starts.{Text}
 use Rattle.cli.specs.Status.{done}
 use Rattle.gtp_check_summary.specs.declared.summary.Over.{Over}
 use Rattle.gtp_check_summary.specs.declared.summary.Over.TheVariants as over
-use Rattle.gtp_check_app.specs.Checks.{AsksForList, AsksForPlan, HasRun, IsClosed}
+use Rattle.gtp_check_app.specs.Checks.{AsksForList, AsksForPlan, HasRun}
 use Rattle.gtp_check_app.specs.Laws.{IsPass}
 use Rattle.gtp_check_plan.specs.Options.{AsksForText}
 use Rattle.gtp_check_app.specs.Status.{not_earned, something_found}
 use Rattle.gtp_check_app.specs.Unjudged.{is_blamed}
 use Rattle.gtp_check_app.specs.Sequence.{Beginning, Known, Point, Turns, beginning, first_point}
-use Rattle.gtp_check_app.specs.Turns.{Closes, IsComplaint, IsOver, Moment, State, Turn, moment, process_of}
+use Rattle.gtp_check_app.specs.Turns.{Closes, IsComplaint, IsOver, Moment, State, Turn, moment}
 
 -- ---- a check and its turns
 
@@ -217,70 +215,6 @@ EachComplaintIsJust {P} {O} {E} known = (begins : Beginning P O E) (last : Point
     → All (IsJustComplaint known.processes begins.plan.rule
     (starts_of begins.plan begins.asked has.after.now.asked) (came_in has.is.turn))
     (complaints_in has.is.turn)
-
--- ---- who is sent `quit`
-
--- the state in which a turn ends an engine in which nothing was found, with `quit` or without
-abbrev pub ended_in : {P : Type 0} {known : Ghosts P} {plan : Plan} {before after : Moment P}
-    {texts shows : List (List ℕ)} → Turn known plan before after texts shows → Option (State P)
-ended_in (Turn.starts {mid = mid} process steps next fruitful may tries quits fresh) = Some mid
-ended_in (Turn.restarts {mid = mid} steps next quits) = Some mid
-ended_in (Turn.kills {mid = mid} steps next ended) = Some mid
-ended_in (Turn.exchanges heard first complains) = None
-
--- An engine that a turn sends `quit`, or ends without one and without a fault, owes no answer. At the end of a check
--- one that owes no answer is sent `quit`, and any other is ended without it.
-pub record QuitGoesToWhoOwesNothing {P O E : Type 0} (known : Known P O E) : Type 0 where
-  pub in_turns : (begins : Beginning P O E) (last : Point P O E) (has : HasTurn known begins last) (ends : State P)
-      (engine : Engine P) → ended_in has.is.turn ≡ Some ends → ends.engine ≡ Some engine
-      → ends.check.exam.unanswered ≡ []
-  pub at_end : (last : State P) → IsClosed known.processes last → 0 < length last.check.exam.unanswered
-      → IsEnded known.processes (process_of last.engine)
-  pub owing_nothing : (last : State P) → IsClosed known.processes last → last.check.exam.unanswered ≡ []
-      → QuitsIfAny known.processes (process_of last.engine)
-
--- ---- starts in vain
-
--- the turn starts an engine
-abbrev pub is_start : {P : Type 0} {known : Ghosts P} {plan : Plan} {before after : Moment P}
-    {texts shows : List (List ℕ)} → Turn known plan before after texts shows → Bool
-is_start (Turn.starts process steps next fruitful may tries quits fresh) = true
-is_start (Turn.restarts steps next quits) = false
-is_start (Turn.kills steps next ended) = false
-is_start (Turn.exchanges heard first complains) = false
-
--- the starts in vain after an exchange: none where nothing was wrong and fewer commands are unanswered after it, since
--- a right answer was heard
-abbrev pub vain_after : Option Fault → ℕ → ℕ → ℕ → ℕ
-vain_after None owed owes count = if nat_lt owes owed then 0 else count
-vain_after (Some fault) owed owes count = count
-
--- the starts in vain after a turn
-abbrev pub vain_in : {P : Type 0} {known : Ghosts P} {plan : Plan} {before after : Moment P}
-    {texts shows : List (List ℕ)} → Turn known plan before after texts shows → ℕ → ℕ
-vain_in (Turn.starts process steps next fruitful may tries quits fresh) count = count + 1
-vain_in (Turn.restarts steps next quits) count = count
-vain_in (Turn.kills steps next ended) count = count
-vain_in (Turn.exchanges {mid = mid} {fault = fault} heard first complains) count =
-    vain_after fault (length heard.mid.check.exam.unanswered) (length mid.check.exam.unanswered) count
-
--- How many starts there were in these turns since the last right answer in them.
-abbrev pub in_vain : {P O E : Type 0} {known : Known P O E} {plan : Plan} {first : Point P O E} {count : ℕ}
-    {last : Point P O E} → Turns known plan first count last → ℕ
-in_vain Turns.not_yet = 0
-in_vain (Turns.turns more turn goes_out shown) = vain_in turn (in_vain more)
-
--- Three starts in a row without a right answer end a check. At no point there are more; an engine is started only
--- where there were fewer; and where a check is over for that, its last turns have three starts and no right answer.
-pub record ThreeStartsInVainEndIt {P O E : Type 0} (known : Known P O E) : Type 0 where
-  pub few : (begins : Beginning P O E) (now : Point P O E) → ComesTo known begins now
-      → now.now.state.notes.fruitless ≤ 3
-  pub starts : (begins : Beginning P O E) (last : Point P O E) (has : HasTurn known begins last)
-      → is_start has.is.turn ≡ true
-      → (has.before.now.state.notes.fruitless < 3)
-      × (has.after.now.state.notes.fruitless ≡ has.before.now.state.notes.fruitless + 1)
-  pub ended : (begins : Beginning P O E) (now : Point P O E) (comes : ComesTo known begins now) (last : Moment P)
-      → IsOver known.processes begins.plan now.now over.NoRightAnswer last → 3 ≤ in_vain comes.turns
 
 -- ---- the status
 

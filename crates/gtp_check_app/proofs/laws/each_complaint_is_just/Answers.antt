@@ -8,5 +8,4 @@ returns g c = just_complaints (known_of g.P.Process g.O.WriteOnce g.E.WriteOnce)
   lost = c.losses_are_no_wrong_answers.ensures;
   stays = c.ko_rules_stay.ensures;
   silent = c.silent_conversations_are_right.ensures;
-  vain = c.right_answers_end_starts_in_vain.ensures;
 })
