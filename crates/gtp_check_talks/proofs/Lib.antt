@@ -1,13 +1,11 @@
 mod Asked
 mod Conversations
-mod Fruitless
 mod Illegal
 mod Kept
 mod Noted
 mod NotedSince
 mod Pieces
 mod Rules
-mod Sent
 mod Silence
 mod Talks
 mod Trials

@@ -1,9 +1,8 @@
--- What is complained of is wrong, what a right engine writes is never complained of. (Own.)
-use Rattle.std.specs.Prelude.{◌≡◌, ◌==◌, ◌⊎◌, ◌+◌, ◌-◌, ◌≤◌, ◌<◌, ℕ, true, List, [], ◌++◌, length, take, slice_get}
-use Rattle.std.specs.Prelude.{Option, None, Some, Result}
+-- What is complained of is wrong, and what is said where nothing is found was answered rightly. (Own.)
+use Rattle.std.specs.Prelude.{◌≡◌, ◌==◌, ◌⊎◌, ◌+◌, ◌-◌, ◌<◌, ℕ, true, List, [], ◌++◌, length, slice_get, Option, None}
+use Rattle.std.specs.Prelude.{Some, Result}
 use Rattle.std.specs.List.{IsDistinct}
-use Rattle.std.specs.Option.{option_map_or}
-use Rattle.std.specs.Io.KnownBytes.{Appends, Keeps}
+use Rattle.std.specs.Io.KnownBytes.{Appends}
 use Rattle.go_base.specs.declared.colours.Colour.{Colour}
 use Rattle.go_base.specs.declared.moves.Move.{Move}
 use Rattle.go_board.specs.declared.rules.KoRule.{KoRule}
@@ -14,8 +13,6 @@ use Rattle.gtp_process.specs.declared.causes.PipeCause.{PipeCause}
 use Rattle.gtp_process.specs.declared.causes.PipeCause.TheVariants.{Ended, Reading}
 use Rattle.gtp_process.specs.declared.starter.Process.{Ghosts}
 use Rattle.gtp_process.specs.Pipes.{IsCutOff, OutputEnded}
-use Rattle.gtp_session.specs.Policy.{May}
-use Rattle.gtp_session.specs.Engine.{Engine, Engages, fresh_under}
 use Rattle.gtp_check_judge.specs.declared.asking.CheckCommand.{CheckCommand}
 use Rattle.gtp_check_judge.specs.declared.asking.CheckCommand.TheVariants.{Match, PlayInFull, GenmoveInFull}
 use Rattle.gtp_check_judge.specs.declared.exam.Exam.{Exam}
@@ -33,7 +30,6 @@ use Rattle.gtp_check_talks.specs.Among.{is_among}
 use Rattle.gtp_check_talks.specs.declared.notes.Notes.{Notes}
 use Rattle.gtp_check_talks.specs.Notes.{nothing_noted, started}
 use Rattle.gtp_check_talks.specs.Dialogues.{Converses, Dialogue, EndsSo, EndsWrong, IsAsked, IsExchanged, begun_with}
-use Rattle.gtp_check_talks.specs.Dialogues.{IsTakenInPart, went_out}
 
 -- What was found in what an engine wrote. What it was asked and what was heard are a talk in which all answers were
 -- right; then what was heard is a wrong answer, of this kind, and the finding is justified. What was heard is a front
@@ -59,17 +55,6 @@ abbrev pub ComplaintsAreJustified : {P : Type 0} → Ghosts P → Type 0
 ComplaintsAreJustified {P} known = (rule : KoRule) (process : P) (first : Notes) (kind : Kind) (after : Dialogue P)
     → EndsWrong known (begun_with (begun rule true) process first) (Wrote kind) after
     → IsWronglyWritten known rule process kind after
-
--- A right engine under this ko rule, whatever it chose among what its policy may, was given just the bytes that were
--- asked. What the process gave since its start is known, and is a front of what the right engine wrote. Then nothing
--- was found in it.
-abbrev pub NoRightEngineIsComplainedOf : {P Q : Type 0} → Ghosts P → May Q → Type 0
-NoRightEngineIsComplainedOf {P} {Q} known may = (rule : KoRule) (policy : Q) (engine : Engine Q) (out later : List ℕ)
-    (process : P) (first : Notes) (kind : Kind) (after : Dialogue P) (before gave : List ℕ)
-    → EndsWrong known (begun_with (begun rule true) process first) (Wrote kind) after
-    → known.given process ≡ Some before → known.given after.process ≡ Some (before ++ gave)
-    → Engages may (fresh_under rule policy) after.sent engine out → out ≡ gave ++ later
-    → ⊥
 
 -- ---- a conversation in which nothing was found
 
@@ -119,25 +104,6 @@ abbrev pub KoRulesStay : {P : Type 0} → Ghosts P → Type 0
 KoRulesStay {P} known = (start after : Dialogue P) (fault : Option Fault)
     → EndsSo known start fault after → after.exam.game.rule ≡ start.exam.game.rule
 
--- ---- starts in vain
-
--- What becomes of the number of starts since the last right answer. A command that is asked leaves it. What is heard of
--- an engine that is up never makes it more; and it is none once a right answer was heard, after which fewer are
--- unanswered.
-pub record RightAnswersEndStartsInVain {P : Type 0} (known : Ghosts P) : Type 0 where
-  pub asked : (purpose : Purpose) (before : Dialogue P) (command : CheckCommand) (after : Dialogue P)
-      → IsAsked purpose before command after
-      → after.notes.fruitless ≡ before.notes.fruitless
-  pub heard : (before : Dialogue P) (fault : Option Fault) (after : Dialogue P)
-      → before.exam.up ≡ true → IsExchanged known before fault after
-      → after.notes.fruitless ≤ before.notes.fruitless
-  pub answered : (before after : Dialogue P)
-      → before.exam.up ≡ true → IsExchanged known before None after
-      → length after.exam.unanswered < length before.exam.unanswered → after.notes.fruitless ≡ 0
-  pub talked : (rule : KoRule) (process : P) (first : Notes) (fault : Option Fault) (after : Dialogue P)
-      → EndsSo known (begun_with (begun rule true) process first) fault after
-      → after.notes.fruitless ≤ first.fruitless
-
 -- ---- moves that were answered
 
 -- a command that asks for a move
@@ -184,35 +150,3 @@ pub record MovesAreNotedOnceAnswered {P : Type 0} (known : Ghosts P) : Type 0 wh
   pub stays : (before : Dialogue P) (fault : Option Fault) (after : Dialogue P) (lesson : Lesson)
       → IsExchanged known before fault after → is_among before.notes.answered.items lesson ≡ true
       → is_among after.notes.answered.items lesson ≡ true
-
--- ---- what was sent
-
--- where the line of the last of these commands ends in all that an engine was asked
-abbrev pub lines_end : List Said → ℕ
-lines_end talk = option_map_or (λ said. said.end) (slice_get talk (length talk - 1)) 0
-
--- A process was handed these bytes, a chunk after the other, and between two chunks it took nothing. It took a chunk
--- whole. Or it was cut off in one, and took a beginning of that alone. Then up to two bytes more count, which it was not
--- handed: the end of a line that was to come in two chunks. It may be handed more chunks after that.
-pub data IsHanded {P : Type 0} (known : Ghosts P) (process : P) : List ℕ → P → Type 0 where
-  nothing : IsHanded known process [] process
-  took : {bytes : List ℕ} {mid now : P} (piece : List ℕ) → IsHanded known process bytes mid
-      → Appends (known.taken mid) (known.taken now) piece → IsHanded known process (bytes ++ piece) now
-  cut_off : {bytes : List ℕ} {mid now : P} (piece later : List ℕ) → IsHanded known process bytes mid
-      → IsTakenInPart known piece mid now → length later ≤ 2 → IsHanded known process (bytes ++ (piece ++ later)) now
-  kept : {bytes : List ℕ} {mid now : P} → IsHanded known process bytes mid
-      → Keeps (known.taken mid) (known.taken now) → IsHanded known process bytes now
-
--- What counts as sent of the lines that an engine was asked are all but those that wait. These are the lines of the first
--- commands, so many, and its process was handed them.
-pub record IsSentSoFar {P : Type 0} (known : Ghosts P) (process : P) (now : Dialogue P) : Type 0 where
-  pub lines : now.sent ≡ take (went_out now) now.sent ++ now.waiting
-  pub count : ℕ
-  pub whole : went_out now ≡ lines_end (take count now.talk)
-  pub handed : IsHanded known process (take (went_out now) now.sent) now.process
-
--- So it is in whatever is said with an engine since its start.
-abbrev pub WhatCountsAsSentWasHanded : {P : Type 0} → Ghosts P → Type 0
-WhatCountsAsSentWasHanded {P} known = (exam : Exam) (process : P) (first : Notes) (fault : Option Fault)
-    (after : Dialogue P) → EndsSo known (begun_with exam process first) fault after
-    → IsSentSoFar known process after

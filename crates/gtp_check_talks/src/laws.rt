@@ -1,14 +1,9 @@
 //! Laws of the conversation with an engine. Each is the contract of a function that does nothing.
-ghost use Rattle.gtp_check_talks.specs.Laws.{ComplaintsAreJustified, NoRightEngineIsComplainedOf};
-ghost use Rattle.gtp_check_talks.specs.Laws.{KoRulesStay, LossesAreNoWrongAnswers, RightAnswersEndStartsInVain};
+ghost use Rattle.gtp_check_talks.specs.Laws.{ComplaintsAreJustified, KoRulesStay, LossesAreNoWrongAnswers};
 ghost use Rattle.gtp_check_talks.specs.Laws.{MovesAreNotedOnceAnswered, SilenceSaysAllIsRight};
-ghost use Rattle.gtp_check_talks.specs.Laws.{WhatCountsAsSentWasHanded};
 
-use gtp_check_judge::laws::{
-    findings_are_justified, no_right_engine_is_blamed, silence_says_all_is_right,
-};
+use gtp_check_judge::laws::{findings_are_justified, silence_says_all_is_right};
 use gtp_process::Process;
-use gtp_session::policy::Policy;
 
 /// What is found in the output of an engine is justified: all its replies before were correct, and no correct reply to
 /// the command is what was heard.
@@ -16,14 +11,6 @@ pub fn complaints_are_justified<P: Process>()
     ensures { ComplaintsAreJustified P.Process }
 {
     findings_are_justified();
-}
-
-/// Nothing is found in the output of a correct engine, whatever it chooses.
-pub fn no_right_engine_is_complained_of<P: Process, Q: Policy>()
-    ensures { NoRightEngineIsComplainedOf P.Process Q.may }
-{
-    findings_are_justified();
-    no_right_engine_is_blamed::<Q>();
 }
 
 /// As long as nothing is found, each reply of an engine that was heard is correct, and what was heard and is held is
@@ -45,17 +32,6 @@ pub fn losses_are_no_wrong_answers<P: Process>()
 /// Whatever is said with an engine, its ko rule stays.
 pub fn ko_rules_stay<P: Process>()
     ensures { KoRulesStay P.Process }
-{}
-
-/// A correct reply ends the count of starts in vain, and nothing that is heard makes them more.
-pub fn right_answers_end_starts_in_vain<P: Process>()
-    ensures { RightAnswersEndStartsInVain P.Process }
-{}
-
-/// Of the lines that an engine was asked, all count as sent except those that wait: these are the lines of its first
-/// commands. They were passed to its process.
-pub fn what_counts_as_sent_was_handed<P: Process>()
-    ensures { WhatCountsAsSentWasHanded P.Process }
 {}
 
 /// A lesson is noted exactly when a `play` or a `genmove` that was asked in it is answered correctly, and then it stays
