@@ -1,12 +1,4 @@
-mod Counting
 mod Ending
 mod Games
-mod InForce
-mod LastGames
-mod Latest
 mod Leaving
-mod LeftOf
-mod Minimal
-mod Placing
 mod Playing
-mod Trying

@@ -1,7 +1,7 @@
 -- The last game of a conversation, where it is shown alone, with what is in force when it begins. (Own.)
-use Rattle.std.specs.Prelude.{ℕ, zero, suc, ◌==◌, ◌||◌, Bool, true, false, not, nat_le, if◌then◌else◌, count_by}
-use Rattle.std.specs.Prelude.{List, map, filter, Option, None, Some, option_and_then, slice_get}
-use Rattle.std.specs.List.{enumerate_from, range_with_len}
+use Rattle.std.specs.Prelude.{ℕ, zero, suc, ◌==◌, ◌||◌, Bool, true, false, not, nat_le, if◌then◌else◌, count_by, List}
+use Rattle.std.specs.Prelude.{Option, None, Some, option_and_then, slice_get}
+use Rattle.std.specs.List.{range_with_len}
 use Rattle.std.specs.Option.{option_map_or}
 use Rattle.go_base.specs.declared.moves.Move.{Move}
 use Rattle.gtp_wire.specs.declared.commands.Command.TheVariants.{Boardsize, Komi}
@@ -69,14 +69,6 @@ shows game place = nat_le game.start place || (is_place game.size place || is_pl
 -- how many commands aren't shown
 abbrev pub left_out : LastGame → ℕ
 left_out game = count_by (λ place. not (shows game place)) (range_with_len 0 game.start)
-
--- those of these commands that are shown, the first of which is at this place
-abbrev pub shown_from : LastGame → ℕ → List Said → List Said
-shown_from game place talk = map (λ one. one.1) (filter (λ one. shows game one.0) (enumerate_from place talk))
-
--- what is shown of a conversation
-abbrev pub shown_of : List Said → List Said
-shown_of talk = shown_from (last_game talk) 0 talk
 
 -- ---- what an engine chose
 

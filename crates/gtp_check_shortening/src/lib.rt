@@ -9,7 +9,6 @@
 
 pub mod flat;
 pub mod last_game;
-pub mod laws;
 mod limits;
 mod parts;
 pub mod played;
