@@ -1,6 +1,4 @@
 mod CaptureTexts
 pub mod Joining
-mod KosRetaken
 mod LinesOfTexts
 mod StonesTaken
-mod SuicideChains
