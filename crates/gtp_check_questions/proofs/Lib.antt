@@ -2,17 +2,7 @@ pub mod Bounds
 pub mod Words
 pub mod Candidates
 pub mod OneQuestion
-pub mod Beginnings
-pub mod ExactKomis
 pub mod ClearedBoard
 pub mod NoSuicide
-pub mod SoughtSizes
 pub mod AnsweredKos
-pub mod SentPieces
-pub mod PartedScores
-pub mod ScoresInRows
-pub mod UsualForm
-pub mod WrittenInFull
 pub mod PosedQuestions
-pub mod NextSteps
-pub mod OrderedSteps

@@ -8,7 +8,5 @@ pub mod Draws
 pub mod Questions
 pub mod Course
 pub mod Asking
-pub mod Parting
 pub mod Posing
-pub mod Order
 pub mod Laws

@@ -88,8 +88,7 @@ pub record GoesOneOn (turn : Turn) (stretch : Stretch) : Type 0 where
 -- A step that asks a command asks it, wherever it may be asked and isn't left out. One that probes a point asks a
 -- `play` there: of a legal move only of an engine that has `undo`, and that is due next. A step is passed over only for
 -- such a reason. And once a step is over that was passed over, or whose command or probe was asked and needs no `undo`,
--- the course goes one step on within its part. (Which step comes after each other outcome, and at the end of a part,
--- `EachStepComesInOrder` says.)
+-- the course goes one step on within its part.
 pub record EachQuestionIsAsked : Type 0 where
   pub asks : (turn : Turn) (command : CheckCommand) → IsTurnOf turn (asked.Ask command) → IsAskable turn command
       → turn.action ≡ Ask command
