@@ -5,4 +5,3 @@ pub mod answers
 pub mod talks
 pub mod engines
 pub mod checks
-pub mod history

@@ -7,4 +7,3 @@ pub mod Lists
 pub mod Rows
 pub mod Choices
 pub mod Judged
-pub mod Komis

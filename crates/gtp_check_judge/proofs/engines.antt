@@ -5,4 +5,3 @@ pub mod OneGame
 pub mod Wire
 pub mod Rightly
 pub mod Followed
-pub mod Shown

@@ -1,5 +1,3 @@
 -- What holds of a talk, and what is found in it.
 pub mod Silence
 pub mod Findings
-pub mod Skills
-pub mod Found

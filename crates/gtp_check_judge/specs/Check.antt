@@ -1,6 +1,5 @@
 -- A check of one engine over all its starts.
-use Rattle.std.specs.Prelude.{◌≡◌, ℕ, ◌+◌, ◌<◌, ◌≤◌, true, false, List, Option, None, Some, Result}
-use Rattle.std.specs.Prelude.{length}
+use Rattle.std.specs.Prelude.{◌≡◌, ℕ, ◌+◌, ◌<◌, ◌≤◌, true, false, List, Option, Result, length}
 use Rattle.go_board.specs.declared.rules.KoRule.{KoRule}
 use Rattle.gtp_wire.specs.declared.replies.Reply.{Reply}
 use Rattle.gtp_wire.specs.declared.replies.ReplyFault.{ReplyFault}
@@ -66,20 +65,3 @@ pub record IsBounded (most count : ℕ) (check : Check) : Type 0 where
 abbrev pub EveryCheckIsBounded : Type 0
 EveryCheckIsBounded = (rule : KoRule) (most count : ℕ) (check : Check)
     → Calls rule most count check → IsBounded most count check
-
--- ---- which engine is up
-
--- No engine is up before the first start, nor after it is lost or was found wrong. After a start it is, and only one
--- that is up is asked. What it is asked leaves it as it is, and so does what is heard without a finding: a refused size
--- too costs no start. Where it is lost nothing else changes.
-pub record UpIsBetween : Type 0 where
-  pub opened : (rule : KoRule) (most : ℕ) → (opening rule most).exam.up ≡ false
-  pub begins : (check : Check) → (started check).exam.up ≡ true
-  pub ends : (check : Check) → (after_loss check).exam.up ≡ false
-  pub keeps : (check : Check) → after_loss check ≡ record check { exam = record check.exam { up = false } }
-  pub found : (old new : Exam) (bytes : List ℕ) (used : ℕ) (read : Option (Result Reply ReplyFault))
-      (finding : Finding) → Hears old bytes (hearing used read (Some finding)) new → new.up ≡ false
-  pub asked : (exam : Exam) (command : CheckCommand) → HasRoomFor exam command → exam.up ≡ true
-  pub asks : (old new : Exam) (command : CheckCommand) → Asks old command new → new.up ≡ old.up
-  pub stays : (old new : Exam) (bytes : List ℕ) (used : ℕ) (read : Option (Result Reply ReplyFault))
-      → Hears old bytes (hearing used read None) new → new.up ≡ old.up

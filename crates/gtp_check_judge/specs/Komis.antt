@@ -1,7 +1,7 @@
 -- Which komi every engine has to take, and at which scores are compared. (The standard's simple entities: a float is a
 -- number that a 32 bit IEEE 754 float represents. Its topic komi: the engine takes a new komi, even if it is
 -- ridiculous.)
-use Rattle.std.specs.Prelude.{ℕ, Bool, ℤ, pos, neg_ℤ, ◌≤ℤ◌, nat_le, unsigned_abs}
+use Rattle.std.specs.Prelude.{ℕ, Bool, ℤ, nat_le, unsigned_abs}
 
 -- A float of 32 bits has 24 binary digits. So up to this number, either way, each number of half points is one.
 abbrev pub most_exact : ℕ
@@ -11,10 +11,6 @@ most_exact = 16777216
 -- float, nothing is asked: it may be taken, rounded or refused.
 abbrev pub is_exact_komi : ℤ → Bool
 is_exact_komi half_points = nat_le (unsigned_abs half_points) most_exact
-
--- the same as a relation: it is at most 8,388,608 points, or 16,777,216 half points, either way
-abbrev pub HasToBeTaken : ℤ → Type 0
-HasToBeTaken half_points = (neg_ℤ (pos 16777216) ≤ℤ half_points) × (half_points ≤ℤ pos 16777216)
 
 -- ---- which are compared
 

@@ -1,13 +1,10 @@
 -- Laws of the examiner: what holds of every talk between it and one engine, whatever that is.
-use Rattle.std.specs.Prelude.{◌≡◌, ◌≢◌, ℕ, pos, ◌+ℤ◌, ◌*ℤ◌, Bool, true, false, List, [], ◌∷◌, ◌++◌, take, Option}
-use Rattle.std.specs.Prelude.{None, Some}
-use Rattle.std.specs.Prelude.{IfSome, Result, Ok, Err, ◌+◌, ◌<◌, ◌⊎◌, length}
+use Rattle.std.specs.Prelude.{◌≡◌, ◌≢◌, ℕ, pos, ◌+ℤ◌, ◌*ℤ◌, Bool, true, false, List, [], ◌∷◌, ◌++◌, take, Option, None}
+use Rattle.std.specs.Prelude.{Some, IfSome, Result, Ok, Err, ◌<◌, length}
 use Rattle.go_base.specs.Size.{IsSize}
 use Rattle.go_base.specs.Handicap.{handicap_points}
 use Rattle.go_base.specs.declared.choices.Choice.{Choice}
-use Rattle.go_board.specs.Game.{GameRecord, HasRoom, IsLegal, with_move}
-use Rattle.go_board.specs.declared.faults.PlayFault.{PlayFault}
-use Rattle.go_base.specs.declared.moves.Move.{Move}
+use Rattle.go_board.specs.Game.{GameRecord}
 use Rattle.gtp_wire.specs.Lines.{lines}
 use Rattle.go_board.specs.declared.rules.KoRule.{KoRule}
 use Rattle.gtp_wire.specs.declared.commands.Command.{Command}
@@ -21,7 +18,7 @@ use Rattle.gtp_wire.specs.declared.lines.Line.{Line}
 use Rattle.gtp_wire.specs.declared.replies.Reply.{Reply}
 use Rattle.gtp_wire.specs.declared.replies.ReplyFault.{ReplyFault}
 use Rattle.gtp_wire.specs.declared.replies.ReplyFault.TheVariants as fault
-use Rattle.gtp_check_judge.specs.Asking.{written_check, line_of_check, IsCheckWritable, IsCheckInLimits, IsPlayOf}
+use Rattle.gtp_check_judge.specs.Asking.{written_check, line_of_check, IsCheckWritable, IsCheckInLimits}
 use Rattle.gtp_check_judge.specs.declared.scores.Score.{Score}
 use Rattle.gtp_check_judge.specs.declared.scores.SaidScore.{SaidScore}
 use Rattle.gtp_check_judge.specs.declared.scores.SaidScore.TheVariants.{Number}
@@ -36,8 +33,7 @@ use Rattle.gtp_session.specs.Commands.{answer, asked}
 use Rattle.gtp_session.specs.CommandAnswers.{after_command}
 use Rattle.gtp_session.specs.Engine.{Engine, Engages, fresh_under}
 use Rattle.gtp_check_judge.specs.declared.unanswered.Asked.{Asked}
-use Rattle.gtp_check_judge.specs.declared.dues.Cause.TheVariants.{BadMove}
-use Rattle.gtp_check_judge.specs.declared.dues.Due.TheVariants.{Succeeds, Fails, Places, Scores, Chooses, Lists}
+use Rattle.gtp_check_judge.specs.declared.dues.Due.TheVariants.{Fails, Places, Scores, Chooses, Lists}
 use Rattle.gtp_check_judge.specs.declared.judging.Kind.{Kind}
 use Rattle.gtp_check_judge.specs.declared.judging.Kind.TheVariants.{Refused, Took, OtherPoints, NoMove, NoVertex}
 use Rattle.gtp_check_judge.specs.declared.judging.Kind.TheVariants.{Unlawful, NoScore, OtherScore, WrongId, Unasked}
@@ -324,15 +320,6 @@ FindingsAreJustified = (rule : KoRule) (sent came : List ℕ) (said : List Excha
     → Talks rule sent came said old → Hears old bytes (hearing used read (Some finding)) new
     → IsJustified rule said old read finding
 
--- ---- the engine that right answers leave
-
--- The answers that were heard leave one game, and say of one engine whether an `undo` has succeeded since its last
--- move, and what it thinks of an empty board: no other engine is left by the same answers.
-abbrev pub RightAnswersLeaveOneGame : Type 0
-RightAnswersLeaveOneGame = (rule : KoRule) (sent came : List ℕ) (said : List Exchange) (exam : Exam)
-    (one other : RightEngine) → Talks rule sent came said exam
-    → AllRight (fresh_engine rule) said one → AllRight (fresh_engine rule) said other → one ≡ other
-
 -- ---- what is asked
 
 -- What is written of a command that is asked is one line, with its id and its words, whatever follows it.
@@ -341,42 +328,7 @@ AskedCommandsAreLines = (old new : Exam) (command : CheckCommand) (later : List 
     → HasRoomFor old command → Asks old command new
     → lines (written_check new.sent command ++ later) ≡ line_of_check new.sent command ∷ lines later
 
--- The move is legal in the game. Its success is due, and a right engine has made it by then, so that an `undo` after it
--- has to succeed.
-pub record IsPlayed (old : Exam) (command : CheckCommand) (move : Move) (new : Exam) : Type 0 where
-  pub legal : IsLegal old.game move.colour move.vertex
-  pub asked : new.unanswered ≡ old.unanswered
-      ++ record { id = old.sent + 1; command = command; due = Succeeds } ∷ []
-  pub goes_on : new.game ≡ with_move old.game move.colour move.vertex
-  pub moved : new.undone ≡ false
-
--- A probe: the move breaks this rule in the game, so that a right engine has to refuse it. Its failure is due, for
--- that rule, and the game stays, and what an `undo` may do.
-pub record IsProbe (old : Exam) (command : CheckCommand) (move : Move) (new : Exam) : Type 0 where
-  pub fault : PlayFault
-  pub refused : RefusesVertex old.game move.colour move.vertex fault
-  pub asked : new.unanswered ≡ old.unanswered
-      ++ record { id = old.sent + 1; command = command; due = Fails (BadMove fault) } ∷ []
-  pub stays : new.game ≡ old.game
-  pub unmoved : new.undone ≡ old.undone
-
--- A `play`, however its colour is written, is asked only where the record has room. It is legal in the game that a right
--- engine has by then, or it is a probe.
-abbrev pub PlaysAreLegalOrProbes : Type 0
-PlaysAreLegalOrProbes = (old new : Exam) (command : CheckCommand) (move : Move)
-    → IsPlayOf move command → HasRoomFor old command → Asks old command new
-    → HasRoom old.game × (IsPlayed old command move new ⊎ IsProbe old command move new)
-
 -- ---- no right engine is blamed
-
--- A reply that is a right answer to the oldest command, of the engine that the answers before leave, has no finding.
-abbrev pub RightAnswersHaveNoFinding : Type 0
-RightAnswersHaveNoFinding = (rule : KoRule) (sent came : List ℕ) (said : List Exchange) (old new : Exam)
-    (bytes : List ℕ) (used : ℕ) (reply : Reply) (finding : Option Finding) (entry : Asked) (before after : RightEngine)
-    → Talks rule sent came said old → Hears old bytes (hearing used (Some (Ok reply)) finding) new
-    → oldest old.unanswered ≡ Some entry
-    → AllRight (fresh_engine rule) said before → IsRight before entry reply after
-    → finding ≡ None
 
 -- What may be written by whoever was asked these commands and answers rightly, from this engine on: replies, one after
 -- the other, each a right answer of the engine that those before it leave. The last commands may have no answer yet.
@@ -412,12 +364,3 @@ NoRightEngineIsBlamed {P} may = (rule : KoRule) (policy : P) (engine : Engine P)
     → Talks rule sent came said old → Hears old bytes (hearing used read finding) new
     → Engages may (fresh_under rule policy) sent engine out → out ≡ came ++ (bytes ++ later)
     → finding ≡ None
-
--- ---- what is no answer is found
-
--- Whatever is read is found wrong, or it is a reply to the oldest unanswered command (a right one then:
--- SilenceSaysAllIsRight). So no fault in the form of replies is passed over, nor a reply where nothing was unanswered.
-abbrev pub WhatIsReadIsAnswerOrFound : Type 0
-WhatIsReadIsAnswerOrFound = (old new : Exam) (bytes : List ℕ) (used : ℕ) (read : Result Reply ReplyFault)
-    → Hears old bytes (hearing used (Some read) None) new
-    → (entry : Asked) × (reply : Reply) × (oldest old.unanswered ≡ Some entry) × (read ≡ Ok reply)

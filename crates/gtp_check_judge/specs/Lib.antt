@@ -11,9 +11,4 @@ pub mod Judging
 pub mod Exam
 pub mod Check
 pub mod Laws
-pub mod StepLaws
 pub mod AnswerLaws
-pub mod HistoryLaws
-pub mod UndoLaws
-pub mod ScoreLaws
-pub mod ConversationLaws

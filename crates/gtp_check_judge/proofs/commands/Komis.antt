@@ -1,14 +1,12 @@
 -- What is due to a `komi`.
-use Rattle.std.proofs.Common.{◌≡◌, ℕ, suc, ◌≤◌, Bool, true, false, refl, sym, ◌∙◌, ap, subst, arith}
-use Rattle.std.specs.Prelude.{ℤ, pos, negsuc, nat_le, if◌then◌else◌}
-use Rattle.std.proofs.lemmas.Bool.Decides.{nat_tests}
-use Rattle.std.proofs.lemmas.Int.{ints}
+use Rattle.std.proofs.Common.{◌≡◌, Bool, true, false, refl, sym, ◌∙◌, ap, subst}
+use Rattle.std.specs.Prelude.{ℤ, if◌then◌else◌}
 use Rattle.gtp_check_judge.specs.declared.dues.Due.{Due}
 use Rattle.gtp_check_judge.specs.declared.dues.Due.TheVariants.{Succeeds, Fails, Places, Resizes, Scores, AnyReply}
 use Rattle.gtp_check_judge.specs.declared.dues.Due.TheVariants.{Chooses, MayUndo, Lists}
 use Rattle.gtp_check_judge.specs.Dues.{komi_due}
 use Rattle.gtp_check_judge.specs.Judging.{is_open}
-use Rattle.gtp_check_judge.specs.Komis.{is_exact_komi, HasToBeTaken}
+use Rattle.gtp_check_judge.specs.Komis.{is_exact_komi}
 
 -- a success, or any reply
 pub data KomiDue (komi : ℤ) (due : Due) : Type 0 where
@@ -63,19 +61,3 @@ inexact_any komi due isnt h = by (komi_dues komi due h)
     by : KomiDue komi due → due ≡ AnyReply
     by (KomiDue.exact e is) = absurd (let both : true ≡ false = sym e ∙ isnt in cc both)
     by (KomiDue.inexact e is) = is
-
--- ---- which komi has to be taken
-
-few_half_points : (n : ℕ) → nat_le n 16777216 ≡ true → n ≤ 16777216
-few_half_points n e = grind (arith, nat_tests)
-
-pub exact_taken : (komi : ℤ) → is_exact_komi komi ≡ true → HasToBeTaken komi
-exact_taken (pos n) e = let few = few_half_points n e in (omega (arith, ints), omega (arith, ints, few))
-exact_taken (negsuc n) e = let few = few_half_points (suc n) e in (omega (arith, ints, few), omega (arith, ints))
-
-half_points_few : (n : ℕ) → n ≤ 16777216 → nat_le n 16777216 ≡ true
-half_points_few n few = grind (arith, nat_tests)
-
-pub taken_exact : (komi : ℤ) → HasToBeTaken komi → is_exact_komi komi ≡ true
-taken_exact (pos n) h = half_points_few n (omega (arith, ints, h.1))
-taken_exact (negsuc n) h = half_points_few (suc n) (omega (arith, ints, h.0))

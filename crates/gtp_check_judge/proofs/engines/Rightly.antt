@@ -172,17 +172,3 @@ one_left rule sent came said exam one other talk a b =
     let w : Wire sent came said exam = wire rule sent came said exam talk in
     one_engine (fresh_engine rule) said one other (all_front (map entry_of said) exam.unanswered w.all)
     (rights_from (fresh_engine rule) said one a) (rights_from (fresh_engine rule) said other b)
-
-pub right_unblamed : (rule : KoRule) (sent came : List ℕ) (said : List Exchange) (old new : Exam)
-    (bytes : List ℕ) (used : ℕ) (reply : Reply) (finding : Option Finding) (entry : Asked) (before after : RightEngine)
-    → Talks rule sent came said old → Hears old bytes (hearing used (Some (Ok reply)) finding) new
-    → oldest old.unanswered ≡ Some entry
-    → AllRight (fresh_engine rule) said before → IsRight before entry reply after
-    → finding ≡ None
-right_unblamed rule sent came said old new bytes used reply finding entry before after talk h is all right =
-    unblamed rule sent came said old new bytes used reply finding entry talk h is
-    (λ other here. (
-      after,
-      subst (λ (g : RightEngine). IsRight g entry reply after)
-          (one_left rule sent came said old before other talk all here) right,
-    ))

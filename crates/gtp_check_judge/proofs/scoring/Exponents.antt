@@ -1,116 +1,21 @@
 -- Which text with an exponent, or without one, is read as points.
-use Rattle.std.proofs.Common.{◌≡◌, ℕ, Bool, true, false, List, [], ◌∷◌, ◌++◌, length}
-use Rattle.std.proofs.Common.{Option, Some, None, refl, sym, ◌∙◌, ap, subst, arith}
-use Rattle.std.specs.Prelude.{◌==◌, ◌||◌, not, nat_lt, if◌then◌else◌}
+use Rattle.std.proofs.Common.{◌≡◌, ℕ, true, false, List, [], ◌∷◌, ◌++◌, length, Option, Some, None, refl, sym, ◌∙◌, ap}
+use Rattle.std.proofs.Common.{arith}
+use Rattle.std.specs.Prelude.{◌==◌, ◌||◌, if◌then◌else◌}
 use Rattle.std.specs.Char.{is_ascii_digit}
 use Rattle.std.specs.List.{list_all}
 use Rattle.std.proofs.lemmas.Bool.{and_parts}
 use Rattle.std.proofs.lemmas.Bool.Decides.{nat_tests}
 use Rattle.std.proofs.lemmas.List.{append-nil}
 use Rattle.go_base.specs.Text.{front_while, skip_while}
-use Rattle.go_base.proofs.general.Fronts.{digits_model, front_while-append, front_while-skip_while, skip_while-append}
-use Rattle.go_base.proofs.general.Fronts.{skip_while-first}
+use Rattle.go_base.proofs.general.Fronts.{digits_model, front_while-append, skip_while-append}
 use Rattle.gtp_check_judge.specs.declared.scores.SaidScore.{SaidScore}
 use Rattle.gtp_check_judge.specs.declared.scores.SaidScore.TheVariants.{Long}
 use Rattle.gtp_check_judge.specs.Scores.{after_sign, are_some_digits, before_exponent, is_before_exponent}
 use Rattle.gtp_check_judge.specs.Scores.{plain_points_of, points_of, with_exponent, with_exponent_where}
 use Rattle.gtp_check_judge.specs.AnswerLaws.{FollowsDigits, IsExponent, MarksExponent, MayBeSign, SaysWith}
 use Rattle.gtp_check_judge.specs.AnswerLaws.{SpellsPlainPoints, SpellsPoints}
-use Rattle.gtp_check_judge.proofs.scoring.PlainPoints.{both_true, eq_is, if_some, is_less, less_is, plain_spelled}
-use Rattle.gtp_check_judge.proofs.scoring.PlainPoints.{spelled_plain}
-
--- ---- the parts of an exponent
-
-abbrev sign_before : List ℕ → List ℕ
-sign_before [] = []
-sign_before (b ∷ digits) = if b == 43 || b == 45 then b ∷ [] else []
-
-sign_shape : (rest : List ℕ) → rest ≡ sign_before rest ++ after_sign rest
-sign_shape [] = refl
-sign_shape (b ∷ digits) = by (b == 43 || b == 45)
-  where
-    by : (is : Bool) → b ∷ digits ≡ (if is then b ∷ [] else []) ++ (if is then digits else b ∷ digits)
-    by true = refl
-    by false = refl
-
-sign_is : (rest : List ℕ) → MayBeSign (sign_before rest)
-sign_is [] = MayBeSign.none
-sign_is (b ∷ digits) = by (b == 43) (b == 45) refl refl
-  where
-    by : (p m : Bool) → (b == 43) ≡ p → (b == 45) ≡ m → MayBeSign (if p || m then b ∷ [] else [])
-    by true m is_p is_m = subst (λ (n : ℕ). MayBeSign (n ∷ [])) (sym (eq_is b 43 is_p)) MayBeSign.plus
-    by false true is_p is_m = subst (λ (n : ℕ). MayBeSign (n ∷ [])) (sym (eq_is b 45 is_m)) MayBeSign.minus
-    by false false is_p is_m = MayBeSign.none
-
-marks_of : (letter : ℕ) → is_before_exponent letter ≡ false → MarksExponent (letter ∷ [])
-marks_of letter h = by (letter == 101) (letter == 69) refl refl h
-  where
-    by : (s c : Bool) → (letter == 101) ≡ s → (letter == 69) ≡ c → not (s || c) ≡ false
-        → MarksExponent (letter ∷ [])
-    by true c is_s is_c e =
-        subst (λ (n : ℕ). MarksExponent (n ∷ [])) (sym (eq_is letter 101 is_s)) MarksExponent.small
-    by false true is_s is_c e =
-        subst (λ (n : ℕ). MarksExponent (n ∷ [])) (sym (eq_is letter 69 is_c)) MarksExponent.capital
-    by false false is_s is_c e = absurd (cc e)
-
-exponent_is : (letter : ℕ) (rest : List ℕ) → is_before_exponent letter ≡ false
-    → are_some_digits (after_sign rest) ≡ true → IsExponent (letter ∷ rest)
-exponent_is letter rest h some =
-    let both = and_parts (list_all is_ascii_digit (after_sign rest)) (nat_lt 0 (length (after_sign rest))) some in
-    record {
-      letter = letter ∷ [];
-      sign = sign_before rest;
-      digits = after_sign rest;
-      shape = ap (λ (t : List ℕ). letter ∷ t) (sign_shape rest);
-      marks = marks_of letter h;
-      signed = sign_is rest;
-      are_digits = digits_model.to _ both.0;
-      some_digit = is_less 0 (length (after_sign rest)) both.1;
-    }
-
--- ---- what is read is spelled so
-
-says_with : (plain : SaidScore) (exponent : List ℕ) (said : SaidScore)
-    → ((letter : ℕ) (more : List ℕ) → exponent ≡ letter ∷ more → is_before_exponent letter ≡ false)
-    → with_exponent plain exponent ≡ Some said → SaysWith plain exponent said
-says_with plain [] said first e =
-    let same : plain ≡ said = cc e in subst (SaysWith plain []) same SaysWith.no_exponent
-says_with plain (letter ∷ rest) said first e = by (are_some_digits (after_sign rest)) refl e
-  where
-    by : (some : Bool) → are_some_digits (after_sign rest) ≡ some → (if some then Some Long else None) ≡ Some said
-        → SaysWith plain (letter ∷ rest) said
-    by false is e = absurd (cc e)
-    by true is e =
-        let same : Long ≡ said = cc e in
-        subst (SaysWith plain (letter ∷ rest)) same
-        (SaysWith.exponent (letter ∷ rest) (exponent_is letter rest (first letter rest refl) is))
-
-pub points_parts : (text : List ℕ) (said : SaidScore) → points_of text ≡ Some said
-    → (plain : SaidScore) × SpellsPlainPoints plain (before_exponent text)
-    × SaysWith plain (skip_while is_before_exponent text) said
-points_parts text said e = by (plain_points_of (before_exponent text)) refl e
-  where
-    by : (o : Option SaidScore) → plain_points_of (before_exponent text) ≡ o
-        → with_exponent_where o (skip_while is_before_exponent text) ≡ Some said
-        → (plain : SaidScore) × SpellsPlainPoints plain (before_exponent text)
-        × SaysWith plain (skip_while is_before_exponent text) said
-    by None is e = absurd (cc e)
-    by (Some plain) is e = (
-      plain,
-      plain_spelled (before_exponent text) plain is,
-      says_with plain (skip_while is_before_exponent text) said
-          (λ letter more begins. skip_while-first is_before_exponent text more letter begins) e,
-    )
-
-abbrev pub points_spelled : (text : List ℕ) (said : SaidScore) → points_of text ≡ Some said → SpellsPoints said text
-points_spelled text said e = record {
-  number = before_exponent text;
-  exponent = skip_while is_before_exponent text;
-  shape = front_while-skip_while is_before_exponent text;
-  plain = (points_parts text said e).0;
-  spelled = (points_parts text said e).1;
-  value = (points_parts text said e).2;
-}
+use Rattle.gtp_check_judge.proofs.scoring.PlainPoints.{both_true, if_some, less_is, spelled_plain}
 
 -- ---- what is spelled so is read
 

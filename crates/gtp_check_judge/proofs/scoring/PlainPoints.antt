@@ -1,40 +1,26 @@
 -- Which text without an exponent is read as points.
-use Rattle.std.proofs.Common.{◌≡◌, ℕ, ◌+◌, ◌*◌, ◌≤◌, ◌<◌, Bool, true, false, List, [], ◌∷◌, ◌++◌, length}
-use Rattle.std.proofs.Common.{Option, Some, None, refl, sym, ◌∙◌, ap, subst, arith, inl, inr}
-use Rattle.std.specs.Prelude.{ℤ, pos, ◌==◌, ◌&&◌, nat_le, nat_lt, if◌then◌else◌}
+use Rattle.std.proofs.Common.{◌≡◌, ℕ, ◌+◌, ◌*◌, ◌≤◌, ◌<◌, Bool, true, false, List, [], ◌++◌, length, Some, None, refl}
+use Rattle.std.proofs.Common.{sym, ◌∙◌, ap, arith, inl, inr}
+use Rattle.std.specs.Prelude.{ℤ, pos, ◌&&◌, nat_le, nat_lt, if◌then◌else◌}
 use Rattle.std.specs.Char.{is_ascii_digit}
 use Rattle.std.specs.List.{list_all}
 use Rattle.std.specs.Str.Parse.{digits_value}
-use Rattle.std.proofs.lemmas.Bool.{and_parts}
 use Rattle.std.proofs.lemmas.Bool.Decides.{nat_tests}
 use Rattle.std.proofs.lemmas.List.{append-nil}
 use Rattle.go_base.specs.Komi.{decimals_of}
 use Rattle.go_base.specs.Text.{front_while, skip_while}
-use Rattle.go_base.proofs.general.Fronts.{digits_model, front_while-append, front_while-skip_while, skip_while-append}
-use Rattle.go_base.proofs.numbers.Komis.{front_digits_are}
+use Rattle.go_base.proofs.general.Fronts.{digits_model, front_while-append, skip_while-append}
 use Rattle.gtp_check_judge.specs.declared.scores.SaidScore.{SaidScore}
 use Rattle.gtp_check_judge.specs.declared.scores.SaidScore.TheVariants.{Number, Long}
 use Rattle.gtp_check_judge.specs.Scores.{plain_points_of, score_of_digits}
 use Rattle.gtp_check_judge.specs.Scores.{score_where, unit_of}
 use Rattle.gtp_check_judge.specs.AnswerLaws.{FollowsDigits, IsScoreOf, SpellsPlainPoints}
 
-pub eq_is : (a b : ℕ) → (a == b) ≡ true → a ≡ b
-eq_is a b e = grind (arith, nat_tests)
-
-is_upto : (a b : ℕ) → nat_le a b ≡ true → a ≤ b
-is_upto a b e = grind (arith, nat_tests)
-
-is_beyond : (a b : ℕ) → nat_le a b ≡ false → b < a
-is_beyond a b e = grind (arith, nat_tests)
-
 upto_is : (a b : ℕ) → a ≤ b → nat_le a b ≡ true
 upto_is a b h = grind (arith, nat_tests)
 
 beyond_is : (a b : ℕ) → b < a → nat_le a b ≡ false
 beyond_is a b h = grind (arith, nat_tests)
-
-pub is_less : (a b : ℕ) → nat_lt a b ≡ true → a < b
-is_less a b e = grind (arith, nat_tests)
 
 pub less_is : (a b : ℕ) → a < b → nat_lt a b ≡ true
 less_is a b h = grind (arith, nat_tests)
@@ -47,16 +33,6 @@ number whole decimals = Number (record {
   millionths = pos (1000000 * digits_value 10 whole + unit_of (length decimals) * digits_value 10 decimals);
   unit = unit_of (length decimals);
 })
-
-digits_scored : (whole decimals : List ℕ) → IsScoreOf whole decimals (score_of_digits whole decimals)
-digits_scored whole decimals = by (nat_le (length whole) 9) (nat_le (length decimals) 6) refl refl
-  where
-    by : (a b : Bool) → nat_le (length whole) 9 ≡ a → nat_le (length decimals) 6 ≡ b
-        → IsScoreOf whole decimals (if a && b then number whole decimals else Long)
-    by true true before after =
-        IsScoreOf.short _ (is_upto (length whole) 9 before) (is_upto (length decimals) 6 after) refl refl
-    by true false before after = IsScoreOf.long (inr (is_beyond (length decimals) 6 after))
-    by false b before after = IsScoreOf.long (inl (is_beyond (length whole) 9 before))
 
 and_false : (a b : Bool) → b ≡ false → (a && b) ≡ false
 and_false true b e = e
@@ -90,49 +66,6 @@ scored_digits whole decimals said (IsScoreOf.long (inr far)) =
     (and_false _ _ (beyond_is (length decimals) 6 far))
 
 -- ---- points
-
-follows_of : (rest decimals : List ℕ) → decimals_of rest ≡ Some decimals → FollowsDigits rest decimals
-follows_of [] decimals e =
-    let none : [] ≡ decimals = cc e in subst (FollowsDigits []) none FollowsDigits.nothing
-follows_of (b ∷ bs) decimals e = by (b == 46) refl e
-  where
-    by : (is : Bool) → (b == 46) ≡ is → (if is then Some bs else None) ≡ Some decimals
-        → FollowsDigits (b ∷ bs) decimals
-    by false is e = absurd (cc e)
-    by true is e =
-        let same : bs ≡ decimals = cc e in
-        subst (λ (n : ℕ). FollowsDigits (n ∷ bs) decimals) (sym (eq_is b 46 is))
-        (subst (λ (l : List ℕ). FollowsDigits (46 ∷ bs) l) same (FollowsDigits.point bs))
-
-pub plain_spelled : (text : List ℕ) (said : SaidScore) → plain_points_of text ≡ Some said → SpellsPlainPoints said text
-plain_spelled text said e = by (decimals_of (skip_while is_ascii_digit text)) refl e
-  where
-    digits : (decimals : List ℕ) (all : Bool) → decimals_of (skip_while is_ascii_digit text) ≡ Some decimals
-        → (list_all is_ascii_digit decimals && nat_lt 0 (length (front_while is_ascii_digit text) + length decimals))
-        ≡ all
-        → (if all then Some (score_of_digits (front_while is_ascii_digit text) decimals) else None) ≡ Some said
-        → SpellsPlainPoints said text
-    digits decimals false rest tests e = absurd (cc e)
-    digits decimals true rest tests e =
-        let whole : List ℕ = front_while is_ascii_digit text in
-        let both = and_parts (list_all is_ascii_digit decimals) (nat_lt 0 (length whole + length decimals)) tests in
-        let is : score_of_digits whole decimals ≡ said = cc e in
-        record {
-          whole = whole;
-          rest = skip_while is_ascii_digit text;
-          decimals = decimals;
-          shape = front_while-skip_while is_ascii_digit text;
-          follows = follows_of (skip_while is_ascii_digit text) decimals rest;
-          digits_before = front_digits_are text;
-          digits_after = digits_model.to _ both.0;
-          some_digit = is_less 0 (length whole + length decimals) both.1;
-          value = subst (IsScoreOf whole decimals) is (digits_scored whole decimals);
-        }
-
-    by : (o : Option (List ℕ)) → decimals_of (skip_while is_ascii_digit text) ≡ o
-        → score_where (front_while is_ascii_digit text) o ≡ Some said → SpellsPlainPoints said text
-    by None rest e = absurd (cc e)
-    by (Some decimals) rest e = digits decimals _ rest refl e
 
 -- the parts of a text of digits and what follows them
 front_none : (rest decimals : List ℕ) → FollowsDigits rest decimals → front_while is_ascii_digit rest ≡ []
