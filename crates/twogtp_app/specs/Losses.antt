@@ -1,6 +1,5 @@
 -- What is written of a turn: a line for each `play` that is retaken in it, and one where a side fails. (Own.)
-use Rattle.std.specs.Prelude.{◌≡◌, ◌≢◌, ◌↔◌, ◌≤◌, ◌+◌, ◌*◌, ℕ, true, List, [], ◌++◌, length, All, Option, None}
-use Rattle.std.specs.Prelude.{Some}
+use Rattle.std.specs.Prelude.{◌≡◌, ◌≢◌, ◌↔◌, ◌≤◌, ◌+◌, ℕ, true, List, [], ◌++◌, length, All, Option, None, Some}
 use Rattle.go_base.specs.declared.colours.Colour.{Colour}
 use Rattle.gtp_match.specs.declared.controller.Controller.{Controller}
 use Rattle.gtp_match.specs.declared.reports.Retake.{Retake}
@@ -9,21 +8,16 @@ use Rattle.gtp_match.specs.declared.verdicts.Action.TheVariants.{Start, Send, Wa
 use Rattle.gtp_match.specs.Controller.{new}
 use Rattle.gtp_match.specs.Losing.{GoesDown, LosesSide}
 use Rattle.gtp_match.specs.Next.{next}
-use Rattle.gtp_match.specs.Retakes.{most_retakes, total_of}
+use Rattle.gtp_match.specs.Retakes.{total_of}
 use Rattle.gtp_match.specs.Retaking.{IsOfLastMove}
-use Rattle.gtp_match.specs.Setup.{IsSetup, SetupRecord}
 use Rattle.gtp_match.specs.Sides.{side_of}
 use Rattle.gtp_match.specs.Sound.{IsSound}
-use Rattle.byte_streams.specs.declared.calls.WriteOnce.{Ghosts as WriterGhosts}
-use Rattle.twogtp_app.specs.declared.processes.Processes.{Processes}
 use Rattle.gtp_process.specs.declared.starter.Ending.{Ending}
 use Rattle.gtp_process.specs.declared.starter.Process.{Ghosts}
 use Rattle.twogtp_app.specs.declared.task.Commands.{Commands}
 use Rattle.twogtp_app.specs.declared.why.SideTurn.{SideTurn}
 use Rattle.twogtp_app.specs.declared.why.TurnLoss.{TurnLoss}
-use Rattle.gtp_process.specs.Starts.{Attempts}
-use Rattle.twogtp_app.specs.Turns.{Engines, GameState, IsTurn, Plays, Reporting, Stage, engines_of, not_yet, reporting}
-use Rattle.twogtp_app.specs.Turns.{stage, state, turns, turn_lines}
+use Rattle.twogtp_app.specs.Turns.{GameState, IsTurn, engines_of, turn_lines}
 use Rattle.twogtp_app.specs.Why.{loss_line, retake_line}
 
 -- the side whose turn it is
@@ -79,31 +73,3 @@ LossesHaveLines {P} known =
     (commands : Commands) (number : ℕ) (before after : GameState P) (turn : SideTurn)
     → IsTurn (engines_of commands known) before after turn
     → TurnIsReported number before.game after.game (turn_lines true number turn)
-
--- ---- a whole game
-
-module _ {P E : Type 0} (engines : Engines P) (reports : Reporting E) (first : Stage P E) where
-  -- how many lines were written of these turns
-  abbrev pub lines_written : {count : ℕ} {last : Stage P E} → Plays engines reports first count last → ℕ
-  lines_written not_yet = 0
-  lines_written (turns turn plays is out) =
-      lines_written plays + length (turn_lines reports.why reports.number turn)
-
--- as many lines as this are few, after turns that led to this match
-pub record AreFew (setup : SetupRecord) (last : Controller) (lines : ℕ) : Type 0 where
-  -- one for each start of a side at most, and one for each retake
-  pub by_starts : lines ≤ (last.sides.black.starts + last.sides.white.starts) + total_of last.retakes
-  pub retakes : total_of last.retakes ≤ most_retakes * setup.max_moves
-  -- so the options alone limit them
-  pub by_setup : lines ≤ 2 * (setup.max_restarts + 1) + most_retakes * setup.max_moves
-
--- The turns of a game have few lines, from its new match on, where they are reported.
-abbrev pub LinesAreFew : {P E : Type 0} → Ghosts P → WriterGhosts E → Type 0
-LinesAreFew {P} {E} known errs =
-    (commands : Commands) (number count : ℕ) (setup : SetupRecord) (processes : Processes P) (asked : Attempts P)
-    (errors : E) (last : Stage P E) → IsSetup setup
-    → let engines = engines_of commands known in
-    let reports = reporting errs true number in
-    let first = stage (state (new setup) processes asked) errors in
-    (plays : Plays engines reports first count last)
-    → AreFew setup last.state.game (lines_written engines reports first plays)

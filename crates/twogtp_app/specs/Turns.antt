@@ -8,7 +8,6 @@ use Rattle.gtp_match.specs.declared.verdicts.Verdict.{Verdict}
 use Rattle.gtp_match.specs.Controller.{new, started, lost}
 use Rattle.gtp_match.specs.Next.{next}
 use Rattle.gtp_match.specs.Setup.{SetupRecord}
-use Rattle.gtp_match.specs.Sides.{side_of}
 use Rattle.gtp_match.specs.Sound.{IsSound}
 use Rattle.cli.specs.declared.failure.Failure.{Failure}
 use Rattle.cli.specs.declared.failure.Failure.TheVariants.{OutOfMemory, TooManyTurns, Write}
@@ -178,11 +177,3 @@ module _ {P E : Type 0} (engines : Engines P) (reports : Reporting E) where
   abbrev pub TurnsEnd : Stage P E → Stage P E → Result Verdict Failure → Type 0
   TurnsEnd before after (Ok verdict) = IsPlayed before after verdict
   TurnsEnd before after (Err failure) = HasStopped before after failure
-
--- After any turns of a game from its beginning on, a side that is down has no process.
-abbrev pub DownSidesHaveNoProcess : {P E : Type 0} → Ghosts P → WriterGhosts E → Type 0
-DownSidesHaveNoProcess {P} {E} known errs =
-    (commands : Commands) (why : Bool) (number count : ℕ) (setup : SetupRecord) (asked : Attempts P) (errors : E)
-    (last : Stage P E) (side : Colour)
-    → Plays (engines_of commands known) (reporting errs why number) (stage (opening setup asked) errors) count last
-    → (side_of last.state.game.sides side).up ≡ None → process_of last.state.processes side ≡ None

@@ -1,8 +1,6 @@
 //! Laws of the program: theorems about its definitions. Each is the contract of a function that does nothing.
-ghost use Rattle.twogtp_app.specs.Losses.{LinesAreFew, LossesHaveLines};
-ghost use Rattle.twogtp_app.specs.Turns.{DownSidesHaveNoProcess};
+ghost use Rattle.twogtp_app.specs.Losses.{LossesHaveLines};
 
-use byte_streams::WriteOnce;
 use gtp_process::Process;
 
 /// With `--why` a turn has at most two lines, both about the side whose turn it was. It has the line of a retake
@@ -11,15 +9,4 @@ use gtp_process::Process;
 /// goes down, forfeits or is unfit. No other turn has a line.
 pub fn losses_have_lines<P: Process>()
     ensures { LossesHaveLines P.Process }
-{}
-
-/// With `--why` a game has at most as many lines as both sides were started, plus three for each move that the setup
-/// allows.
-pub fn lines_are_few<P: Process, E: WriteOnce>()
-    ensures { LinesAreFew P.Process E.WriteOnce }
-{}
-
-/// After any number of turns of a game, a side that is down has no process.
-pub fn down_sides_have_no_process<P: Process, E: WriteOnce>()
-    ensures { DownSidesHaveNoProcess P.Process E.WriteOnce }
 {}
