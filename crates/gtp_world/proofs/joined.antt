@@ -1,7 +1,6 @@
 -- What joins the controller, the engines and the bytes, and what follows from it.
 pub mod AgreementLemmas
 pub mod EventLemmas
-pub mod HoldsLemmas
 pub mod InStepLemmas
 pub mod JoinedLemmas
 pub mod ReachedLemmas

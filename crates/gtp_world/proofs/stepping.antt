@@ -2,7 +2,6 @@
 pub mod AskedLemmas
 pub mod CatchUpLemmas
 pub mod EngineLemmas
-pub mod EventLawLemmas
 pub mod LaneLemmas
 pub mod LikenessLemmas
 pub mod TableLemmas
