@@ -2,7 +2,4 @@
 pub mod Tests
 pub mod Conditions
 pub mod Due
-pub mod Genmove
-pub mod NothingUnanswered
 pub mod InStep
-pub mod Undo

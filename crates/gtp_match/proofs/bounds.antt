@@ -1,3 +1,2 @@
 -- How many starts and commands there are.
 pub mod Limits
-pub mod Counts

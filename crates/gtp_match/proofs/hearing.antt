@@ -2,6 +2,5 @@
 pub mod Reading
 pub mod Exactly
 pub mod Pieces
-pub mod Used
 pub mod Changes
 pub mod LeftAlone

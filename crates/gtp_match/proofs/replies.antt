@@ -2,8 +2,6 @@
 pub mod Outcomes
 pub mod LegalMoves
 pub mod Reasons
-pub mod Counting
 pub mod NoFault
 pub mod Refusals
-pub mod OtherPoints
 pub mod Faults

@@ -1,7 +1,6 @@
--- The script, the record that it brings an engine to, and the setup.
+-- The script, and the record that it brings an engine to.
 pub mod Scripts
 pub mod WithoutLast
-pub mod Setups
 pub mod Opening
 pub mod Lines
 pub mod Turns

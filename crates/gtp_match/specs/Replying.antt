@@ -1,6 +1,6 @@
 -- What bytes of a side, and `lost`, may change of a match, and why: said of the replies themselves, without the table.
-use Rattle.std.specs.Prelude.{◌≡◌, ℕ, ◌+◌, ◌-◌, ◌<◌, ◌⊎◌, true, false, List, [], ◌∷◌, ◌++◌, length, drop, codes}
-use Rattle.std.specs.Prelude.{Option, None, Some, IsSome, MatchOption, Ok}
+use Rattle.std.specs.Prelude.{◌≡◌, ℕ, ◌+◌, ◌⊎◌, true, false, List, [], ◌∷◌, ◌++◌, length, drop, codes, Option, None}
+use Rattle.std.specs.Prelude.{Some, IsSome, MatchOption, Ok}
 use Rattle.go_base.specs.Handicap.{handicap_points}
 use Rattle.go_base.specs.Vertex.{SpellsVertex}
 use Rattle.go_base.specs.Word.{IsWord}
@@ -12,13 +12,11 @@ use Rattle.gtp_wire.specs.Replies.{IsFirst}
 use Rattle.gtp_wire.specs.declared.commands.Command.{Command}
 use Rattle.gtp_wire.specs.declared.commands.Command.TheVariants.{FixedHandicap, Genmove}
 use Rattle.gtp_wire.specs.declared.replies.Reply.{Reply}
-use Rattle.gtp_match.specs.Controller.{started, sent, lost}
 use Rattle.gtp_match.specs.Hearing.{Hears}
 use Rattle.gtp_wire.specs.ReplyWords.{NamesEachOnce}
 use Rattle.gtp_match.specs.Script.{script}
 use Rattle.gtp_wire.specs.Words.{reply_words}
 use Rattle.gtp_match.specs.Sides.{side_of}
-use Rattle.gtp_match.specs.Retakes.{with_retake}
 use Rattle.gtp_match.specs.Sound.{IsPlay, IsUndo}
 use Rattle.gtp_match.specs.Taking.{may_retake, taking_back}
 use Rattle.gtp_match.specs.Unanswered.{oldest}
@@ -47,79 +45,12 @@ pub record HearsReply (engine : EngineRun) (bytes : List ℕ) (used : ℕ) (Is :
   pub id : reply.id ≡ Some entry.id
   pub is : Is entry.command reply
 
--- the reply has no id, or not that of the oldest unanswered command, or nothing is unanswered
-abbrev pub IsStrangeReply : EngineRun → Reply → Type 0
-IsStrangeReply engine reply =
-    (entry : SentCommand) → oldest engine.unanswered ≡ Some entry → ¬ (reply.id ≡ Some entry.id)
-
 abbrev pub IsGenmove : Command → Type 0
 IsGenmove command = (colour : Colour) × (command ≡ Genmove colour)
-
--- ---- what is confirmed
-
-abbrev pub Succeeds : Command → Reply → Type 0
-Succeeds command reply = reply.ok ≡ true
-
--- one command more is confirmed, the oldest unanswered one: by a success that has its id
-pub record ConfirmsOne (before after : EngineRun) (bytes : List ℕ) (used : ℕ) : Type 0 where
-  pub heard : HearsReply before bytes used Succeeds
-  pub one_more : after.confirmed ≡ before.confirmed + 1
-  pub answered : after.unanswered ≡ drop 1 before.unanswered
-
--- Where an engine has confirmed more after its bytes were heard, they ended a success with the id of its oldest
--- unanswered command, and that one command is confirmed.
-abbrev pub ConfirmedById : Type 0
-ConfirmedById =
-    (c new : Controller) (s : Colour) (before after : EngineRun) (bytes : List ℕ) (used : ℕ)
-    (fault : Option SideFault)
-    → Hears c s bytes used fault new
-    → (side_of c.sides s).up ≡ Some before → (side_of new.sides s).up ≡ Some after
-    → before.confirmed < after.confirmed → ConfirmsOne before after bytes used
 
 -- an `undo` succeeded
 abbrev pub UndoSucceeds : Command → Reply → Type 0
 UndoSucceeds command reply = IsUndo command × (reply.ok ≡ true)
-
--- one command less is confirmed, and `undo` answered: by a success that has its id
-pub record UnconfirmsOne (before after : EngineRun) (bytes : List ℕ) (used : ℕ) : Type 0 where
-  pub heard : HearsReply before bytes used UndoSucceeds
-  pub one_less : after.confirmed ≡ before.confirmed - 1
-  pub answered : after.unanswered ≡ drop 1 before.unanswered
-
--- Where an engine has confirmed less after its bytes were heard, they ended a success of an `undo` with its id.
-abbrev pub UnconfirmedById : Type 0
-UnconfirmedById =
-    (c new : Controller) (s : Colour) (before after : EngineRun) (bytes : List ℕ) (used : ℕ)
-    (fault : Option SideFault)
-    → Hears c s bytes used fault new
-    → (side_of c.sides s).up ≡ Some before → (side_of new.sides s).up ≡ Some after
-    → after.confirmed < before.confirmed → UnconfirmsOne before after bytes used
-
--- ---- what puts a side down
-
--- Before a verdict, a reply that nothing unanswered is owed, that has no id or another than the oldest unanswered
--- command's, shows a fault; and its side is down.
-abbrev pub StrangeRepliesPutDown : Type 0
-StrangeRepliesPutDown =
-    (c new : Controller) (s : Colour) (engine : EngineRun) (reply : Reply) (bytes : List ℕ) (used : ℕ)
-    (fault : Option SideFault)
-    → Hears c s bytes used fault new
-    → c.verdict ≡ None → (side_of c.sides s).up ≡ Some engine
-    → EndsReply engine bytes used reply → IsStrangeReply engine reply
-    → IsSome fault × ((side_of new.sides s).up ≡ None)
-
--- wherever a fault is shown, the side is down
-abbrev pub FaultsPutDown : Type 0
-FaultsPutDown =
-    (c new : Controller) (s : Colour) (bytes : List ℕ) (used : ℕ) (fault : Option SideFault)
-    → Hears c s bytes used fault new → IsSome fault → (side_of new.sides s).up ≡ None
-
--- after `lost` the side is down, and a verdict that was given stays
-abbrev pub LossesPutDown : Type 0
-LossesPutDown =
-    (c : Controller) (s : Colour)
-    → ((side_of (lost c s).sides s).up ≡ None)
-    × ((v : Verdict) → c.verdict ≡ Some v → (lost c s).verdict ≡ Some v)
 
 -- ---- moves
 
@@ -173,41 +104,6 @@ MovesHaveReplies =
     (c new : Controller) (s : Colour) (bytes : List ℕ) (used : ℕ) (fault : Option SideFault)
     → Hears c s bytes used fault new
     → (new.game ≡ c.game) ⊎ (MakesMove c new s bytes used ⊎ TakesMoveBack c new s bytes used fault)
-
--- A start and a command that is sent leave the game. So does `lost`, except for a move that was to be taken back at the
--- side that goes down.
-abbrev pub OthersLeaveTheGame : Type 0
-OthersLeaveTheGame =
-    (c : Controller) (s : Colour)
-    → ((started c s).game ≡ c.game) × ((sent c s).game ≡ c.game)
-    × (((lost c s).game ≡ c.game) ⊎ (taking_back c ≡ Some s) × ((lost c s).game ≡ without_last c.game))
-
--- ---- retakes
-
--- The bytes end the refusal of a `play` that may be retaken: the number of the last move has one retake more. Where its
--- maker is up and has confirmed all commands of the script, the move is to be taken back there, and stays in the record
--- till then. Else it leaves the record at once.
-pub record CountsRetake (c new : Controller) (s : Colour) (bytes : List ℕ) (used : ℕ) : Type 0 where
-  pub engine : EngineRun
-  pub up : (side_of c.sides s).up ≡ Some engine
-  pub heard : HearsReply engine bytes used PlayFails
-  pub may : may_retake c s engine ≡ true
-  pub one_more : new.retakes ≡ with_retake (length c.game.moves) c.retakes
-  pub pending : HasConfirmedAll c.game (side_of c.sides (other s)).up
-      → (taking_back new ≡ Some (other s)) × (new.game ≡ c.game)
-  pub gone : (¬ HasConfirmedAll c.game (side_of c.sides (other s)).up) → new.game ≡ without_last c.game
-
--- what is heard of a side leaves the retakes, or is the refusal that is met by one
-abbrev pub RetakesHaveRefusals : Type 0
-RetakesHaveRefusals =
-    (c new : Controller) (s : Colour) (bytes : List ℕ) (used : ℕ) (fault : Option SideFault)
-    → Hears c s bytes used fault new → (new.retakes ≡ c.retakes) ⊎ CountsRetake c new s bytes used
-
--- a start, also of a new engine, a command that is sent and `lost` leave the retakes
-abbrev pub OthersLeaveTheRetakes : Type 0
-OthersLeaveTheRetakes =
-    (c : Controller) (s : Colour)
-    → ((started c s).retakes ≡ c.retakes) × ((sent c s).retakes ≡ c.retakes) × ((lost c s).retakes ≡ c.retakes)
 
 -- ---- causes of verdicts
 
@@ -283,10 +179,3 @@ CausesAreTrue =
     (c new : Controller) (s : Colour) (bytes : List ℕ) (used : ℕ) (fault : Option SideFault) (v : Verdict)
     → Hears c s bytes used fault new → c.verdict ≡ None → new.verdict ≡ Some v
     → (engine : EngineRun) × ((side_of c.sides s).up ≡ Some engine) × HasCause c new s engine bytes used fault v
-
--- a start and a command that is sent leave the verdict; `lost` gives none but that its side is abandoned
-abbrev pub OthersGiveNoVerdict : Type 0
-OthersGiveNoVerdict =
-    (c : Controller) (s : Colour)
-    → ((started c s).verdict ≡ c.verdict) × ((sent c s).verdict ≡ c.verdict)
-    × ((v : Verdict) → c.verdict ≡ None → (lost c s).verdict ≡ Some v → v ≡ Abandoned s)

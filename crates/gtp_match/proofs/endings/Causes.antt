@@ -2,7 +2,6 @@
 use Rattle.std.proofs.Common.{◌≡◌, ℕ, List, length, Option, Some, None, Bool, true, false, refl, sym, ◌∙◌, ap, subst}
 use Rattle.std.proofs.Common.{cond, eqb, inl, inr, arith}
 use Rattle.std.specs.Prelude.{◌⊎◌, ℤ, IsSome, nat_lt}
-use Rattle.std.proofs.lemmas.Bool.{eqb-true}
 use Rattle.std.proofs.lemmas.Bool.Decides.{nat_tests}
 use Rattle.go_base.specs.Decide.{holds}
 use Rattle.go_base.specs.Colour.{other}
@@ -16,10 +15,10 @@ use Rattle.gtp_match.specs.Controller.{started, sent, sent_to, downed, lost, los
 use Rattle.gtp_match.specs.Hearing.{Hears}
 use Rattle.gtp_match.specs.ReplyTable.{outcome, after_outcome, fault_of, refused, retaken_at}
 use Rattle.gtp_match.specs.Replying.{EndsReply, HearsReply, MakesMove, PlayFails, WhyTakenBack, TakesMoveBack}
-use Rattle.gtp_match.specs.Replying.{HasConfirmedAll, CountsRetake, IsForfeit, IsForfeited, IsAnsweredOnly, HasCause}
+use Rattle.gtp_match.specs.Replying.{HasConfirmedAll, IsForfeit, IsForfeited, IsAnsweredOnly, HasCause}
 use Rattle.gtp_match.specs.Script.{script}
 use Rattle.gtp_match.specs.Sides.{side_of, heard_reply, answered}
-use Rattle.gtp_match.specs.Taking.{is_maker, unless_over, taking_back, takes_back, may_retake, has_all}
+use Rattle.gtp_match.specs.Taking.{is_maker, taking_back, takes_back, may_retake, has_all}
 use Rattle.gtp_match.specs.Unanswered.{oldest}
 use Rattle.gtp_match.specs.declared.controller.Controller.{Controller}
 use Rattle.gtp_match.specs.declared.sides.EngineRun.{EngineRun}
@@ -73,10 +72,6 @@ made c new s engine bytes used reply v up ends e new_is =
     }
 
 -- ---- who has confirmed the script
-
-pub confirmed_all : (game : GameRecord) (up : Option EngineRun) → has_all game up ≡ true → HasConfirmedAll game up
-confirmed_all game None e = cc
-confirmed_all game (Some engine) e = eqb-true engine.confirmed (length (script game)) e
 
 not_confirmed : (game : GameRecord) (up : Option EngineRun) → has_all game up ≡ false → ¬ HasConfirmedAll game up
 not_confirmed game None e absent = absent
@@ -178,85 +173,7 @@ moves_have_replies c new s bytes used fault hears = by_way (heard c s bytes used
     by_way (Heard.down up fault_is new_is) = stays _ new_is refl
     by_way (Heard.over v e fault_is new_is) = stays _ new_is refl
 
-pub others_leave_the_game : (c : Controller) (s : Colour)
-    → ((started c s).game ≡ c.game) × ((sent c s).game ≡ c.game)
-    × (((lost c s).game ≡ c.game) ⊎ (taking_back c ≡ Some s) × ((lost c s).game ≡ without_last c.game))
-others_leave_the_game c s = (refl, by_sent (side_of c.sides s).up, by_lost (side_of c.sides s).up)
-  where
-    by_sent : (up : Option EngineRun) → (sent_to c s up).game ≡ c.game
-    by_sent None = refl
-    by_sent (Some engine) = refl
-
-    by_lost : (up : Option EngineRun)
-        → ((lost_engine c s up).game ≡ c.game)
-        ⊎ (taking_back c ≡ Some s) × ((lost_engine c s up).game ≡ without_last c.game)
-    by_lost None = inl refl
-    by_lost (Some engine) = down_game c s
-
 -- ---- retakes
-
-pub retakes_have_refusals : (c new : Controller) (s : Colour) (bytes : List ℕ) (used : ℕ) (fault : Option SideFault)
-    → Hears c s bytes used fault new → (new.retakes ≡ c.retakes) ⊎ CountsRetake c new s bytes used
-retakes_have_refusals c new s bytes used fault hears = by_way (heard c s bytes used fault new hears)
-  where
-    stays : (x : Controller) → new ≡ x → x.retakes ≡ c.retakes
-        → (new.retakes ≡ c.retakes) ⊎ CountsRetake c new s bytes used
-    stays x new_is same = inl (ap (λ (y : Controller). y.retakes) new_is ∙ same)
-
-    by_refusal : (engine : EngineRun) → c.verdict ≡ None → (side_of c.sides s).up ≡ Some engine
-        → HearsReply engine bytes used PlayFails → (may : Bool) → may_retake c s engine ≡ may
-        → new ≡ refused c s (heard_reply engine) may → (new.retakes ≡ c.retakes) ⊎ CountsRetake c new s bytes used
-    by_refusal engine none up said false is new_is = stays _ new_is refl
-    by_refusal engine none up said true is new_is =
-        by_held (has_all c.game (side_of c.sides (other s)).up) refl new_is
-      where
-        by_held : (b : Bool) → has_all c.game (side_of c.sides (other s)).up ≡ b
-            → new ≡ retaken_at c s (heard_reply engine) b → (new.retakes ≡ c.retakes) ⊎ CountsRetake c new s bytes used
-        by_held true held new_is = inr (record {
-          engine = engine;
-          up = up;
-          heard = said;
-          may = is;
-          one_more = ap (λ (x : Controller). x.retakes) new_is;
-          pending = λ _. (
-            ap taking_back new_is ∙ ap (λ v. unless_over v (Some (other s))) none,
-            ap (λ (x : Controller). x.game) new_is,
-          );
-          gone = λ lacks. absurd (lacks (confirmed_all c.game (side_of c.sides (other s)).up held));
-        })
-        by_held false unheld new_is = inr (record {
-          engine = engine;
-          up = up;
-          heard = said;
-          may = is;
-          one_more = ap (λ (x : Controller). x.retakes) new_is;
-          pending = λ all. absurd (not_confirmed c.game (side_of c.sides (other s)).up unheld all);
-          gone = λ _. ap (λ (x : Controller). x.game) new_is;
-        })
-
-    by_outcome : (engine : EngineRun) (reply : Reply) → c.verdict ≡ None → (side_of c.sides s).up ≡ Some engine
-        → EndsReply engine bytes used reply → (o : Outcome) → outcome c.game s (oldest engine.unanswered) reply ≡ o
-        → new ≡ after_outcome c s (heard_reply engine) o
-        → (new.retakes ≡ c.retakes) ⊎ CountsRetake c new s bytes used
-    by_outcome engine reply none up ends (Down f) e new_is = stays _ new_is refl
-    by_outcome engine reply none up ends Unfit e new_is = stays _ new_is refl
-    by_outcome engine reply none up ends (Forfeits cause) e new_is = stays _ new_is refl
-    by_outcome engine reply none up ends Confirms e new_is = stays _ new_is refl
-    by_outcome engine reply none up ends Resigns e new_is = stays _ new_is refl
-    by_outcome engine reply none up ends (Moves v) e new_is = stays _ new_is refl
-    by_outcome engine reply none up ends Refuses e new_is =
-        by_refusal engine none up (is_given c s engine bytes used reply ends Refuses (λ f x. cc) e)
-        (may_retake c s (heard_reply engine)) refl new_is
-    by_outcome engine reply none up ends TakesBack e new_is = stays _ new_is refl
-    by_outcome engine reply none up ends Keeps e new_is = stays _ new_is refl
-
-    by_way : Heard c s bytes used fault new → (new.retakes ≡ c.retakes) ⊎ CountsRetake c new s bytes used
-    by_way (Heard.replied engine reply none up ends fault_is new_is) =
-        by_outcome engine reply none up ends _ refl new_is
-    by_way (Heard.faulted engine shown none up first fault_is new_is) = stays _ new_is refl
-    by_way (Heard.quiet engine kept none up nothing fault_is new_is) = stays _ new_is refl
-    by_way (Heard.down up fault_is new_is) = stays _ new_is refl
-    by_way (Heard.over v e fault_is new_is) = stays _ new_is refl
 
 pub others_leave_the_retakes : (c : Controller) (s : Colour)
     → ((started c s).retakes ≡ c.retakes) × ((sent c s).retakes ≡ c.retakes) × ((lost c s).retakes ≡ c.retakes)
@@ -282,21 +199,6 @@ given_up c s v none e =
     by_starts : (b : Bool) → cond b (Some (verdict.Abandoned s)) None ≡ Some v → verdict.Abandoned s ≡ v
     by_starts true is = cc
     by_starts false is = absurd (cc)
-
-pub others_give_no_verdict : (c : Controller) (s : Colour)
-    → ((started c s).verdict ≡ c.verdict) × ((sent c s).verdict ≡ c.verdict)
-    × ((v : Verdict) → c.verdict ≡ None → (lost c s).verdict ≡ Some v → v ≡ verdict.Abandoned s)
-others_give_no_verdict c s =
-    (refl, by_sent (side_of c.sides s).up, λ v none e. by_lost v none (side_of c.sides s).up e)
-  where
-    by_sent : (up : Option EngineRun) → (sent_to c s up).verdict ≡ c.verdict
-    by_sent None = refl
-    by_sent (Some engine) = refl
-
-    by_lost : (v : Verdict) → c.verdict ≡ None → (up : Option EngineRun) → (lost_engine c s up).verdict ≡ Some v
-        → v ≡ verdict.Abandoned s
-    by_lost v none None e = let no : None ≡ Some v = sym none ∙ e in absurd (cc)
-    by_lost v none (Some engine) e = sym (given_up c s v none e)
 
 abbrev Caused : Controller → Controller → Colour → List ℕ → ℕ → Option SideFault → Verdict → Type 0
 Caused c new s bytes used fault v =
