@@ -1,4 +1,2 @@
 -- Faults on request.
 pub mod UnderFaults
-pub mod SpelledFaults
-pub mod Stops

@@ -1,4 +1,3 @@
 -- The texts of replies.
 pub mod NeatTexts
 pub mod Spoken
-pub mod HalfPoints

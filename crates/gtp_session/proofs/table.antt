@@ -5,8 +5,4 @@ pub mod Listed
 pub mod LinesOfWords
 pub mod Asking
 pub mod Causes
-pub mod Refusals
-pub mod Successes
 pub mod Kept
-pub mod ChangedParts
-pub mod Spelling

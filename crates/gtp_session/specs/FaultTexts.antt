@@ -1,39 +1,10 @@
 -- The texts that spell the faults. (Own.)
-use Rattle.std.specs.Prelude.{◌≡◌, ℕ, ◌≤◌, ◌==◌, ◌↔◌, ◌&&◌, List, [], ◌∷◌, ◌++◌, nat_le, codes, if◌then◌else◌, Option}
-use Rattle.std.specs.Prelude.{Some, None, option_map, option_and_then}
+use Rattle.std.specs.Prelude.{ℕ, ◌==◌, ◌&&◌, List, [], ◌∷◌, nat_le, codes, if◌then◌else◌, Option, Some, None}
+use Rattle.std.specs.Prelude.{option_map, option_and_then}
 use Rattle.std.specs.Str.{bytes_eq}
-use Rattle.go_base.specs.Int.{SpellsInt, int_of}
+use Rattle.go_base.specs.Int.{int_of}
 use Rattle.gtp_session.specs.declared.fault.Fault.{Fault}
 use Rattle.gtp_session.specs.declared.fault.Fault.TheVariants.{Off, Stop, Cut, Junk, Flood}
-
--- the text spells an int between these limits
-pub record SpellsBetween (least most n : ℕ) (text : List ℕ) : Type 0 where
-  pub int : SpellsInt n text
-  pub low : least ≤ n
-  pub high : n ≤ most
-
--- the text is a kind with its colon, and then the number of a genmove: at most as many as a record has moves
-pub record SpellsNumbered (kind : List ℕ) (number : ℕ) (text : List ℕ) : Type 0 where
-  pub digits : List ℕ
-  pub shape : text ≡ kind ++ digits
-  pub genmove : SpellsBetween 1 2000 number digits
-
--- the text is `cut:`, the number of a genmove, a colon, and how many bytes are kept: at most as many as a reply has
-pub record SpellsCut (number kept : ℕ) (text : List ℕ) : Type 0 where
-  pub first : List ℕ
-  pub last : List ℕ
-  pub shape : text ≡ codes "cut:" ++ (first ++ (codes ":" ++ last))
-  pub genmove : SpellsBetween 1 2000 number first
-  pub bytes : SpellsBetween 0 2048 kept last
-
--- The text spells the fault: `none`, `stop:N`, `cut:N:K`, `junk:N` or `flood:N`, where N is an int from 1 to 2,000 and
--- K one from 0 to 2,048.
-abbrev pub SpellsFault : Fault → List ℕ → Type 0
-SpellsFault Off text = text ≡ codes "none"
-SpellsFault (Stop number) text = SpellsNumbered (codes "stop:") number text
-SpellsFault (Cut number kept) text = SpellsCut number kept text
-SpellsFault (Junk number) text = SpellsNumbered (codes "junk:") number text
-SpellsFault (Flood number) text = SpellsNumbered (codes "flood:") number text
 
 -- `:`
 abbrev pub colon : ℕ
@@ -91,7 +62,3 @@ fault_spelled_by kind (Some numbers) = fault_of_kind kind numbers
 -- the fault that a text spells, where it spells one
 abbrev pub fault_spelled : List ℕ → Option Fault
 fault_spelled text = fault_spelled_by (before_colon text) (after_first (from_colon text))
-
--- the function finds what the relation says
-abbrev pub FaultOfAgrees : Type 0
-FaultOfAgrees = (fault : Fault) (text : List ℕ) → SpellsFault fault text ↔ (fault_spelled text ≡ Some fault)

@@ -10,7 +10,7 @@ use Rattle.gtp_wire.specs.Lines.{lines}
 use Rattle.gtp_wire.specs.Replies.{IsReply, IsReplyText, written_reply}
 use Rattle.gtp_session.specs.Policy.{May, IsLawful}
 use Rattle.go_base.specs.declared.choices.Choice.{Choice}
-use Rattle.gtp_session.specs.Commands.{Answer, answer, asked, id_of}
+use Rattle.gtp_session.specs.Commands.{Answer, asked, id_of}
 use Rattle.gtp_session.specs.Engine.{Engine, WrittenReply, Replies, StopsAtLine, replies_of}
 
 -- the line's id, where it has one, is an int
@@ -52,24 +52,6 @@ pub record IsFed {P : Type 0} (may : May P) (old : Engine P) (input : List ℕ) 
   pub unread : lines new.rest ≡ []
 
 -- ---- laws
-
--- each line of a text has an int as its id, or none
-abbrev pub IdsAreInts : Type 0
-IdsAreInts = (text : List ℕ) → All HasIntId (lines text)
-
--- Whatever the line, where the size is one of a board and the choice is lawful: the text of the answer is one that a
--- reply may have, and the board has one of the sizes again.
-abbrev pub AnswersAreReplyTexts : Type 0
-AnswersAreReplyTexts = (game : GameRecord) (line : Line) (choice : Choice)
-    → IsSize game.size → IsLawfulAt game line choice
-    → IsReplyText (answer game line choice).text × IsSize (answer game line choice).game.size
-
--- The bytes of an answer, with an int as its id or none, are one reply, of its status, its id and its text.
-abbrev pub AnswersAreReplies : Type 0
-AnswersAreReplies = (game : GameRecord) (line : Line) (choice : Choice)
-    → IsSize game.size → HasIntId line → IsLawfulAt game line choice
-    → IsReply (written_reply (answer game line choice).ok (id_of line) (answer game line choice).text)
-    (reply_of_answer (id_of line) (answer game line choice))
 
 -- Each of the replies of an engine is one reply, whatever it is given.
 abbrev pub EachReplyIsOne : {P : Type 0} → May P → Type 0

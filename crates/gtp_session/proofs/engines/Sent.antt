@@ -1,7 +1,6 @@
 -- What an engine answers to the commands that a controller sends.
-use Rattle.std.proofs.Common.{◌≡◌, ℕ, ◌<◌, ◌≤◌, [], length, List, Option, Some, None, false, refl, sym, ◌∙◌, ap}
-use Rattle.std.proofs.Common.{subst, arith}
-use Rattle.std.specs.Prelude.{codes, IfSome, IsTrue, ◌↔◌}
+use Rattle.std.proofs.Common.{◌≡◌, ℕ, ◌<◌, ◌≤◌, [], length, List, Option, Some, false, refl, sym, ◌∙◌, ap, subst, arith}
+use Rattle.std.specs.Prelude.{codes, IfSome}
 use Rattle.go_base.specs.Size.{most_size}
 use Rattle.go_base.specs.Colour.{colour_of, written_colour}
 use Rattle.go_base.specs.Vertex.{IsVertex, vertex_of, written_vertex}
@@ -64,18 +63,6 @@ may_be_written game Undo sent = (tt, tt)
 may_be_written game Quit sent = absurd sent
 
 -- ---- the answer
-
--- a script command asks no policy
-pub well_asks_none : (game : GameRecord) (id : Option ℕ) (command : Command) → GoesWell game command
-    → asked game (line_of_command id command) ≡ None
-well_asks_none game id (Boardsize size) well = refl
-well_asks_none game id (Komi komi) well = refl
-well_asks_none game id ClearBoard well = refl
-well_asks_none game id (FixedHandicap stones) well = refl
-well_asks_none game id (Play move) well = refl
-well_asks_none game id (Genmove colour) well = absurd well
-well_asks_none game id Undo well = absurd well
-well_asks_none game id Quit well = absurd well
 
 -- an `undo` takes the last move back
 pub undo_answer : (game : GameRecord) (id : Option ℕ) (ch : Choice) → 0 < length game.moves
@@ -142,17 +129,6 @@ goes_on game id (Play move) sent = refl
 goes_on game id (Genmove colour) sent = refl
 goes_on game id Undo sent = refl
 goes_on game id Quit sent = absurd sent
-
--- `quit` alone ends it
-pub quit_ends : (id : Option ℕ) (command : Command) → IsTrue (ends (line_of_command id command)) ↔ (command ≡ Quit)
-quit_ends id (Boardsize size) = (λ h. cc, λ h. cc)
-quit_ends id (Komi komi) = (λ h. cc, λ h. cc)
-quit_ends id ClearBoard = (λ h. cc, λ h. cc)
-quit_ends id (FixedHandicap stones) = (λ h. cc, λ h. cc)
-quit_ends id (Play move) = (λ h. cc, λ h. cc)
-quit_ends id (Genmove colour) = (λ h. cc, λ h. cc)
-quit_ends id Undo = (λ h. cc, λ h. cc)
-quit_ends id Quit = (λ h. refl, λ h. refl)
 
 -- ---- the text of the answer
 

@@ -28,8 +28,8 @@ use Rattle.gtp_session.specs.Conversation.{Conversation, BrokenConversation, Rea
 use Rattle.gtp_session.specs.private.Pieces.{GivesBytes}
 use Rattle.gtp_session.specs.Faults.{number_of, stops, flood_length, in_place_of, genmoves, meets, goes_out, bent}
 use Rattle.gtp_session.specs.Faults.{NotYet, BentDelivered, BentUpTo, Stops, BentBreaks, BentConversation}
-use Rattle.gtp_session.specs.Faults.{StoppedConversation, BrokenBentConversation, count_genmoves, PutsThere}
-use Rattle.gtp_session.specs.Faults.{BendsThere, BendsNothingBefore, BendsNoEarlier, StopsWhole, OffChangesNothing}
+use Rattle.gtp_session.specs.Faults.{StoppedConversation, BrokenBentConversation, count_genmoves, PutsThere, BendsThere}
+use Rattle.gtp_session.specs.Faults.{BendsNothingBefore, BendsNoEarlier, OffChangesNothing}
 use Rattle.gtp_session.proofs.engines.Replying.{Replies-nothing, Replies-then}
 
 -- ---- the flood
@@ -230,9 +230,6 @@ not_reached : (number count : ℕ) (genmove : Bool) → (genmove && (number == c
     → count + ((if genmove then 1 else 0) + 0) < number
 not_reached number count true e h = let less : count + 1 < number = one_less number count e h in omega arith
 not_reached number count false e h = omega arith
-
-pub reached : (m n : ℕ) → (m == n + 1) ≡ true → m ≡ n + 1
-reached m n e = grind (arith, nat_tests)
 
 -- a reply at which the engine doesn't stop leaves the fault to come
 pub NotYet-reply : (fault : Fault) (count after : ℕ) (reply : WrittenReply)
@@ -563,16 +560,6 @@ module _ {P : Type 0} (may : May P) where
         };
         in_last = p.in_last;
       }
-
-  -- where it stopped, fewer had succeeded before
-  pub stops_whole : StopsWhole may
-  stops_whole = λ fault old new input held holds stop.
-      let count = 0 + genmoves stop.upto.replies in
-      let number : number_of fault ≡ count + 1 = reached (number_of fault) count
-      (both_true stop.upto.last.genmove _ stop.met).1 in
-      let plain : bent fault 0 stop.upto.replies ≡ output_of stop.upto.replies =
-      bent-before fault 0 stop.upto.replies (omega (arith, number)) in
-      rw (stop.whole, plain) at stop.upto.taken
 
   -- without a fault the engine never stops
   pub off_never_stops : {a b : Engine P} {g0 g1 h0 h1 : Option (List ℕ)} {last : Option ℕ}

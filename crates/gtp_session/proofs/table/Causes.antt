@@ -58,20 +58,10 @@ pub data MoveSettles (game : GameRecord) (move : Move) (refusal : Option (List �
   room : TakesMove game → Settles (IsLegal game move.colour move.vertex) refusal (codes "illegal move")
       → MoveSettles game move refusal
 
-pub move_fact : {game : GameRecord} {move : Move} {refusal : Option (List ℕ)} → MoveSettles game move refusal
-    → refusal ≡ None → TakesMove game × IsLegal game move.colour move.vertex
-move_fact (full fills is) none = absurd (cc (is, none))
-move_fact (room takes legal) none = (takes, fact legal none)
-
 pub move_unrefused : {game : GameRecord} {move : Move} {refusal : Option (List ℕ)} → MoveSettles game move refusal
     → TakesMove game → IsLegal game move.colour move.vertex → refusal ≡ None
 move_unrefused (full fills is) takes legal = absurd (fills takes)
 move_unrefused (room now settles) takes legal = unrefused settles legal
-
-pub move_full : {game : GameRecord} {move : Move} {refusal : Option (List ℕ)} → MoveSettles game move refusal
-    → ¬ TakesMove game → refusal ≡ Some (codes "record full")
-move_full (full fills is) un = is
-move_full (room takes settles) un = absurd (un takes)
 
 pub move_illegal : {game : GameRecord} {move : Move} {refusal : Option (List ℕ)} → MoveSettles game move refusal
     → TakesMove game → ¬ IsLegal game move.colour move.vertex → refusal ≡ Some (codes "illegal move")
@@ -108,16 +98,6 @@ pub stones_unrefused : {game : GameRecord} {stones : ℕ} {refusal : Option (Lis
     → ¬ IsTouched game → AllowsHandicap game.size stones → refusal ≡ None
 stones_unrefused (touched t is) un allows = absurd (un t)
 stones_unrefused (empty bare settles) un allows = unrefused settles allows
-
-pub stones_touched : {game : GameRecord} {stones : ℕ} {refusal : Option (List ℕ)} → StonesSettle game stones refusal
-    → IsTouched game → refusal ≡ Some (codes "board not empty")
-stones_touched (touched t is) on = is
-stones_touched (empty un settles) on = absurd (un on)
-
-pub stones_refused : {game : GameRecord} {stones : ℕ} {refusal : Option (List ℕ)} → StonesSettle game stones refusal
-    → ¬ IsTouched game → ¬ AllowsHandicap game.size stones → refusal ≡ Some (codes "invalid number of stones")
-stones_refused (touched t is) un bad = absurd (un t)
-stones_refused (empty bare settles) un bad = refused settles bad
 
 pub stones_settle : (game : GameRecord) (stones : ℕ) → StonesSettle game stones (handicap_refusal game stones)
 stones_settle game stones = by_both (touched? game) (allows? game.size stones)

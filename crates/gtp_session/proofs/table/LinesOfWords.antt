@@ -7,21 +7,17 @@ use Rattle.go_base.specs.Int.{int_of}
 use Rattle.go_base.specs.Komi.{komi_of}
 use Rattle.go_base.specs.Colour.{colour_of}
 use Rattle.go_base.specs.Vertex.{vertex_of}
-use Rattle.go_base.specs.declared.choices.Choice.{Choice}
 use Rattle.go_base.specs.declared.colours.Colour.{Colour}
-use Rattle.go_base.specs.declared.moves.Move.{Move}
 use Rattle.go_base.specs.declared.vertices.Vertex.{Vertex}
 use Rattle.go_base.proofs.numbers.Ints.{int_of_spelled, spells_int_of}
 use Rattle.go_base.proofs.numbers.Komis.{komi_of_spelled, spells_komi_of}
 use Rattle.go_base.proofs.spellings.SpelledColours.{colour_of_spelled, spells_colour_of}
 use Rattle.go_base.proofs.spellings.SpelledVertices.{vertex_of_spelled, spells_vertex_of}
-use Rattle.go_board.specs.Game.{GameRecord}
 use Rattle.gtp_session.specs.declared.commands.CommandName.{CommandName}
 use Rattle.gtp_session.specs.declared.commands.CommandName.TheVariants as command
-use Rattle.gtp_session.specs.Commands.{spelled, all_commands, command_named, named_command, argument, Arguments}
-use Rattle.gtp_session.specs.Commands.{move_of, row_of, answer_to, answer_to_named}
-use Rattle.gtp_session.specs.TableLaws.{answer_with, standard_name, Names, IsArgument, ArgumentKind, an_int, a_komi}
-use Rattle.gtp_session.specs.TableLaws.{a_colour, a_vertex, a_word, ValueOf, SpellsValue, CanBeRead}
+use Rattle.gtp_session.specs.Commands.{spelled, all_commands, command_named, named_command, argument, move_of}
+use Rattle.gtp_session.specs.TableLaws.{standard_name, Names, IsArgument, ArgumentKind, an_int, a_komi, a_colour}
+use Rattle.gtp_session.specs.TableLaws.{a_vertex, a_word, ValueOf, SpellsValue}
 use Rattle.gtp_session.proofs.table.Names.{named_by_name}
 
 pub found : (cs : List CommandName) (word : List ℕ) (c : CommandName)
@@ -100,37 +96,7 @@ pub move_reads : (o : Option Colour) (p : Option Vertex) (c : Colour) (v : Verte
 move_reads o p c v e f =
     ap (λ (x : Option Colour). move_of x p) e ∙ ap (λ (x : Option Vertex). move_of (Some c) x) f
 
-pub reads_move : (o : Option Colour) (p : Option Vertex) (move : Move) → move_of o p ≡ Some move
-    → (o ≡ Some move.colour) × (p ≡ Some move.vertex)
-reads_move None p move e = absurd (cc e)
-reads_move (Some c) None move e = absurd (cc e)
-reads_move (Some c) (Some v) move e =
-    let same : record { colour = c; vertex = v } ≡ move = cc in
-    (ap (λ (m : Move). Some m.colour) same, ap (λ (m : Move). Some m.vertex) same)
-
--- the arguments of a command that are read can be read
-pub can_be_read : (c : CommandName) (words : List (List ℕ)) (a : Arguments c) → (row_of c).read words ≡ Some a
-    → CanBeRead c words
-can_be_read command.KnownCommand words word is = ((word, argument_of a_word words 1 word is), tt)
-can_be_read command.Boardsize words size is = ((size, argument_of an_int words 1 size is), tt)
-can_be_read command.Komi words komi is = ((komi, argument_of a_komi words 1 komi is), tt)
-can_be_read command.Play words move is =
-    let both = reads_move (argument colour_of words 1) (argument vertex_of words 2) move is in (
-      (move.colour, argument_of a_colour words 1 move.colour both.0),
-      ((move.vertex, argument_of a_vertex words 2 move.vertex both.1), tt),
-    )
-can_be_read command.Genmove words colour is = ((colour, argument_of a_colour words 1 colour is), tt)
-can_be_read command.FixedHandicap words stones is = ((stones, argument_of an_int words 1 stones is), tt)
-can_be_read c words a is = tt
-
 -- ---- answers
-
--- the answer to a line that names the command
-pub named_answer : (game : GameRecord) (id : Option ℕ) (words : List (List ℕ)) (ch : Choice) (c : CommandName)
-    → Names words c
-    → answer_with game id words ch ≡ answer_to game c words ch
-named_answer game id words ch c names = ap (λ (o : Option CommandName). answer_to_named game o words ch)
-    (of_names words c names)
 
 -- a test that isn't true is false
 pub not_true : (b : Bool) → ¬ (b ≡ true) → b ≡ false

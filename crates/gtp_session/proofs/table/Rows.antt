@@ -34,16 +34,6 @@ module _ {A : Type 0} where
       ap (λ (x : Option A). answer_by row game x ch) is
       ∙ ap (λ (r : Option (List ℕ)). answer_unless r row.effect game a ch) why
 
-  unless_ok : (cause : Option (List ℕ)) (effect : Effect A) (game : GameRecord) (a : A) (ch : Choice)
-      → (answer_unless cause effect game a ch).ok ≡ true → cause ≡ None
-  unless_ok None effect game a ch e = refl
-  unless_ok (Some cause) effect game a ch e = absurd (cc e)
-
-  pub row_succeeds : (row : Row A) (game : GameRecord) (o : Option A) (ch : Choice)
-      → (answer_by row game o ch).ok ≡ true → (a : A) × (o ≡ Some a) × (row.refusal game a ≡ None)
-  row_succeeds row game None ch e = absurd (cc e)
-  row_succeeds row game (Some a) ch e = (a, refl, unless_ok (row.refusal game a) row.effect game a ch e)
-
   -- ---- what fails keeps the game
 
   unless_keeps : (cause : Option (List ℕ)) (effect : Effect A) (game : GameRecord) (a : A) (ch : Choice)
