@@ -4,7 +4,4 @@ pub mod Faults
 pub mod FaultStays
 pub mod OneAnswer
 pub mod Pieces
-pub mod Shapes
-pub mod EitherWay
-pub mod OnlyReplies
 mod ReplyExamples

@@ -3,8 +3,6 @@ pub mod LinesOfTexts
 pub mod Steps
 pub mod Feeding
 pub mod OneAfterOther
-pub mod AnyLine
 pub mod WordsOfLines
 pub mod NumberedWords
-pub mod OnlyReading
 mod LineExamples

@@ -1,8 +1,5 @@
 -- The bytes of a reply, its parts, and what it says.
 pub mod BytesAndValue
-pub mod SameReply
-pub mod Parts
-pub mod Saying
 pub mod FirstWord
 pub mod Newlines
 pub mod Controls

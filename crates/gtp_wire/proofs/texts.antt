@@ -1,4 +1,3 @@
 -- What the words of a reply's text are.
-pub mod Cuts
 pub mod Points
 pub mod ReadBack

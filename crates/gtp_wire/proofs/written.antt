@@ -2,5 +2,3 @@
 pub mod CommandWords
 pub mod OneLine
 pub mod OneReply
-pub mod FirstReply
-pub mod FewBytes

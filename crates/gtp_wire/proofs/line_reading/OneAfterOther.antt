@@ -1,20 +1,19 @@
 -- Texts that are read one after the other.
 use Rattle.go_base.proofs.general.Lists.{AllByRecursion-append}
-use Rattle.std.proofs.Common.{◌≡◌, ◌≢◌, ℕ, List, [], ◌∷◌, ◌++◌, Option, true, false, refl, sym, ◌∙◌, ap, subst, cond}
-use Rattle.std.proofs.Common.{inl, inr, append_assoc, append-nil, filter}
-use Rattle.std.proofs.lemmas.Bool.{ne_eqb, cases_Bool}
-use Rattle.std.proofs.lemmas.List.{take-append-drop, append_cancel_left}
-use Rattle.std.proofs.lemmas.List.Elements.{filter-append, recursion_from_All}
-use Rattle.std.specs.Prelude.{All}
+use Rattle.std.proofs.Common.{◌≡◌, ℕ, List, [], ◌∷◌, ◌++◌, Option, true, false, refl, sym, ◌∙◌, ap, subst, cond, inl}
+use Rattle.std.proofs.Common.{inr, append_assoc, append-nil, filter}
+use Rattle.std.proofs.lemmas.Bool.{cases_Bool}
+use Rattle.std.proofs.lemmas.List.{take-append-drop}
+use Rattle.std.proofs.lemmas.List.Elements.{filter-append}
 use Rattle.std.specs.List.{cons_option, concat, AllByRecursion}
 use Rattle.gtp_wire.specs.declared.lines.Line.{Line}
 use Rattle.gtp_wire.specs.Bytes.{is_kept, is_newline}
-use Rattle.gtp_wire.specs.Lines.{lines, line_of, Finds, SameFuture}
+use Rattle.gtp_wire.specs.Lines.{lines, line_of, Finds}
 use Rattle.gtp_wire.specs.Laws.{IsFed, AreFed}
 use Rattle.gtp_wire.specs.Laws.IsFed.{used_up, used}
 use Rattle.gtp_wire.specs.Laws.AreFed.{all_fed, fed}
 use Rattle.gtp_wire.proofs.line_reading.LinesOfTexts.{NoNewline, cut_lines, cut_lines_newline, cut_lines_open}
-use Rattle.gtp_wire.proofs.line_reading.LinesOfTexts.{lines_cut, lines_front, lines_open}
+use Rattle.gtp_wire.proofs.line_reading.LinesOfTexts.{lines_cut, lines_front}
 
 -- what is after the last newline, with a text without one before it
 tail_from : List ℕ → List ℕ → List ℕ
@@ -32,14 +31,6 @@ tail_kept held (b ∷ t) kh kt =
       | true ↦ tail_kept [] t tt kt.1
       | false ↦ tail_kept (held ++ b ∷ []) t (AllByRecursion-append _ held (b ∷ []) kh (kt.0, tt)) kt.1
     ]
-
-tail_open : (held t : List ℕ) → NoNewline held → NoNewline (tail_from held t)
-unfolding tail_from
-tail_open held [] nh = nh
-tail_open held (b ∷ t) nh = elim (cases_Bool (is_newline b)) [
-  | inl e ↦ rw e (tail_open [] t tt)
-  | inr e ↦ rw e (tail_open (held ++ b ∷ []) t (AllByRecursion-append _ held (b ∷ []) nh (e, tt)))
-]
 
 cons_option-append : {X : Type 0} (o : Option X) (xs ys : List X) → cons_option o (xs ++ ys) ≡ cons_option o xs ++ ys
 cons_option-append Option.None xs ys = refl
@@ -82,60 +73,12 @@ lines_more text later =
     ∙ ap (λ ls. lines text ++ ls)
     (sym (lines_front (tail_of text) later (tail_kept [] (filter is_kept text) tt (all_kept text))))
 
--- what a text leaves unfinished is kept, and has no newline
-pub tail_is_kept : (text : List ℕ) → AllKept (tail_of text)
-unfolding tail_of
-tail_is_kept text = tail_kept [] (filter is_kept text) tt (all_kept text)
-
-pub tail_is_open : (text : List ℕ) → NoNewline (tail_of text)
-unfolding tail_of
-tail_is_open text = tail_open [] (filter is_kept text) tt
-
-pub no_line_in_tail : (text : List ℕ) → lines (tail_of text) ≡ []
-unfolding tail_of
-no_line_in_tail text =
-    lines_open (tail_of text) (tail_kept [] (filter is_kept text) tt (all_kept text))
-    (tail_open [] (filter is_kept text) tt)
-
--- the lines of a text are found, and what it leaves unfinished is held
-pub Finds-all : (old text : List ℕ) → Finds old text (lines (old ++ text)) (tail_of (old ++ text))
-Finds-all old text = record {
-  rest = λ later. ap lines (sym (append_assoc old text later)) ∙ lines_more (old ++ text) later;
-  no_line = no_line_in_tail (old ++ text);
-}
-
--- bytes without a newline end no line
-pub no_newlines : (later : List ℕ) → AllByRecursion (λ b. b ≢ 10) later → NoNewline (filter is_kept later)
-no_newlines [] none = tt
-no_newlines (b ∷ later) none = elim (cases_Bool (is_kept b)) [
-  | inl e ↦ rw e (ne_eqb b 10 none.0, no_newlines later none.1)
-  | inr e ↦ rw e (no_newlines later none.1)
-]
-
-pub lines_without_newline : (text later : List ℕ) → All (λ b. b ≢ 10) later → lines (text ++ later) ≡ lines text
-unfolding tail_of
-lines_without_newline text later none =
-    lines_more text later
-    ∙ ap (λ ls. lines text ++ ls)
-    (lines_front (tail_of text) later (tail_kept [] (filter is_kept text) tt (all_kept text))
-    ∙ cut_lines_open (tail_of text ++ filter is_kept later)
-    (AllByRecursion-append _ (tail_of text) (filter is_kept later) (tail_open [] (filter is_kept text) tt)
-    (no_newlines later (recursion_from_All _ later none))))
-    ∙ append-nil (lines text)
-
 -- what is found is the lines
 pub Finds-lines : {old text : List ℕ} {found : List Line} {new : List ℕ} → Finds old text found new
     → found ≡ lines (old ++ text)
 Finds-lines {old} {text} {found} {new} finds =
     sym (append-nil found) ∙ ap (λ ls. found ++ ls) (sym finds.no_line ∙ ap lines (sym (append-nil new)))
     ∙ sym (finds.rest []) ∙ ap (λ t. lines (old ++ t)) (append-nil text)
-
-pub Finds-future : {old text : List ℕ} {found : List Line} {new : List ℕ} {others : List Line} {other : List ℕ}
-    → Finds old text found new → Finds old text others other → SameFuture new other
-Finds-future {old} {text} {found} {new} {others} {other} finds finds_other later =
-    append_cancel_left found (lines (new ++ later)) (lines (other ++ later))
-    (sym (finds.rest later) ∙ finds_other.rest later
-    ∙ ap (λ ls. ls ++ lines (other ++ later)) (Finds-lines finds_other ∙ sym (Finds-lines finds)))
 
 -- texts one after the other
 pub Finds-join : {old first : List ℕ} {found : List Line} {mid second : List ℕ} {more : List Line} {new : List ℕ}

@@ -1,6 +1,5 @@
 -- Control characters, by the bytes that they are.
 use Rattle.std.proofs.Common.{◌≡◌, ◌≢◌, ℕ, ◌<◌, false, refl, arith, inl, inr}
-use Rattle.std.proofs.lemmas.Bool.{cases_lt}
 use Rattle.std.proofs.lemmas.Bool.Decides.{nat_tests}
 use Rattle.gtp_wire.specs.Bytes.{is_kept}
 use Rattle.gtp_wire.specs.AnyText.{IsControl}
@@ -14,16 +13,3 @@ control_removed b control =
           let no_newline : b ≢ 10 = control.2 in grind (arith, nat_tests)
       | inr e ↦ rw e refl
     ]
-
--- and what is removed is one
-pub control_byte : (b : ℕ) → is_kept b ≡ false → IsControl b
-control_byte b removed = elim (cases_lt b 32) [
-  | inl low ↦ (inl low, no_tab, no_newline)
-  | inr high ↦ (inr (grind (arith, nat_tests)), no_tab, no_newline)
-]
-  where
-    no_tab : b ≢ 9
-    no_tab e = let kept : is_kept 9 ≡ false = rw e at removed in cc
-
-    no_newline : b ≢ 10
-    no_newline e = let kept : is_kept 10 ≡ false = rw e at removed in cc

@@ -1,8 +1,8 @@
 -- Two newlines in a row, in a text that grows at its end.
-use Rattle.std.proofs.lemmas.Bool.{or_cases, and_parts, and_right, or_from, or_right}
+use Rattle.std.proofs.lemmas.Bool.{and_right, or_from, or_right}
 use Rattle.std.proofs.Common.{◌≡◌, ℕ, List, [], ◌∷◌, ◌++◌, Bool, true, false, refl, sym, ◌∙◌, ap, ◌&&◌, ◌||◌}
-use Rattle.std.proofs.Common.{append_assoc, inl, inr}
-use Rattle.std.proofs.lemmas.Bool.{eqb-true, cases_Bool, or_parts}
+use Rattle.std.proofs.Common.{append_assoc}
+use Rattle.std.proofs.lemmas.Bool.{or_parts}
 use Rattle.std.proofs.Math.Bool.{or-false, or_assoc}
 use Rattle.gtp_wire.specs.Bytes.{is_newline}
 use Rattle.gtp_wire.specs.Replies.{has_two_newlines}
@@ -48,29 +48,3 @@ pub two_newlines : (body : List ℕ) → has_two_newlines ((body ++ 10 ∷ []) +
 two_newlines body =
     ap has_two_newlines (append_assoc body (10 ∷ []) (10 ∷ [])) ∙ has_two_newlines_two body 10 10
     ∙ or_right (has_two_newlines (body ++ 10 ∷ [])) true refl
-
--- there are two newlines in a row
-record HasTwo (l : List ℕ) : Type 0 where
-  front : List ℕ
-  end : List ℕ
-  shape : l ≡ front ++ 10 ∷ 10 ∷ end
-
-two_found : (l : List ℕ) → has_two_newlines l ≡ true → HasTwo l
-two_found [] two = absurd (cc)
-two_found (x ∷ []) two = absurd (cc)
-two_found (x ∷ y ∷ more) two = elim (or_cases (is_newline x && is_newline y) _ two) [
-  | inl both ↦
-      let parts = and_parts (is_newline x) (is_newline y) both in
-      let first : x ≡ 10 = eqb-true x 10 parts.0 in
-      let second : y ≡ 10 = eqb-true y 10 parts.1 in
-      record { front = []; end = more; shape = cc }
-  | inr later ↦
-      let found = two_found (y ∷ more) later in
-      record { front = x ∷ found.front; end = found.end; shape = ap (λ t. x ∷ t) found.shape }
-]
-
-pub no_two : (l : List ℕ) → ((a c : List ℕ) → l ≡ a ++ 10 ∷ 10 ∷ c → ⊥) → has_two_newlines l ≡ false
-no_two l none = elim (cases_Bool (has_two_newlines l)) [
-  | inl two ↦ let found = two_found l two in absurd (none found.front found.end found.shape)
-  | inr e ↦ e
-]
