@@ -1,10 +1,8 @@
 -- What the laws of `laws.rt` say.
 pub mod BoardsAndScores
-pub mod FirstCauses
 pub mod KoRules
 pub mod ChainsAsSets
 pub mod GameEnds
-pub mod UntouchedGames
 pub mod RandomMoves
 pub mod Hashes
 pub mod EmptyBoards

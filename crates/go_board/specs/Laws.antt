@@ -1,7 +1,7 @@
 -- Laws of the game, as relations: which board a move leaves, what it takes, and what counts for whom. (Own rules of
 -- play.)
-use Rattle.std.specs.Prelude.{◌≡◌, ◌≢◌, ℕ, ℤ, pos, ◌<◌, ◌≤◌, ◌+◌, ◌-◌, ◌*ℤ◌, ◌-ℤ◌, ◌⊎◌, ◌↔◌, Bool, true}
-use Rattle.std.specs.Prelude.{List, [], ◌∷◌, ◌++◌, Contains, length, slice_get, slice_set, Some}
+use Rattle.std.specs.Prelude.{◌≡◌, ◌≢◌, ℕ, ℤ, pos, ◌≤◌, ◌+◌, ◌*ℤ◌, ◌-ℤ◌, ◌⊎◌, ◌↔◌, Bool, true, List, [], ◌∷◌, ◌++◌}
+use Rattle.std.specs.Prelude.{Contains, length, slice_get, slice_set, Some}
 use Rattle.std.specs.List.{AllPairs}
 use Rattle.go_base.specs.Colour.{other}
 use Rattle.go_base.specs.Handicap.{handicap_points}
@@ -15,11 +15,7 @@ use Rattle.go_board.specs.declared.board.Cell.{Cell}
 use Rattle.go_board.specs.declared.board.Cell.TheVariants.{Edge, Empty, Black}
 use Rattle.go_board.specs.Board.{place_count, at, stone, stone_at}
 use Rattle.go_board.specs.Chain.{Joined, Touches, IsFree, IsCaptured}
-use Rattle.go_board.specs.Counting.{CountsFor}
-use Rattle.go_board.specs.Game.{GameRecord, IsGame, IsLegal, IsFinished, Repeats, board_of, first_moves, with_move}
-use Rattle.go_board.specs.Refusals.{Refuses, IsTouched}
-use Rattle.go_board.specs.declared.faults.PlayFault.{PlayFault}
-use Rattle.go_board.specs.declared.faults.PlayFault.TheVariants.{Full, OffBoard, Occupied, Suicide, Ko}
+use Rattle.go_board.specs.Game.{GameRecord, IsGame, IsLegal, board_of, first_moves, with_move}
 use Rattle.go_board.specs.declared.rules.KoRule.{KoRule}
 use Rattle.go_board.specs.declared.rules.KoRule.TheVariants.{Simple, Positional}
 use Rattle.go_board.specs.Taken.{taken}
@@ -112,11 +108,6 @@ OtherPlaysAreLegal = (game : GameRecord) (c : Colour) (p : ℕ) → IsOn game.si
     → board_of (with_move game c (At p)) ≢ board_of (record game { moves = front }))
     → IsLegal (under Simple game) c (At p)
 
--- No play is suicide: the stone of a legal one is free on the board that the play leaves.
-abbrev pub LegalStonesAreFree : Type 0
-LegalStonesAreFree = (game : GameRecord) (c : Colour) (p : ℕ) → IsLegal game c (At p)
-    → IsFree (board_of (with_move game c (At p))) p
-
 -- ---- chains, regions and liberties, in words of sets
 
 -- The set has p, and with each of its points each neighbour that holds the same as p.
@@ -175,14 +166,6 @@ BelongsTo board c p =
     (at board p ≡ stone c)
     ⊎ ((at board p ≡ Empty) × Touches board p (stone c) × ((d : Colour) → Touches board p (stone d) → d ≡ c))
 
--- a point counts for a colour just where it belongs to it
-abbrev pub WhatBelongsCounts : Type 0
-WhatBelongsCounts = (board : List Cell) (c : Colour) (p : ℕ) → CountsFor board c p ↔ BelongsTo board c p
-
--- no point belongs to two colours
-abbrev pub PointsBelongToOne : Type 0
-PointsBelongToOne = (board : List Cell) (c d : Colour) (p : ℕ) → BelongsTo board c p → BelongsTo board d p → c ≡ d
-
 -- The score is twice the difference of the numbers of points that belong to the colours, less komi.
 pub record IsScore (game : GameRecord) (result : ℤ) : Type 0 where
   pub black : ℕ
@@ -193,57 +176,3 @@ pub record IsScore (game : GameRecord) (result : ℤ) : Type 0 where
 
 abbrev pub ScoresAreThese : Type 0
 ScoresAreThese = (game : GameRecord) → IsGame game → IsScore game (score game)
-
--- ---- refusals
-
--- Each cause by itself, without the others: the record has 2,000 moves, the point isn't on the board, it isn't empty,
--- the stone isn't free on the board that the play leaves, the ko rule forbids that board.
-abbrev pub IsCause : GameRecord → Colour → ℕ → PlayFault → Type 0
-IsCause game c p Full = 2000 ≤ length game.moves
-IsCause game c p OffBoard = ¬ IsOn game.size p
-IsCause game c p Occupied = at (board_of game) p ≢ Empty
-IsCause game c p Suicide = ¬ IsFree (board_of (with_move game c (At p))) p
-IsCause game c p Ko = Repeats game (board_of (with_move game c (At p)))
-
--- their order
-abbrev pub rank : PlayFault → ℕ
-rank Full = 0
-rank OffBoard = 1
-rank Occupied = 2
-rank Suicide = 3
-rank Ko = 4
-
--- A play on a point is refused for a cause exactly where that is one, and no cause in front of it is.
-abbrev pub RefusalsAreFirstCauses : Type 0
-RefusalsAreFirstCauses = (game : GameRecord) (c : Colour) (p : ℕ) (fault : PlayFault)
-    → Refuses game c (At p) fault
-    ↔ (IsCause game c p fault × ((other : PlayFault) → rank other < rank fault → ¬ IsCause game c p other))
-
--- ---- the end
-
--- the move of this number, counted from 0, is a pass, whoever made it
-pub record IsPassAt (game : GameRecord) (number : ℕ) : Type 0 where
-  pub move : Move
-  pub found : slice_get game.moves number ≡ Some move
-  pub pass : move.vertex ≡ Pass
-
--- the record has two moves or more, and the last two are passes
-pub record EndsByTwoPasses (game : GameRecord) : Type 0 where
-  pub two : 2 ≤ length game.moves
-  pub first : IsPassAt game (length game.moves - 2)
-  pub second : IsPassAt game (length game.moves - 1)
-
--- A game is finished exactly where its record ends so.
-abbrev pub GamesEndByTwoPasses : Type 0
-GamesEndByTwoPasses = (game : GameRecord) → IsFinished game ↔ EndsByTwoPasses game
-
--- ---- untouched games
-
--- the record has no move, and each point of the board is empty
-pub record IsBlank (game : GameRecord) : Type 0 where
-  pub none : game.moves ≡ []
-  pub empty : (p : ℕ) → IsOn game.size p → at (board_of game) p ≡ Empty
-
--- A game is untouched exactly where it is blank. Handicap stones touch it as all stones do.
-abbrev pub UntouchedGamesAreBlank : Type 0
-UntouchedGamesAreBlank = (game : GameRecord) → IsGame game → (¬ IsTouched game) ↔ IsBlank game

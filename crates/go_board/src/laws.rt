@@ -3,11 +3,9 @@
 //! The body of each function is empty: the law is its contract, and it is proved.
 ghost use Rattle.go_board.specs.Laws.{FirstBoardsAreJustThese, BoardsLeftAreJustThese, StonesAreOnTheBoard};
 ghost use Rattle.go_board.specs.Laws.{PositionalIsStricter, NewBoardsAreAllowed, NoBoardComesBack};
-ghost use Rattle.go_board.specs.Laws.{NoBoardComesBackAtOnce, OtherPlaysAreLegal, LegalStonesAreFree};
-ghost use Rattle.go_board.specs.Laws.{JoinedPointsAreTheSmallestSet, UntouchedIsAway, CapturedStonesAreShutIn};
-ghost use Rattle.go_board.specs.Laws.{NoneIsTakenFirst, MovesAddWhatTheyTake};
-ghost use Rattle.go_board.specs.Laws.{WhatBelongsCounts, PointsBelongToOne, ScoresAreThese, RefusalsAreFirstCauses};
-ghost use Rattle.go_board.specs.Laws.{GamesEndByTwoPasses, UntouchedGamesAreBlank};
+ghost use Rattle.go_board.specs.Laws.{NoBoardComesBackAtOnce, OtherPlaysAreLegal, JoinedPointsAreTheSmallestSet};
+ghost use Rattle.go_board.specs.Laws.{UntouchedIsAway, CapturedStonesAreShutIn, NoneIsTakenFirst, MovesAddWhatTheyTake};
+ghost use Rattle.go_board.specs.Laws.{ScoresAreThese};
 ghost use Rattle.go_board.specs.HashLaws.{EqualBoardsHaveOneHash, EqualPositionsHaveOneHash};
 ghost use Rattle.go_board.specs.HashLaws.{EmptyBoardsHaveTheirOwnHash};
 ghost use Rattle.go_board.specs.Candidates.{CandidatesAreChosenEvenly};
@@ -44,11 +42,6 @@ pub fn ko_rules()
     ensures others { OtherPlaysAreLegal }
 {}
 
-/// No play is suicide: after a legal play, the chain of its stone has a liberty.
-pub fn legal_stones()
-    ensures { LegalStonesAreFree }
-{}
-
 /// The chain or region of a point is the smallest set that contains the point and, with each of its points, every
 /// neighbour with the same content. It touches nothing of a kind exactly if some such set has none of that kind beside
 /// its points. So a stone is captured exactly if some such set has no empty point beside it.
@@ -65,32 +58,9 @@ pub fn taken_stones()
     ensures more { MovesAddWhatTheyTake }
 {}
 
-/// A point with a stone counts for the stone's colour. An empty point counts for a colour if there is a stone beside
-/// its region and all such stones are of that colour. No point counts for both.
-pub fn counted_points()
-    ensures counts { WhatBelongsCounts }
-    ensures one { PointsBelongToOne }
-{}
-
 /// The score is twice the number of Black's points minus White's, each counted once, minus komi.
 pub fn scores()
     ensures { ScoresAreThese }
-{}
-
-/// A play on a point is rejected with the first of these that applies: a full record, a point off the board, a point
-/// that isn't empty, suicide, ko.
-pub fn first_causes()
-    ensures { RefusalsAreFirstCauses }
-{}
-
-/// A game is finished exactly if its record has at least two moves and the last two are passes, by whichever colour.
-pub fn games_end_by_two_passes()
-    ensures { GamesEndByTwoPasses }
-{}
-
-/// A game is untouched exactly if its record has no move and every point of its board is empty.
-pub fn untouched_boards()
-    ensures { UntouchedGamesAreBlank }
 {}
 
 /// Games of equal size and with equal boards have the same hash, and so do positions that also agree in the ko point

@@ -1,4 +1,4 @@
--- What the laws of simple ko and suicide say of a game.
+-- What the laws of simple ko say of a game.
 use Rattle.std.proofs.Common.{◌≡◌, ℕ, ◌+◌, ◌-◌, ◌<◌, List, [], ◌∷◌, ◌++◌, length, take, refl, sym, ◌∙◌, ap, subst}
 use Rattle.std.proofs.Common.{arith}
 use Rattle.std.specs.Prelude.{◌≢◌, Some, slice_get}
@@ -80,7 +80,3 @@ others-legal game c p on empty free fresh = record {
       let split = split-last game.moves r.moved in
       fresh (take (length game.moves - 1) game.moves) split.0 split.1 (board-with_move game c (At p) ∙ r.same);
 }
-
-pub legal-free : (game : GameRecord) (c : Colour) (p : ℕ) → IsLegal game c (At p)
-    → IsFree (board_of (with_move game c (At p))) p
-legal-free game c p l = subst (λ (b : List Cell). IsFree b p) (sym (board-with_move game c (At p))) l.free
