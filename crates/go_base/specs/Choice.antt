@@ -1,6 +1,6 @@
 -- What an engine chooses when it is asked for a move, and the texts that spell it. (The standard, core play commands: a
 -- `genmove` is answered by a vertex or by `resign`; that the case of `resign` is ignored is own.)
-use Rattle.std.specs.Prelude.{◌≡◌, ℕ, ◌↔◌, List, Option, Some, option_map, codes, if◌then◌else◌}
+use Rattle.std.specs.Prelude.{ℕ, List, Option, Some, option_map, codes, if◌then◌else◌}
 use Rattle.go_base.specs.Vertex.{SpellsVertex, vertex_of}
 use Rattle.go_base.specs.Word.{IsWord, is_word}
 use Rattle.go_base.specs.declared.choices.Choice.{Choice}
@@ -14,11 +14,3 @@ SpellsChoice (Play vertex) text = SpellsVertex vertex text
 -- the choice that the text spells, where it spells one
 abbrev pub choice_of : List ℕ → Option Choice
 choice_of text = if is_word (codes "resign") text then Some Resign else option_map Play (vertex_of text)
-
--- the function agrees with the relation
-abbrev pub ChoiceOfAgrees : Type 0
-ChoiceOfAgrees = (choice : Choice) (text : List ℕ) → SpellsChoice choice text ↔ (choice_of text ≡ Some choice)
-
--- a text spells at most one choice
-abbrev pub SpellsOneChoice : Type 0
-SpellsOneChoice = (a b : Choice) (text : List ℕ) → SpellsChoice a text → SpellsChoice b text → a ≡ b

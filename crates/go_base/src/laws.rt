@@ -5,11 +5,8 @@ ghost use Rattle.std.specs.Prelude.{◌≡◌, ◌↔◌, IsTrue};
 ghost use Rattle.go_base.specs.Int.{IntOfAgrees, IntsReadBack, SpellsOneInt};
 ghost use Rattle.go_base.specs.Colour.{ColourOfAgrees, ColoursReadBack, SpellsOneColour};
 ghost use Rattle.go_base.specs.Vertex.{VertexOfAgrees, VerticesReadBack, SpellsOneVertex};
-ghost use Rattle.go_base.specs.Choice.{ChoiceOfAgrees, SpellsOneChoice};
 ghost use Rattle.go_base.specs.Komi.{KomiOfAgrees, KomisReadBack, SpellsOneKomi};
 ghost use Rattle.go_base.specs.Point.{NeighboursAreBeside};
-ghost use Rattle.go_base.specs.Decimal.{IntsAreCounted, PointsAreCounted, PointsOnBoardsAreWithin};
-ghost use Rattle.go_base.specs.Decimal.{KomisAreTwiceTheirValue};
 
 use crate::choices::Choice;
 use crate::colours::Colour;
@@ -99,12 +96,6 @@ pub fn vertex_laws()
     ensures one { SpellsOneVertex }
 {}
 
-/// A text spells at most one choice.
-pub fn choice_laws()
-    ensures function { ChoiceOfAgrees }
-    ensures one { SpellsOneChoice }
-{}
-
 /// Writing a komi and reading it gives the same komi, and a text spells at most one.
 pub fn komi_laws()
     ensures function { KomiOfAgrees }
@@ -112,25 +103,8 @@ pub fn komi_laws()
     ensures one { SpellsOneKomi }
 {}
 
-/// A text spells an integer exactly if it consists of one or more digits whose decimal value is at most 2,147,483,647,
-/// and a point exactly if it is a letter and digits. The letter, in upper or lower case, names the column: `A` to `H`
-/// are columns 1 to 8, and `J` to `Z` are 9 to 25. The digits are the row, 1 to 25, without leading zeros. A text
-/// spells a komi exactly if it is a decimal number with at most nine digits on either side of its decimal point; its
-/// half points are twice its value, and negative after a `-`.
-pub fn decimal_laws()
-    ensures ints { IntsAreCounted }
-    ensures points { PointsAreCounted }
-    ensures komis { KomisAreTwiceTheirValue }
-{}
-
 /// Two points of the largest board are neighbours on the mailbox board exactly if they are in the same column or row
 /// and next to each other in it.
 pub fn neighbours_law()
     ensures { NeighboursAreBeside }
-{}
-
-/// A text that spells a point spells one on a board of size `size` exactly if its letter names one of the first `size`
-/// columns and its digits name one of the first `size` rows.
-pub fn board_points_law()
-    ensures { PointsOnBoardsAreWithin }
 {}

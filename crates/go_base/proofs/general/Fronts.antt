@@ -1,7 +1,6 @@
 -- The front of a text that passes a test, and what follows it.
-use Rattle.std.proofs.Common.{◌≡◌, ℕ, suc, ◌+◌, ◌≤◌, List, [], ◌∷◌, ◌++◌, length, take, drop, Bool, true, false, refl}
-use Rattle.std.proofs.Common.{sym}
-use Rattle.std.proofs.Common.{◌∙◌, ap, arith, rules, inl, inr}
+use Rattle.std.proofs.Common.{◌≡◌, ℕ, suc, ◌+◌, List, [], ◌∷◌, ◌++◌, take, drop, Bool, true, false, refl, sym, ◌∙◌, ap}
+use Rattle.std.proofs.Common.{arith, rules, inl, inr}
 use Rattle.std.specs.List.{list_all, prefix_len}
 use Rattle.std.specs.Char.{is_ascii_digit}
 use Rattle.std.specs.Str.Parse.{digits_value}
@@ -83,13 +82,6 @@ skip_while-first p [] more x e = absurd (cc)
 skip_while-first p (y ∷ xs) more x e = elim (cases_Bool (p y)) [
   | inl t ↦ skip_while-first p xs more x (rw t at e)
   | inr t ↦ let same : y ∷ xs ≡ x ∷ more = rw t at e in let first : y ≡ x = cc in ap p (sym first) ∙ t
-]
-
-pub length-skip_while : {X : Type 0} (p : X → Bool) (xs : List X) → length (skip_while p xs) ≤ length xs
-length-skip_while p [] = omega arith
-length-skip_while p (x ∷ xs) = elim (cases_Bool (p x)) [
-  | inl e ↦ rw e (omega (arith, length-skip_while p xs))
-  | inr e ↦ rw e (omega arith)
 ]
 
 -- the texts of digits, by the test
