@@ -4,7 +4,7 @@ use go_base::Colour::{Black, White};
 use gtp_match::{ForfeitCause, Verdict};
 
 /// Black moved at A1, and White refused that.
-static SCENES: [Scene; 3] = [
+static SCENES: [Scene; 4] = [
     (
         "a refused move is taken back at its maker",
         Opening::Asked(1),
@@ -27,6 +27,21 @@ static SCENES: [Scene; 3] = [
             Step::See(Shows::InStep(Black, true)),
             Step::See(Shows::InStep(White, true)),
             Step::Send(Black, b"6 genmove b\n"),
+        ],
+    ),
+    (
+        "a refused move leaves the record at once if its maker is down",
+        Opening::Asked(1),
+        &[
+            Step::Answer(Black, b"=4 A1\n\n"),
+            Step::SendAndWait(White, b"4 play b A1\n"),
+            Step::Lose(Black),
+            Step::Answer(White, b"?4 no\n\n"),
+            Step::See(Shows::TakingBack(None)),
+            Step::See(Shows::Moves(0)),
+            Step::See(Shows::Retakes(1, 1)),
+            Step::See(Shows::InStep(White, true)),
+            Step::Start(Black),
         ],
     ),
     (

@@ -95,6 +95,34 @@ fn a_move_counts_by_its_last_byte_and_is_lost_with_its_engine_before(rt: HostRun
     }
 }
 
+/// Nothing was started, so none of these applies.
+static WITHOUT_EFFECT: [Step; 5] = [
+    Step::Event(Event::BrokenWrite(3)),
+    Step::Event(Event::ToEngine(White, 100)),
+    Step::Event(Event::ToController(White, 100)),
+    Step::Event(Event::Crash(White, 0)),
+    Step::Event(Event::End(White)),
+];
+
+/// Black's engine is gone, so what it is sent is dropped. Then Black has to answer.
+static DROPPED: [Step; 5] = [
+    Step::Event(Event::Crash(Black, 0)),
+    Step::Event(Event::Act),
+    Step::ToEngine(Black, b""),
+    Step::Event(Event::Act),
+    Step::See(Shows::Asked(Black, 3, 1)),
+];
+
+#[test]
+fn an_event_that_does_not_apply_does_nothing_and_bytes_to_no_engine_are_dropped(rt: HostRuntime) {
+    let mut recorded = Recorded::new(&rt, false);
+    recorded.go(&rt, "nothing was started", &WITHOUT_EFFECT);
+    assert_same_world(&rt, &recorded.world, &Recorded::new(&rt, false).world);
+    recorded.go(&rt, "both sides are brought into step", &IN_STEP);
+    recorded.go(&rt, "what Black is sent is dropped", &DROPPED);
+    recorded.assert_once_more(&rt);
+}
+
 static BROKEN: [Step; 4] = [
     Step::See(Shows::Down(White)),
     Step::See(Shows::Next(Action::Start(White))),
@@ -121,7 +149,7 @@ fn a_write_that_broke_anywhere_loses_the_side_alike(rt: HostRuntime) {
     }
 }
 
-static SCRIPT: [Step; 11] = [
+static SCRIPT: [Step; 13] = [
     Step::Event(Event::Act),
     Step::Event(Event::Act),
     Step::Event(Event::Act),
@@ -129,6 +157,8 @@ static SCRIPT: [Step; 11] = [
     Step::Event(Event::Act),
     Step::ToEngine(Black, b"1 boardsize 2\n2 komi 0\n3 clear_board\n"),
     Step::See(Shows::Next(Action::Wait(Black))),
+    Step::Event(Event::ToEngine(Black, 5)),
+    Step::FromEngine(Black, b""),
     Step::Event(Event::ToEngine(Black, 100)),
     Step::FromEngine(Black, b"=1\n\n=2\n\n=3\n\n"),
     Step::Event(Event::ToController(Black, 6)),

@@ -25,6 +25,15 @@ fn an_author_chooses_and_no_other_call_makes_the_move(rt: HostRuntime) {
             None => StepsWorld::new(setup),
             Some((black, white)) => StepsWorld::with_rules(setup, black, white),
         };
+        // Nothing was started, so none of these applies.
+        world.run(&[
+            StepsEvent::Happens(Event::BrokenWrite(3)),
+            StepsEvent::Happens(Event::ToEngine(White, 100)),
+            StepsEvent::Happens(Event::ToController(White, 100)),
+            StepsEvent::Happens(Event::Crash(White, 0)),
+            StepsEvent::Happens(Event::End(White)),
+            StepsEvent::Calls(White, Call::Decline),
+        ]);
         // Both sides are started, Black once more after a write that broke.
         world.run(&[
             StepsEvent::Happens(Event::Act),
@@ -42,10 +51,13 @@ fn an_author_chooses_and_no_other_call_makes_the_move(rt: HostRuntime) {
         world.run(&[
             StepsEvent::Happens(Event::Act),
             StepsEvent::Happens(Event::ToEngine(Black, 100)),
+            StepsEvent::Happens(Event::Act),
             StepsEvent::Happens(Event::Crash(White, 0)),
             StepsEvent::Happens(Event::End(White)),
         ]);
         assert_equal(&rt, world.running(White).is_none(), true);
+        assert_equal(&rt, world.to_engine(White), b"".as_slice());
+        assert_equal(&rt, world.to_controller(White), b"".as_slice());
         for call in &calls {
             let engine = some(&rt, world.running(Black));
             assert_equal(&rt, engine.wait(), Wait::Choice(Black));

@@ -26,6 +26,8 @@ enum Engine {
     Echoes,
     /// Takes all that it is sent, and writes one text.
     Says,
+    /// Takes all that it is sent, and can't be read.
+    Mute,
 }
 
 /// What an engine wrote, how much of that was read, its fault, how many of its genmoves succeeded, and whether it has
@@ -123,6 +125,9 @@ impl Process for Talk {
 
     fn read(&mut self, buffer: &mut [u8]) -> Result<usize, CallFault> {
         self.interrupt()?;
+        if matches!(&self.engine, Engine::Mute) {
+            return Err(CallFault::Other);
+        }
         let Some(mut left) = self.said.written.get(self.said.read..) else {
             return Err(CallFault::Other);
         };
@@ -149,7 +154,7 @@ impl Process for Talk {
             Engine::First(session) => answer(session, text, &mut self.said),
             Engine::Book(session) => answer(session, text, &mut self.said),
             Engine::Echoes => self.said.written.extend_from_slice(text),
-            Engine::Says => Ok(()),
+            Engine::Says | Engine::Mute => Ok(()),
         };
         match answered {
             Ok(()) => Ok(text.len()),
@@ -215,6 +220,7 @@ impl Starter for InMemory {
             ["book", book, fault] => (book_engine(book)?, "", *fault),
             ["cat"] => (Engine::Echoes, "", "none"),
             ["echo", "hello"] => (Engine::Says, "hello\n", "none"),
+            ["mute"] => (Engine::Mute, "", "none"),
             ["refuses"] => (Engine::Says, "?1 no\n\n", "none"),
             _ => return Err(StartFault::NotStarted(StartReason::NotFound)),
         };
