@@ -59,6 +59,7 @@ EDITS = [
     ("rt: must-fail low/wrong.edit: refused, as it must be: src/lib.rt:1:1: it is not proved", True),
     ("rt: must-fail low/wrong.edit: BAD EDIT: an 'old:' text is in src/lib.rt 0 times, and not once", False),
     ("rt: must-fail low/wrong.edit: NOT TRIED: run this again", False),
+    ("rt: must-fail low/wrong.edit: refused, as it must be (only because a proof file names what the edit took away): src/", False),
     ("rt: must-fail low/other.edit: refused, as it must be", False),
     ("rt: low proved", False),
 ]
