@@ -57,6 +57,7 @@ STAGES = [
 # what `rt ci` says of the edit low/wrong, and whether the run passes then
 EDITS = [
     ("rt: must-fail low/wrong.edit: refused, as it must be: src/lib.rt:1:1: it is not proved", True),
+    ("rt: must-fail low/wrong.edit: refused, as it must be (only by a limit of the prover): src/lib.rt:1:1: too long", True),
     ("rt: must-fail low/wrong.edit: BAD EDIT: an 'old:' text is in src/lib.rt 0 times, and not once", False),
     ("rt: must-fail low/wrong.edit: NOT TRIED: run this again", False),
     ("rt: must-fail low/wrong.edit: refused, as it must be (only because a proof file names what the edit took away): src/", False),
