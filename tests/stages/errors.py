@@ -47,6 +47,7 @@ ERRORS = {
         (FEW + '"$TOP/build" twogtp', 1, "there is no flock (apt-get install util-linux)\n"),
         (FEW + '"$TOP/cargo/build" twogtp', 1, "there is no python3, which a build by cargo needs (3.9 or later)\n"),
     ],
+    "twogtp": [("twogtp --black $'\\xff'", 2, "bad argument\n")],
     "demo": [('"$TOP/demo" match now', 2, "there is no demo 'match now'\n{usage}")],
     "test": [('"$TOP/test" stages', 2, "there is no test 'stages'\n{usage}")],
     "release": [

@@ -63,6 +63,7 @@ EDITS = [
     ("rt: must-fail low/wrong.edit: refused, as it must be (only because a proof file names what the edit took away): src/", False),
     ("rt: must-fail low/other.edit: refused, as it must be", False),
     ("rt: low proved", False),
+    ("rt: must-fail low/wrong.edit: refused, as it must be: src/lib.rt:1:1: a\nrt: must-fail low/other.edit: refused, as it must be: b", False),
 ]
 
 
@@ -74,6 +75,7 @@ class Run(checks.Case):
         room = self.room()
         whole = (running.TOP / "test").read_text()
         alone = re.sub(r"(?<=<< 'STAGES'\n).*(?=\nSTAGES\n)", "tests/stage", whole, flags=re.S)
+        alone = re.sub(r"^must_fail=\d+", "must_fail=1", alone, flags=re.M)
         files = {"test": alone, "build": "#!/bin/sh\n", "packaging/built": "#!/bin/sh\n", "tests/stage": what,
                  "rt": SAYS.format("1 passed, 0 failed", 0), "crates/low/must-fail/wrong.edit": "", **dict(words)}  # fmt: skip
         for name, text in files.items():
