@@ -11,13 +11,13 @@ use gtp_world::{Call, Event, StepsEvent, StepsWorld};
 #[test]
 fn an_author_chooses_and_no_other_call_makes_the_move(rt: HostRuntime) {
     let calls = [
-        Call::SetName(b"thinker"),
-        Call::SetVersion(b"2"),
-        Call::AddCommand(b"think"),
-        Call::AddCommand(b"genmove"),
-        Call::Answer(true, b"thinker"),
-        Call::Decline,
-        Call::Choose(Choice::Play(Vertex::Pass)),
+        StepsEvent::Calls(Black, Call::SetName(b"thinker")),
+        StepsEvent::Calls(Black, Call::SetVersion(b"2")),
+        StepsEvent::Calls(Black, Call::AddCommand(b"think")),
+        StepsEvent::Calls(Black, Call::AddCommand(b"genmove")),
+        StepsEvent::Calls(Black, Call::Answer(true, b"thinker")),
+        StepsEvent::Calls(Black, Call::Decline),
+        StepsEvent::Calls(Black, Call::Choose(Choice::Play(Vertex::Pass))),
     ];
     for rules in [None, Some((KoRule::Simple, KoRule::Positional))] {
         let setup = small_setup(&rt);
@@ -62,7 +62,7 @@ fn an_author_chooses_and_no_other_call_makes_the_move(rt: HostRuntime) {
             let engine = some(&rt, world.running(Black));
             assert_equal(&rt, engine.wait(), Wait::Choice(Black));
             assert_equal(&rt, world.to_controller(Black), b"".as_slice());
-            world.step(&StepsEvent::Calls(Black, *call));
+            world.step(call);
         }
         assert_equal(&rt, world.to_engine(Black), b"".as_slice());
         assert_equal(&rt, world.to_controller(Black), b"=4 pass\n\n".as_slice());

@@ -99,8 +99,9 @@ fn answer<P: Policy>(
     let mut rest = text;
     for _ in 0..text.len() {
         let fed = session.feed(rest);
+        let is_stopped = said.is_stopped;
         match fed.reply {
-            Some(reply) if !said.is_stopped => said.add(reply.as_slice(), fed.genmove)?,
+            Some(reply) if !is_stopped => said.add(reply.as_slice(), fed.genmove)?,
             _ => return Ok(()),
         }
         rest = &rest[fed.used..];
