@@ -9,7 +9,7 @@ use gtp_session::book::Book;
 use gtp_session::fault::Fault;
 use gtp_session::first::First;
 use gtp_session::policy::Policy;
-use gtp_session::session::Session;
+use gtp_session::session::{Fed, Session};
 use std::alloc::{AllocError, Global};
 use std::cell::Cell;
 use std::io::Read;
@@ -98,13 +98,20 @@ fn answer<P: Policy>(
 ) -> Result<(), AllocError> {
     let mut rest = text;
     for _ in 0..text.len() {
-        let fed = session.feed(rest);
-        let is_stopped = said.is_stopped;
-        match fed.reply {
-            Some(reply) if !is_stopped => said.add(reply.as_slice(), fed.genmove)?,
-            _ => return Ok(()),
+        let Fed {
+            used,
+            reply,
+            ended: _,
+            genmove,
+        } = session.feed(rest);
+        match reply {
+            Some(reply) => said.add(reply.as_slice(), genmove)?,
+            None => return Ok(()),
         }
-        rest = &rest[fed.used..];
+        if said.is_stopped {
+            return Ok(());
+        }
+        rest = &rest[used..];
     }
     Ok(())
 }
