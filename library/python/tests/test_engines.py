@@ -12,12 +12,6 @@ from vintsaky import BLACK, PASS, RESIGN, WHITE, Cause, CommandLine, Engine, Eve
 
 from .test_values import Refusing
 
-OURS = (
-    "protocol_version name version known_command list_commands quit boardsize clear_board komi play genmove"
-    " fixed_handicap undo final_score showboard"
-).split()
-
-
 OWN = ["kgs-chat", "nothing", "fails", "stones"]
 
 
@@ -45,6 +39,13 @@ class First(Engine):
     @command("stones")
     def count_stones(self, words):
         return str(sum(self.game[point] is not None for point in [(1, 1), (2, 1)]))
+
+
+class Plain(Engine):
+    """Has no commands of its own."""
+
+    def choose(self, game, colour):
+        return PASS
 
 
 class Second(First):
@@ -173,9 +174,11 @@ class Served(unittest.TestCase):
             self.assertEqual(sink.getvalue(), replies)
 
     def test_own_commands_are_listed(self):
+        ours = served(Plain(), b"list_commands\n")[:-2].decode()
+        self.assertTrue(ours.startswith("= protocol_version\nname\n"))
         for engine, answer, more in ((First(), b"= a", []), (Second(), b"= second", ["last"])):
             listed, known, own, _ = served(engine, b"list_commands\nknown_command fails\nkgs-chat a\n").split(b"\n\n")
-            self.assertEqual(listed.decode()[2:].split("\n"), [*OURS, *OWN, *more])
+            self.assertEqual(listed.decode().split("\n"), [*ours.split("\n"), *OWN, *more])
             self.assertEqual((known, own), (b"= true", answer))
 
     def test_an_unfinished_line_is_never_executed(self):

@@ -11,10 +11,7 @@ from . import game as rules
 from .game import POSITIONAL, SIMPLE
 from .values import BLACK, PASS, WHITE
 
-NAMES = [
-    b"protocol_version", b"name", b"version", b"known_command", b"list_commands", b"quit", b"boardsize", b"clear_board", b"komi",
-    b"play", b"genmove", b"fixed_handicap", b"undo", b"final_score", b"showboard",
-]  # fmt: skip
+NAMES = [name.encode() for name in engine.Engine.names]
 NEARLY_NAMES = [
     b"Name", b"PLAY", b"nam", b"namee", b"genmove_", b"undo2", b"time_left", b"loadsgf", b"reg_genmove", b"place_free_handicap",
     b"set_free_handicap", b"final_status_list", b"komi6.5", b"show board", b"\xffname", b"=", b"?",
