@@ -13,7 +13,7 @@ pub const KO_OUTPUT: &[u8] = b"=\n\n=\n\n=\n\n=\n\n=\n\n=\n\n=\n\n? illegal move
         = . . . X 4\n. . . . 3\nX O . . 2\n. X O . 1\nA B C D\ncaptures B 1 W 1\n\n";
 
 /// Conversations of fresh sessions with the first policy: the name of each, the input, the output, and how it ends.
-pub static CONVERSATIONS: [(&str, &[u8], &[u8], Served); 20] = [
+pub static CONVERSATIONS: [(&str, &[u8], &[u8], Served); 19] = [
     (
         "ids",
         b"99999999999 name\n5\n2147483647 name\n2147483648 name\n007 version\n",
@@ -89,19 +89,6 @@ pub static CONVERSATIONS: [(&str, &[u8], &[u8], Served); 20] = [
         b"= D4 Q16 D16\n\n? board not empty\n\n=\n\n? invalid number of stones\n\n\
             ? invalid number of stones\n\n= C3 G7 C7 G3 C5 G5 E3 E7 E5\n\n=\n\n\
             ? invalid number of stones\n\n= C3 F6 C6 F3\n\n=\n\n=\n\n? board not empty\n\n",
-        Served::EndOfInput,
-    ),
-    (
-        "each name that is listed is a known command",
-        b"known_command protocol_version\nknown_command name\nknown_command version\n\
-            known_command known_command\nknown_command list_commands\nknown_command quit\n\
-            known_command boardsize\nknown_command clear_board\nknown_command komi\nknown_command play\n\
-            known_command genmove\nknown_command fixed_handicap\nknown_command undo\n\
-            known_command final_score\nknown_command showboard\nlist_commands\n",
-        b"= true\n\n= true\n\n= true\n\n= true\n\n= true\n\n= true\n\n= true\n\n= true\n\n= true\n\n\
-            = true\n\n= true\n\n= true\n\n= true\n\n= true\n\n= true\n\n= protocol_version\nname\nversion\n\
-            known_command\nlist_commands\nquit\nboardsize\nclear_board\nkomi\nplay\ngenmove\n\
-            fixed_handicap\nundo\nfinal_score\nshowboard\n\n",
         Served::EndOfInput,
     ),
     (

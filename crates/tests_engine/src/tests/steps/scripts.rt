@@ -202,7 +202,7 @@ static SCRIPTS: [(&str, &[Step]); 9] = [
         ],
     ),
     (
-        "own commands are known and listed",
+        "own commands are known",
         &[
             Step::Lines(1, b"known_command analyze", b"= false"),
             Step::Add(b"analyze", Ok(())),
@@ -211,12 +211,6 @@ static SCRIPTS: [(&str, &[Step]); 9] = [
             Step::Lines(1, b"known_command Analyze", b"= false"),
             Step::Lines(1, b"1 known_command undo", b"=1 true"),
             Step::Lines(1, b"known_command", b"? syntax error"),
-            Step::Lines(
-                1,
-                b"list_commands",
-                b"= protocol_version\nname\nversion\nknown_command\nlist_commands\nquit\nboardsize\nclear_board\n\
-                    komi\nplay\ngenmove\nfixed_handicap\nundo\nfinal_score\nshowboard\nanalyze\nx-2",
-            ),
             Step::Feed(b"9 analyze b\n", 12, Event::Other),
             Step::Answer(true, b"a text", Ok(())),
             Step::Reply(b"=9 a text"),
