@@ -555,6 +555,31 @@ static void of_replies(void) {
     vintsaky_replies_free(&replies);
 }
 
+/* Errors: numbers that stand for nothing, and what isn't there. */
+static void of_mistakes(void) {
+    vintsaky_game game;
+    vintsaky_lines lines;
+    vintsaky_replies replies;
+    uint32_t number = 0, vertex = 0;
+    if (!vintsaky_game_new(&game) || !vintsaky_lines_new(&lines) || !vintsaky_replies_new(&replies)) exit(2);
+    IS(VINTSAKY_BAD_RULE, vintsaky_game_begin(&game, 3, 5, 0));
+    IS(VINTSAKY_BAD_SIZE, vintsaky_game_begin(&game, VINTSAKY_SIMPLE, 26, 0));
+    IS(VINTSAKY_BAD_KOMI, vintsaky_game_set_komi(&game, 2000000000));
+    IS(VINTSAKY_BAD_COLOUR, vintsaky_game_play(&game, 3, A1));
+    IS(VINTSAKY_BAD_VERTEX, vintsaky_game_play(&game, VINTSAKY_BLACK, 26 * 256 + 1));
+    IS(VINTSAKY_NO_MOVE, vintsaky_game_made(&game, 0, &number, &vertex));
+    IS(VINTSAKY_NO_LINE, vintsaky_lines_id(&lines, &number));
+    IS(VINTSAKY_BAD_COMMAND, vintsaky_write_command(-1, 9, 0, 0, TEXT, &count));
+    IS(VINTSAKY_BAD_ID, vintsaky_write_reply(-2, 1, GIVEN(""), TEXT, &count));
+    IS(VINTSAKY_NO_REPLY, vintsaky_replies_feed(&replies, GIVEN("hello\n"), &used));
+    IS(VINTSAKY_NO_REPLY, vintsaky_replies_feed(&replies, GIVEN("=5\n\n"), &used));
+    IS(0, used);
+    SAYS("Unknown error number.", vintsaky_cause_text(37, TEXT));
+    vintsaky_game_free(&game);
+    vintsaky_lines_free(&lines);
+    vintsaky_replies_free(&replies);
+}
+
 #ifndef NO_MAIN
 static void each_call(void) {
     of_the_library();
@@ -566,6 +591,7 @@ static void each_call(void) {
     of_matches();
     of_lines();
     of_replies();
+    of_mistakes();
 }
 
 #ifdef THREADS

@@ -38,6 +38,7 @@ static void games(void) {
     of_games();
     of_searches();
     of_many_games();
+    of_mistakes();
 }
 
 static void engines(void) {
