@@ -21,9 +21,10 @@ from tests.shared import checks, running  # noqa: E402
 HERE = running.TOP / "tests/engines/wrong"
 sys.path.insert(0, str(HERE))
 
-from bugs import BUGS  # noqa: E402
+from bugs import all_bugs  # noqa: E402
 from talks import AGAIN  # noqa: E402
 
+BUGS = all_bugs()
 PARSER = checks.Parser(__doc__)
 PARSER.add_argument("names", metavar="NAME", nargs="*", help="the bugs that are tried (all)")
 OPTIONS = PARSER.options(__name__)

@@ -1,10 +1,10 @@
 """The right engine that the engines here are made of, the plain reference (tests/references/engine) by another name; and how one is run."""
+import os
 import sys
-from pathlib import Path
 from random import Random
 from typing import Dict, List, NoReturn, Type
 
-sys.path.insert(0, str(Path(__file__).resolve().parents[3]))
+sys.path.insert(0, os.path.realpath(os.path.join(os.path.dirname(__file__), "../../..")))
 
 from tests.references.engine.engine import Engine  # noqa: E402
 from tests.references.engine.game import POSITIONAL, SIMPLE  # noqa: E402

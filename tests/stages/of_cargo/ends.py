@@ -8,7 +8,8 @@ from .building import BUILT, PROVED, OfWorkspace, need_proved
 from .commands import TOP, run
 
 WAITS = "#!/bin/sh\necho wrong\nexec sleep 20\n"  # the match kills it
-INHERITS = "#!/bin/sh\n[ ! -e /proc/self/fd/39 ] || echo 'it has the file' >&2\n"
+# It reads all that is sent to it before a reply, so that what fails is the next read, and never a write.
+INHERITS = "#!/bin/sh\n[ ! -e /proc/self/fd/39 ] || echo 'it has the file' >&2\nfor it in 1 2 3; do read -r line; done\n"
 
 
 def ended(words, text=None, **how):

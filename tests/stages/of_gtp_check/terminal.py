@@ -115,7 +115,7 @@ def is_not_started():
 # each check's name, and what says what is odd about it
 CHECKS = {
     "a right engine": lambda: is_same(("--quick", "--seed", "5"), RIGHT),
-    "a wrong engine": lambda: is_same(("--seed", "5", "--restarts", "4", "--only", "komi", "--singly"), f"{ENGINE} --bug sign_is_lost"),
+    "a wrong engine": lambda: is_same(("--seed", "5", "--restarts", "1", "--only", "komi", "--singly"), f"{ENGINE} --bug sign_is_lost"),
     "silent, which is waited for": is_waiting,
     "an engine that isn't started": is_not_started,
 }

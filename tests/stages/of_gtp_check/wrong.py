@@ -8,8 +8,9 @@ from .running import LIMIT, PYTHON, TOP, checked, environment, read
 from .table import ANEW, SHOWN, UNNOTICED, WAITING, lessons_of
 
 sys.path.insert(0, str(TOP / "tests/engines/wrong"))
-from bugs import BUGS  # noqa: E402
+from bugs import all_bugs  # noqa: E402
 
+BUGS = all_bugs()
 OF_A_SUBJECT = 8  # bugs that ./test tries of each subject, at most
 ENGINE = PYTHON + " tests/engines/wrong/engine"
 PIECES = PYTHON + " tests/engines/wrong/pieces"

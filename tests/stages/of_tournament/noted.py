@@ -167,8 +167,8 @@ class Stopped(Case):
         elif row != "the limit":
             for pid in here.named("twogtp" if row == "twogtp is killed" else "game 1_one_two"):
                 os.kill(pid, signal.SIGKILL)
-            here.until(lambda: not here.named("between black"))
             if row == "twogtp is killed":
+                here.until(lambda: not here.named("between black"))
                 here.until(lambda: notes_of(here, "1_one_two")[-1].startswith("no result: "), 15)
             process.terminate()
 
