@@ -1,20 +1,15 @@
 -- Laws of the table of the commands: what it must do, in other words than its rows. Names, texts and numbers are here
 -- as the page of the protocol has them.
-use Rattle.std.specs.Prelude.{◌≡◌, ◌↔◌, ℕ, ◌<◌, ℤ, Bool, true, false, List, [], ◌∷◌, ◌++◌, length, slice_get, Some}
-use Rattle.std.specs.Prelude.{None, codes}
-use Rattle.go_base.specs.Int.{SpellsInt}
-use Rattle.go_base.specs.Komi.{SpellsKomi}
+use Rattle.std.specs.Prelude.{◌≡◌, ◌↔◌, ℕ, ◌<◌, Bool, true, false, List, [], ◌∷◌, ◌++◌, length, slice_get, Some, None}
+use Rattle.std.specs.Prelude.{codes}
 use Rattle.go_base.specs.Colour.{SpellsColour}
-use Rattle.go_base.specs.Vertex.{SpellsVertex, written_vertex}
+use Rattle.go_base.specs.Vertex.{written_vertex}
 use Rattle.go_base.specs.declared.choices.Choice.{Choice}
 use Rattle.go_base.specs.declared.choices.Choice.TheVariants as choice
 use Rattle.go_base.specs.declared.colours.Colour.{Colour}
-use Rattle.go_base.specs.declared.vertices.Vertex.{Vertex}
 use Rattle.go_board.specs.Game.{GameRecord, with_move}
 use Rattle.gtp_wire.specs.declared.lines.Line.{Line}
 use Rattle.gtp_wire.specs.declared.lines.Line.TheVariants as line
-use Rattle.gtp_session.specs.declared.commands.CommandName.{CommandName}
-use Rattle.gtp_session.specs.declared.commands.CommandName.TheVariants as command
 use Rattle.gtp_wire.specs.Lines.{lines}
 use Rattle.gtp_wire.specs.Replies.{written_reply}
 use Rattle.gtp_session.specs.Policy.{May}
@@ -23,59 +18,18 @@ use Rattle.gtp_session.specs.Engine.{Engine, State, WrittenReply, Step, Replies}
 
 -- ---- lines and their arguments
 
--- the name of each command, as the standard has it
-abbrev pub standard_name : CommandName → List ℕ
-standard_name command.ProtocolVersion = codes "protocol_version"
-standard_name command.Name = codes "name"
-standard_name command.Version = codes "version"
-standard_name command.KnownCommand = codes "known_command"
-standard_name command.ListCommands = codes "list_commands"
-standard_name command.Quit = codes "quit"
-standard_name command.Boardsize = codes "boardsize"
-standard_name command.ClearBoard = codes "clear_board"
-standard_name command.Komi = codes "komi"
-standard_name command.Play = codes "play"
-standard_name command.Genmove = codes "genmove"
-standard_name command.FixedHandicap = codes "fixed_handicap"
-standard_name command.Undo = codes "undo"
-standard_name command.FinalScore = codes "final_score"
-standard_name command.Showboard = codes "showboard"
+-- the first word is this one
+abbrev pub Names : List (List ℕ) → List ℕ → Type 0
+Names words name = slice_get words 0 ≡ Some name
 
--- the first word is the name of this command
-abbrev pub Names : List (List ℕ) → CommandName → Type 0
-Names words named = slice_get words 0 ≡ Some (standard_name named)
-
--- the first word of a line is the name of this command; a line that is too long names none
-abbrev pub LineNames : Line → CommandName → Type 0
-LineNames line.TooLong _ = ⊥
-LineNames (line.Command command_line) named = Names command_line.words named
+-- the first word of a line is this one; a line that is too long has none
+abbrev pub LineNames : Line → List ℕ → Type 0
+LineNames line.TooLong name = ⊥
+LineNames (line.Command command_line) name = Names command_line.words name
 
 -- the word of this number is there, and it spells the value
 abbrev pub IsArgument : {V : Type 0} → (V → List ℕ → Type 0) → List (List ℕ) → ℕ → V → Type 0
 IsArgument Spells words number value = (word : List ℕ) × (slice_get words number ≡ Some word) × Spells value word
-
--- what an argument of a command may be, in the standard's terms; a word is any word
-pub data ArgumentKind : Type 0 where
-  an_int : ArgumentKind
-  a_komi : ArgumentKind
-  a_colour : ArgumentKind
-  a_vertex : ArgumentKind
-  a_word : ArgumentKind
-
-abbrev pub ValueOf : ArgumentKind → Type 0
-ValueOf an_int = ℕ
-ValueOf a_komi = ℤ
-ValueOf a_colour = Colour
-ValueOf a_vertex = Vertex
-ValueOf a_word = List ℕ
-
--- the text spells the value
-abbrev pub SpellsValue : (kind : ArgumentKind) → ValueOf kind → List ℕ → Type 0
-SpellsValue an_int = SpellsInt
-SpellsValue a_komi = SpellsKomi
-SpellsValue a_colour = SpellsColour
-SpellsValue a_vertex = SpellsVertex
-SpellsValue a_word = λ value text. text ≡ value
 
 -- the record has room for a move: fewer than 2,000 are in it
 abbrev pub TakesMove : GameRecord → Type 0
@@ -97,8 +51,8 @@ HaveOneReplyEach [] (reply ∷ replies) = ⊥
 HaveOneReplyEach (line ∷ later) [] = ⊥
 HaveOneReplyEach (line ∷ later) (reply ∷ replies) =
     RepeatsId line reply
-    × ((LineNames line command.Quit → replies ≡ [])
-    × ((¬ LineNames line command.Quit) → HaveOneReplyEach later replies))
+    × ((LineNames line (codes "quit") → replies ≡ [])
+    × ((¬ LineNames line (codes "quit")) → HaveOneReplyEach later replies))
 
 -- an engine whose session goes on answers each line once
 abbrev pub EachLineIsAnsweredOnce : {P : Type 0} → May P → Type 0
@@ -111,7 +65,7 @@ EachLineIsAnsweredOnce {P} may = (old new : Engine P) (text : List ℕ) (replies
 abbrev pub AsksForMove : GameRecord → Line → Colour → Type 0
 AsksForMove game line.TooLong colour = ⊥
 AsksForMove game (line.Command command_line) colour =
-    Names command_line.words command.Genmove × IsArgument SpellsColour command_line.words 1 colour × TakesMove game
+    Names command_line.words (codes "genmove") × IsArgument SpellsColour command_line.words 1 colour × TakesMove game
 
 -- The choice is made for the colour and answered: a resignation leaves the game, and its text is `resign`; a vertex is
 -- played, and its text is the vertex.

@@ -47,17 +47,7 @@ fn text_by_command(
         CommandName::Version => Some(AuthorText::Version),
         CommandName::KnownCommand => known_word(line, commands),
         CommandName::ListCommands => Some(AuthorText::Commands),
-        CommandName::ProtocolVersion
-        | CommandName::Quit
-        | CommandName::Boardsize
-        | CommandName::ClearBoard
-        | CommandName::Komi
-        | CommandName::Play
-        | CommandName::Genmove
-        | CommandName::FixedHandicap
-        | CommandName::Undo
-        | CommandName::FinalScore
-        | CommandName::Showboard => None,
+        _ => None,
     }
 }
 

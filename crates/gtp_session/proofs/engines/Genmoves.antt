@@ -15,7 +15,7 @@ use Rattle.gtp_session.specs.declared.commands.CommandName.TheVariants.{Genmove}
 use Rattle.gtp_session.specs.Commands.{Answer, answer_choice, argument, asked, asked_by, asked_by_command}
 use Rattle.gtp_session.specs.Commands.{asked_by_named, asked_unless, full_refusal, id_of, named_command, row_of}
 use Rattle.gtp_session.specs.Engine.{State, WrittenReply, Step}
-use Rattle.gtp_session.specs.TableLaws.{a_colour, IsArgument, TakesMove, AsksForMove, IsMade, GenmovesAloneCount}
+use Rattle.gtp_session.specs.TableLaws.{IsArgument, TakesMove, AsksForMove, IsMade, GenmovesAloneCount}
 use Rattle.gtp_session.proofs.table.Asking.{answer-asked}
 use Rattle.gtp_session.proofs.engines.Replying.{succeeds_where_asked}
 use Rattle.gtp_session.proofs.table.Causes.{fact, unrefused, full_settles}
@@ -31,7 +31,7 @@ asked_colour game words (Some c) colour is e = by_cause (full_refusal game) refl
     by_cause : (cause : Option (List ℕ)) → full_refusal game ≡ cause → asked_unless cause c ≡ Some colour
         → IsArgument SpellsColour words 1 colour × TakesMove game
     by_cause (Some cause) why f = absurd (cc f)
-    by_cause None none f = (argument_of a_colour words 1 colour (is ∙ f), fact (full_settles game) none)
+    by_cause None none f = (argument_of words 1 colour (is ∙ f), fact (full_settles game) none)
 
 -- a line for which the policy is asked
 asks_for : (game : GameRecord) (l : Line) (colour : Colour) → asked game l ≡ Some colour → AsksForMove game l colour
@@ -52,7 +52,7 @@ asked_for : (game : GameRecord) (l : Line) (colour : Colour) → AsksForMove gam
 asked_for game line.TooLong colour h = absurd h
 asked_for game (line.Command cl) colour h =
     ap (λ (o : Option CommandName). asked_by_named game o cl.words) (of_names cl.words Genmove h.0)
-    ∙ ap (asked_by (row_of Genmove) game) (of_argument a_colour cl.words 1 colour h.1)
+    ∙ ap (asked_by (row_of Genmove) game) (of_argument cl.words 1 colour h.1)
     ∙ ap (λ (cause : Option (List ℕ)). asked_unless cause colour) (unrefused (full_settles game) h.2)
 
 is_made : (game after : GameRecord) (reply : WrittenReply) (l : Line) (colour : Colour) (ch : Choice)

@@ -1,5 +1,5 @@
 -- A line ends the session where its first word is `quit`.
-use Rattle.std.specs.Prelude.{◌↔◌, IsTrue}
+use Rattle.std.specs.Prelude.{◌↔◌, IsTrue, codes}
 use Rattle.gtp_wire.specs.declared.lines.Line.{Line}
 use Rattle.gtp_wire.specs.declared.lines.Line.TheVariants as line
 use Rattle.gtp_session.specs.declared.commands.CommandName.TheVariants.{Quit}
@@ -8,7 +8,7 @@ use Rattle.gtp_session.specs.TableLaws.{LineNames}
 use Rattle.gtp_session.proofs.table.Names.{has_name-Decides}
 use Rattle.gtp_session.proofs.table.LinesOfWords.{names_of, of_names}
 
-pub quit_lines : (l : Line) → IsTrue (ends l) ↔ LineNames l Quit
+pub quit_lines : (l : Line) → IsTrue (ends l) ↔ LineNames l (codes "quit")
 quit_lines line.TooLong = (λ h. cc, λ h. absurd h)
 quit_lines (line.Command cl) =
     let test = has_name-Decides (named_command cl.words) Quit in

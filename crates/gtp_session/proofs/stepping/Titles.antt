@@ -157,7 +157,7 @@ default_command e (Some command.KnownCommand) t = absurd t
 default_command e (Some command.ListCommands) t = absurd t
 default_command e (Some c) t = tt
 
--- as it is of the eleven other commands
+-- as it is of the commands for which he can set no text
 pub default_line : (e : Exchange) (l : Line) → IsTablesLine l → IsDefaultAt e l
 default_line e line.TooLong t = tt
 default_line e (line.Command cl) t = default_command e (named_command cl.words) t
