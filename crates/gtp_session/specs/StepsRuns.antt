@@ -25,9 +25,9 @@ use Rattle.gtp_session.specs.Steps.{SetsName, SetsVersion, AddsCommand, author_t
 abbrev pub list_may : May (List Choice)
 list_may old game colour choice new = (old ≡ choice ∷ new) × IsLawful game colour choice
 
--- as an engine with these choices left
-abbrev pub engine_of : StepsState → List Choice → Engine (List Choice)
-engine_of s choices = record { rest = s.rest; game = s.game; policy = choices; ended = s.ended }
+-- as an engine whose policy has this state, such as the list of the choices that are left
+abbrev pub engine_of : {P : Type 0} → StepsState → P → Engine P
+engine_of s policy = record { rest = s.rest; game = s.game; policy = policy; ended = s.ended }
 
 -- ---- runs
 
@@ -115,7 +115,7 @@ abbrev pub IsGiven : Exchange → Type 0
 IsGiven e = IsGivenBy e (author_text_to e.was e.was.line) (is_other_line e.was.line)
 
 -- The author leaves the answer as the table has it: he declines, his name or version is the table's, or he has no
--- commands of his own. The other eleven commands of the table ask for nothing of that.
+-- commands of his own. The other commands of the table ask for nothing of that.
 abbrev pub IsDefaultBy : Exchange → Option CommandName → Type 0
 IsDefaultBy e None = e.reply ≡ written_reply false (id_of e.was.line) declined_text
 IsDefaultBy e (Some command.Name) = e.was.name ≡ codes "stepgo"
@@ -131,7 +131,7 @@ IsDefaultAt e (line.Command command_line) = IsDefaultBy e (named_command command
 abbrev pub IsDefault : Exchange → Type 0
 IsDefault e = IsDefaultAt e e.was.line
 
--- The command is one of the eleven whose answers are the table's whatever the author has set: any that the table has
+-- The command is one of those whose answers are the table's whatever the author has set: any that the table has
 -- but `name`, `version`, `known_command` and `list_commands`.
 abbrev pub IsTables : Option CommandName → Type 0
 IsTables None = ⊥
@@ -174,7 +174,7 @@ DefaultsAreTheTables =
     → IsRun a text choices given b → All IsDefault given
     → Replies list_may (engine_of a (choices ++ left)) text (engine_of b left) (map given_reply given)
 
--- and so are they over a text all of whose lines name one of the eleven commands, whatever he has set
+-- and so are they over a text all of whose lines name such commands, whatever he has set
 abbrev pub TablesLinesAreTheTables : Type 0
 TablesLinesAreTheTables =
     (a b : StepsState) (text : List ℕ) (choices left : List Choice) (given : List Exchange)

@@ -1,7 +1,6 @@
 -- What no reader has to believe: proofs that the choices of the policies are lawful, and what functions inside the
 -- crate say of one another.
 pub mod AuthorTexts
-pub mod Chosen
 pub mod Completing
 pub mod Lawful
 pub mod Outcome

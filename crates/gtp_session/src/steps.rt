@@ -6,19 +6,19 @@ ghost use Rattle.gtp_wire.specs.declared.lines.Line.TheVariants as line;
 ghost use Rattle.gtp_session.specs.declared.events.Wait.TheVariants as wait;
 ghost use Rattle.gtp_session.specs.declared.events.Event.TheVariants as event;
 ghost use Rattle.gtp_session.specs.declared.events.AnswerFault.TheVariants as answer_fault;
-ghost use Rattle.gtp_session.specs.Commands.{answer, asked};
-ghost use Rattle.gtp_session.specs.Spoken.{IsLawfulAt, IsSpoken};
-ghost use Rattle.gtp_session.specs.Steps.{event_of};
+ghost use Rattle.gtp_session.specs.Commands.{asked};
+ghost use Rattle.gtp_session.specs.Policy.{IsLawful};
+ghost use Rattle.gtp_session.specs.Spoken.{IsSpoken};
+ghost use Rattle.gtp_session.specs.Steps.{IsUnlawful, event_of};
 
-use crate::answers::{Answered, answer};
+use crate::answers::answer;
 use crate::author_texts::{AuthorText, text_for};
-use crate::chosen::{Chosen, refusal};
 pub use crate::events::{AnswerFault, ChoiceFault, CommandFault, Event, NoTitle, StepsFed, Wait};
 use crate::own_commands::OwnCommands;
-use crate::policy::Choice;
 use crate::titles::{Title, copy_of, title_of};
 use crate::waits::{id_of, wait_of};
-use go_board::{Game, KoRule};
+use go_base::{Choice, Colour};
+use go_board::{Game, KoRule, PlayFault};
 use gtp_wire::{
     CommandLine, Line, LineRead, LineReader, ReplyText, is_reply_text, write_reply_into,
 };
@@ -57,7 +57,7 @@ impl Model for Steps {
 
 impl Steps {
     ghost use Rattle.gtp_session.specs.Steps.{IsStepsState, IsOpen, IsTitle, fresh_steps};
-    ghost use Rattle.gtp_session.specs.Steps.{wait_of, after_wait, replied, answered, texted};
+    ghost use Rattle.gtp_session.specs.Steps.{replied, texted};
     ghost use Rattle.gtp_session.specs.Steps.{ReadsOn, Chooses, RefusesChoice, AnswersOther, RefusesAnswer};
     ghost use Rattle.gtp_session.specs.Steps.{SetsName, SetsVersion, AddsCommand, declined_text};
     ghost use Rattle.gtp_session.specs.OwnCommands.{RefusesName};
@@ -161,29 +161,15 @@ impl Steps {
                 event: Event::More,
             };
         }
-        let event = self.take_line();
-        StepsFed { used, event }
-    }
-
-    /// Answers the line that was read last, or waits for what it needs.
-    fn take_line(&mut self) -> Event
-        requires open { IsOpen self.old }
-        ensures after { self.new ≡ after_wait self.old (wait_of self.old.game self.old.line) }
-        ensures event { result ≡ event_of (wait_of self.old.game self.old.line) }
-    {
-        match wait_of(&self.game, &self.line) {
-            Wait::Nothing => {
-                self.reply_unasked();
-                Event::Reply
-            }
-            Wait::Choice(colour) => {
-                self.wait = Wait::Choice(colour);
-                Event::Asked(colour)
-            }
-            Wait::Answer => {
-                self.wait = Wait::Answer;
-                Event::Other
-            }
+        let wait = wait_of(&self.game, &self.line);
+        if let Some(event) = awaited(wait) {
+            self.wait = wait;
+            return StepsFed { used, event };
+        }
+        self.reply_unasked();
+        StepsFed {
+            used,
+            event: Event::Reply,
         }
     }
 
@@ -205,25 +191,11 @@ impl Steps {
                 id,
                 &self.commands.listed(),
             ),
-            None => self.reply_with(Choice::Resign),
+            None => {
+                // The line asks for no choice, so this one doesn't count.
+                self.ended = answer(&mut self.game, &self.line, Choice::Resign, reply);
+            }
         }
-    }
-
-    /// Answers the line that was read last by the table, with this choice.
-    fn reply_with(&mut self, choice: Choice)
-        requires goes_on { self.old.ended ≡ false }
-        requires lawful { IsLawfulAt self.old.game self.old.line choice }
-        ensures { self.new ≡ answered self.old (answer self.old.game self.old.line choice) }
-    {
-        let mut policy = Chosen { choice };
-        let Answered { ended, .. } = answer(
-            &mut self.game,
-            &mut policy,
-            &self.line,
-            &mut self.reply,
-        );
-        self.ended = ended;
-        self.wait = Wait::Nothing;
     }
 
     /// Makes the choice that the engine waits for: plays the move or resigns. The reply is ready then.
@@ -243,7 +215,8 @@ impl Steps {
         if let Some(fault) = refusal(&self.game, colour, &choice) {
             return Err(ChoiceFault::Illegal(fault));
         }
-        self.reply_with(choice);
+        self.ended = answer(&mut self.game, &self.line, choice, &mut self.reply);
+        self.wait = Wait::Nothing;
         Ok(())
     }
 
@@ -355,6 +328,17 @@ fn awaited(wanted: Wait) -> Option<Event>
         Wait::Nothing => None,
         Wait::Choice(colour) => Some(Event::Asked(colour)),
         Wait::Answer => Some(Event::Other),
+    }
+}
+
+/// Returns why a choice isn't lawful, if it isn't.
+fn refusal(game: &Game, colour: Colour, choice: &Choice) -> Option<PlayFault>
+    ensures lawful { IfNone result (IsLawful game.now colour choice.now) }
+    ensures refused { IfSome result (IsUnlawful game.now colour choice.now) }
+{
+    match choice {
+        Choice::Resign => None,
+        Choice::Play(vertex) => game.refusal(colour, *vertex),
     }
 }
 

@@ -1,6 +1,6 @@
 -- Laws of an engine's replies.
-use Rattle.std.proofs.Common.{◌≡◌, ℕ, Bool, true, false, Option, Some, None, List, [], ◌∷◌, ◌++◌, refl, sym, subst}
-use Rattle.std.proofs.Common.{ap, ◌∙◌, append_assoc}
+use Rattle.std.proofs.Common.{◌≡◌, ℕ, Bool, true, false, Option, Some, None, List, [], ◌∷◌, ◌++◌, refl, sym, ap}
+use Rattle.std.proofs.Common.{◌∙◌, append_assoc}
 use Rattle.std.proofs.lemmas.List.{append-nil}
 use Rattle.gtp_wire.specs.declared.lines.Line.{Line}
 use Rattle.gtp_wire.specs.Lines.{lines, EndsLine, Finds}
@@ -9,15 +9,10 @@ use Rattle.std.specs.Prelude.{◌&&◌, is_some, codes}
 use Rattle.gtp_wire.specs.declared.lines.Line.TheVariants as line
 use Rattle.go_base.specs.declared.choices.Choice.{Choice}
 use Rattle.gtp_session.specs.declared.commands.CommandName.{CommandName}
-use Rattle.gtp_session.specs.declared.commands.CommandName.TheVariants.{Genmove}
-use Rattle.go_base.specs.declared.colours.Colour.{Colour}
 use Rattle.go_board.specs.Game.{GameRecord}
-use Rattle.go_base.specs.declared.choices.Choice.TheVariants.{Resign}
 use Rattle.gtp_session.specs.Policy.{May}
-use Rattle.gtp_session.specs.Commands.{Answer, answer, answer_to, answer_to_named, asked, asked_by_named}
-use Rattle.gtp_session.specs.Commands.{named_command, ends, has_name, id_of, is_genmove_line, row_of}
-use Rattle.gtp_session.specs.private.Outcome.{Executes, Leaves}
-use Rattle.gtp_wire.specs.Replies.{written_reply}
+use Rattle.gtp_session.specs.Commands.{answer, answer_to, answer_to_named, asked, asked_by_named, has_name}
+use Rattle.gtp_session.specs.Commands.{is_genmove_line, named_command, row_of}
 use Rattle.gtp_session.proofs.table.Names.{row_asks}
 use Rattle.gtp_session.proofs.table.Rows.{row_counts}
 use Rattle.gtp_session.specs.Engine.{Engine, State, WrittenReply, state_of, Step, Answers, Replies, StopsAtLine}
@@ -43,24 +38,6 @@ named_asks game None words choice = refl
 named_asks game (Some c) words choice =
     ap (λ (asks : Bool). asks && (answer_to game c words choice).ok) (sym (row_asks c))
     ∙ row_counts (row_of c) game ((row_of c).read words) choice
-
-executed_choice : {P : Type 0} (may : May P) (old new : P) (game : GameRecord) (asked_for : Option Colour)
-    (given : Choice → Answer) (is_given : Answer) → Executes may game old asked_for given new is_given
-    → (ch : Choice) × (is_given ≡ given ch)
-executed_choice may old new game None given is_given executes = (Resign, executes.1 Resign)
-executed_choice may old new game (Some colour) given is_given executes = (executes.0, (executes.1).1)
-
--- a `genmove` that was executed succeeds where it asks the policy
-pub executed_genmove : {P : Type 0} (may : May P) (old new : P) (game : GameRecord) (named : Option CommandName)
-    (words : List (List ℕ)) (is_given : Answer) → named ≡ Some Genmove
-    → Executes may game old (asked_by_named game named words) (answer_to_named game named words) new is_given
-    → is_given.ok ≡ is_some (asked_by_named game named words)
-executed_genmove may old new game named words is_given e executes =
-    let chosen = executed_choice may old new game (asked_by_named game named words) _ is_given executes in
-    ap (λ (a : Answer). a.ok) chosen.1
-    ∙ subst (λ (n : Option CommandName). (answer_to_named game n words chosen.0).ok ≡ is_some
-    (asked_by_named game n words))
-    (sym e) (row_counts (row_of Genmove) game ((row_of Genmove).read words) chosen.0)
 
 pub succeeds_where_asked : (game : GameRecord) (line : Line) (choice : Choice)
     → (is_genmove_line line && (answer game line choice).ok) ≡ is_some (asked game line)
@@ -146,35 +123,6 @@ module _ {P : Type 0} (may : May P) where
         between = record a { rest = a.rest ++ ends.front };
         ends = ends.newline;
         before = Replies-found e (Finds-none a.rest ends.front ends.before) none;
-      }
-
-  -- a line that was executed is a step
-  pub Step-executes : (old : State P) (line : Line) (is_given : Answer) (game : GameRecord) (policy : P) (ended : Bool)
-      (text : List ℕ)
-      (colour : Option Colour) → asked old.game line ≡ colour
-      → Executes may old.game old.policy colour (answer old.game line) policy is_given → Leaves is_given (id_of line) game text
-      → ended ≡ ends line → (genmove : Bool) → genmove ≡ is_some (asked old.game line)
-      → Step may old line (record { text = text; genmove = genmove })
-      (record { game = game; policy = policy; ended = ended })
-  Step-executes old line is_given game policy ended text None a e left end genmove asks =
-      let given = e.1 Resign in
-      record {
-        choice = Resign;
-        policy = rw a e.0;
-        game = left.game_is ∙ ap (λ (t : Answer). t.game) given;
-        ended = end;
-        text = left.reply_is ∙ ap (λ (t : Answer). written_reply t.ok (id_of line) t.text) given;
-        genmove = asks ∙ sym (succeeds_where_asked old.game line Resign);
-      }
-  Step-executes old line is_given game policy ended text (Some colour) a e left end genmove asks =
-      let given = (e.1).1 in
-      record {
-        choice = e.0;
-        policy = rw a (e.1).0;
-        game = left.game_is ∙ ap (λ (t : Answer). t.game) given;
-        ended = end;
-        text = left.reply_is ∙ ap (λ (t : Answer). written_reply t.ok (id_of line) t.text) given;
-        genmove = asks ∙ sym (succeeds_where_asked old.game line e.0);
       }
 
   -- nothing is read, and nothing is answered

@@ -18,7 +18,7 @@ use Rattle.gtp_wire.specs.declared.lines.Line.TheVariants as line
 use Rattle.gtp_wire.specs.Bytes.{is_kept, is_newline, space_for_tab, before_hash}
 use Rattle.gtp_wire.specs.Words.{most_line_bytes, words}
 use Rattle.gtp_wire.specs.Lines.{lines, line_of, line_of_words, but_last}
-use Rattle.gtp_wire.specs.Replies.{IsReply, IsReplyText, most_text_bytes, written_reply}
+use Rattle.gtp_wire.specs.Replies.{IsReply, IsReplyText, written_reply}
 use Rattle.gtp_wire.proofs.written.OneReply.{written_is_read}
 use Rattle.gtp_session.specs.Policy.{May, IsLawful}
 use Rattle.gtp_session.specs.declared.commands.CommandName.{CommandName}
@@ -26,7 +26,6 @@ use Rattle.gtp_session.specs.declared.commands.CommandName.TheVariants as comman
 use Rattle.gtp_session.specs.Commands.{Answer, Arguments, answer, answer_by, answer_choice, answer_of_effect}
 use Rattle.gtp_session.specs.Commands.{answer_to_named, answer_unless, asked, asked_by, asked_by_effect}
 use Rattle.gtp_session.specs.Commands.{asked_by_named, command_named, id_of, named_command, row_of, syntax_error}
-use Rattle.gtp_session.specs.private.Outcome.{Executes}
 use Rattle.gtp_session.specs.Engine.{Engine, State, WrittenReply, Step, Answers, Replies}
 use Rattle.gtp_session.specs.Engine.Answers.{none, over, more}
 use Rattle.gtp_session.specs.Spoken.{HasIntId, IsLawfulAt, IsSpoken, reply_of_answer}
@@ -148,37 +147,18 @@ row_good c game (Some a) ch is lawful =
     (subst (λ (o : Option Colour). IfSome o (λ d. IsLawful game d ch))
     (asked_where (row_of c).effect ((row_of c).refusal game) a) lawful)
 
-named_good : (game : GameRecord) (named : Option CommandName) (words : List (List ℕ)) (ch : Choice) → IsSize game.size
-    → IfSome (asked_by_named game named words) (λ c. IsLawful game c ch) → IsGood (answer_to_named game named words ch)
+pub named_good : (game : GameRecord) (named : Option CommandName) (words : List (List ℕ)) (ch : Choice)
+    → IsSize game.size → IfSome (asked_by_named game named words) (λ c. IsLawful game c ch)
+    → IsGood (answer_to_named game named words ch)
 named_good game None words ch is lawful =
     record { text = record { fits = lit≤ tt; shown = refl; single = refl; front = refl; end = refl }; size = is }
 named_good game (Some c) words ch is lawful = row_good c game ((row_of c).read words) ch is lawful
-
--- what was executed is answered as some lawful choice is
-lawful_choice : {P : Type 0} (may : May P) → AllowsLawful may
-    → (old new : P) (game : GameRecord) (asked_for : Option Colour)
-    (given : Choice → Answer) (is_given : Answer) → Executes may game old asked_for given new is_given
-    → (ch : Choice) × (IfSome asked_for (λ c. IsLawful game c ch) × (is_given ≡ given ch))
-lawful_choice may allows old new game None given is_given executes = (choice.Resign, (tt, executes.1 choice.Resign))
-lawful_choice may allows old new game (Some c) given is_given executes =
-    (executes.0, (allows old game c executes.0 new (executes.1).0, (executes.1).1))
 
 -- each line's answer
 pub answer_good : (game : GameRecord) (l : Line) (ch : Choice) → IsSize game.size → IsLawfulAt game l ch
     → IsGood (answer game l ch)
 answer_good game line.TooLong ch is lawful = syntax_good game is
 answer_good game (line.Command cl) ch is lawful = named_good game (named_command cl.words) cl.words ch is lawful
-
--- what was executed is answered by a text that fits a reply
-pub executed_fits : {P : Type 0} (may : May P) → AllowsLawful may
-    → (old new : P) (game : GameRecord) (named : Option CommandName)
-    (words : List (List ℕ)) (is_given : Answer) → IsSize game.size
-    → Executes may game old (asked_by_named game named words) (answer_to_named game named words) new is_given
-    → length is_given.text ≤ most_text_bytes
-executed_fits may allows old new game named words is_given is executes =
-    let chosen = lawful_choice may allows old new game (asked_by_named game named words) _ is_given executes in
-    subst (λ (a : Answer). length a.text ≤ most_text_bytes) (sym (chosen.1).1)
-    (named_good game named words chosen.0 is (chosen.1).0).text.fits
 
 -- ---- the ids of lines
 

@@ -17,7 +17,7 @@ use Rattle.gtp_session.specs.Spoken.{HasIntId, IsLawfulAt, IsSpoken}
 use Rattle.gtp_session.specs.declared.events.Wait.{Wait}
 use Rattle.gtp_session.specs.declared.events.Wait.TheVariants as wait
 use Rattle.gtp_session.specs.OwnCommands.{AreOwnCommands}
-use Rattle.gtp_session.specs.Steps.{StepsState, IsOpen, IsStepsState, with_line}
+use Rattle.gtp_session.specs.Steps.{StepsState, IsOpen, IsStepsState, wait_of, with_line}
 use Rattle.gtp_session.proofs.reply_texts.Spoken.{answer_good, ids_fit}
 
 -- what is written of a text that a reply may have is one reply
@@ -48,16 +48,16 @@ texted_kept s ok text w reply is fits none written = record {
 }
 
 -- the table answers
-pub answered_kept : (s : StepsState) (choice : Choice) (game : GameRecord) (ended : Bool) (reply : List ℕ)
-    → IsStepsState s → IsSize s.game.size → IsLawfulAt s.game s.line choice
+pub answered_kept : (s : StepsState) (choice : Choice) (w : Wait) (game : GameRecord) (ended : Bool) (reply : List ℕ)
+    → IsStepsState s → IsSize s.game.size → IsLawfulAt s.game s.line choice → w ≡ wait.Nothing
     → reply ≡ written_reply (answer s.game s.line choice).ok (id_of s.line) (answer s.game s.line choice).text
-    → IsStepsState (record s { wait = wait.Nothing; game = game; ended = ended; reply = reply })
-answered_kept s choice game ended reply is size lawful written =
+    → IsStepsState (record s { wait = w; game = game; ended = ended; reply = reply })
+answered_kept s choice w game ended reply is size lawful none written =
     let given = answer s.game s.line choice in
     record {
       unread = is.unread;
-      waits = λ n. absurd (n refl);
-      goes_on = λ n. absurd (n refl);
+      waits = λ n. absurd (n none);
+      goes_on = λ n. absurd (n none);
       id = is.id;
       spoken = λ _. rw written (spoken_text given.ok (id_of s.line) given.text is.id
           (answer_good s.game s.line choice size lawful).text);
@@ -78,6 +78,20 @@ with_line_kept s input used line rest is reads_on reads = record {
   waits = λ n. absurd (n reads_on.waits_not);
   goes_on = λ _. reads_on.goes_on;
   id = first_fits (lines (s.rest ++ input)) line (ids_fit (s.rest ++ input)) reads.first;
+  spoken = is.spoken;
+  name = is.name;
+  version = is.version;
+  commands = is.commands;
+}
+
+-- it waits for what that line needs
+pub waiting_kept : (s : StepsState) (w : Wait) → IsStepsState s → s.ended ≡ false → w ≡ wait_of s.game s.line
+    → IsStepsState (record s { wait = w })
+waiting_kept s w is goes_on same = record {
+  unread = is.unread;
+  waits = λ _. same;
+  goes_on = λ _. goes_on;
+  id = is.id;
   spoken = is.spoken;
   name = is.name;
   version = is.version;

@@ -23,7 +23,7 @@ use Rattle.gtp_session.specs.declared.events.Event.TheVariants as event
 use Rattle.gtp_session.specs.Commands.{answer, asked, ends, named_command}
 use Rattle.gtp_session.specs.Engine.{State, Step, Answers, WrittenReply, Replies}
 use Rattle.gtp_session.specs.Engine.Answers.{none, more}
-use Rattle.gtp_session.specs.Policy.{IsLawful}
+use Rattle.gtp_session.specs.Policy.{IsLawful, May}
 use Rattle.gtp_session.specs.Steps.{StepsState, IsOpen, wait_of, event_of, author_text}
 use Rattle.gtp_session.specs.Steps.{author_text_to, is_other_line, after_wait, with_line, replied_by, answered, texted}
 use Rattle.gtp_session.specs.StepsRuns.{Goes, list_may, engine_of, OwnAnswer, Exchange, tables_reply, given_reply}
@@ -35,8 +35,9 @@ use Rattle.gtp_session.proofs.stepping.Titles.{set_text_keeps, other_line_keeps,
 use Rattle.gtp_session.proofs.stepping.Titles.{default_line}
 use Rattle.gtp_session.proofs.stepping.Waits.{by-choice, by-nothing, by-no_answer, by-answer, by-unasked, event-reply}
 
-abbrev state_with : StepsState → List Choice → State (List Choice)
-state_with s choices = record { game = s.game; policy = choices; ended = s.ended }
+-- what it has beside its text, with a policy
+abbrev pub state_with : {P : Type 0} → StepsState → P → State P
+state_with s policy = record { game = s.game; policy = policy; ended = s.ended }
 
 abbrev line_given : Exchange → Line
 line_given e = e.was.line
@@ -51,7 +52,7 @@ map_push : {X Y : Type 0} (f : X → Y) (xs : List X) (x : X) → map f (xs ++ x
 map_push f [] x = refl
 map_push f (y ∷ xs) x = ap (λ ys. f y ∷ ys) (map_push f xs x)
 
--- ---- the eleven commands of the table
+-- ---- the commands for which an author can set no text
 
 no_author_text : (s : StepsState) (o : Option CommandName) (words : List (List ℕ)) → IsTables o
     → author_text s o words ≡ None
@@ -77,11 +78,11 @@ tables_not_other (line.Command cl) t e = tables_named (named_command cl.words) t
 -- ---- one line
 
 -- a line that asks for nothing leaves what the table leaves
-step_unasked : (s new : StepsState) (choices : List Choice) (reply : List ℕ) → asked s.game s.line ≡ None
-    → new.game ≡ (answer s.game s.line Resign).game → new.ended ≡ ends s.line
-    → Step list_may (state_with s choices) s.line
-    (tables_reply (record { was = s; choice = Resign; own = None; reply = reply })) (state_with new choices)
-step_unasked s new choices reply e game over =
+pub step_unasked : {P : Type 0} (may : May P) (s new : StepsState) (policy : P) (reply : List ℕ)
+    → asked s.game s.line ≡ None → new.game ≡ (answer s.game s.line Resign).game → new.ended ≡ ends s.line
+    → Step may (state_with s policy) s.line
+    (tables_reply (record { was = s; choice = Resign; own = None; reply = reply })) (state_with new policy)
+step_unasked may s new policy reply e game over =
     record {
       choice = Resign;
       policy = rw e refl;
@@ -92,15 +93,15 @@ step_unasked s new choices reply e game over =
     }
 
 -- a choice that is made
-step_chosen : (s : StepsState) (colour : Colour) (ch : Choice) (choices : List Choice) (reply : List ℕ)
-    → asked s.game s.line ≡ Some colour → IsLawful s.game colour ch
-    → Step list_may (state_with s (ch ∷ choices)) s.line
+pub step_chosen : {P : Type 0} (may : May P) (s : StepsState) (colour : Colour) (ch : Choice) (old new : P)
+    (reply : List ℕ) → asked s.game s.line ≡ Some colour → may old s.game colour ch new
+    → Step may (state_with s old) s.line
     (tables_reply (record { was = s; choice = ch; own = None; reply = reply }))
-    (state_with (answered s (answer s.game s.line ch)) choices)
-step_chosen s colour ch choices reply e l =
+    (state_with (answered s (answer s.game s.line ch)) new)
+step_chosen may s colour ch old new reply e allowed =
     record {
       choice = ch;
-      policy = rw e (refl, l);
+      policy = rw e allowed;
       game = refl;
       ended = refl;
       text = refl;
@@ -203,7 +204,7 @@ module _ {a b : StepsState} {text : List ℕ} {choices : List Choice} {given : L
       let e : Exchange = record { was = s; choice = Resign; own = None; reply = new.reply } in
       record {
         answered = λ left. answers_push given e (f.answered left) is.goes_on
-            (step_unasked s new left new.reply asks refl refl);
+            (step_unasked list_may s new left new.reply asks refl refl);
         lines_are = λ later. extended is.waits_not finds later ∙ given_more e (lines (rest ++ later));
         each = AllByRecursion-append IsGiven given (e ∷ []) f.each (given_where e None false own named refl, tt);
         unread = finds.no_line;
@@ -218,7 +219,7 @@ module _ {a b : StepsState} {text : List ℕ} {choices : List Choice} {given : L
       let keeps = set_text_keeps s line Resign words own in
       record {
         answered = λ left. answers_push given e (f.answered left) is.goes_on
-            (step_unasked s new left new.reply asks (sym keeps.0) (is.goes_on ∙ sym keeps.1));
+            (step_unasked list_may s new left new.reply asks (sym keeps.0) (is.goes_on ∙ sym keeps.1));
         lines_are = λ later. extended is.waits_not finds later ∙ given_more e (lines (rest ++ later));
         each = AllByRecursion-append IsGiven given (e ∷ []) f.each
             (given_where e (Some words) false own named refl, tt);
@@ -279,7 +280,7 @@ module _ {a b : StepsState} {text : List ℕ} {choices : List Choice} {given : L
             (map tables_reply (given ++ e ∷ [])) (state_with new left))
             (sym (append_assoc choices (ch ∷ []) left))
             (answers_push given e (f.answered (ch ∷ left)) (f.goes_on waits)
-            (step_chosen b colour ch left new.reply asks lawful));
+            (step_chosen list_may b colour ch (ch ∷ left) left new.reply asks (refl, lawful)));
         lines_are = waiting_more (wait.Choice colour) e bw refl refl;
         each = AllByRecursion-append IsGiven given (e ∷ []) f.each (given_where e None false alone.0 alone.1 refl, tt);
         unread = f.unread;
@@ -300,7 +301,7 @@ module _ {a b : StepsState} {text : List ℕ} {choices : List Choice} {given : L
       let e : Exchange = own_exchange b ok words new in
       record {
         answered = λ left. answers_push given e (f.answered left) (f.goes_on waits)
-            (step_unasked b new left new.reply asks (sym keeps.0) (f.goes_on waits ∙ sym keeps.1));
+            (step_unasked list_may b new left new.reply asks (sym keeps.0) (f.goes_on waits ∙ sym keeps.1));
         lines_are = waiting_more wait.Answer e bw refl refl;
         each = AllByRecursion-append IsGiven given (e ∷ []) f.each
             (given_where e (author_text_to b b.line) true refl other (own_answer ok words, refl, fits, refl), tt);
@@ -411,14 +412,17 @@ pub replies_given : RepliesAreGiven
 replies_given a b text choices given run =
     All-from_recursion IsGiven given (follows run.unread run.from run.goes).each
 
+-- where the author leaves the answer as the table has it, the table's reply is given
+pub default_given : (e : Exchange) → IsGiven e → IsDefault e → tables_reply e ≡ given_reply e
+default_given e given default =
+    ap (λ (t : List ℕ). record { text = t; genmove = is_some (asked e.was.game e.was.line) })
+    (sym (default_reply e given default))
+
 same_replies : (given : List Exchange) → AllByRecursion IsGiven given → AllByRecursion IsDefault given
     → map tables_reply given ≡ map given_reply given
 same_replies [] all defaults = refl
 same_replies (e ∷ given) all defaults =
-    let first : tables_reply e ≡ given_reply e =
-    ap (λ (t : List ℕ). record { text = t; genmove = is_some (asked e.was.game e.was.line) })
-    (sym (default_reply e all.0 defaults.0)) in
-    ap (λ (r : WrittenReply). r ∷ map tables_reply given) first
+    ap (λ (r : WrittenReply). r ∷ map tables_reply given) (default_given e all.0 defaults.0)
     ∙ ap (λ (rs : List WrittenReply). given_reply e ∷ rs) (same_replies given all.1 defaults.1)
 
 pub defaults_tables : DefaultsAreTheTables

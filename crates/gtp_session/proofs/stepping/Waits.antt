@@ -1,22 +1,18 @@
 -- What a line waits for, and what its answer then is.
-use Rattle.std.proofs.Common.{◌≡◌, ℕ, Bool, true, false, Option, Some, None, List, refl, sym, ap, subst, ◌∙◌}
-use Rattle.std.specs.Prelude.{IfSome}
+use Rattle.std.proofs.Common.{◌≡◌, ◌≢◌, ℕ, Bool, true, false, Option, Some, None, List, refl, sym, ap, subst}
 use Rattle.go_base.specs.declared.colours.Colour.{Colour}
 use Rattle.go_base.specs.declared.choices.Choice.{Choice}
 use Rattle.go_board.specs.Game.{GameRecord}
 use Rattle.gtp_wire.specs.Lines.{ReadsLine}
 use Rattle.gtp_wire.specs.declared.lines.Line.{Line}
-use Rattle.gtp_session.specs.Commands.{Answer, asked}
+use Rattle.gtp_session.specs.Commands.{asked}
 use Rattle.gtp_session.specs.Policy.{IsLawful}
 use Rattle.gtp_session.specs.Spoken.{IsLawfulAt}
-use Rattle.gtp_session.specs.private.Chosen.{chosen_may}
-use Rattle.gtp_session.specs.private.Outcome.{Executes}
-use Rattle.gtp_session.specs.declared.chosen.Chosen.{Chosen}
 use Rattle.gtp_session.specs.declared.events.Wait.{Wait}
 use Rattle.gtp_session.specs.declared.events.Wait.TheVariants as wait
 use Rattle.gtp_session.specs.declared.events.Event.{Event}
 use Rattle.gtp_session.specs.declared.events.Event.TheVariants as event
-use Rattle.gtp_session.specs.Steps.{StepsState, wait_by, wait_of, event_of, after_line, ReadsOn}
+use Rattle.gtp_session.specs.Steps.{StepsState, wait_by, wait_of, event_of, after_line, after_wait, ReadsOn}
 
 -- what waits for a colour's choice is asked for it
 pub by-choice : (o : Option Colour) (b : Bool) (colour : Colour) → wait_by o b ≡ wait.Choice colour → o ≡ Some colour
@@ -47,12 +43,11 @@ lawful_at game line colour ch e l = rw e l
 pub lawful_at-none : (game : GameRecord) (line : Line) (ch : Choice) → asked game line ≡ None → IsLawfulAt game line ch
 lawful_at-none game line ch e = rw e tt
 
--- the choice that it was given is what is answered
-pub chosen_given : (old new : Chosen) (game : GameRecord) (o : Option Colour) (given : Choice → Answer)
-    (is_given : Answer) → IfSome o (λ colour. IsLawful game colour old.choice)
-    → Executes chosen_may game old o given new is_given → is_given ≡ given old.choice
-chosen_given old new game None given is_given l e = e.1 old.choice
-chosen_given old new game (Some colour) given is_given l e = (e.1).1 ∙ ap given ((e.1).0.1 l)
+-- a line that needs something waits for it
+pub after_wait-waits : (s : StepsState) (w : Wait) → w ≢ wait.Nothing → after_wait s w ≡ record s { wait = w }
+after_wait-waits s wait.Nothing n = absurd (n refl)
+after_wait-waits s (wait.Choice colour) n = refl
+after_wait-waits s wait.Answer n = refl
 
 -- a line that was read
 pub reads_on : (old new : StepsState) (input : List ℕ) (used : ℕ) (line : Line) (rest : List ℕ) (w : Wait)

@@ -1,10 +1,13 @@
-use Rattle.std.proofs.Common.{ap, sym, subst, ◌∙◌, ◌≡◌, ℕ, List, Option, true}
+use Rattle.std.proofs.Common.{ap, sym, subst, ◌∙◌, ◌≡◌, ℕ, List, None, Option, true}
 use Rattle.gtp_wire.specs.Replies.{IsReplyText, written_reply}
+use Rattle.go_base.specs.declared.choices.Choice.TheVariants.{Resign}
+use Rattle.gtp_session.specs.Commands.{asked}
 use Rattle.gtp_session.specs.declared.events.Wait.TheVariants as wait
 use Rattle.gtp_session.specs.private.StepsFields.{state_in}
 use Rattle.gtp_session.specs.Steps.{StepsState}
-use Rattle.gtp_session.proofs.stepping.Kept.{texted_kept, truth_fits}
+use Rattle.gtp_session.proofs.stepping.Kept.{answered_kept, texted_kept, truth_fits}
 use Rattle.gtp_session.proofs.stepping.OwnNames.{names_fit}
+use Rattle.gtp_session.proofs.stepping.Waits.{lawful_at-none}
 use Rattle.gtp_session.proofs.steps.Steps.reply_unasked.Goals as goal
 
 pub invariant_of-self : goal.invariant_of-self
@@ -54,3 +57,20 @@ invariant_of-self-in-Some-Commands c =
     c.self.invariant fits idle
     (c.write_reply_into-in-Some-Commands.ensures.bytes fits.fits
     ∙ ap (λ (id : Option ℕ). written_reply true id text) c.id_of-id.ensures.value)
+
+pub answer-self-inside-requires : goal.answer-self-inside-requires
+answer-self-inside-requires c =
+    let s = c.self.inside in
+    let asks : asked s.game s.line ≡ None =
+    subst (λ (x : StepsState). asked x.game x.line ≡ None) (sym c.self.view_is) c.requires.asks in
+    lawful_at-none s.game s.line Resign asks
+
+pub invariant_of-self-in-None : goal.invariant_of-self-in-None
+invariant_of-self-in-None c =
+    let s = c.self.inside in
+    let idle : s.wait ≡ wait.Nothing =
+    ap (λ (x : StepsState). x.wait) c.self.view_is ∙ c.requires.open.waits_not in
+    let asks : asked s.game s.line ≡ None =
+    subst (λ (x : StepsState). asked x.game x.line ≡ None) (sym c.self.view_is) c.requires.asks in
+    answered_kept (state_in s) Resign s.wait c.answer-self-inside.new.game c.answer-self-inside.result c.answer-self-inside.new.reply.items
+    c.self.invariant c.answer-self-inside.ensures.size (lawful_at-none s.game s.line Resign asks) idle c.answer-self-inside.ensures.reply
