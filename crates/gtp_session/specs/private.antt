@@ -4,5 +4,4 @@ pub mod AuthorTexts
 pub mod Completing
 pub mod Lawful
 pub mod Outcome
-pub mod Pieces
 pub mod StepsFields

@@ -25,7 +25,7 @@ use Rattle.gtp_session.specs.Engine.{Engine, State, WrittenReply, Step, Answers,
 use Rattle.gtp_session.specs.Engine.Answers.{none, over, more}
 use Rattle.byte_streams.specs.Parts.{TakesPart}
 use Rattle.gtp_session.specs.Conversation.{Conversation, BrokenConversation, ReadWhileOpen, GaveLine}
-use Rattle.gtp_session.specs.private.Pieces.{GivesBytes}
+use Rattle.gtp_session.proofs.serving.Conversation.{GivesBytes}
 use Rattle.gtp_session.specs.Faults.{number_of, stops, flood_length, in_place_of, genmoves, meets, goes_out, bent}
 use Rattle.gtp_session.specs.Faults.{NotYet, BentDelivered, BentUpTo, Stops, BentBreaks, BentConversation}
 use Rattle.gtp_session.specs.Faults.{StoppedConversation, BrokenBentConversation, count_genmoves, PutsThere, BendsThere}

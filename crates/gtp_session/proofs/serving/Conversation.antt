@@ -1,19 +1,36 @@
 -- Laws of what a writer took and a reader gave.
-use Rattle.std.proofs.Common.{◌≡◌, ℕ, ◌+◌, List, [], ◌∷◌, ◌++◌, take, Option, sym, ap, ◌∙◌, append_assoc, arith, subst}
+use Rattle.std.proofs.Common.{◌≡◌, ℕ, ◌+◌, ◌<◌, ◌≤◌, List, [], ◌∷◌, ◌++◌, length, take, Option, sym, ap, ◌∙◌, subst}
+use Rattle.std.proofs.Common.{append_assoc, arith}
 use Rattle.std.proofs.lemmas.List.{length-append, length-take-le}
 use Rattle.std.proofs.KnownBytes.{Appends-nil, Appends-trans, Consumes-nil, Consumes-trans}
 use Rattle.std.specs.Io.KnownBytes.{Consumes}
 use Rattle.std.specs.List.{concat}
-use Rattle.std.specs.Prelude.{map}
+use Rattle.std.specs.Prelude.{map, nat_lt, if◌then◌else◌}
 use Rattle.std.proofs.lemmas.List.Folds.{concat-append}
 use Rattle.std.proofs.lemmas.List.{map-append}
+use Rattle.std.proofs.lemmas.Bool.Decides.{nat_tests}
+use Rattle.byte_streams.specs.Counts.{raised}
 use Rattle.gtp_wire.specs.Lines.{lines}
 use Rattle.gtp_session.specs.Policy.{May}
 use Rattle.gtp_session.specs.Engine.{Engine, WrittenReply, output_of}
 use Rattle.gtp_session.specs.Conversation.{Delivered, Breaks, Conversation, BrokenConversation, ReadWhileOpen}
 use Rattle.gtp_session.specs.Conversation.{GivesAtLeast}
-use Rattle.gtp_session.specs.private.Pieces.{GivesBytes}
 use Rattle.gtp_session.proofs.engines.Replying.{Replies-nothing, Replies-then}
+
+-- the reader gave these bytes, at least one, and put them at the front of the buffer
+pub record GivesBytes (gives gives_now : Option (List ℕ)) (count : ℕ) (buffer : List ℕ) : Type 0 where
+  pub some : 0 < count
+  pub within : count ≤ length buffer
+  pub given : Consumes gives gives_now (take count buffer)
+
+pub gave_bytes : (gives gives_now : Option (List ℕ)) (count : ℕ) (buffer : List ℕ) → 0 < count → count ≤ length buffer
+    → Consumes gives gives_now (take count buffer) → GivesBytes gives gives_now count buffer
+gave_bytes gives gives_now count buffer some within given = record { some = some; within = within; given = given }
+
+-- then the end of the input was not found
+pub ends_same : (count ends ends_now : ℕ) → 0 < count → ends_now ≡ (if nat_lt 0 count then ends else raised ends 1)
+    → ends_now ≡ ends
+ends_same count ends ends_now some e = grind (arith, nat_tests)
 
 -- the output of replies after others
 pub output_of-append : (rs ss : List WrittenReply) → output_of (rs ++ ss) ≡ output_of rs ++ output_of ss

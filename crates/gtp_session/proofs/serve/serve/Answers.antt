@@ -1,7 +1,8 @@
-use Rattle.std.proofs.Common.{rules, ◌≡◌, arith, refl, sym, ◌∙◌, true, false}
+use Rattle.std.proofs.Common.{rules, ◌≡◌, ◌≢◌, arith, refl, sym, ◌∙◌, true, false, Err}
 use Rattle.byte_streams.proofs.CallCounts.{raised-none}
 use Rattle.gtp_session.specs.Serving.{CameOut}
 use Rattle.gtp_session.specs.declared.fault.Fault.TheVariants.{Off}
+use Rattle.gtp_session.specs.declared.serve.ServeFault.TheVariants.{TooManyReads}
 use Rattle.gtp_session.proofs.serving.Conversation.{GivesAtLeast-nothing, Conversation-nothing}
 use Rattle.gtp_session.proofs.faults.UnderFaults.{BentConversation-nothing}
 use Rattle.gtp_session.proofs.serving.Outcomes.{WentOn-more, came_out_after, came_out_all}
@@ -19,8 +20,8 @@ loop-turn-init g c =
 
 pub loop-turn-preserved : goal.loop-turn-preserved
 loop-turn-preserved g c =
-    WentOn-more g.P.Policy.may c.loop-turn.invariant
-    (rw (c.is_too_many.ensures.yes c.if-not-is_too_many.false) at c.serve_within-answer.ensures.came_out)
+    let more : c.serve_within-answer.result ≡ Err TooManyReads = search rules in
+    WentOn-more g.P.Policy.may c.loop-turn.invariant (rw more at c.serve_within-answer.ensures.came_out)
 
 pub returns-then-ended-clause-came_out : goal.returns-then-ended-clause-came_out
 returns-then-ended-clause-came_out g c =
@@ -30,10 +31,10 @@ returns-then-ended-clause-came_out g c =
     (sym c.ended.ensures.ended ∙ c.if-ended.true)
     (λ was_open. let e : true ≡ false = sym (sym c.ended.ensures.ended ∙ c.if-ended.true) ∙ was_open in cc)
 
-pub returns-then-not-is_too_many-clause-came_out : goal.returns-then-not-is_too_many-clause-came_out
-returns-then-not-is_too_many-clause-came_out g c =
-    came_out_after g.P.Policy.may c.loop-turn.invariant (omega arith) c.serve_within-answer.ensures.came_out
-    (c.is_too_many.ensures.no c.if-not-is_too_many.true)
+pub returns-then-ne-clause-came_out : goal.returns-then-ne-clause-came_out
+returns-then-ne-clause-came_out g c =
+    let last : c.serve_within-answer.result ≢ Err TooManyReads = search rules in
+    came_out_after g.P.Policy.may c.loop-turn.invariant (omega arith) c.serve_within-answer.ensures.came_out last
 
 pub returns-clause-came_out : goal.returns-clause-came_out
 returns-clause-came_out g c = came_out_all g.P.Policy.may (omega arith) c.loop-turn.invariant
