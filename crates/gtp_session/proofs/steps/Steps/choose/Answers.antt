@@ -17,20 +17,22 @@ answer-self-inside-requires c =
 pub invariant_of-self : goal.invariant_of-self
 invariant_of-self c =
     let s = c.self.inside in
+    let made = c.answer-self-inside in
     let waits : s.wait ≢ wait.Nothing = λ n. cc in
     let lawful : IsLawful s.game c.in-Choice.colour c.args.choice = search rules in
-    answered_kept (state_in s) c.args.choice wait.Nothing c.answer-self-inside.new.game c.answer-self-inside.result c.answer-self-inside.new.reply.items
-    c.self.invariant c.answer-self-inside.ensures.size
+    answered_kept (state_in s) c.args.choice wait.Nothing made.new.game made.result made.new.reply.items
+    c.self.invariant made.ensures.size
     (lawful_at s.game s.line c.in-Choice.colour c.args.choice
     (by-choice _ _ _ (sym (c.self.invariant.waits waits) ∙ c.in-Choice.is)) lawful)
-    refl c.answer-self-inside.ensures.reply
+    refl made.ensures.reply
 
 pub returns-clause-made : goal.returns-clause-made
 returns-clause-made c =
+    let made = c.answer-self-inside in
     rw (← c.self.view_is)
     (record {
       colour = c.in-Choice.colour;
       asked = c.in-Choice.is;
       lawful = c.in_default-refusal.ensures.lawful;
-      new_is = rw (c.answer-self-inside.ensures.game, c.answer-self-inside.ensures.reply, c.answer-self-inside.ensures.ends) refl;
+      new_is = rw (made.ensures.game, made.ensures.reply, made.ensures.ends) refl;
     })

@@ -72,5 +72,6 @@ invariant_of-self-in-None c =
     ap (λ (x : StepsState). x.wait) c.self.view_is ∙ c.requires.open.waits_not in
     let asks : asked s.game s.line ≡ None =
     subst (λ (x : StepsState). asked x.game x.line ≡ None) (sym c.self.view_is) c.requires.asks in
-    answered_kept (state_in s) Resign s.wait c.answer-self-inside.new.game c.answer-self-inside.result c.answer-self-inside.new.reply.items
-    c.self.invariant c.answer-self-inside.ensures.size (lawful_at-none s.game s.line Resign asks) idle c.answer-self-inside.ensures.reply
+    let given = c.answer-self-inside in
+    answered_kept (state_in s) Resign s.wait given.new.game given.result given.new.reply.items c.self.invariant
+    given.ensures.size (lawful_at-none s.game s.line Resign asks) idle given.ensures.reply
