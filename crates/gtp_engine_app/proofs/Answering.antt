@@ -63,7 +63,7 @@ module _ {E : Type 0} (errs : Ghosts E) (text : List ℕ) (output : Sink) (befor
   shown_status status written after (IsShown.went_out took) = inl refl
   shown_status status written after (IsShown.broke took reports) = inr (inr (inl refl))
 
-  -- where it went out nothing is reported
+  -- where it was written nothing is reported
   pub shown_quiet : (status : ℕ) (written : Sink) (after : E)
       → IsShown errs text output before status written after → (status ≡ done) ⊎ (status ≡ stopped) → after ≡ before
   shown_quiet status written after (IsShown.went_out took) quiet = refl

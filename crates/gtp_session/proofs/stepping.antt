@@ -1,4 +1,4 @@
--- Engines whose authors hand in the choices.
+-- Engines whose authors supply the choices.
 pub mod Waits
 pub mod Driving
 pub mod Kept

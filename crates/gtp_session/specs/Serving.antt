@@ -11,7 +11,7 @@ use Rattle.byte_streams.specs.Counts.{raised}
 use Rattle.gtp_session.specs.Conversation.{GivesAtLeast, ReadWhileOpen}
 use Rattle.byte_streams.specs.Streams.{Source, Sink}
 use Rattle.gtp_session.specs.Engine.{Engine}
-use Rattle.gtp_session.specs.Faults.{BentConversation, StoppedConversation, BrokenBentConversation}
+use Rattle.gtp_session.specs.Faults.{FaultyConversation, StoppedConversation, BrokenFaultyConversation}
 
 -- So many reads were made. None failed, and none met the end of the input.
 pub record ReadWell (made : ℕ) (reader reader_now : Source) : Type 0 where
@@ -48,9 +48,10 @@ pub record WriteFailed (writer writer_now : Sink) : Type 0 where
 -- were made, and `genmoves` how many genmoves succeeded.
 pub data CameOut {P : Type 0} (may : May P) (fault : Fault) (most : ℕ) (old new : Engine P)
     (reader reader_now : Source) (writer writer_now : Sink) : Result Served ServeFault → Type 0 where
-  -- What the reader gave was answered: the writer took what goes out of each reply. Nothing was read after the `quit`.
+  -- What the reader gave was answered: the writer took what is written for each reply. Nothing was read after the
+  -- `quit`.
   quit : (made genmoves : ℕ) → made ≤ most → ReadWell made reader reader_now → WentWell writer writer_now
-      → BentConversation may fault old new genmoves reader.gives reader_now.gives writer.holds writer_now.holds
+      → FaultyConversation may fault old new genmoves reader.gives reader_now.gives writer.holds writer_now.holds
       → new.ended ≡ true
       → (old.ended ≡ false → ReadWhileOpen may old reader.gives reader_now.gives reader_now.last)
       → CameOut may fault most old new reader reader_now writer writer_now (Ok Quit)
@@ -58,7 +59,7 @@ pub data CameOut {P : Type 0} (may : May P) (fault : Fault) (most : ℕ) (old ne
   -- them.
   end_of_input : (before genmoves : ℕ) → before + 1 ≤ most → ReadToEnd (before + 1) reader reader_now
       → WentWell writer writer_now
-      → BentConversation may fault old new genmoves reader.gives reader_now.gives writer.holds writer_now.holds
+      → FaultyConversation may fault old new genmoves reader.gives reader_now.gives writer.holds writer_now.holds
       → new.ended ≡ false → GivesAtLeast reader.gives reader_now.gives before
       → CameOut may fault most old new reader reader_now writer writer_now (Ok EndOfInput)
   -- It stopped at the genmove that the fault meets, and nowhere else.
@@ -69,16 +70,16 @@ pub data CameOut {P : Type 0} (may : May P) (fault : Fault) (most : ℕ) (old ne
       → CameOut may fault most old new reader reader_now writer writer_now (Ok Stopped)
   -- What the reader gave before the read that failed was answered.
   read : (made genmoves : ℕ) → made ≤ most → ReadFailed made reader reader_now → WentWell writer writer_now
-      → BentConversation may fault old new genmoves reader.gives reader_now.gives writer.holds writer_now.holds
+      → FaultyConversation may fault old new genmoves reader.gives reader_now.gives writer.holds writer_now.holds
       → new.ended ≡ false
       → CameOut may fault most old new reader reader_now writer writer_now (Err Read)
-  -- The writer took a beginning of what goes out of the last reply, and nothing further was executed.
+  -- The writer took a beginning of what is written for the last reply, and nothing further was executed.
   write : (made : ℕ) → made ≤ most → ReadWell made reader reader_now → WriteFailed writer writer_now
-      → BrokenBentConversation may fault
+      → BrokenFaultyConversation may fault
       old new reader.gives reader_now.gives reader_now.last writer.holds writer_now.holds
       → CameOut may fault most old new reader reader_now writer writer_now (Err Write)
   -- What the reader gave was answered. All reads together gave at least as many bytes as there were reads.
   too_many_reads : (genmoves : ℕ) → ReadWell most reader reader_now → WentWell writer writer_now
-      → BentConversation may fault old new genmoves reader.gives reader_now.gives writer.holds writer_now.holds
+      → FaultyConversation may fault old new genmoves reader.gives reader_now.gives writer.holds writer_now.holds
       → new.ended ≡ false → GivesAtLeast reader.gives reader_now.gives most
       → CameOut may fault most old new reader reader_now writer writer_now (Err TooManyReads)

@@ -26,10 +26,12 @@ use Rattle.gtp_session.specs.Engine.Answers.{none, over, more}
 use Rattle.byte_streams.specs.Parts.{TakesPart}
 use Rattle.gtp_session.specs.Conversation.{Conversation, BrokenConversation, ReadWhileOpen, GaveLine}
 use Rattle.gtp_session.proofs.serving.Conversation.{GivesBytes}
-use Rattle.gtp_session.specs.Faults.{number_of, stops, flood_length, in_place_of, genmoves, meets, goes_out, bent}
-use Rattle.gtp_session.specs.Faults.{NotYet, BentDelivered, BentUpTo, Stops, BentBreaks, BentConversation}
-use Rattle.gtp_session.specs.Faults.{StoppedConversation, BrokenBentConversation, count_genmoves, PutsThere, BendsThere}
-use Rattle.gtp_session.specs.Faults.{BendsNothingBefore, BendsNoEarlier, OffChangesNothing}
+use Rattle.gtp_session.specs.Faults.{number_of, stops, flood_length, in_place_of, genmoves, meets, faulty_text}
+use Rattle.gtp_session.specs.Faults.{faulty_output}
+use Rattle.gtp_session.specs.Faults.{NotYet, FaultyDelivered, FaultyUpTo, Stops, FaultyBreaks, FaultyConversation}
+use Rattle.gtp_session.specs.Faults.{StoppedConversation, BrokenFaultyConversation, count_genmoves, PutsThere}
+use Rattle.gtp_session.specs.Faults.{ChangesThere}
+use Rattle.gtp_session.specs.Faults.{ChangesNothingBefore, ChangesNoEarlier, OffChangesNothing}
 use Rattle.gtp_session.proofs.engines.Replying.{Replies-nothing, Replies-then}
 
 -- ---- the flood
@@ -109,32 +111,34 @@ flood-broke (Err e) a b c done m p held q failures last =
       last = last;
     }
 
--- ---- the bent output
+-- ---- the output under a fault
 
 pub genmoves-append : (rs ss : List WrittenReply) → genmoves (rs ++ ss) ≡ genmoves rs + genmoves ss
 genmoves-append [] ss = omega arith
 genmoves-append (r ∷ rs) ss = omega (arith, genmoves-append rs ss)
 
-pub bent-append : (fault : Fault) (before : ℕ) (rs ss : List WrittenReply)
-    → bent fault before (rs ++ ss) ≡ bent fault before rs ++ bent fault (before + genmoves rs) ss
-bent-append fault before [] ss = ap (λ n. bent fault n ss) (omega arith)
-bent-append fault before (r ∷ rs) ss =
+pub faulty_output-append : (fault : Fault) (before : ℕ) (rs ss : List WrittenReply)
+    → faulty_output fault before (rs ++ ss)
+    ≡ faulty_output fault before rs ++ faulty_output fault (before + genmoves rs) ss
+faulty_output-append fault before [] ss = ap (λ n. faulty_output fault n ss) (omega arith)
+faulty_output-append fault before (r ∷ rs) ss =
     let count : (before + genmoves (r ∷ [])) + genmoves rs ≡ before + genmoves (r ∷ rs) = omega arith in
-    ap (λ t. goes_out fault before r ++ t) (bent-append fault (before + genmoves (r ∷ [])) rs ss
-    ∙ ap (λ n. bent fault (before + genmoves (r ∷ [])) rs ++ bent fault n ss) count)
-    ∙ sym (append_assoc (goes_out fault before r) (bent fault (before + genmoves (r ∷ [])) rs)
-    (bent fault (before + genmoves (r ∷ rs)) ss))
+    ap (λ t. faulty_text fault before r ++ t) (faulty_output-append fault (before + genmoves (r ∷ [])) rs ss
+    ∙ ap (λ n. faulty_output fault (before + genmoves (r ∷ [])) rs ++ faulty_output fault n ss) count)
+    ∙ sym (append_assoc (faulty_text fault before r) (faulty_output fault (before + genmoves (r ∷ [])) rs)
+    (faulty_output fault (before + genmoves (r ∷ rs)) ss))
 
 same_either_way : (b : Bool) (text : List ℕ) → (if b then text else text) ≡ text
 same_either_way true text = refl
 same_either_way false text = refl
 
-pub goes_out-off : (before : ℕ) (r : WrittenReply) → goes_out Off before r ≡ r.text
-goes_out-off before r = same_either_way (meets Off before r) r.text
+pub faulty_text-off : (before : ℕ) (r : WrittenReply) → faulty_text Off before r ≡ r.text
+faulty_text-off before r = same_either_way (meets Off before r) r.text
 
-pub bent-off : (before : ℕ) (rs : List WrittenReply) → bent Off before rs ≡ output_of rs
-bent-off before [] = refl
-bent-off before (r ∷ rs) = rw (goes_out-off before r, bent-off (before + genmoves (r ∷ [])) rs) refl
+pub faulty_output-off : (before : ℕ) (rs : List WrittenReply) → faulty_output Off before rs ≡ output_of rs
+faulty_output-off before [] = refl
+faulty_output-off before (r ∷ rs) =
+    rw (faulty_text-off before r, faulty_output-off (before + genmoves (r ∷ [])) rs) refl
 
 -- a number is not another one
 not_equal : (m n : ℕ) → n + 1 < m → (m == n + 1) ≡ false
@@ -143,7 +147,7 @@ not_equal m n h = grind (arith, nat_tests)
 not_equal_past : (m n : ℕ) → m ≤ n → (m == n + 1) ≡ false
 not_equal_past m n h = grind (arith, nat_tests)
 
--- before the genmove that the fault meets, the replies go out as they are
+-- before the genmove that the fault meets, the replies are written as they are
 before_it : (fault : Fault) (n : ℕ) (r : WrittenReply) (genmove : Bool) → r.genmove ≡ genmove
     → n + (if genmove then 1 else 0) < number_of fault → meets fault n r ≡ false
 before_it fault n r false e h = rw e refl
@@ -154,20 +158,23 @@ past_it : (fault : Fault) (n : ℕ) (r : WrittenReply) (genmove : Bool) → r.ge
 past_it fault n r false e h = rw e refl
 past_it fault n r true e h = rw (e, not_equal_past (number_of fault) n h) refl
 
-pub bent-before : (fault : Fault) (n : ℕ) (rs : List WrittenReply) → n + genmoves rs < number_of fault
-    → bent fault n rs ≡ output_of rs
-bent-before fault n [] h = refl
-bent-before fault n (r ∷ rs) h =
+pub faulty_output-before : (fault : Fault) (n : ℕ) (rs : List WrittenReply) → n + genmoves rs < number_of fault
+    → faulty_output fault n rs ≡ output_of rs
+faulty_output-before fault n [] h = refl
+faulty_output-before fault n (r ∷ rs) h =
     let first : meets fault n r ≡ false = before_it fault n r r.genmove refl (omega arith) in
-    let later : bent fault (n + genmoves (r ∷ [])) rs ≡ output_of rs = bent-before fault (n + genmoves (r ∷ [])) rs
+    let later : faulty_output fault (n + genmoves (r ∷ [])) rs ≡ output_of rs =
+    faulty_output-before fault (n + genmoves (r ∷ [])) rs
     (omega arith) in
     rw (first, later) refl
 
-pub bent-past : (fault : Fault) (n : ℕ) (rs : List WrittenReply) → number_of fault ≤ n → bent fault n rs ≡ output_of rs
-bent-past fault n [] h = refl
-bent-past fault n (r ∷ rs) h =
+pub faulty_output-past : (fault : Fault) (n : ℕ) (rs : List WrittenReply) → number_of fault ≤ n
+    → faulty_output fault n rs ≡ output_of rs
+faulty_output-past fault n [] h = refl
+faulty_output-past fault n (r ∷ rs) h =
     let first : meets fault n r ≡ false = past_it fault n r r.genmove refl h in
-    let later : bent fault (n + genmoves (r ∷ [])) rs ≡ output_of rs = bent-past fault (n + genmoves (r ∷ [])) rs
+    let later : faulty_output fault (n + genmoves (r ∷ [])) rs ≡ output_of rs =
+    faulty_output-past fault (n + genmoves (r ∷ [])) rs
     (omega arith) in
     rw (first, later) refl
 
@@ -186,30 +193,31 @@ puts_there fault front back it g counted =
     let met : meets fault (genmoves front) it ≡ true = rw (g, equal (number_of fault) (genmoves front) e) refl in
     let one : genmoves (it ∷ []) ≡ 1 = rw g refl in
     let zero_more : 0 + genmoves front ≡ genmoves front = omega arith in
-    bent-append fault 0 front (it ∷ back)
-    ∙ ap (λ t. t ++ bent fault (0 + genmoves front) (it ∷ back)) (bent-before fault 0 front (omega arith))
-    ∙ ap (λ n. output_of front ++ bent fault n (it ∷ back)) zero_more
-    ∙ ap (λ t. output_of front ++ (t ++ bent fault (genmoves front + genmoves (it ∷ [])) back)) (rw met refl)
+    faulty_output-append fault 0 front (it ∷ back)
+    ∙ ap (λ t. t ++ faulty_output fault (0 + genmoves front) (it ∷ back))
+    (faulty_output-before fault 0 front (omega arith))
+    ∙ ap (λ n. output_of front ++ faulty_output fault n (it ∷ back)) zero_more
+    ∙ ap (λ t. output_of front ++ (t ++ faulty_output fault (genmoves front + genmoves (it ∷ [])) back)) (rw met refl)
     ∙ ap (λ t. output_of front ++ (in_place_of fault it.text ++ t))
-    (bent-past fault (genmoves front + genmoves (it ∷ [])) back (omega arith))
+    (faulty_output-past fault (genmoves front + genmoves (it ∷ [])) back (omega arith))
 
-pub bends_there : (fault : Fault) → BendsThere fault
-bends_there Off = tt
-bends_there (Stop number) = puts_there (Stop number)
-bends_there (Cut number kept) = puts_there (Cut number kept)
-bends_there (Junk number) = puts_there (Junk number)
-bends_there (Flood number) = puts_there (Flood number)
+pub changes_there : (fault : Fault) → ChangesThere fault
+changes_there Off = tt
+changes_there (Stop number) = puts_there (Stop number)
+changes_there (Cut number kept) = puts_there (Cut number kept)
+changes_there (Junk number) = puts_there (Junk number)
+changes_there (Flood number) = puts_there (Flood number)
 
-bends_nothing_before : (fault : Fault) → BendsNothingBefore fault (number_of fault)
-bends_nothing_before fault replies h =
-    bent-before fault 0 replies (omega (arith, h, genmoves_counted replies))
+changes_nothing_before : (fault : Fault) → ChangesNothingBefore fault (number_of fault)
+changes_nothing_before fault replies h =
+    faulty_output-before fault 0 replies (omega (arith, h, genmoves_counted replies))
 
-pub bends_no_earlier : (fault : Fault) → BendsNoEarlier fault
-bends_no_earlier Off = tt
-bends_no_earlier (Stop number) = bends_nothing_before (Stop number)
-bends_no_earlier (Cut number kept) = bends_nothing_before (Cut number kept)
-bends_no_earlier (Junk number) = bends_nothing_before (Junk number)
-bends_no_earlier (Flood number) = bends_nothing_before (Flood number)
+pub changes_no_earlier : (fault : Fault) → ChangesNoEarlier fault
+changes_no_earlier Off = tt
+changes_no_earlier (Stop number) = changes_nothing_before (Stop number)
+changes_no_earlier (Cut number kept) = changes_nothing_before (Cut number kept)
+changes_no_earlier (Junk number) = changes_nothing_before (Junk number)
+changes_no_earlier (Flood number) = changes_nothing_before (Flood number)
 
 -- ---- whether the fault has come
 
@@ -281,9 +289,9 @@ module _ {P : Type 0} (may : May P) where
   -- ---- conversations under a fault
 
   -- nothing is read, and nothing is written
-  pub BentDelivered-nothing : (fault : Fault) (before : ℕ) (a : Engine P) (held : Option (List ℕ)) → lines a.rest ≡ []
-      → BentDelivered may fault before before a [] a held held
-  BentDelivered-nothing fault before a held e =
+  pub FaultyDelivered-nothing : (fault : Fault) (before : ℕ) (a : Engine P) (held : Option (List ℕ)) → lines a.rest ≡ []
+      → FaultyDelivered may fault before before a [] a held held
+  FaultyDelivered-nothing fault before a held e =
       record {
         replies = [];
         engine = Replies-nothing may a e;
@@ -293,27 +301,28 @@ module _ {P : Type 0} (may : May P) where
       }
 
   -- both were delivered
-  pub BentDelivered-both : {fault : Fault} {before count after : ℕ} {a b c : Engine P} {text next : List ℕ}
+  pub FaultyDelivered-both : {fault : Fault} {before count after : ℕ} {a b c : Engine P} {text next : List ℕ}
       {held mid holds : Option (List ℕ)}
-      → BentDelivered may fault before count a text b held mid → BentDelivered may fault count after b next c mid holds
-      → BentDelivered may fault before after a (text ++ next) c held holds
-  BentDelivered-both {fault} {before} {count} {after} {held = held} {mid = mid} {holds = holds} p q =
+      → FaultyDelivered may fault before count a text b held mid
+      → FaultyDelivered may fault count after b next c mid holds
+      → FaultyDelivered may fault before after a (text ++ next) c held holds
+  FaultyDelivered-both {fault} {before} {count} {after} {held = held} {mid = mid} {holds = holds} p q =
       record {
         replies = p.replies ++ q.replies;
         engine = Replies-then may p.engine q.engine;
-        taken = rw (bent-append fault before p.replies q.replies, sym p.count)
+        taken = rw (faulty_output-append fault before p.replies q.replies, sym p.count)
             (Appends-trans held mid holds _ _ p.taken q.taken);
         count = omega (arith, p.count, q.count, genmoves-append p.replies q.replies);
         not_yet = λ s h. q.not_yet s (p.not_yet s h);
       }
 
   -- more is read, with no reply
-  pub BentDelivered-quiet : {fault : Fault} {before count : ℕ} {a b c : Engine P} {text next : List ℕ}
+  pub FaultyDelivered-quiet : {fault : Fault} {before count : ℕ} {a b c : Engine P} {text next : List ℕ}
       {held holds : Option (List ℕ)}
-      → BentDelivered may fault before count a text b held holds → Replies may b next c []
-      → BentDelivered may fault before count a (text ++ next) c held holds
-  BentDelivered-quiet {count = count} {holds = holds} p q =
-      BentDelivered-both p (record {
+      → FaultyDelivered may fault before count a text b held holds → Replies may b next c []
+      → FaultyDelivered may fault before count a (text ++ next) c held holds
+  FaultyDelivered-quiet {count = count} {holds = holds} p q =
+      FaultyDelivered-both p (record {
         replies = [];
         engine = q;
         taken = Appends-nil holds;
@@ -321,29 +330,29 @@ module _ {P : Type 0} (may : May P) where
         not_yet = λ _ h. h;
       })
 
-  -- what goes out of one more reply is written, and it isn't the one that the engine stops at
-  pub BentDelivered-reply : {fault : Fault} {before count after : ℕ} {a b c : Engine P} {text next : List ℕ}
+  -- what stands for one more reply is written, and the engine doesn't stop at it
+  pub FaultyDelivered-reply : {fault : Fault} {before count after : ℕ} {a b c : Engine P} {text next : List ℕ}
       {reply : WrittenReply} {held mid holds : Option (List ℕ)}
-      → BentDelivered may fault before count a text b held mid → Replies may b next c (reply ∷ [])
-      → Appends mid holds (goes_out fault count reply)
+      → FaultyDelivered may fault before count a text b held mid → Replies may b next c (reply ∷ [])
+      → Appends mid holds (faulty_text fault count reply)
       → after ≡ count + genmoves (reply ∷ []) → NotYet fault count after
-      → BentDelivered may fault before after a (text ++ next) c held holds
-  BentDelivered-reply {fault} {count = count} {reply = reply} p q taken e yet =
-      BentDelivered-both p (record {
+      → FaultyDelivered may fault before after a (text ++ next) c held holds
+  FaultyDelivered-reply {fault} {count = count} {reply = reply} p q taken e yet =
+      FaultyDelivered-both p (record {
         replies = reply ∷ [];
         engine = q;
-        taken = rw (append-nil (goes_out fault count reply)) taken;
+        taken = rw (append-nil (faulty_text fault count reply)) taken;
         count = e;
         not_yet = yet;
       })
 
   -- the line that the next text ends is answered, and this is taken of its reply
-  pub BentUpTo-reply : {fault : Fault} {before count : ℕ} {a b c : Engine P} {text next : List ℕ}
+  pub FaultyUpTo-reply : {fault : Fault} {before count : ℕ} {a b c : Engine P} {text next : List ℕ}
       {reply : WrittenReply} (more_text part : List ℕ) {held mid holds : Option (List ℕ)}
-      → BentDelivered may fault before count a text b held mid → Replies may b next c (reply ∷ [])
+      → FaultyDelivered may fault before count a text b held mid → Replies may b next c (reply ∷ [])
       → StopsAtLine may b next → Appends mid holds part
-      → BentUpTo may fault before a (text ++ (next ++ more_text)) c held holds
-  BentUpTo-reply {fault} {before} {count} {a} {b} {c} {text} {next} {reply} more_text part {held} {mid} {holds} p q
+      → FaultyUpTo may fault before a (text ++ (next ++ more_text)) c held holds
+  FaultyUpTo-reply {fault} {before} {count} {a} {b} {c} {text} {next} {reply} more_text part {held} {mid} {holds} p q
       at_line taken =
       let split : text ++ next ≡ (text ++ at_line.front) ++ 10 ∷ [] = ap (λ (t : List ℕ). text ++ t) at_line.ends
       ∙ sym (append_assoc text at_line.front (10 ∷ [])) in
@@ -364,44 +373,44 @@ module _ {P : Type 0} (may : May P) where
 
   pub Stops-reply : {fault : Fault} {before count : ℕ} {a b c : Engine P} {text next : List ℕ} {reply : WrittenReply}
       (more_text : List ℕ) {held mid holds : Option (List ℕ)}
-      → BentDelivered may fault before count a text b held mid → Replies may b next c (reply ∷ [])
-      → StopsAtLine may b next → Appends mid holds (goes_out fault count reply)
+      → FaultyDelivered may fault before count a text b held mid → Replies may b next c (reply ∷ [])
+      → StopsAtLine may b next → Appends mid holds (faulty_text fault count reply)
       → stops fault ≡ true → meets fault count reply ≡ true
       → Stops may fault before a (text ++ (next ++ more_text)) c held holds
-  unfolding BentUpTo-reply
+  unfolding FaultyUpTo-reply
   Stops-reply {fault} {count = count} {reply = reply} more_text p q at_line taken stop met =
       record {
-        upto = BentUpTo-reply more_text (in_place_of fault reply.text) p q at_line (rw met at taken);
+        upto = FaultyUpTo-reply more_text (in_place_of fault reply.text) p q at_line (rw met at taken);
         stops_it = stop;
         met = rw (sym p.count) met;
         whole = refl;
       }
 
-  pub BentBreaks-reply : {fault : Fault} {before count : ℕ} {a b c : Engine P} {text next : List ℕ}
+  pub FaultyBreaks-reply : {fault : Fault} {before count : ℕ} {a b c : Engine P} {text next : List ℕ}
       {reply : WrittenReply} (more_text : List ℕ) {held mid holds : Option (List ℕ)}
-      → BentDelivered may fault before count a text b held mid → Replies may b next c (reply ∷ [])
-      → StopsAtLine may b next → TakesPart (goes_out fault count reply) mid holds
-      → BentBreaks may fault before a (text ++ (next ++ more_text)) c held holds
-  unfolding BentUpTo-reply
-  BentBreaks-reply more_text p q at_line cut =
+      → FaultyDelivered may fault before count a text b held mid → Replies may b next c (reply ∷ [])
+      → StopsAtLine may b next → TakesPart (faulty_text fault count reply) mid holds
+      → FaultyBreaks may fault before a (text ++ (next ++ more_text)) c held holds
+  unfolding FaultyUpTo-reply
+  FaultyBreaks-reply more_text p q at_line cut =
       record {
-        upto = BentUpTo-reply more_text cut.part p q at_line cut.taken;
+        upto = FaultyUpTo-reply more_text cut.part p q at_line cut.taken;
         left = cut.left;
         cut = rw (sym p.count) cut.cut;
       }
 
   -- how many genmoves succeeded before the later replies, and in them
   count_both : {fault : Fault} {before count : ℕ} {a b : Engine P} {text : List ℕ} {held mid : Option (List ℕ)}
-      (p : BentDelivered may fault before count a text b held mid) (rs : List WrittenReply)
+      (p : FaultyDelivered may fault before count a text b held mid) (rs : List WrittenReply)
       → before + genmoves (p.replies ++ rs) ≡ count + genmoves rs
   count_both p rs = omega (arith, p.count, genmoves-append p.replies rs)
 
   -- all was delivered of one text, and then this
-  pub BentUpTo-after : {fault : Fault} {before count : ℕ} {a b c : Engine P} {text next : List ℕ}
+  pub FaultyUpTo-after : {fault : Fault} {before count : ℕ} {a b c : Engine P} {text next : List ℕ}
       {held mid holds : Option (List ℕ)}
-      → BentDelivered may fault before count a text b held mid → BentUpTo may fault count b next c mid holds
-      → BentUpTo may fault before a (text ++ next) c held holds
-  BentUpTo-after {fault} {before} {count} {a} {b} {c} {text} {next} {held} {mid} {holds} p q =
+      → FaultyDelivered may fault before count a text b held mid → FaultyUpTo may fault count b next c mid holds
+      → FaultyUpTo may fault before a (text ++ next) c held holds
+  FaultyUpTo-after {fault} {before} {count} {a} {b} {c} {text} {next} {held} {mid} {holds} p q =
       record {
         front = text ++ q.front;
         unread = q.unread;
@@ -415,55 +424,55 @@ module _ {P : Type 0} (may : May P) where
             (Replies-then may p.engine q.engine);
         part = q.part;
         taken = rw (
-          bent-append fault before p.replies q.replies,
+          faulty_output-append fault before p.replies q.replies,
           sym p.count,
           append_assoc
-              (bent fault before p.replies) (bent fault count q.replies) q.part,
+              (faulty_output fault before p.replies) (faulty_output fault count q.replies) q.part,
         )
             (Appends-trans held mid holds _ _ p.taken q.taken);
       }
 
   pub Stops-after : {fault : Fault} {before count : ℕ} {a b c : Engine P} {text next : List ℕ}
       {held mid holds : Option (List ℕ)}
-      → BentDelivered may fault before count a text b held mid → Stops may fault count b next c mid holds
+      → FaultyDelivered may fault before count a text b held mid → Stops may fault count b next c mid holds
       → Stops may fault before a (text ++ next) c held holds
-  unfolding BentUpTo-after
+  unfolding FaultyUpTo-after
   Stops-after p q =
       record {
-        upto = BentUpTo-after p q.upto;
+        upto = FaultyUpTo-after p q.upto;
         stops_it = q.stops_it;
         met = rw (count_both p q.upto.replies) q.met;
         whole = q.whole;
       }
 
-  pub BentBreaks-after : {fault : Fault} {before count : ℕ} {a b c : Engine P} {text next : List ℕ}
+  pub FaultyBreaks-after : {fault : Fault} {before count : ℕ} {a b c : Engine P} {text next : List ℕ}
       {held mid holds : Option (List ℕ)}
-      → BentDelivered may fault before count a text b held mid → BentBreaks may fault count b next c mid holds
-      → BentBreaks may fault before a (text ++ next) c held holds
-  unfolding BentUpTo-after
-  BentBreaks-after p q =
+      → FaultyDelivered may fault before count a text b held mid → FaultyBreaks may fault count b next c mid holds
+      → FaultyBreaks may fault before a (text ++ next) c held holds
+  unfolding FaultyUpTo-after
+  FaultyBreaks-after p q =
       record {
-        upto = BentUpTo-after p q.upto;
+        upto = FaultyUpTo-after p q.upto;
         left = q.left;
         cut = rw (count_both p q.upto.replies) q.cut;
       }
 
   -- nothing was read
-  pub BentConversation-nothing : (fault : Fault) (a : Engine P) (gives held : Option (List ℕ)) → lines a.rest ≡ []
-      → BentConversation may fault a a 0 gives gives held held
-  BentConversation-nothing fault a gives held e =
-      record { input = []; given = Consumes-nil gives; delivered = BentDelivered-nothing fault 0 a held e }
+  pub FaultyConversation-nothing : (fault : Fault) (a : Engine P) (gives held : Option (List ℕ)) → lines a.rest ≡ []
+      → FaultyConversation may fault a a 0 gives gives held held
+  FaultyConversation-nothing fault a gives held e =
+      record { input = []; given = Consumes-nil gives; delivered = FaultyDelivered-nothing fault 0 a held e }
 
   -- one more read was answered
-  pub BentConversation-read : {fault : Fault} {count after : ℕ} {a b c : Engine P}
+  pub FaultyConversation-read : {fault : Fault} {count after : ℕ} {a b c : Engine P}
       {g0 g1 g2 h0 h1 h2 : Option (List ℕ)} {next : List ℕ}
-      → BentConversation may fault a b count g0 g1 h0 h1 → Consumes g1 g2 next
-      → BentDelivered may fault count after b next c h1 h2 → BentConversation may fault a c after g0 g2 h0 h2
-  BentConversation-read {g0 = g0} {g1 = g1} {g2 = g2} {next = next} p given q =
+      → FaultyConversation may fault a b count g0 g1 h0 h1 → Consumes g1 g2 next
+      → FaultyDelivered may fault count after b next c h1 h2 → FaultyConversation may fault a c after g0 g2 h0 h2
+  FaultyConversation-read {g0 = g0} {g1 = g1} {g2 = g2} {next = next} p given q =
       record {
         input = p.input ++ next;
         given = Consumes-trans g0 g1 g2 _ _ p.given given;
-        delivered = BentDelivered-both p.delivered q;
+        delivered = FaultyDelivered-both p.delivered q;
       }
 
   -- of the last read the LF is read, and less comes after it
@@ -480,9 +489,9 @@ module _ {P : Type 0} (may : May P) where
 
   pub StoppedConversation-read : {fault : Fault} {before : ℕ} {a b c : Engine P}
       {g0 g1 g2 h0 h1 h2 : Option (List ℕ)} {last : Option ℕ} (count : ℕ) (buffer : List ℕ)
-      → BentConversation may fault a b before g0 g1 h0 h1 → GivesBytes g1 g2 count buffer → last ≡ Some count
+      → FaultyConversation may fault a b before g0 g1 h0 h1 → GivesBytes g1 g2 count buffer → last ≡ Some count
       → Stops may fault before b (take count buffer) c h1 h2 → StoppedConversation may fault a c g0 g2 last h0 h2
-  unfolding Stops-after BentUpTo-after
+  unfolding Stops-after FaultyUpTo-after
   StoppedConversation-read {g0 = g0} {g1 = g1} {g2 = g2} count buffer p piece last q =
       record {
         input = p.input ++ take count buffer;
@@ -492,24 +501,24 @@ module _ {P : Type 0} (may : May P) where
             (gave_count count buffer piece) last;
       }
 
-  pub BrokenBentConversation-read : {fault : Fault} {before : ℕ} {a b c : Engine P}
+  pub BrokenFaultyConversation-read : {fault : Fault} {before : ℕ} {a b c : Engine P}
       {g0 g1 g2 h0 h1 h2 : Option (List ℕ)} {last : Option ℕ} (count : ℕ) (buffer : List ℕ)
-      → BentConversation may fault a b before g0 g1 h0 h1 → GivesBytes g1 g2 count buffer → last ≡ Some count
-      → BentBreaks may fault before b (take count buffer) c h1 h2
-      → BrokenBentConversation may fault a c g0 g2 last h0 h2
-  unfolding BentBreaks-after BentUpTo-after
-  BrokenBentConversation-read {g0 = g0} {g1 = g1} {g2 = g2} count buffer p piece last q =
+      → FaultyConversation may fault a b before g0 g1 h0 h1 → GivesBytes g1 g2 count buffer → last ≡ Some count
+      → FaultyBreaks may fault before b (take count buffer) c h1 h2
+      → BrokenFaultyConversation may fault a c g0 g2 last h0 h2
+  unfolding FaultyBreaks-after FaultyUpTo-after
+  BrokenFaultyConversation-read {g0 = g0} {g1 = g1} {g2 = g2} count buffer p piece last q =
       record {
         input = p.input ++ take count buffer;
         given = Consumes-trans g0 g1 g2 _ _ p.given piece.given;
-        breaks = BentBreaks-after p.delivered q;
+        breaks = FaultyBreaks-after p.delivered q;
         in_last = gave_line (take count buffer) q.upto.front q.upto.unread count q.upto.upto
             (gave_count count buffer piece) last;
       }
 
   -- the session was open before the last read
   pub ReadWhileOpen-read : {fault : Fault} {before : ℕ} {a b : Engine P} {g0 g1 g2 h0 h1 : Option (List ℕ)}
-      {last : Option ℕ} (count : ℕ) (buffer : List ℕ) → BentConversation may fault a b before g0 g1 h0 h1
+      {last : Option ℕ} (count : ℕ) (buffer : List ℕ) → FaultyConversation may fault a b before g0 g1 h0 h1
       → b.ended ≡ false → GivesBytes g1 g2 count buffer → last ≡ Some count → ReadWhileOpen may a g0 g2 last
   ReadWhileOpen-read {b = b} {g0 = g0} {g1 = g1} {g2 = g2} count buffer p is_open piece last =
       record {
@@ -525,7 +534,7 @@ module _ {P : Type 0} (may : May P) where
 
   -- without a fault the output is that of the replies
   pub Conversation-off : {a b : Engine P} {count : ℕ} {g0 g1 h0 h1 : Option (List ℕ)}
-      → BentConversation may Off a b count g0 g1 h0 h1 → Conversation may a b g0 g1 h0 h1
+      → FaultyConversation may Off a b count g0 g1 h0 h1 → Conversation may a b g0 g1 h0 h1
   Conversation-off p =
       record {
         input = p.input;
@@ -533,12 +542,12 @@ module _ {P : Type 0} (may : May P) where
         delivered = record {
           replies = p.delivered.replies;
           engine = p.delivered.engine;
-          taken = rw (bent-off 0 p.delivered.replies) at p.delivered.taken;
+          taken = rw (faulty_output-off 0 p.delivered.replies) at p.delivered.taken;
         };
       }
 
   pub BrokenConversation-off : {a b : Engine P} {g0 g1 h0 h1 : Option (List ℕ)} {last : Option ℕ}
-      → BrokenBentConversation may Off a b g0 g1 last h0 h1 → BrokenConversation may a b g0 g1 last h0 h1
+      → BrokenFaultyConversation may Off a b g0 g1 last h0 h1 → BrokenConversation may a b g0 g1 last h0 h1
   BrokenConversation-off p =
       let upto = p.breaks.upto in
       record {
@@ -555,8 +564,8 @@ module _ {P : Type 0} (may : May P) where
           engine = upto.engine;
           part = upto.part;
           left = p.breaks.left;
-          cut = sym (goes_out-off (0 + genmoves upto.replies) upto.last) ∙ p.breaks.cut;
-          taken = rw (bent-off 0 upto.replies) at upto.taken;
+          cut = sym (faulty_text-off (0 + genmoves upto.replies) upto.last) ∙ p.breaks.cut;
+          taken = rw (faulty_output-off 0 upto.replies) at upto.taken;
         };
         in_last = p.in_last;
       }
@@ -568,7 +577,7 @@ module _ {P : Type 0} (may : May P) where
 
   -- a conversation is one without a fault
   pub off-Conversation : {a b : Engine P} {g0 g1 h0 h1 : Option (List ℕ)} → Conversation may a b g0 g1 h0 h1
-      → (count : ℕ) × BentConversation may Off a b count g0 g1 h0 h1
+      → (count : ℕ) × FaultyConversation may Off a b count g0 g1 h0 h1
   off-Conversation p = (
     genmoves p.delivered.replies,
     record {
@@ -577,7 +586,7 @@ module _ {P : Type 0} (may : May P) where
       delivered = record {
         replies = p.delivered.replies;
         engine = p.delivered.engine;
-        taken = rw (bent-off 0 p.delivered.replies) p.delivered.taken;
+        taken = rw (faulty_output-off 0 p.delivered.replies) p.delivered.taken;
         count = omega arith;
         not_yet = λ s h. let e : false ≡ true = s in cc;
       };
@@ -585,7 +594,7 @@ module _ {P : Type 0} (may : May P) where
   )
 
   pub off-BrokenConversation : {a b : Engine P} {g0 g1 h0 h1 : Option (List ℕ)} {last : Option ℕ}
-      → BrokenConversation may a b g0 g1 last h0 h1 → BrokenBentConversation may Off a b g0 g1 last h0 h1
+      → BrokenConversation may a b g0 g1 last h0 h1 → BrokenFaultyConversation may Off a b g0 g1 last h0 h1
   off-BrokenConversation p =
       let it = p.breaks in
       record {
@@ -603,10 +612,10 @@ module _ {P : Type 0} (may : May P) where
             last = it.last;
             engine = it.engine;
             part = it.part;
-            taken = rw (bent-off 0 it.replies) it.taken;
+            taken = rw (faulty_output-off 0 it.replies) it.taken;
           };
           left = it.left;
-          cut = goes_out-off (0 + genmoves it.replies) it.last ∙ it.cut;
+          cut = faulty_text-off (0 + genmoves it.replies) it.last ∙ it.cut;
         };
         in_last = p.in_last;
       }

@@ -11,7 +11,7 @@ use Rattle.byte_streams.proofs.CallCounts.{raised-then}
 use Rattle.gtp_session.specs.Policy.{May}
 use Rattle.gtp_session.specs.Engine.{Engine}
 use Rattle.gtp_session.specs.Conversation.{Conversation, GivesAtLeast}
-use Rattle.gtp_session.specs.Faults.{BentConversation}
+use Rattle.gtp_session.specs.Faults.{FaultyConversation}
 use Rattle.gtp_session.specs.Serving.{CameOut, ReadWell, WentWell}
 use Rattle.gtp_session.proofs.serving.Conversation.{GivesAtLeast-both, Conversation-both, BrokenConversation-after}
 use Rattle.gtp_session.proofs.serving.Conversation.{ReadWhileOpen-after}
@@ -52,8 +52,8 @@ never_stopped may (CameOut.stopped made within read well stopped is_open) = off_
 both : {P : Type 0} (may : May P) {made genmoves : ℕ} {old mid new : Engine P} {reader reader_mid : Source}
     {writer writer_mid : Sink} {gives holds : Option (List ℕ)}
     → WentOn may made old mid reader reader_mid writer writer_mid
-    → BentConversation may Off mid new genmoves reader_mid.gives gives writer_mid.holds holds
-    → (all : ℕ) × BentConversation may Off old new all reader.gives gives writer.holds holds
+    → FaultyConversation may Off mid new genmoves reader_mid.gives gives writer_mid.holds holds
+    → (all : ℕ) × FaultyConversation may Off old new all reader.gives gives writer.holds holds
 both may p q = off-Conversation may (Conversation-both may p.conversation (Conversation-off may q))
 
 module _ {P : Type 0} (may : May P) {old mid new : Engine P} {reader reader_mid reader_now : Source}

@@ -4,7 +4,7 @@ use Rattle.gtp_session.specs.Serving.{CameOut}
 use Rattle.gtp_session.specs.declared.fault.Fault.TheVariants.{Off}
 use Rattle.gtp_session.specs.declared.serve.ServeFault.TheVariants.{TooManyReads}
 use Rattle.gtp_session.proofs.serving.Conversation.{GivesAtLeast-nothing, Conversation-nothing}
-use Rattle.gtp_session.proofs.faults.UnderFaults.{BentConversation-nothing}
+use Rattle.gtp_session.proofs.faults.UnderFaults.{FaultyConversation-nothing}
 use Rattle.gtp_session.proofs.serving.Outcomes.{WentOn-more, came_out_after, came_out_all}
 use Rattle.gtp_session.proofs.serve.serve.Goals as goal
 
@@ -27,7 +27,7 @@ pub returns-then-ended-clause-came_out : goal.returns-then-ended-clause-came_out
 returns-then-ended-clause-came_out g c =
     CameOut.quit 0 0 (omega arith) (record { reads = sym (raised-none _); ends = refl; failures = refl })
     (record { held = refl; flushed = λ h. h })
-    (BentConversation-nothing g.P.Policy.may Off c.args.session.now _ _ c.ended.ensures.unread)
+    (FaultyConversation-nothing g.P.Policy.may Off c.args.session.now _ _ c.ended.ensures.unread)
     (sym c.ended.ensures.ended ∙ c.if-ended.true)
     (λ was_open. let e : true ≡ false = sym (sym c.ended.ensures.ended ∙ c.if-ended.true) ∙ was_open in cc)
 

@@ -70,7 +70,7 @@ static BENT: [(Fault, &[u8], usize, &[u8], Served); 15] = [
         b"",
         Served::Stopped,
     ),
-    // Junk or a flood goes out, and the conversation goes on.
+    // Junk or a flood is written, and the conversation goes on.
     (Fault::Junk(1), JUNK, 0, b"", Served::EndOfInput),
     (
         Fault::Flood(2),
@@ -91,7 +91,7 @@ fn each_fault_bends_the_replies_in_any_cuts(rt: HostRuntime) {
         }
         assert_equal(&rt, output.try_extend_from_slice(back).is_ok(), true);
         let how = Call::With(1000, *fault);
-        assert_serves_in_any_cuts(&rt, "bent", how, INPUT, &output, *served);
+        assert_serves_in_any_cuts(&rt, "under a fault", how, INPUT, &output, *served);
     }
 }
 

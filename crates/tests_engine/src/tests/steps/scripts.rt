@@ -88,7 +88,7 @@ fn assert_step(rt: &impl Abort, place: (&str, usize), steps: &mut Steps, step: &
 /// What is shown, and the steps of a fresh engine.
 static SCRIPTS: [(&str, &[Step]); 9] = [
     (
-        "choices that are handed in are made",
+        "choices that are supplied are made",
         &[
             Step::Lines(1, b"boardsize 9", b"="),
             Step::Lines(1, b"genmove", b"? syntax error"),
