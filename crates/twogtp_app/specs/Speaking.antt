@@ -53,7 +53,7 @@ abbrev pub cut_off : PipeCause → Controller → Colour → Option TurnLoss
 cut_off cause c side = option_map (CutOff cause) (owed c side)
 
 -- A side was to be sent its commands: all that come next for it, in one text. Its process took the whole text, no call
--- broke, and nothing waits to go out: they count as sent. Or it took the beginning of it and was cut off: the side
+-- broke, and nothing waits to be written: they count as sent. Or it took the beginning of it and was cut off: the side
 -- fails, and the commands are among what it owed. It gave nothing.
 pub data AreSent {P : Type 0} (known : Ghosts P) (c : Controller) (side : Colour) (before after : P)
     : Controller → Option TurnLoss → Type 0 where

@@ -1,5 +1,5 @@
 -- What no reader has to believe: what functions inside the crate say of one another.
 pub mod Leaving
-pub mod Lending
+pub mod Borrowing
 pub mod Several
 pub mod Steps

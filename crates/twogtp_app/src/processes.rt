@@ -3,7 +3,7 @@ ghost use Rattle.std.specs.Prelude.{◌≡◌, Some};
 ghost use Rattle.std.specs.Borrow.{sem};
 ghost use Rattle.twogtp_app.specs.Processes.{AreEnded, Ends, OtherStays};
 ghost use Rattle.twogtp_app.specs.Processes.{kept_by, no_processes, process_of};
-ghost use Rattle.twogtp_app.specs.private.Lending.{LendsProcess};
+ghost use Rattle.twogtp_app.specs.private.Borrowing.{BorrowsProcess};
 
 use go_base::Side;
 use gtp_match::{Match, Status};
@@ -43,7 +43,7 @@ impl<P: Process> Processes<P> {
 
     /// A mutable reference to a side's process, if it has one.
     pub fn process_mut(&mut self, side: Side) -> &mut Option<P>
-        ensures* lends { sem 𝓛 (LendsProcess P.row self.entry side result) }
+        ensures* writes_back { sem 𝓛 (BorrowsProcess P.row self.entry side result) }
         ensures value { result.now ≡ process_of self.old side }
     {
         match side {

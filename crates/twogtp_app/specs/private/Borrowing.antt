@@ -13,6 +13,6 @@ with_process Black process processes = record processes { black = process }
 with_process White process processes = record processes { white = process }
 
 -- the processes end with the last value that the reference shows in place of the side's
-abbrev pub LendsProcess : (P : RattleType) → MutBor (Processes P.Denot) → Colour → MutBor (Option P.Denot) → Fml
-LendsProcess P processes side lent =
-    Lends (the_row P) (OptionOf P) processes lent (λ process. with_process side process processes.now)
+abbrev pub BorrowsProcess : (P : RattleType) → MutBor (Processes P.Denot) → Colour → MutBor (Option P.Denot) → Fml
+BorrowsProcess P processes side borrow =
+    Lends (the_row P) (OptionOf P) processes borrow (λ process. with_process side process processes.now)
