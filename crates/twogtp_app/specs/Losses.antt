@@ -5,7 +5,6 @@ use Rattle.gtp_match.specs.declared.controller.Controller.{Controller}
 use Rattle.gtp_match.specs.declared.reports.Retake.{Retake}
 use Rattle.gtp_match.specs.declared.verdicts.Action.{Action}
 use Rattle.gtp_match.specs.declared.verdicts.Action.TheVariants.{Start, Send, Wait, Done}
-use Rattle.gtp_match.specs.Controller.{new}
 use Rattle.gtp_match.specs.Losing.{GoesDown, LosesSide}
 use Rattle.gtp_match.specs.Next.{next}
 use Rattle.gtp_match.specs.Retakes.{total_of}

@@ -20,8 +20,8 @@ use Rattle.twogtp_app.specs.Status.{mistake_text, program_name}
 -- which komis there are, and how a negative one is written
 abbrev pub komi_limits : List ℕ
 komi_limits =
-    codes "twogtp: komi may be a multiple of 0.5 from -999999999.5 to 999999999.5, with at most nine digits on each "
-    ++ codes "side of the point; write a negative one as --komi=-3.5\n"
+    codes "twogtp: komi may be a multiple of 0.5 from -999999999.5 to 999999999.5, with at most nine "
+    ++ codes "digits on each side of the point; write a negative one as --komi=-3.5\n"
 
 -- the most stones that a size allows, or 0: the numbers from 2 up to it are those of `AllowsHandicap`
 abbrev pub most_stones : ℕ → ℕ

@@ -2,8 +2,7 @@
 ghost use Rattle.std.specs.Prelude.{◌≡◌, ◌≤◌, ◌↔◌, ℕ, length};
 ghost use Rattle.cli.specs.Failures.{plan_error_status};
 ghost use Rattle.go_base.specs.Handicap.{AllowsHandicap};
-ghost use Rattle.twogtp_app.specs.Mistakes.{ReportsNoPlan, handicap_limits, handicaps_up_to, komi_limits};
-ghost use Rattle.twogtp_app.specs.Mistakes.{limits_part, mistake_lines, most_stones};
+ghost use Rattle.twogtp_app.specs.Mistakes.{ReportsNoPlan, handicaps_up_to, limits_part, most_stones};
 
 use crate::failure::{Mistake, NAME};
 use crate::options::Options;
@@ -33,62 +32,43 @@ pub fn report_no_plan<E: WriteOnce>(
     match error {
         PlanError::BadArgument => error.report(NAME, errors),
         PlanError::BadWords(mistake) => {
-            write_or_break(errors, mistake_lines(*mistake, options).as_slice());
+            let mut lines = MistakeLines::new();
+            push(&mut lines, &error_line(NAME, mistake.text()));
+            push(&mut lines, &limits_part(*mistake, options));
+            write_or_break(errors, lines.as_slice());
             2
         }
         PlanError::OutOfMemory => error.report(NAME, errors),
     }
 }
 
-/// The lines of a mistake in these options.
-fn mistake_lines(mistake: Mistake, options: &Options<'_>) -> MistakeLines
-    ensures { result.items ≡ mistake_lines options.now mistake }
-{
-    let mut lines = MistakeLines::new();
-    push(&mut lines, &error_line(NAME, mistake.text()));
-    push(&mut lines, &limits_part(mistake, options));
-    lines
-}
-
 /// With `--why` the line of what is allowed in place of a wrong komi or handicap, and else nothing.
 fn limits_part(mistake: Mistake, options: &Options<'_>) -> LimitsLine
     ensures { result.items ≡ limits_part options.now.details.why options.now.size mistake }
 {
+    let mut line = LimitsLine::new();
     if !options.details.why {
-        return LimitsLine::new();
+        return line;
     }
     match mistake {
-        Mistake::NoBlackCommand | Mistake::NoWhiteCommand => LimitsLine::new(),
-        Mistake::BadKomi => komi_limits(),
-        Mistake::BadHandicap => handicap_limits(options.size),
+        Mistake::NoBlackCommand | Mistake::NoWhiteCommand => {}
+        Mistake::BadKomi => {
+            push(
+                &mut line,
+                b"twogtp: komi may be a multiple of 0.5 from -999999999.5 to 999999999.5, with at most nine ",
+            );
+            push(
+                &mut line,
+                b"digits on each side of the point; write a negative one as --komi=-3.5\n",
+            );
+        }
+        Mistake::BadHandicap => {
+            push(&mut line, b"twogtp: on size ");
+            push(&mut line, &write_int(options.size));
+            push(&mut line, handicaps_up_to(most_stones(options.size)));
+            push(&mut line, b"\n");
+        }
     }
-}
-
-/// The line of the komis that are allowed.
-fn komi_limits() -> LimitsLine
-    ensures { result.items ≡ komi_limits }
-{
-    let mut line = LimitsLine::new();
-    push(
-        &mut line,
-        b"twogtp: komi may be a multiple of 0.5 from -999999999.5 to 999999999.5, with at most nine digits on each ",
-    );
-    push(
-        &mut line,
-        b"side of the point; write a negative one as --komi=-3.5\n",
-    );
-    line
-}
-
-/// The line of the handicaps that the size allows.
-fn handicap_limits(size: u32) -> LimitsLine
-    ensures { result.items ≡ handicap_limits size }
-{
-    let mut line = LimitsLine::new();
-    push(&mut line, b"twogtp: on size ");
-    push(&mut line, &write_int(size));
-    push(&mut line, handicaps_up_to(most_stones(size)));
-    push(&mut line, b"\n");
     line
 }
 

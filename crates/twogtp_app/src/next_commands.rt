@@ -1,11 +1,9 @@
 //! The commands that a side is sent in one write.
-ghost use Rattle.std.specs.Prelude.{◌≡◌, ◌≢◌, ◌+◌, ◌≤◌, ◌++◌, true, false};
-ghost use Rattle.arrayvec.specs.ArrayVec.{array_vec_len};
+ghost use Rattle.std.specs.Prelude.{◌≡◌, ◌≢◌, true, false};
 ghost use Rattle.gtp_match.specs.declared.verdicts.Action.TheVariants as action;
-ghost use Rattle.gtp_match.specs.Controller.{sent};
 ghost use Rattle.gtp_match.specs.Next.{next};
 ghost use Rattle.gtp_match.specs.Sound.{IsSound};
-ghost use Rattle.twogtp_app.specs.Speaking.{TakesAllCommands, command_text};
+ghost use Rattle.twogtp_app.specs.Speaking.{TakesAllCommands};
 
 use arrayvec::ArrayVec;
 use go_base::{Side, push};
@@ -28,7 +26,7 @@ pub fn take_commands(game: &mut Match, side: Side) -> CommandsText
         if !is_to_send(game, side) {
             return text;
         }
-        push_command(&mut text, game, side);
+        push(&mut text, &game.send(side));
     }
     text
 }
@@ -43,16 +41,4 @@ fn is_to_send(game: &Match, side: Side) -> bool
         (Action::Send(Side::Black), Side::Black) | (Action::Send(Side::White), Side::White) => true,
         _ => false,
     }
-}
-
-/// Marks the side's next command as sent, and appends its bytes.
-fn push_command(text: &mut CommandsText, game: &mut Match, side: Side)
-    requires next { next game.old ≡ action.Send side }
-    requires room { array_vec_len text.old + MOST_COMMAND_BYTES ≤ TEXT_ROOM }
-    ensures sent { game.new ≡ sent game.old side }
-    ensures text { text.new.items ≡ text.old.items ++ command_text game.old side }
-    ensures few { array_vec_len text.new ≤ array_vec_len text.old + MOST_COMMAND_BYTES }
-{
-    let command = game.send(side);
-    push(text, &command);
 }

@@ -4,11 +4,9 @@ ghost use Rattle.arrayvec.specs.ArrayVec.{array_vec_len};
 ghost use Rattle.gtp_match.specs.Losing.{CanBeShown};
 ghost use Rattle.gtp_wire.specs.Replies.{most_shown};
 ghost use Rattle.std.specs.Fmt.{decimal};
-ghost use Rattle.std.specs.List.{join_with_byte};
-ghost use Rattle.go_base.specs.Bytes.{space};
-ghost use Rattle.gtp_wire.specs.Commands.{IsWritable, words_of};
+ghost use Rattle.gtp_wire.specs.Commands.{IsWritable};
 ghost use Rattle.twogtp_app.specs.Why.{LossCanBeShown, rule_text, wrong_text, before_oldest, oldest_text};
-ghost use Rattle.twogtp_app.specs.Why.{owed_text, wrote_text, read_text, retake_text, loss_text, line_head};
+ghost use Rattle.twogtp_app.specs.Why.{owed_text, wrote_text, read_text, loss_text, line_head};
 ghost use Rattle.twogtp_app.specs.Why.{retake_line};
 ghost use Rattle.twogtp_app.specs.Why.{loss_line};
 
@@ -18,7 +16,7 @@ use go_base::{Side, push, write_int};
 use go_board::PlayFault;
 use gtp_match::{LossCause, Owed, Retake, SentCommand, SideFault, side_name};
 use gtp_process::{Ending, PipeCause, pipe_text, push_ending, push_quoted, push_unstarted};
-use gtp_wire::{Command, CommandText, write_command};
+use gtp_wire::write_command;
 
 /// The buffer size for a line: 320 bytes of what a side wrote, and less than 280 for the rest.
 const LINE_ROOM: usize = 600;
@@ -32,7 +30,11 @@ pub fn retake_line(number: u32, side: Side, retake: &Retake) -> ReportLine
     ensures { result.items ≡ retake_line number side retake.now }
 {
     let mut line = begin_line(number, side);
-    push_retake(&mut line, retake);
+    push_owed(&mut line, &retake.owed);
+    push(&mut line, b"the play was refused (retake ");
+    push_number(&mut line, retake.count);
+    push(&mut line, b" of 3)");
+    push_wrote(&mut line, &retake.owed.bytes);
     push(&mut line, b"\n");
     line
 }
@@ -60,20 +62,6 @@ fn begin_line(number: u32, side: Side) -> ReportLine
     push(&mut line, side_name(side));
     push(&mut line, b": ");
     line
-}
-
-/// Appends that a `play` was refused and is retaken.
-fn push_retake(line: &mut ReportLine, retake: &Retake)
-    requires room { array_vec_len line.old ≤ 32 }
-    requires shown { CanBeShown retake.now.owed }
-    ensures bytes { line.new.items ≡ line.old.items ++ retake_text retake.now }
-    ensures len { array_vec_len line.new ≤ array_vec_len line.old + 560 }
-{
-    push_owed(line, &retake.owed);
-    push(line, b"the play was refused (retake ");
-    push_number(line, retake.count);
-    push(line, b" of 3)");
-    push_wrote(line, &retake.owed.bytes);
 }
 
 /// Appends why a side failed.
@@ -154,10 +142,12 @@ fn push_oldest(line: &mut ReportLine, number: u32, oldest: Option<SentCommand>)
     let Some(entry) = oldest else {
         return;
     };
+    let mut words = write_command(None, &entry.command);
+    words.pop();
     push(line, before_oldest(number));
     push_number(line, entry.id);
     push(line, b" ");
-    push(line, &command_words(&entry.command));
+    push(line, &words);
     push(line, b"\"");
 }
 
@@ -170,16 +160,6 @@ fn before_oldest(number: u32) -> &'static [u8]
         1 => b", \"",
         _ => b", the first \"",
     }
-}
-
-/// A command and its arguments, with single spaces between them.
-fn command_words(command: &Command) -> CommandText
-    requires { IsWritable command.now }
-    ensures { result.items ≡ join_with_byte space (words_of command.now) }
-{
-    let mut text = write_command(None, command);
-    text.pop();
-    text
 }
 
 /// Appends what was read of a side whose pipe broke or ended.

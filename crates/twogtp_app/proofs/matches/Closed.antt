@@ -1,12 +1,6 @@
 -- How the processes of a match that is over are closed.
-use Rattle.std.proofs.Common.{◌≡◌, ℕ, ◌+◌, ◌≤◌, Bool, true, false, List, ◌++◌, length, Option, None, Some, arith}
-use Rattle.std.proofs.Common.{Result, Err, ◌∙◌, ap, subst, sym}
-use Rattle.std.specs.Prelude.{is_some, option_map}
-use Rattle.std.proofs.lemmas.List.{length-take-le, take_all}
-use Rattle.gtp_wire.specs.declared.replies.Reply.{Reply}
-use Rattle.gtp_wire.specs.declared.replies.ReplyFault.{ReplyFault}
-use Rattle.gtp_wire.specs.declared.replies.ReplyFault.TheVariants.{Overlong}
-use Rattle.gtp_wire.specs.Replies.{IsFirst, ReadsFirst, GivesNoAnswer, most_reply_bytes, with_reply}
+use Rattle.std.proofs.Common.{Bool, true, false, Option}
+use Rattle.std.proofs.Common.{subst}
 use Rattle.gtp_process.specs.declared.starter.Process.{Ghosts}
 use Rattle.gtp_process.specs.Quitting.{QuitsIfAny}
 use Rattle.twogtp_app.specs.Closing.{IsClosedWhere}
