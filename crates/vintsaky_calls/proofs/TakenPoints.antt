@@ -1,5 +1,5 @@
 -- Where the last move took nothing, no point is listed.
-use Rattle.std.proofs.Common.{◌≡◌, ℕ, ◌<◌, List, [], refl, arith}
+use Rattle.std.proofs.Common.{ℕ, List, [], refl, arith}
 use Rattle.go_board.specs.Game.{GameRecord}
 use Rattle.go_board.specs.LastTaken.{HasTakenByLast}
 use Rattle.vintsaky_calls.specs.Games.{ListsTaken}

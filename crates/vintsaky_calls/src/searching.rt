@@ -87,17 +87,10 @@ fn put_marks(marks: &ArrayVec<bool, MOST_POINTS>, bytes: &mut [u8]) -> usize
     let count = marks.len();
     if count <= bytes.len() {
         for (place, mark) in marks.as_slice().iter().enumerate() {
-            bytes[place] = byte_of_mark(*mark);
+            bytes[place] = if *mark { 1 } else { 0 };
         }
     }
     count
-}
-
-/// The byte of a mark.
-fn byte_of_mark(mark: bool) -> u8
-    ensures { result ≡ bool_code mark }
-{
-    if mark { 1 } else { 0 }
 }
 
 /// Implements `vintsaky_game_is_own_eye`.
