@@ -140,7 +140,7 @@ def calls_in(path, text):
 
 def files_of(section, files):
     """The files of a section of the header: a module, or a module's folder."""
-    names = [f"{FOLDER}{section}.rt", *(f"{FOLDER}{section}/{it}.rt" for it in ("place", "exports", "searching"))]
+    names = [f"{FOLDER}{section}.rt", *(f"{FOLDER}{section}/{it}.rt" for it in ("exports", "searching"))]
     return [it for it in names if it in files and "no_mangle" in files[it]]
 
 

@@ -2,7 +2,7 @@
 -- value is the object's. All of it is for any such handle: `as_object` is the row of the object's type, whose type in MIR
 -- is `object`; D is what the handle is seen as, with its pointer and its value, and `make` is a handle of these.
 --     struct, owns, R     what the checker states of the handle, and its row
---     lends               `lend` meets its contract: the object behind the pointer is lent, and the handle follows it
+--     borrows             `get_mut` meets its contract: the object is borrowed, and the handle follows the borrow
 --     places              `place` meets its contract: a fresh object is written into the room, and then its handle
 use Rattle.vintsaky.proofs.Steps.{◌≡◌, ℕ, List, [], ◌∷◌, refl, sym, ap, ◌∙◌, proved, after, Ura, full_share, id⊢, ent}
 use Rattle.vintsaky.proofs.Steps.{sep, SProp, Fml, GName, ftrue, flft, fsep, named, Val, vptr, tables, Logic, sem, ‵, ◌⊛◌}
@@ -94,16 +94,16 @@ module _ (name : Sym) (as_object : RattleType) (object : Ty) (D : Type 0) (at : 
     abbrev pub ended : Ended
     ended = record { signature = signature; kept = (no, tt) }
 
-    -- the code of `lend`, at the types that its locals point to
+    -- the code of `get_mut`, at the types that its locals point to
     abbrev pub function : Ty → Ty → Ty → Fn
-    function result self lent = record {
+    function result self borrowed = record {
       lifetimes = 1;
       outlives = [];
       ty_params = [];
       givens = 0;
       params = 1;
       locals = local (ty_ref (named 0) mut result) value_local ∷ local (ty_ref (named 0) mut self) value_local
-          ∷ local (ty_ref erased mut lent) value_local ∷ local ty_ptr value_local ∷ local ty_ptr value_local ∷ [];
+          ∷ local (ty_ref erased mut borrowed) value_local ∷ local ty_ptr value_local ∷ local ty_ptr value_local ∷ [];
       body = seq (block (seq (assign (place 3 [])
           (rv_opd (copy (place 1 (deref (ty_struct name (tcons ty_ptr tnil)) ∷ field 0 ∷ [])))))
           (seq (assign (place 4 []) (rv_opd (copy (place 3 []))))
@@ -149,13 +149,13 @@ module _ (name : Sym) (as_object : RattleType) (object : Ty) (D : Type 0) (at : 
             move ! (0 ∷ 2 ∷ []) $ fjoin ! $ move ! (1 ∷ 0 ∷ []) $ fjoin ! $
             fpack ! (List Val) (λ vs. fsep (cell_at full_share R.mir vs b o) (R.own_val (make (at h) w) vs)) us $ done !
 
-      pub lends : (𝓜 : Model 𝓤 𝓛.H) (𝓡 : Running 𝓤 𝓛.H 𝓜) (key : Callee) (result self lent : Ty)
-          → Closed 𝓤 𝓛.H (tables 𝓤 𝓛.H 𝓜 𝓡 𝓡.env).C (tables 𝓤 𝓛.H 𝓜 𝓡 𝓡.env).Λ key (function result self lent)
+      pub borrows : (𝓜 : Model 𝓤 𝓛.H) (𝓡 : Running 𝓤 𝓛.H 𝓜) (key : Callee) (result self borrowed : Ty)
+          → Closed 𝓤 𝓛.H (tables 𝓤 𝓛.H 𝓜 𝓡 𝓡.env).C (tables 𝓤 𝓛.H 𝓜 𝓡 𝓡.env).Λ key (function result self borrowed)
           → Meets 𝓛 signature ((tables 𝓤 𝓛.H 𝓜 𝓡 𝓡.env).C key) (closing 𝓛 ended (clauses 𝓜.mem 𝓡.returns))
-      lends 𝓜 𝓡 key result self lent closed =
+      borrows 𝓜 𝓡 key result self borrowed closed =
           let c = clauses 𝓜.mem 𝓡.returns in let W = walk_of 𝓛 ended stayed c in let 𝓣 = tables 𝓤 𝓛.H 𝓜 𝓡 𝓡.env in
           proved 𝓛 ended stayed c 𝓜 𝓡 (Goes-spent_ref 𝓛 1 (0 ∷ []) tt (plain (λ _. R)), tt)
-          key (function result self lent) closed
+          key (function result self borrowed) closed
           (λ κs. (mut_vals, tt)) (λ κs. (mut_Tells (named 0) κs.0 R, tt)) (λ κs qs bounds a _ are.
           let b = a.0.ref_ptr.0 in let o = a.0.ref_ptr.1 in let h = a.0.now in let γ = a.0.ghost_name in let vs = mut_vals a.0 in
           let κ = κs.0 in let q = qs.0 in
@@ -174,7 +174,7 @@ module _ (name : Sym) (as_object : RattleType) (object : Ty) (D : Type 0) (at : 
           sets ! (of_opd ! (load ! (through ! refl (fld ! refl (stop !))) (look_in ! 2 (sub ! 0 refl (whole !))))) refl (tt, tt) $
           sets ! (of_opd ! (get ! refl)) refl (tt, tt) $
           sets_last ! (addr ! (through ! refl (stop !))) refl (tt, tt) $
-          exec ! 𝓣.C 𝓣.Λ (env (function result self lent).locals l) (after 1 (function result self lent).body) (at_ret _ (W.post y)) $
+          exec ! 𝓣.C 𝓣.Λ (env (function result self borrowed).locals l) (after 1 (function result self borrowed).body) (at_ret _ (W.post y)) $
           sets ! (of_opd ! (get ! refl)) refl (tt, tt) $
           rewrite ! 2 Cell (sym word) refl $
           move ! (1 ∷ 2 ∷ []) $ fjoin ! $ move ! (2 ∷ 3 ∷ 4 ∷ 1 ∷ 0 ∷ []) $ group ! 5 $

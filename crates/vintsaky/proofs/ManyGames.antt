@@ -9,7 +9,7 @@ use Rattle.std.proofs.lemmas.Slice.{take-put_mid, drop-put_mid}
 use Rattle.std.specs.List.{sum_by}
 use borrow.Rule.Slice.PartMut.{put_mid}
 use denote.RawPtr.{Ptr}
-use Rattle.vintsaky.specs.declared.game.handle.GameHandle.{GameHandle}
+use Rattle.vintsaky.specs.declared.game.GameHandle.{GameHandle}
 use Rattle.std.proofs.Math.ListN.{set}
 use Rattle.go_board.specs.Game.{GameRecord}
 use Rattle.vintsaky_calls.specs.Batches.{EachGame, none, next, InTurn, no_game, first, Overwrites}
@@ -135,7 +135,7 @@ in_games handles games place below are =
     let many = sym (ap length are) ∙ length-map handles (λ h. h.value) in
     omega (arith, many)
 
--- the game that a handle lends is that of the list
+-- the game behind a handle is that of the list
 pub read_game : (handles : List GameHandle) (games : List GameRecord) (place : ℕ) (d : GameHandle) (game : GameRecord)
     → place < length handles → games_of handles ≡ games → game ≡ (get_or handles place d).value
     → game ≡ get_or games place game

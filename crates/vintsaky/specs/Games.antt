@@ -2,7 +2,7 @@
 use denote.RawPtr.{Ptr}
 use Rattle.std.specs.Prelude.{List, map}
 use Rattle.go_board.specs.Game.{GameRecord}
-use Rattle.vintsaky.specs.declared.game.handle.GameHandle.{GameHandle}
+use Rattle.vintsaky.specs.declared.game.GameHandle.{GameHandle}
 
 -- the games of the handles
 abbrev pub games_of : List GameHandle → List GameRecord

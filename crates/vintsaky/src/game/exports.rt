@@ -1,5 +1,8 @@
 //! The calls of a game.
 ghost use Rattle.std.specs.Prelude.{◌≡◌, ◌↔◌, length, IsTrue};
+ghost use Rattle.std.specs.Borrow.{full_share, sem};
+ghost use Rattle.std.specs.Ptr.{lies_at, room_at};
+ghost use base.Fml.{fsep};
 ghost use Rattle.go_board.specs.Area.{score};
 ghost use Rattle.go_board.specs.Game.{IsFinished, board_of};
 ghost use Rattle.go_board.specs.Hash.{hash_of};
@@ -7,6 +10,8 @@ ghost use Rattle.go_board.specs.Show.{board_text};
 ghost use Rattle.std.specs.Align.{type_align};
 ghost use Rattle.std.specs.Mem.{type_size};
 ghost use Rattle.go_board.specs.contracts.game.Game.{the_row as game_row};
+ghost use Rattle.vintsaky.specs.contracts.game.GameHandle.{the_row};
+ghost use Rattle.vintsaky.specs.Fresh.{fresh_game};
 ghost use Rattle.vintsaky_calls.specs.Codes.{rule_code, Returns};
 ghost use Rattle.vintsaky_calls.specs.Games.{ListsTaken, BeginCall, PlayCall, LegalCall, UndoCall, SetKomiCall};
 ghost use Rattle.vintsaky_calls.specs.Games.{PlaceHandicapCall, LegalPointsCall, StoneAtCall, ChainCall, MadeCall};
@@ -14,10 +19,34 @@ ghost use Rattle.vintsaky_calls.specs.Games.{CapturedCall};
 ghost use Rattle.vintsaky_calls.specs.Texts.{Writes};
 ghost use Rattle.vintsaky_calls.specs.Turns.{HasTurn};
 
-use crate::game::handle::GameHandle;
-use go_board::Game;
+use crate::game::GameHandle;
+use go_board::{Game, KoRule};
 use std::mem::{align_of, size_of};
 use vintsaky_calls::{code_of, games, turns};
+
+/// Initialises a game in the caller's memory, and its handle. It has size 19, no komi and simple ko.
+///
+/// # Safety
+///
+/// The memory must have the size and the alignment that the calls for these return, and must be the object's alone.
+/// Neither the memory nor the handle may move as long as the handle is used.
+#[unsafe(no_mangle)]
+pub unsafe extern "C" fn vintsaky_game_place(out: *mut GameHandle, at: *mut u8)
+    requires* { sem 𝓛 (fsep (room_at the_row out) (room_at game_row at)) }
+    ensures* { sem 𝓛
+        (lies_at the_row full_share out (record { at = at; value = fresh_game })) }
+{
+    let fresh = fresh_game();
+    (at as *mut Game).write(fresh);
+    out.write(GameHandle { at });
+}
+
+/// A game of size 19 without komi, under simple ko.
+fn fresh_game() -> Game
+    ensures { result ≡ fresh_game }
+{
+    Game::fresh(KoRule::Simple)
+}
 
 /// Returns the size of a game in bytes.
 #[unsafe(no_mangle)]
@@ -41,7 +70,7 @@ pub extern "C" fn vintsaky_game_size(game: &mut GameHandle) -> u32
     ensures size { result ≡ game.old.value.size }
     ensures object { game.new.value ≡ game.old.value }
 {
-    game.lend().size().get()
+    game.get_mut().size().get()
 }
 
 /// Returns the komi in half points.
@@ -50,7 +79,7 @@ pub extern "C" fn vintsaky_game_komi(game: &mut GameHandle) -> i32
     ensures komi { result ≡ game.old.value.komi }
     ensures object { game.new.value ≡ game.old.value }
 {
-    game.lend().komi().half_points()
+    game.get_mut().komi().half_points()
 }
 
 /// Returns the number of handicap stones that were placed, or 0.
@@ -59,7 +88,7 @@ pub extern "C" fn vintsaky_game_handicap(game: &mut GameHandle) -> u32
     ensures handicap { result ≡ game.old.value.handicap }
     ensures object { game.new.value ≡ game.old.value }
 {
-    game.lend().handicap()
+    game.get_mut().handicap()
 }
 
 /// Returns the colour whose turn it is: the one that didn't make the last move. Before the first move it is Black, or
@@ -69,7 +98,7 @@ pub extern "C" fn vintsaky_game_turn(game: &mut GameHandle) -> u32
     ensures call { HasTurn game.old.value result }
     ensures object { game.new.value ≡ game.old.value }
 {
-    turns::turn(game.lend())
+    turns::turn(game.get_mut())
 }
 
 /// Returns the number of moves in the record.
@@ -78,7 +107,7 @@ pub extern "C" fn vintsaky_game_length(game: &mut GameHandle) -> usize
     ensures length { result ≡ length game.old.value.moves }
     ensures object { game.new.value ≡ game.old.value }
 {
-    game.lend().moves().len()
+    game.get_mut().moves().len()
 }
 
 /// Returns the area score with every stone alive, after komi, in half points: positive if Black leads.
@@ -87,7 +116,7 @@ pub extern "C" fn vintsaky_game_score(game: &mut GameHandle) -> i32
     ensures score { result ≡ score game.old.value }
     ensures object { game.new.value ≡ game.old.value }
 {
-    game.lend().score()
+    game.get_mut().score()
 }
 
 /// Returns whether the last two moves are passes.
@@ -96,7 +125,7 @@ pub extern "C" fn vintsaky_game_finished(game: &mut GameHandle) -> bool
     ensures passes { IsTrue result ↔ IsFinished game.old.value }
     ensures object { game.new.value ≡ game.old.value }
 {
-    game.lend().finished()
+    game.get_mut().finished()
 }
 
 /// Returns a hash of the board and its size. Equal boards of one size have equal hashes. So different hashes show that
@@ -106,7 +135,7 @@ pub extern "C" fn vintsaky_game_hash(game: &mut GameHandle) -> u64
     ensures hash { result ≡ hash_of game.old.value.size (board_of game.old.value) }
     ensures object { game.new.value ≡ game.old.value }
 {
-    game.lend().board_hash()
+    game.get_mut().board_hash()
 }
 
 /// Copies another game into this one, with its record, its komi and its ko rule. A game that is given for both is
@@ -116,7 +145,7 @@ pub extern "C" fn vintsaky_game_copy(game: &mut GameHandle, other: &mut GameHand
     ensures copied { game.new.value ≡ other.old.value }
     ensures object { other.new.value ≡ other.old.value }
 {
-    game.lend().copy_from(other.lend());
+    game.get_mut().copy_from(other.get_mut());
 }
 
 /// Resets the game to an empty board, with this ko rule, size and komi.
@@ -133,7 +162,7 @@ pub extern "C" fn vintsaky_game_begin(
 ) -> u32
     ensures call { Returns result (BeginCall rule size half_komi game.old.value game.new.value) }
 {
-    code_of(games::begin(game.lend(), rule, size, half_komi))
+    code_of(games::begin(game.get_mut(), rule, size, half_komi))
 }
 
 /// Plays a move of either colour, whoever moved last.
@@ -146,7 +175,7 @@ pub extern "C" fn vintsaky_game_begin(
 pub extern "C" fn vintsaky_game_play(game: &mut GameHandle, colour: u32, vertex: u32) -> u32
     ensures call { Returns result (PlayCall colour vertex game.old.value game.new.value) }
 {
-    code_of(games::play(game.lend(), colour, vertex))
+    code_of(games::play(game.get_mut(), colour, vertex))
 }
 
 /// Returns 0 if a colour may make a move next, or else why the move is illegal.
@@ -159,7 +188,7 @@ pub extern "C" fn vintsaky_game_legal(game: &mut GameHandle, colour: u32, vertex
     ensures call { Returns result (LegalCall game.old.value colour vertex) }
     ensures object { game.new.value ≡ game.old.value }
 {
-    code_of(games::legal(game.lend(), colour, vertex))
+    code_of(games::legal(game.get_mut(), colour, vertex))
 }
 
 /// Undoes the last move.
@@ -171,7 +200,7 @@ pub extern "C" fn vintsaky_game_legal(game: &mut GameHandle, colour: u32, vertex
 pub extern "C" fn vintsaky_game_undo(game: &mut GameHandle) -> u32
     ensures call { Returns result (UndoCall game.old.value game.new.value) }
 {
-    code_of(games::undo(game.lend()))
+    code_of(games::undo(game.get_mut()))
 }
 
 /// Sets the komi. The board and the record are unchanged.
@@ -183,7 +212,7 @@ pub extern "C" fn vintsaky_game_undo(game: &mut GameHandle) -> u32
 pub extern "C" fn vintsaky_game_set_komi(game: &mut GameHandle, half_komi: i32) -> u32
     ensures call { Returns result (SetKomiCall half_komi game.old.value game.new.value) }
 {
-    code_of(games::set_komi(game.lend(), half_komi))
+    code_of(games::set_komi(game.get_mut(), half_komi))
 }
 
 /// Places handicap stones on their fixed points.
@@ -195,7 +224,7 @@ pub extern "C" fn vintsaky_game_set_komi(game: &mut GameHandle, half_komi: i32) 
 pub extern "C" fn vintsaky_game_place_handicap(game: &mut GameHandle, stones: u32) -> u32
     ensures call { Returns result (PlaceHandicapCall stones game.old.value game.new.value) }
 {
-    code_of(games::place_handicap(game.lend(), stones))
+    code_of(games::place_handicap(game.get_mut(), stones))
 }
 
 /// Writes the number of points where a colour may play next and, if the buffer holds all of them, these points, row by
@@ -215,7 +244,7 @@ pub extern "C" fn vintsaky_game_legal_points(
         count.old count.new) }
     ensures object { game.new.value ≡ game.old.value }
 {
-    code_of(games::legal_points(game.lend(), colour, points, count))
+    code_of(games::legal_points(game.get_mut(), colour, points, count))
 }
 
 /// Writes the points whose stones the last move captured, row by row from A1, if the buffer holds all of them. Returns
@@ -228,7 +257,7 @@ pub extern "C" fn vintsaky_game_taken_by_last_move(
     ensures call { ListsTaken game.old.value points.old points.new result }
     ensures object { game.new.value ≡ game.old.value }
 {
-    games::taken_by_last_move(game.lend(), points)
+    games::taken_by_last_move(game.get_mut(), points)
 }
 
 /// Writes the colour of the stone on a point, or 0 if it is empty.
@@ -245,7 +274,7 @@ pub extern "C" fn vintsaky_game_stone_at(
     ensures call { Returns result (StoneAtCall game.old.value vertex colour.old colour.new) }
     ensures object { game.new.value ≡ game.old.value }
 {
-    code_of(games::stone_at(game.lend(), vertex, colour))
+    code_of(games::stone_at(game.get_mut(), vertex, colour))
 }
 
 /// Writes how many stones and how many liberties the chain on a point has.
@@ -264,7 +293,7 @@ pub extern "C" fn vintsaky_game_chain(
         liberties.old liberties.new) }
     ensures object { game.new.value ≡ game.old.value }
 {
-    code_of(games::chain(game.lend(), vertex, stones, liberties))
+    code_of(games::chain(game.get_mut(), vertex, stones, liberties))
 }
 
 /// Writes a move of the record, counted from 0.
@@ -283,7 +312,7 @@ pub extern "C" fn vintsaky_game_made(
         vertex.old vertex.new) }
     ensures object { game.new.value ≡ game.old.value }
 {
-    code_of(games::made(game.lend(), number, colour, vertex))
+    code_of(games::made(game.get_mut(), number, colour, vertex))
 }
 
 /// Writes how many stones a colour has captured.
@@ -300,7 +329,7 @@ pub extern "C" fn vintsaky_game_captured(
     ensures call { Returns result (CapturedCall game.old.value colour stones.old stones.new) }
     ensures object { game.new.value ≡ game.old.value }
 {
-    code_of(games::captured(game.lend(), colour, stones))
+    code_of(games::captured(game.get_mut(), colour, stones))
 }
 
 /// Returns the number of the ko rule.
@@ -309,7 +338,7 @@ pub extern "C" fn vintsaky_game_rule(game: &mut GameHandle) -> u32
     ensures call { result ≡ rule_code game.old.value.rule }
     ensures object { game.new.value ≡ game.old.value }
 {
-    games::rule(game.lend())
+    games::rule(game.get_mut())
 }
 
 /// Writes the board as text, as an engine answers `showboard`, and returns its length.
@@ -318,5 +347,5 @@ pub extern "C" fn vintsaky_game_board_text(game: &mut GameHandle, text: &mut [u8
     ensures call { Writes (board_text game.old.value) text.old text.new result }
     ensures object { game.new.value ≡ game.old.value }
 {
-    games::board_text(game.lend(), text)
+    games::board_text(game.get_mut(), text)
 }

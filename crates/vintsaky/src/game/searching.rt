@@ -5,7 +5,7 @@ ghost use Rattle.vintsaky_calls.specs.Searching.{IndexCall, PointAtCall, ListsBo
 ghost use Rattle.vintsaky_calls.specs.Searching.{ChainPointsCall, ChainLibertiesCall, KoPointCall, RandomMoveCall};
 ghost use Rattle.vintsaky_calls.specs.Searching.{PositionHashCall, PlayoutCall, RolloutCall};
 
-use crate::game::handle::GameHandle;
+use crate::game::GameHandle;
 use vintsaky_calls::{code_of, searching};
 
 /// Writes the index of a point, by which a search keeps a list with one value for each point. It is counted from 0 in
@@ -19,7 +19,7 @@ pub extern "C" fn vintsaky_game_index(game: &mut GameHandle, vertex: u32, index:
     ensures call { Returns result (IndexCall game.old.value vertex index.old index.new) }
     ensures object { game.new.value ≡ game.old.value }
 {
-    code_of(searching::index(game.lend(), vertex, index))
+    code_of(searching::index(game.get_mut(), vertex, index))
 }
 
 /// Writes the number of the point with this index.
@@ -36,7 +36,7 @@ pub extern "C" fn vintsaky_game_point_at(
     ensures call { Returns result (PointAtCall game.old.value index vertex.old vertex.new) }
     ensures object { game.new.value ≡ game.old.value }
 {
-    code_of(searching::point_at(game.lend(), index, vertex))
+    code_of(searching::point_at(game.get_mut(), index, vertex))
 }
 
 /// Writes one byte for each point in board order, if the buffer holds all of them: the colour of its stone, or 0 if it
@@ -46,7 +46,7 @@ pub extern "C" fn vintsaky_game_board(game: &mut GameHandle, bytes: &mut [u8]) -
     ensures call { ListsBoard game.old.value bytes.old bytes.new result }
     ensures object { game.new.value ≡ game.old.value }
 {
-    searching::board(game.lend(), bytes)
+    searching::board(game.get_mut(), bytes)
 }
 
 /// Writes one byte for each point in board order, if the buffer holds all of them, and how many there are: 1 where a
@@ -66,7 +66,7 @@ pub extern "C" fn vintsaky_game_legal_mask(
         count.old count.new) }
     ensures object { game.new.value ≡ game.old.value }
 {
-    code_of(searching::legal_mask(game.lend(), colour, bytes, count))
+    code_of(searching::legal_mask(game.get_mut(), colour, bytes, count))
 }
 
 /// Writes 1 if a point is an own eye of a colour, which a playout doesn't fill, else 0. An own eye is empty, and all
@@ -86,7 +86,7 @@ pub extern "C" fn vintsaky_game_is_own_eye(
     ensures call { Returns result (IsOwnEyeCall game.old.value colour vertex holds.old holds.new) }
     ensures object { game.new.value ≡ game.old.value }
 {
-    code_of(searching::is_own_eye(game.lend(), colour, vertex, holds))
+    code_of(searching::is_own_eye(game.get_mut(), colour, vertex, holds))
 }
 
 /// Writes how many stones a chain has and, if the buffer holds all of them, their points, row by row from A1.
@@ -105,7 +105,7 @@ pub extern "C" fn vintsaky_game_chain_points(
         count.old count.new) }
     ensures object { game.new.value ≡ game.old.value }
 {
-    code_of(searching::chain_points(game.lend(), vertex, points, count))
+    code_of(searching::chain_points(game.get_mut(), vertex, points, count))
 }
 
 /// Writes how many liberties a chain has and, if the buffer holds all of them, these points, row by row from A1 and
@@ -125,7 +125,7 @@ pub extern "C" fn vintsaky_game_chain_liberties(
         count.old count.new) }
     ensures object { game.new.value ≡ game.old.value }
 {
-    code_of(searching::chain_liberties(game.lend(), vertex, points, count))
+    code_of(searching::chain_liberties(game.get_mut(), vertex, points, count))
 }
 
 /// Writes the ko point of a colour: the one empty point where its play would bring back the board before the last move.
@@ -143,7 +143,7 @@ pub extern "C" fn vintsaky_game_ko_point(
     ensures call { Returns result (KoPointCall game.old.value colour vertex.old vertex.new) }
     ensures object { game.new.value ≡ game.old.value }
 {
-    code_of(searching::ko_point(game.lend(), colour, vertex))
+    code_of(searching::ko_point(game.get_mut(), colour, vertex))
 }
 
 /// Writes the move that a random word chooses for a colour. Of the n points where the colour may play next and that
@@ -165,7 +165,7 @@ pub extern "C" fn vintsaky_game_random_move(
         vertex.old vertex.new) }
     ensures object { game.new.value ≡ game.old.value }
 {
-    code_of(searching::random_move(game.lend(), colour, word, vertex))
+    code_of(searching::random_move(game.get_mut(), colour, word, vertex))
 }
 
 /// Writes a hash of the position with a colour to move: of the board, its size, that colour and its ko point. Positions
@@ -185,7 +185,7 @@ pub extern "C" fn vintsaky_game_position_hash(
     ensures call { Returns result (PositionHashCall game.old.value colour hash.old hash.new) }
     ensures object { game.new.value ≡ game.old.value }
 {
-    code_of(searching::position_hash(game.lend(), colour, hash))
+    code_of(searching::position_hash(game.get_mut(), colour, hash))
 }
 
 /// Plays on at random: this colour first, and then both in turn. Each plays a random point of those where it may play
@@ -205,7 +205,7 @@ pub extern "C" fn vintsaky_game_playout(
 ) -> u32
     ensures call { Returns result (PlayoutCall colour seed limit game.old.value game.new.value) }
 {
-    code_of(searching::playout(game.lend(), colour, seed, limit))
+    code_of(searching::playout(game.get_mut(), colour, seed, limit))
 }
 
 /// Writes the score that the game would have after [`vintsaky_game_playout`] with the same arguments, as
@@ -226,5 +226,5 @@ pub extern "C" fn vintsaky_game_rollout(
         half_points.old half_points.new) }
     ensures object { game.new.value ≡ game.old.value }
 {
-    code_of(searching::rollout(game.lend(), colour, seed, limit, half_points))
+    code_of(searching::rollout(game.get_mut(), colour, seed, limit, half_points))
 }

@@ -5,7 +5,7 @@ ghost use Rattle.vintsaky.specs.Games.{games_of, places_of};
 ghost use Rattle.vintsaky_calls.specs.Batches.{PlayGamesCall, RestartGamesCall, ShowGamesCall};
 ghost use Rattle.vintsaky_calls.specs.Batches.{RolloutGamesCall, ShowsEach, shown_count};
 
-use crate::game::handle::GameHandle;
+use crate::game::GameHandle;
 use vintsaky_calls::Cause;
 use vintsaky_calls::batches::{self, Shown};
 
@@ -20,7 +20,7 @@ pub(crate) fn play(games: &mut [GameHandle], moves: &[u32], causes: &mut [u8]) -
         return Err(Cause::NoRoom);
     }
     for place in 0..count {
-        causes[place] = batches::play(games[place].lend(), moves[place]);
+        causes[place] = batches::play(games[place].get_mut(), moves[place]);
     }
     Ok(())
 }
@@ -41,7 +41,7 @@ pub(crate) fn restart(
         return Err(Cause::NoRoom);
     }
     for place in 0..count {
-        let told = batches::restart(games[place].lend(), limit);
+        let told = batches::restart(games[place].get_mut(), limit);
         over[place] = told.over;
         half_points[place] = told.half_points;
     }
@@ -75,7 +75,7 @@ fn is_room(shown: Shown, games: &mut [GameHandle], room: usize) -> bool
 {
     let mut left = room;
     for place in 0..games.len() {
-        let count = batches::count(shown, games[place].lend());
+        let count = batches::count(shown, games[place].get_mut());
         if left < count {
             return false;
         }
@@ -93,7 +93,7 @@ fn show_each<T: Copy>(shown: Shown, games: &mut [GameHandle], zero: T, one: T, v
 {
     let mut at = 0;
     for place in 0..games.len() {
-        let game = games[place].lend();
+        let game = games[place].get_mut();
         let count = batches::count(shown, game);
         batches::show(shown, game, zero, one, &mut values[at..at + count]);
         at += count;
@@ -117,7 +117,7 @@ pub(crate) fn rollouts(
         return Err(Cause::NoRoom);
     }
     for place in 0..count {
-        half_points[place] = batches::rollout(games[place].lend(), seeds[place], limit);
+        half_points[place] = batches::rollout(games[place].get_mut(), seeds[place], limit);
     }
     Ok(())
 }

@@ -9,7 +9,7 @@ ghost use Rattle.vintsaky_calls.specs.Batches.{PlayGamesCall, RestartGamesCall, 
 ghost use Rattle.vintsaky_calls.specs.Codes.{Returns};
 ghost use Rattle.vintsaky_calls.specs.declared.batches.Shown.TheVariants.{Planes, Mask};
 
-use crate::game::handle::GameHandle;
+use crate::game::GameHandle;
 use crate::games::each;
 use vintsaky_calls::batches::Shown;
 use vintsaky_calls::code_of;

@@ -1,16 +1,37 @@
 //! The calls of a reader of command lines.
 ghost use Rattle.std.specs.Prelude.{◌≡◌};
+ghost use Rattle.std.specs.Borrow.{full_share, sem};
+ghost use Rattle.std.specs.Ptr.{lies_at, room_at};
+ghost use base.Fml.{fsep};
 ghost use Rattle.gtp_wire.specs.declared.lines.Line.TheVariants as line;
 ghost use Rattle.std.specs.Align.{type_align};
 ghost use Rattle.std.specs.Mem.{type_size};
 ghost use Rattle.vintsaky_calls.specs.contracts.lines.Lines.{the_row as lines_row};
+ghost use Rattle.vintsaky.specs.contracts.lines.LinesHandle.{the_row};
 ghost use Rattle.vintsaky_calls.specs.Codes.{Returns};
-ghost use Rattle.vintsaky_calls.specs.Lines.{FeedCall, IdCall, WordCall};
+ghost use Rattle.vintsaky_calls.specs.Lines.{fresh_lines, FeedCall, IdCall, WordCall};
 
-use crate::lines::handle::LinesHandle;
+use crate::lines::LinesHandle;
 use std::mem::{align_of, size_of};
 use vintsaky_calls::lines::Lines;
 use vintsaky_calls::{code_of, lines};
+
+/// Initialises a reader of command lines in the caller's memory, and its handle. It has received nothing.
+///
+/// # Safety
+///
+/// The memory must have the size and the alignment that the calls for these return, and must be the object's alone.
+/// Neither the memory nor the handle may move as long as the handle is used.
+#[unsafe(no_mangle)]
+pub unsafe extern "C" fn vintsaky_lines_place(out: *mut LinesHandle, at: *mut u8)
+    requires* { sem 𝓛 (fsep (room_at the_row out) (room_at lines_row at)) }
+    ensures* { sem 𝓛
+        (lies_at the_row full_share out (record { at = at; value = fresh_lines })) }
+{
+    let fresh = Lines::new();
+    (at as *mut Lines).write(fresh);
+    out.write(LinesHandle { at });
+}
 
 /// Returns the size of such a reader in bytes.
 #[unsafe(no_mangle)]
@@ -39,7 +60,7 @@ pub extern "C" fn vintsaky_lines_feed(
 ) -> u32
     ensures call { FeedCall bytes.now lines.old.value lines.new.value used.new result }
 {
-    lines::feed(lines.lend(), bytes, used)
+    lines::feed(lines.get_mut(), bytes, used)
 }
 
 /// Writes the id of the line that was read last.
@@ -52,7 +73,7 @@ pub extern "C" fn vintsaky_lines_id(lines: &mut LinesHandle, id: &mut u32) -> u3
     ensures call { Returns result (IdCall lines.old.value.line id.old id.new) }
     ensures object { lines.new.value ≡ lines.old.value }
 {
-    code_of(lines::id(lines.lend(), id))
+    code_of(lines::id(lines.get_mut(), id))
 }
 
 /// Writes a word of the line that was read last, counted from 0 after the id, and its length: at most 1,000 bytes.
@@ -71,5 +92,5 @@ pub extern "C" fn vintsaky_lines_word(
         count.old count.new) }
     ensures object { lines.new.value ≡ lines.old.value }
 {
-    code_of(lines::word(lines.lend(), number, text, count))
+    code_of(lines::word(lines.get_mut(), number, text, count))
 }

@@ -1,5 +1,8 @@
 //! The calls of a match.
 ghost use Rattle.std.specs.Prelude.{◌≡◌};
+ghost use Rattle.std.specs.Borrow.{full_share, sem};
+ghost use Rattle.std.specs.Ptr.{lies_at, room_at};
+ghost use base.Fml.{fsep};
 ghost use Rattle.gtp_match.specs.ResultLine.{record_text};
 ghost use Rattle.gtp_match.specs.Retakes.{retakes_of};
 ghost use Rattle.gtp_match.specs.Setup.{setup_of};
@@ -8,17 +11,52 @@ ghost use Rattle.std.specs.Align.{type_align};
 ghost use Rattle.std.specs.Mem.{type_size};
 ghost use Rattle.gtp_referee.specs.Ruling.{reason_of};
 ghost use Rattle.gtp_referee.specs.contracts.refereed.RefereedMatch.{the_row as match_row};
+ghost use Rattle.vintsaky.specs.contracts.matches.MatchHandle.{the_row};
+ghost use Rattle.vintsaky.specs.Fresh.{fresh_match};
 ghost use Rattle.vintsaky_calls.specs.Codes.{Returns};
 ghost use Rattle.vintsaky_calls.specs.Matches.{maybe_side_code, BeginCall, NextCall, StartedCall, SendCall, HearCall};
 ghost use Rattle.vintsaky_calls.specs.Matches.{HearReportingCall, owed_out, OwedCall, StatusCall, LostCall, InStepCall};
 ghost use Rattle.vintsaky_calls.specs.Matches.{RestartsCall, VerdictCall, ResultCall, AdjudicateCall};
 ghost use Rattle.vintsaky_calls.specs.Texts.{Writes};
 
-use crate::game::handle::GameHandle;
-use crate::matches::handle::MatchHandle;
+use crate::game::GameHandle;
+use crate::matches::MatchHandle;
+use go_base::{Komi, Size};
+use gtp_match::Setup;
 use gtp_referee::RefereedMatch;
 use std::mem::{align_of, size_of};
 use vintsaky_calls::{code_of, matches};
+
+/// Initialises a match in the caller's memory, and its handle. It has size 19, no komi, no handicap, at most 2,000
+/// moves, and no restart.
+///
+/// # Safety
+///
+/// The memory must have the size and the alignment that the calls for these return, and must be the object's alone.
+/// Neither the memory nor the handle may move as long as the handle is used.
+#[unsafe(no_mangle)]
+pub unsafe extern "C" fn vintsaky_match_place(out: *mut MatchHandle, at: *mut u8)
+    requires* { sem 𝓛 (fsep (room_at the_row out) (room_at match_row at)) }
+    ensures* { sem 𝓛
+        (lies_at the_row full_share out (record { at = at; value = fresh_match })) }
+{
+    let fresh = fresh_match();
+    (at as *mut RefereedMatch).write(fresh);
+    out.write(MatchHandle { at });
+}
+
+/// A match of size 19 without komi, handicap or restarts.
+fn fresh_match() -> RefereedMatch
+    ensures { result ≡ fresh_match }
+{
+    let (Some(size), Some(komi)) = (Size::new(19), Komi::from_half_points(0)) else {
+        unreachable!()
+    };
+    match Setup::new(size, komi, 0, 2000, 0) {
+        Ok(setup) => RefereedMatch::new(setup),
+        Err(_) => unreachable!(),
+    }
+}
 
 /// Returns the size of a match in bytes.
 #[unsafe(no_mangle)]
@@ -55,7 +93,7 @@ pub extern "C" fn vintsaky_match_begin(
         (setup_of size half_komi handicap max_moves max_restarts) held.old.value held.new.value) }
 {
     code_of(matches::begin(
-        held.lend(),
+        held.get_mut(),
         size,
         half_komi,
         handicap,
@@ -71,7 +109,7 @@ pub extern "C" fn vintsaky_match_next(held: &mut MatchHandle, side: &mut u32) ->
     ensures call { NextCall held.old.value result side.new }
     ensures object { held.new.value ≡ held.old.value }
 {
-    matches::next(held.lend(), side)
+    matches::next(held.get_mut(), side)
 }
 
 /// Reports that a side was started. If it can't be started, call this all the same, and then [`vintsaky_match_lost`].
@@ -83,7 +121,7 @@ pub extern "C" fn vintsaky_match_next(held: &mut MatchHandle, side: &mut u32) ->
 pub extern "C" fn vintsaky_match_started(held: &mut MatchHandle, side: u32) -> u32
     ensures call { Returns result (StartedCall side held.old.value held.new.value) }
 {
-    code_of(matches::started(held.lend(), side))
+    code_of(matches::started(held.get_mut(), side))
 }
 
 /// Writes the next command for a side, and its length. It counts as sent.
@@ -102,7 +140,7 @@ pub extern "C" fn vintsaky_match_send(
     ensures call { Returns result (SendCall side held.old.value held.new.value text.old text.new
         count.old count.new) }
 {
-    code_of(matches::send(held.lend(), side, text, count))
+    code_of(matches::send(held.get_mut(), side, text, count))
 }
 
 /// Takes a side's output, in any chunks. Writes why the side fails by it, or 0. The output of a side that is down is
@@ -121,7 +159,7 @@ pub extern "C" fn vintsaky_match_hear(
     ensures call { Returns result (HearCall side bytes.now held.old.value held.new.value
         loss.old loss.new) }
 {
-    code_of(matches::hear(held.lend(), side, bytes, loss))
+    code_of(matches::hear(held.get_mut(), side, bytes, loss))
 }
 
 /// Takes a side's output as [`vintsaky_match_hear`] does, and writes more about it. If the side refused a play that is
@@ -153,7 +191,7 @@ pub extern "C" fn vintsaky_match_hear_reporting(
         (owed_out unanswered.new command.new command_count.new wrote.new wrote_count.new)) }
 {
     code_of(matches::hear_reporting(
-        held.lend(),
+        held.get_mut(),
         side,
         bytes,
         loss,
@@ -189,7 +227,7 @@ pub extern "C" fn vintsaky_match_owed(
     ensures object { held.new.value ≡ held.old.value }
 {
     code_of(matches::owed(
-        held.lend(),
+        held.get_mut(),
         side,
         unanswered,
         command,
@@ -218,7 +256,7 @@ pub extern "C" fn vintsaky_match_status(
         unanswered.old unanswered.new asked.old asked.new) }
     ensures object { held.new.value ≡ held.old.value }
 {
-    code_of(matches::status(held.lend(), side, confirmed, unanswered, asked))
+    code_of(matches::status(held.get_mut(), side, confirmed, unanswered, asked))
 }
 
 /// Reports that a side is gone: its output has ended, a read or a write failed, or it couldn't be started. After a
@@ -231,7 +269,7 @@ pub extern "C" fn vintsaky_match_status(
 pub extern "C" fn vintsaky_match_lost(held: &mut MatchHandle, side: u32) -> u32
     ensures call { Returns result (LostCall side held.old.value held.new.value) }
 {
-    code_of(matches::lost(held.lend(), side))
+    code_of(matches::lost(held.get_mut(), side))
 }
 
 /// Writes 1 if a side is in step: it is up, owes no answer, and has confirmed its whole script, as
@@ -245,7 +283,7 @@ pub extern "C" fn vintsaky_match_in_step(held: &mut MatchHandle, side: u32, hold
     ensures call { Returns result (InStepCall held.old.value side holds.old holds.new) }
     ensures object { held.new.value ≡ held.old.value }
 {
-    code_of(matches::in_step(held.lend(), side, holds))
+    code_of(matches::in_step(held.get_mut(), side, holds))
 }
 
 /// Writes how often a side was restarted.
@@ -262,7 +300,7 @@ pub extern "C" fn vintsaky_match_restarts(
     ensures call { Returns result (RestartsCall held.old.value side restarts.old restarts.new) }
     ensures object { held.new.value ≡ held.old.value }
 {
-    code_of(matches::restarts(held.lend(), side, restarts))
+    code_of(matches::restarts(held.get_mut(), side, restarts))
 }
 
 /// Returns how often the move of this number, counted from 1, was retaken because it was refused: at most 3, and 0 for
@@ -272,7 +310,7 @@ pub extern "C" fn vintsaky_match_retakes(held: &mut MatchHandle, number: u32) ->
     ensures call { result ≡ retakes_of held.old.value.controller.retakes number }
     ensures object { held.new.value ≡ held.old.value }
 {
-    matches::retakes(held.lend(), number)
+    matches::retakes(held.get_mut(), number)
 }
 
 /// Returns the side whose last move is to be undone because the other side refused it, or 0.
@@ -281,7 +319,7 @@ pub extern "C" fn vintsaky_match_taking_back(held: &mut MatchHandle) -> u32
     ensures call { result ≡ maybe_side_code (taking_back held.old.value.controller) }
     ensures object { held.new.value ≡ held.old.value }
 {
-    matches::taking_back(held.lend())
+    matches::taking_back(held.get_mut())
 }
 
 /// Writes how the match ended, the side concerned (or 0), and the score in half points (positive: Black leads; or 0).
@@ -301,7 +339,7 @@ pub extern "C" fn vintsaky_match_verdict(
         side.old side.new half_points.old half_points.new) }
     ensures object { held.new.value ≡ held.old.value }
 {
-    code_of(matches::verdict(held.lend(), ending, side, half_points))
+    code_of(matches::verdict(held.get_mut(), ending, side, half_points))
 }
 
 /// Copies the match's game into another one.
@@ -310,7 +348,7 @@ pub extern "C" fn vintsaky_match_copy_game(held: &mut MatchHandle, game: &mut Ga
     ensures call { game.new.value ≡ held.old.value.controller.game }
     ensures object { held.new.value ≡ held.old.value }
 {
-    matches::copy_game(held.lend(), game.lend())
+    matches::copy_game(held.get_mut(), game.get_mut())
 }
 
 /// Writes the result line of a match that is over, without its newline, and its length. `number` is the number of the
@@ -330,7 +368,7 @@ pub extern "C" fn vintsaky_match_result(
         count.old count.new) }
     ensures object { held.new.value ≡ held.old.value }
 {
-    code_of(matches::result(held.lend(), number, text, count))
+    code_of(matches::result(held.get_mut(), number, text, count))
 }
 
 /// Writes the moves of a match as `twogtp --record` prints them, without the newline, and returns their length.
@@ -339,7 +377,7 @@ pub extern "C" fn vintsaky_match_record(held: &mut MatchHandle, text: &mut [u8])
     ensures call { Writes (record_text held.old.value.controller.game) text.old text.new result }
     ensures object { held.new.value ≡ held.old.value }
 {
-    matches::record(held.lend(), text)
+    matches::record(held.get_mut(), text)
 }
 
 /// Ends a match that isn't over: the side loses. An empty reason means that it loses on time. Otherwise the reason has
@@ -353,7 +391,7 @@ pub extern "C" fn vintsaky_match_record(held: &mut MatchHandle, text: &mut [u8])
 pub extern "C" fn vintsaky_match_adjudicate(held: &mut MatchHandle, side: u32, reason: &[u8]) -> u32
     ensures call { Returns result (AdjudicateCall side reason.now held.old.value held.new.value) }
 {
-    code_of(matches::adjudicate(held.lend(), side, reason))
+    code_of(matches::adjudicate(held.get_mut(), side, reason))
 }
 
 /// Writes the reason of the ruling that ended a match, and returns its length: 0 if the side lost on time, or if there
@@ -363,5 +401,5 @@ pub extern "C" fn vintsaky_match_reason(held: &mut MatchHandle, text: &mut [u8])
     ensures call { Writes (reason_of held.old.value.ruled) text.old text.new result }
     ensures object { held.new.value ≡ held.old.value }
 {
-    matches::reason(held.lend(), text)
+    matches::reason(held.get_mut(), text)
 }

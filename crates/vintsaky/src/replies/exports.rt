@@ -1,16 +1,37 @@
 //! The calls of a reader of replies.
 ghost use Rattle.std.specs.Prelude.{◌≡◌};
+ghost use Rattle.std.specs.Borrow.{full_share, sem};
+ghost use Rattle.std.specs.Ptr.{lies_at, room_at};
+ghost use base.Fml.{fsep};
 ghost use Rattle.std.specs.Align.{type_align};
 ghost use Rattle.std.specs.Mem.{type_size};
 ghost use Rattle.vintsaky_calls.specs.contracts.replies.Replies.{the_row as replies_row};
+ghost use Rattle.vintsaky.specs.contracts.replies.RepliesHandle.{the_row};
 ghost use Rattle.vintsaky_calls.specs.Codes.{Returns};
-ghost use Rattle.vintsaky_calls.specs.Replies.{FeedCall, IdCall};
+ghost use Rattle.vintsaky_calls.specs.Replies.{fresh_replies, FeedCall, IdCall};
 ghost use Rattle.vintsaky_calls.specs.Texts.{Writes};
 
-use crate::replies::handle::RepliesHandle;
+use crate::replies::RepliesHandle;
 use std::mem::{align_of, size_of};
 use vintsaky_calls::replies::Replies;
 use vintsaky_calls::{code_of, replies};
+
+/// Initialises a reader of replies in the caller's memory, and its handle. It has received nothing.
+///
+/// # Safety
+///
+/// The memory must have the size and the alignment that the calls for these return, and must be the object's alone.
+/// Neither the memory nor the handle may move as long as the handle is used.
+#[unsafe(no_mangle)]
+pub unsafe extern "C" fn vintsaky_replies_place(out: *mut RepliesHandle, at: *mut u8)
+    requires* { sem 𝓛 (fsep (room_at the_row out) (room_at replies_row at)) }
+    ensures* { sem 𝓛
+        (lies_at the_row full_share out (record { at = at; value = fresh_replies })) }
+{
+    let fresh = Replies::new();
+    (at as *mut Replies).write(fresh);
+    out.write(RepliesHandle { at });
+}
 
 /// Returns the size of such a reader in bytes.
 #[unsafe(no_mangle)]
@@ -40,7 +61,7 @@ pub extern "C" fn vintsaky_replies_feed(
 ) -> u32
     ensures call { FeedCall bytes.now replies.old.value replies.new.value used.new result }
 {
-    replies::feed(replies.lend(), bytes, used)
+    replies::feed(replies.get_mut(), bytes, used)
 }
 
 /// Returns whether the reply that was read last is a success: false before the first reply.
@@ -49,7 +70,7 @@ pub extern "C" fn vintsaky_replies_ok(replies: &mut RepliesHandle) -> bool
     ensures call { result ≡ replies.old.value.reply.ok }
     ensures object { replies.new.value ≡ replies.old.value }
 {
-    replies::ok(replies.lend())
+    replies::ok(replies.get_mut())
 }
 
 /// Writes the id of the reply that was read last.
@@ -62,7 +83,7 @@ pub extern "C" fn vintsaky_replies_id(replies: &mut RepliesHandle, id: &mut u32)
     ensures call { Returns result (IdCall replies.old.value.reply id.old id.new) }
     ensures object { replies.new.value ≡ replies.old.value }
 {
-    code_of(replies::id(replies.lend(), id))
+    code_of(replies::id(replies.get_mut(), id))
 }
 
 /// Writes the text of the reply that was read last, and returns its length: 0 before the first reply, and at most
@@ -72,5 +93,5 @@ pub extern "C" fn vintsaky_replies_text(replies: &mut RepliesHandle, text: &mut 
     ensures call { Writes replies.old.value.reply.text.items text.old text.new result }
     ensures object { replies.new.value ≡ replies.old.value }
 {
-    replies::text(replies.lend(), text)
+    replies::text(replies.get_mut(), text)
 }

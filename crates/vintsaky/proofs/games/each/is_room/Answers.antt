@@ -10,16 +10,17 @@ loop-place-preserved c =
     let place = c.loop-place.place in
     let handles = c.loop-place.games in
     let games = games_of c.args.games.now in
-    let game = c.lend.result.now in
+    let game = c.get_mut.result.now in
     let below : place < length handles = omega (arith, c.loop-place.auto.games) in
     let is =
     read_game handles games place c.index-games-place.result game below c.loop-place.invariant.1
-    c.lend.ensures.value in
+    c.get_mut.ensures.value in
     let sum =
     sum_more (shown_count c.args.shown) games place game
     (in_games handles games place below c.loop-place.invariant.1) is in (
       same_places c.loop-place.games _ place c.index-games-place.result _ below c.loop-place.invariant.0 refl,
-      same_games handles games place c.index-games-place.result _ below c.loop-place.invariant.1 c.lend.ensures.value,
+      same_games handles games place c.index-games-place.result _ below c.loop-place.invariant.1
+          c.get_mut.ensures.value,
       omega (arith, sum, c.count-count.ensures, c.loop-place.invariant.2),
     )
 
@@ -28,11 +29,11 @@ returns-then-left-count-clause-enough c =
     let place = c.loop-place.place in
     let handles = c.loop-place.games in
     let games = games_of c.args.games.now in
-    let game = c.lend.result.now in
+    let game = c.get_mut.result.now in
     let below : place < length handles = omega (arith, c.loop-place.auto.games) in
     let is =
     read_game handles games place c.index-games-place.result game below c.loop-place.invariant.1
-    c.lend.ensures.value in
+    c.get_mut.ensures.value in
     let fits =
     sum_fits (shown_count c.args.shown) games place game
     (in_games handles games place below c.loop-place.invariant.1) is in (
@@ -43,7 +44,7 @@ returns-then-left-count-clause-enough c =
 pub returns-then-left-count-clause-objects : goal.returns-then-left-count-clause-objects
 returns-then-left-count-clause-objects c =
     same_games c.loop-place.games _ c.loop-place.place c.index-games-place.result _
-    (omega (arith, c.loop-place.auto.games)) c.loop-place.invariant.1 c.lend.ensures.value
+    (omega (arith, c.loop-place.auto.games)) c.loop-place.invariant.1 c.get_mut.ensures.value
 
 pub returns-then-left-count-clause-handles : goal.returns-then-left-count-clause-handles
 returns-then-left-count-clause-handles c =

@@ -12,7 +12,7 @@ pub loop-place-preserved : goal.loop-place-preserved
 loop-place-preserved c =
     let place = c.loop-place.place in
     let games = c.loop-place.games in
-    let before = c.lend.result.now in
+    let before = c.get_mut.result.now in
     let number = get_or c.args.moves.now place 0 in
     let many = length-map c.args.games.now (λ h. h.value) in
     let below : place < length games = omega (arith, c.loop-place.auto.games) in (
@@ -20,7 +20,8 @@ loop-place-preserved c =
       done_more c.loop-place.invariant.1 _ c.args.moves.now _ before number c.play.new.game c.play.result
           (map-set (λ h. h.value) games place _) (sym (set-get_or c.args.moves.now place 0)) refl
           (omega (arith, many)) (omega arith) (omega arith)
-          (c.lend.ensures.value ∙ sym (get_or-map (λ h. h.value) games place c.index-games-place.result before below))
+          (c.get_mut.ensures.value
+          ∙ sym (get_or-map (λ h. h.value) games place c.index-games-place.result before below))
           c.play.ensures,
     )
 

@@ -15,7 +15,7 @@ pub loop-place-preserved : goal.loop-place-preserved
 loop-place-preserved c =
     let place = c.loop-place.place in
     let games = c.loop-place.games in
-    let before = c.lend.result.now in
+    let before = c.get_mut.result.now in
     let told = c.restart-told.result in
     let many = length-map c.args.games.now (λ h. h.value) in
     let below : place < length games = omega (arith, c.loop-place.auto.games) in
@@ -24,7 +24,8 @@ loop-place-preserved c =
       same_places games _ place c.index-games-place.result _ below c.loop-place.invariant.0 refl,
       done_more c.loop-place.invariant.1 _ _ _ before told.over c.restart-told.new.game told.half_points
           (map-set (λ h. h.value) games place _) refl score (omega (arith, many)) (omega arith) (omega arith)
-          (c.lend.ensures.value ∙ sym (get_or-map (λ h. h.value) games place c.index-games-place.result before below))
+          (c.get_mut.ensures.value
+          ∙ sym (get_or-map (λ h. h.value) games place c.index-games-place.result before below))
           c.restart-told.ensures,
     )
 

@@ -15,19 +15,19 @@ pub loop-place-preserved : goal.loop-place-preserved
 loop-place-preserved c =
     let place = c.loop-place.place in
     let games = games_of c.args.games.now in
-    let game = c.lend.result.now in
+    let game = c.get_mut.result.now in
     let seed = get_or c.args.seeds.now place 0 in
     let many = length-map c.args.games.now (λ h. h.value) in
     let below : place < length c.loop-place.games = omega (arith, c.loop-place.auto.games) in
     let is =
     read_game c.loop-place.games games place c.index-games-place.result game below c.loop-place.invariant.1
-    c.lend.ensures.value in
+    c.get_mut.ensures.value in
     let stays : games ≡ set games place game = sym (ap (set games place) is ∙ set-get_or games place game) in
     let fits : SFits w32 c.rollout.result = search rules in
     let score = ap (set c.loop-place.half_points place) (to_z-of_z w32 c.rollout.result fits) in (
       same_places c.loop-place.games _ place c.index-games-place.result _ below c.loop-place.invariant.0 refl,
       same_games c.loop-place.games games place c.index-games-place.result _ below c.loop-place.invariant.1
-          c.lend.ensures.value,
+          c.get_mut.ensures.value,
       done_more c.loop-place.invariant.2 games c.args.seeds.now _ game seed game c.rollout.result stays
           (sym (set-get_or c.args.seeds.now place 0)) score (omega (arith, many)) (omega arith) (omega arith) is
           (refl, c.rollout.ensures),

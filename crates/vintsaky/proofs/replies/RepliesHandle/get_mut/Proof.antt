@@ -1,0 +1,15 @@
+-- `get_mut` meets its contract: a reader of replies is borrowed.
+use Rattle.vintsaky_calls.specs.contracts.replies.Replies.{the_row}
+use Rattle.vintsaky.specs.declared.replies.RepliesHandle.{RepliesHandle}
+use Rattle.vintsaky.specs.contracts.replies.RepliesHandle.{the_type, the_codes}
+use Rattle.vintsaky.specs.contracts.replies.RepliesHandle.get_mut as f
+use Rattle.vintsaky.proofs.Handles.{borrows}
+use Rattle.vintsaky.proofs.Steps.{refl}
+use Rattle.vintsaky.proofs.replies.RepliesHandle.get_mut.Code as code
+use Rattle.vintsaky.proofs.replies.RepliesHandle.get_mut.Statement.{statement}
+
+pub get_mut_spec : {M : Type 1} → statement M
+get_mut_spec 𝓤 𝓛 𝓜 𝓡 wired =
+    borrows the_type.name the_row _ RepliesHandle (λ h. h.at) (λ h. h.value) (λ p v. record { at = p; value = v })
+    (λ d. refl) (λ p v. refl) (λ p v. refl) (λ v g. refl) the_codes 𝓤 𝓛 𝓜 𝓡 f.Key.name _ _ _
+    (code.unfolded 𝓤 𝓛.H 𝓜 𝓡 wired)
