@@ -70,8 +70,8 @@ plane_of zero one game c of stones shown values are same_colour same are_marks =
 -- a mark's value
 pub bool_is_mark : {A : Type 0} (zero one : A) (Holds : Type 0) (mark : Bool) → IsTrue mark ↔ Holds
     → IsMark zero one Holds (bool_mark zero one mark)
-bool_is_mark zero one Holds true told = record { yes = λ h. refl; no = λ not. absurd (not (told.0 refl)) }
-bool_is_mark zero one Holds false told = record { yes = λ h. absurd (false≢true (told.1 h)); no = λ not. refl }
+bool_is_mark zero one Holds true are = record { yes = λ h. refl; no = λ not. absurd (not (are.0 refl)) }
+bool_is_mark zero one Holds false are = record { yes = λ h. absurd (false≢true (are.1 h)); no = λ not. refl }
 
 -- the points of a mask are there, where the marks of the legal points are
 pub mask_of : {A : Type 0} (zero one : A) (game : GameRecord) (c : Colour) (marks shown : List Bool) (values : List A)
@@ -80,7 +80,7 @@ pub mask_of : {A : Type 0} (zero one : A) (game : GameRecord) (c : Colour) (mark
 mask_of zero one game c marks shown values are same are_marks =
     subst (λ l. IsTable (λ p. IsMark zero one (IsLegal game c (At p))) game.size l)
     (sym (are_marks ∙ ap (λ l. map (bool_mark zero one) l) same))
-    (table_map (bool_mark zero one) are (λ p mark told. bool_is_mark zero one _ mark told))
+    (table_map (bool_mark zero one) are (λ p mark is. bool_is_mark zero one _ mark is))
 
 -- the last value is written
 pub put_last : {A : Type 0} (front rest : List A) (place : ℕ) (x : A) → length front ≡ place → length rest ≡ 1

@@ -71,10 +71,10 @@ pub record TellsOver (game : GameRecord) (limit over : ℕ) : Type 0 where
   pub limited : ¬ IsFinished game → (limit ≤ length game.moves) ⊎ ¬ HasRoom game → over ≡ 2
   pub goes_on : ¬ IsFinished game → length game.moves < limit → HasRoom game → over ≡ 0
 
--- Whether a game is over is told. A game that is over is scored, and then loses its moves. One that goes on stays as it
+-- It is reported whether a game is over. A game that is over is scored, and then loses its moves. Any other stays as it
 -- was, and 0 represents its score.
 pub record Restarts (limit : ℕ) (old : GameRecord) (over : ℕ) (new : GameRecord) (half_points : ℤ) : Type 0 where
-  pub told : TellsOver old limit over
+  pub reported : TellsOver old limit over
   pub scored : over ≢ 0 → half_points ≡ score old
   pub restarted : over ≢ 0 → new ≡ record old { moves = [] }
   pub no_score : over ≡ 0 → half_points ≡ pos 0

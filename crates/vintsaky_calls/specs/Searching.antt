@@ -83,10 +83,10 @@ pub record TellsOwnEye (game : GameRecord) (colour vertex number : ℕ) : Type 0
   pub holds : Bool
   pub colour_is : colour ≡ colour_code c
   pub on : IsPointOn game vertex point
-  pub told : IsTrue holds ↔ IsOwnEye (board_of game) c point
+  pub holds_is : IsTrue holds ↔ IsOwnEye (board_of game) c point
   pub number_is : number ≡ bool_code holds
 
--- why it isn't told
+-- why the call is rejected
 abbrev pub RefusesOwnEye : GameRecord → ℕ → ℕ → Cause → Type 0
 RefusesOwnEye game colour vertex cause.BadColour = NoColour colour
 RefusesOwnEye game colour vertex cause.BadVertex =
@@ -95,9 +95,9 @@ RefusesOwnEye game colour vertex cause.OffBoard =
     ((c : Colour) × (colour ≡ colour_code c)) × RefusesPointCode game vertex cause.OffBoard
 RefusesOwnEye game colour vertex _ = ⊥
 
--- It is told whether a point is an own eye of a colour; or nothing is written, for a cause.
+-- Whether a point is an own eye of a colour is written; or nothing is, for a cause.
 pub record IsOwnEyeCall (game : GameRecord) (colour vertex old new : ℕ) (made : CallResult) : Type 0 where
-  pub told : OnOk made (TellsOwnEye game colour vertex new)
+  pub written : OnOk made (TellsOwnEye game colour vertex new)
   pub kept : OnErr made (new ≡ old)
   pub why : IfErr made (RefusesOwnEye game colour vertex)
 

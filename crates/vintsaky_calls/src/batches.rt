@@ -23,7 +23,7 @@ pub enum Shown {
 
 /// What is reported of a game that may be over.
 #[derive(Clone, Copy, Drop)]
-pub struct Told {
+pub struct Outcome {
     /// Whether it is over, and how.
     pub over: u8,
     /// Its score, if it is over.
@@ -65,19 +65,19 @@ fn vertex_of_move(game: &Game, number: u32) -> Result<Vertex, Cause>
 // ---- games that are over
 
 /// Restarts a game that is over. Returns what is reported of it before.
-pub fn restart(game: &mut Game, limit: u32) -> Told
+pub fn restart(game: &mut Game, limit: u32) -> Outcome
     ensures { Restarts limit game.old result.over game.new result.half_points }
 {
     let over = over_of(game, limit);
     if over == 0 {
-        return Told {
+        return Outcome {
             over,
             half_points: 0,
         };
     }
     let half_points = game.score();
     begin_anew(game);
-    Told { over, half_points }
+    Outcome { over, half_points }
 }
 
 /// Whether a game is over: 1 after two passes, 2 if it has at least this many moves or is full, else 0.

@@ -41,9 +41,9 @@ pub(crate) fn restart(
         return Err(Cause::NoRoom);
     }
     for place in 0..count {
-        let told = batches::restart(games[place].get_mut(), limit);
-        over[place] = told.over;
-        half_points[place] = told.half_points;
+        let outcome = batches::restart(games[place].get_mut(), limit);
+        over[place] = outcome.over;
+        half_points[place] = outcome.half_points;
     }
     Ok(())
 }

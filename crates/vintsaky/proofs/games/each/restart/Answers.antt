@@ -16,17 +16,17 @@ loop-place-preserved c =
     let place = c.loop-place.place in
     let games = c.loop-place.games in
     let before = c.get_mut.result.now in
-    let told = c.restart-told.result in
+    let outcome = c.restart-outcome.result in
     let many = length-map c.args.games.now (λ h. h.value) in
     let below : place < length games = omega (arith, c.loop-place.auto.games) in
-    let fits : SFits w32 told.half_points = search rules in
-    let score = ap (set c.loop-place.half_points place) (to_z-of_z w32 told.half_points fits) in (
+    let fits : SFits w32 outcome.half_points = search rules in
+    let score = ap (set c.loop-place.half_points place) (to_z-of_z w32 outcome.half_points fits) in (
       same_places games _ place c.index-games-place.result _ below c.loop-place.invariant.0 refl,
-      done_more c.loop-place.invariant.1 _ _ _ before told.over c.restart-told.new.game told.half_points
+      done_more c.loop-place.invariant.1 _ _ _ before outcome.over c.restart-outcome.new.game outcome.half_points
           (map-set (λ h. h.value) games place _) refl score (omega (arith, many)) (omega arith) (omega arith)
           (c.get_mut.ensures.value
           ∙ sym (get_or-map (λ h. h.value) games place c.index-games-place.result before below))
-          c.restart-told.ensures,
+          c.restart-outcome.ensures,
     )
 
 pub returns : goal.returns
