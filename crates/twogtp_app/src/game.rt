@@ -1,10 +1,9 @@
 //! A game between two processes.
 ghost use Rattle.std.specs.Prelude.{◌≡◌, None, IfOk, OnErr};
 ghost use Rattle.gtp_match.specs.declared.verdicts.Action.TheVariants as action;
-ghost use Rattle.gtp_match.specs.Controller.{new};
 ghost use Rattle.gtp_match.specs.Next.{next};
 ghost use Rattle.twogtp_app.specs.Games.{GameEnds, known_of, run_of, run_state};
-ghost use Rattle.twogtp_app.specs.Processes.{AreEnded, OtherStays, no_processes};
+ghost use Rattle.twogtp_app.specs.Processes.{AreEnded, OtherStays};
 ghost use Rattle.twogtp_app.specs.Turns.{Begins, IsRefused, TurnsEnd, engines_of, reporting, stage, state};
 ghost use Rattle.twogtp_app.specs.Why.{ReportCanBeShown};
 ghost use Rattle.twogtp_app.specs.private.Steps.{IsStep};
@@ -18,7 +17,7 @@ use crate::why_writing::write_turn;
 use byte_streams::WriteOnce;
 use cli::failure::Failure;
 use go_base::Side;
-use gtp_match::{Action, Match, Setup, Verdict};
+use gtp_match::{Action, Match, Verdict};
 use gtp_process::{READ_ROOM, StartFault, Starter, Unstarted, end};
 use std::alloc::AllocError;
 
@@ -63,7 +62,11 @@ pub fn play_game<O: WriteOnce, E: WriteOnce, S: Starter>(
         GameEnds run number (run_state output.old errors.old (S.asked starter.old))
         (run_state output.new errors.new (S.asked starter.new)) result }
 {
-    let mut played = GameInPlay::new(plan.task.setup);
+    let mut played = GameInPlay {
+        game: Match::new(plan.task.setup),
+        processes: Processes::none(),
+        buffer: [0u8; READ_ROOM],
+    };
     match played.take_turns(plan, number, errors, starter) {
         Ok(verdict) => {
             let written = played.write(&plan.task, number, verdict, output)?;
@@ -77,18 +80,6 @@ pub fn play_game<O: WriteOnce, E: WriteOnce, S: Starter>(
 }
 
 impl<S: Starter> GameInPlay<S> {
-    /// A new match of this setup, without processes.
-    fn new(setup: Setup) -> Self
-        ensures game { result.game ≡ new setup }
-        ensures processes { result.processes ≡ no_processes }
-    {
-        GameInPlay {
-            game: Match::new(setup),
-            processes: Processes::none(),
-            buffer: [0u8; READ_ROOM],
-        }
-    }
-
     /// Takes turns until the match is over, and returns its verdict. With `--why` the lines about a turn are written
     /// right after it, under the game's number.
     fn take_turns<E: WriteOnce>(

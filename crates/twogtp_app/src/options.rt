@@ -1,9 +1,8 @@
 //! The command-line options.
-ghost use Rattle.std.specs.Prelude.{◌≡◌, ◌⊎◌, codes, map, IfOk, IfErr};
+ghost use Rattle.std.specs.Prelude.{◌≡◌, ◌⊎◌, map, IfOk, IfErr};
 ghost use Rattle.clap.specs.Walk.{rows_of};
 ghost use Rattle.clap.specs.Words.{app_of, found_of, kind_of};
 ghost use Rattle.clap.specs.declared.error.kind.ErrorKind.TheVariants.{OutOfMemory};
-ghost use Rattle.cli.specs.Options.{program};
 ghost use Rattle.twogtp_app.specs.Options.{Ask, AsksFor, HasFault, command_line};
 
 use crate::task::Details;
@@ -163,16 +162,10 @@ fn options_of<'a>(matches: &ArgMatches<'a>) -> Options<'a>
 fn command<'a>(alloc: Global) -> Result<Command<'a>, AllocError>
     ensures { IfOk result (λ command. app_of command ≡ command_line) }
 {
-    with_options(alloc, program(alloc)?, OPTIONS.as_slice())
-}
-
-/// The command line without options.
-fn program<'a>(alloc: Global) -> Result<Command<'a>, AllocError>
-    ensures { IfOk result (λ command. app_of command ≡ program (codes "twogtp")) }
-{
-    Command::new(alloc, "twogtp")
+    let program = Command::new(alloc, "twogtp")
         .version(VERSION)
         .about("Plays two engines of the Go Text Protocol, version 2, against each other")
         .after_help(AFTER_OPTIONS)
-        .bin_name("twogtp")
+        .bin_name("twogtp")?;
+    with_options(alloc, program, OPTIONS.as_slice())
 }
