@@ -1,12 +1,11 @@
 //! The command-line options.
 ghost use Rattle.std.specs.Prelude.{◌≡◌, ◌⊎◌, map, IfOk, IfErr};
-ghost use Rattle.clap.specs.Walk.{rows_of};
-ghost use Rattle.clap.specs.Words.{app_of, found_of, kind_of};
+ghost use Rattle.clap.specs.Words.{app_of, kind_of};
 ghost use Rattle.clap.specs.declared.error.kind.ErrorKind.TheVariants.{OutOfMemory};
-ghost use Rattle.twogtp_app.specs.Options.{Ask, AsksFor, HasFault, command_line};
+ghost use Rattle.twogtp_app.specs.Options.{AsksFor, HasFault, command_line};
 
 use crate::task::Details;
-use clap::{ArgMatches, Command, Error};
+use clap::{Command, Error};
 use cli::VERSION;
 use cli::options::{OptionRow, Takes, flag_at, number_at, text_at, with_options};
 use std::alloc::{AllocError, Global};
@@ -134,28 +133,22 @@ pub fn read_options<'a, S: AsStr>(alloc: Global, words: &'a [S]) -> Result<Optio
         ⊎ HasFault (map S.text words.entry.now) (kind_of error)) }
 {
     let matches = command(alloc)?.try_get_matches_from(words)?;
-    Ok(options_of(&matches))
-}
-
-/// The values of the options. Each has a default except the commands, which are required.
-fn options_of<'a>(matches: &ArgMatches<'a>) -> Options<'a>
-    ensures { Ask (rows_of (found_of matches.now)) result }
-{
-    Options {
-        black: text_at(matches, "black"),
-        white: text_at(matches, "white"),
-        size: number_at(matches, "size"),
-        komi: text_at(matches, "komi"),
-        handicap: number_at(matches, "handicap"),
-        games: number_at(matches, "games"),
-        max_moves: number_at(matches, "max-moves"),
-        restarts: number_at(matches, "restarts"),
+    // Each option has a default except the commands, which are required.
+    Ok(Options {
+        black: text_at(&matches, "black"),
+        white: text_at(&matches, "white"),
+        size: number_at(&matches, "size"),
+        komi: text_at(&matches, "komi"),
+        handicap: number_at(&matches, "handicap"),
+        games: number_at(&matches, "games"),
+        max_moves: number_at(&matches, "max-moves"),
+        restarts: number_at(&matches, "restarts"),
         details: Details {
-            record: flag_at(matches, "record"),
-            show: flag_at(matches, "show"),
-            why: flag_at(matches, "why"),
+            record: flag_at(&matches, "record"),
+            show: flag_at(&matches, "show"),
+            why: flag_at(&matches, "why"),
         },
-    }
+    })
 }
 
 /// The command line, with its help and its version.

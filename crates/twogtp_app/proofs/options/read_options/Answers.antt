@@ -1,8 +1,8 @@
-use Rattle.std.proofs.Common.{◌≡◌, ◌∙◌, ap, subst, sym, List, map}
+use Rattle.std.proofs.Common.{◌≡◌, ◌∙◌, ap, rules, subst, sym, map}
 use Rattle.std.proofs.lemmas.Result.{err_from_is_err_and}
 use Rattle.clap.specs.Kinds.{HasKind}
-use Rattle.clap.specs.Words.{App, Row, fault_of, found_of, is_simple, is_simple_and_free, matches_of, rows_of}
-use Rattle.twogtp_app.specs.Options.{Ask, command_line}
+use Rattle.clap.specs.Words.{App, fault_of, found_of, is_simple, is_simple_and_free, matches_of, rows_of}
+use Rattle.twogtp_app.specs.Options.{command_line}
 use Rattle.twogtp_app.proofs.command_line.Matches.{is_simple-command_line, is_simple_and_free-command_line}
 use Rattle.twogtp_app.proofs.options.read_options.Goals as goal
 
@@ -16,7 +16,7 @@ returns-clause-asked g c =
     record {
       no_fault = sym (ap (λ app. fault_of app words) line)
           ∙ c.in_ok-matches.ensures.kinds (ap is_simple_and_free line ∙ is_simple_and_free-command_line);
-      asked = subst (λ (r : List Row). Ask r c.options_of.result) rows c.options_of.ensures;
+      asked = rw (sym rows) (search rules);
     }
 
 pub returns-in_err-matches-clause-fault : goal.returns-in_err-matches-clause-fault
