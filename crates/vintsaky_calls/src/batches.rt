@@ -1,6 +1,5 @@
 //! What the calls over many games do to each game.
 ghost use Rattle.std.specs.Prelude.{◌≡◌, ℕ, ◌+◌, ◌*◌, ◌<◌, [], length, map, replicate, IsTrue, IfOk, IfErr};
-ghost use Rattle.go_board.specs.Game.{without_last};
 ghost use Rattle.vintsaky_calls.specs.Batches.{PlayNumberCall, PlaysNumber, IsMoveNumber, TellsOver, Restarts};
 ghost use Rattle.vintsaky_calls.specs.Batches.{IsShown, ScoresInTurn, shown_count, ArePlanes, ArePlanesOf, AreStonePlanes, IsMask};
 ghost use Rattle.vintsaky_calls.specs.private.Marks.{stone_mark, bool_mark};
@@ -164,15 +163,9 @@ fn put_earlier_planes<T: Copy>(
     for ago in 0..1 + earlier as usize {
         let planes = &mut values[ago * count..ago * count + count];
         put_board(&before, ago <= moves, colour, zero, one, planes);
-        take_back(&mut before);
+        // Where there is no move left, none is undone.
+        let _ = before.undo();
     }
-}
-
-/// Undoes the last move, if there is one.
-fn take_back(game: &mut Game)
-    ensures { game.new ≡ without_last game.old }
-{
-    let _ = game.undo();
 }
 
 /// Writes the planes of a board, or empty ones if there is no such board.

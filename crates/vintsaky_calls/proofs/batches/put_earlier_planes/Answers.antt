@@ -1,4 +1,5 @@
 use Rattle.std.proofs.Common.{◌≡◌, ℕ, ◌*◌, ◌+◌, ◌≤◌, length, take, sym, ap, ◌∙◌, subst, arith}
+use Rattle.std.proofs.lemmas.Grind.{common_steps}
 use Rattle.std.proofs.lemmas.List.{take_all}
 use Rattle.go_board.specs.Game.{GameRecord, without_last}
 use Rattle.vintsaky_calls.specs.Batches.{ArePlanesOf, AreEarlierPlanes}
@@ -45,8 +46,9 @@ loop-ago-preserved g c =
     let next : AreEarlierPlanes c.args.zero c.args.one game c.args.colour ago part =
     earlier_planes c.args.zero c.args.one game before c.args.colour ago (length c.moves-moves.result.now) part
     c.loop-ago.invariant.0 (ap length c.moves-moves.ensures.moves) c.put_board.ensures.there
-    c.put_board.ensures.empty in (
-      c.take_back.ensures ∙ ap without_last c.loop-ago.invariant.0 ∙ one_more_ago game ago,
+    c.put_board.ensures.empty in
+    let undone : c.undo.new.self ≡ without_last before = grind (arith, common_steps) in (
+      undone ∙ ap without_last c.loop-ago.invariant.0 ∙ one_more_ago game ago,
       one_board_more count _ c.loop-ago.values part c.loop-ago.invariant.1 next long (omega (arith, room)),
     )
 
