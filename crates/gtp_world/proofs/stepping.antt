@@ -4,5 +4,4 @@ pub mod CatchUpLemmas
 pub mod EngineLemmas
 pub mod LaneLemmas
 pub mod LikenessLemmas
-pub mod TableLemmas
 pub mod WorldLemmas

@@ -1,5 +1,5 @@
--- Kinds of engines: what the engines of one side of a world are. They are sessions, which ask a policy, or engines in
--- steps, whose author is asked, thinks as long as he likes, and supplies what he chose.
+-- Kinds of engines: what the engines of one side of a world are. They are sessions, which ask a policy, or sans-IO
+-- engines, whose author is asked, thinks as long as he likes, and supplies what he chose.
 use Rattle.std.specs.Prelude.{◌≡◌, ◌≢◌, ◌⊎◌, ◌≤◌, ℕ, Bool, true, false, List, [], take, drop, length}
 use Rattle.go_base.specs.declared.choices.Choice.{Choice}
 use Rattle.go_board.specs.Game.{GameRecord}
@@ -13,11 +13,12 @@ use Rattle.gtp_session.specs.declared.events.Event.TheVariants as event
 use Rattle.gtp_session.specs.declared.events.StepsFed.{StepsFed}
 use Rattle.gtp_session.specs.declared.events.NoTitle.{NoTitle}
 use Rattle.gtp_session.specs.Engine.{Engine, Engages, fresh_under}
+use Rattle.gtp_session.specs.Policy.{May}
 use Rattle.gtp_session.specs.Steps.{StepsState, fresh_steps, IsOpen, ReadsOn, event_of, Chooses, RefusesChoice}
 use Rattle.gtp_session.specs.Steps.{AnswersOther, RefusesAnswer, declined_text, IsTitle, SetsName, SetsVersion}
 use Rattle.gtp_session.specs.Steps.{AddsCommand}
 use Rattle.gtp_session.specs.OwnCommands.{RefusesName}
-use Rattle.gtp_world.specs.Lane.{SidePolicies}
+use Rattle.gtp_world.specs.Lane.{SidePolicies, Does}
 
 -- ---- kinds
 
@@ -31,13 +32,12 @@ pub data Call : Type 0 where
   add_command : List ℕ → Call
 
 -- What the engines of a side are: how one may begin; what comes of one that is given the first `count` bytes on their
--- way to it (it is another engine then, these bytes are left on their way, and these are written); what comes of a call
--- of its author's, and what is written then; the text that it was given and has not read as lines; the line that it
--- read last, with which it waits where it waits; its game; what it waits for; and the ko rule of them all.
+-- way to it, and of a call of its author's; the text that it was given and has not read as lines; the line that it read
+-- last, with which it waits where it waits; its game; what it waits for; and the ko rule of them all.
 pub record Kind (E : Type 0) : Type 1 where
   pub begins : E → Type 0
-  pub reads : E → ℕ → List ℕ → E → List ℕ → List ℕ → Type 0
-  pub calls : E → Call → E → List ℕ → Type 0
+  pub reads : ℕ → Does E
+  pub calls : Call → Does E
   pub rest : E → List ℕ
   pub line : E → Line
   pub game : E → GameRecord
@@ -50,14 +50,24 @@ NothingComes old new written = (new ≡ old) × (written ≡ [])
 
 -- ---- sessions
 
--- Sessions with these policies: they read all that they are given, and ask their policy at once. They have no author,
--- and wait for nothing, so `line` may be any.
+-- a session under the side's ko rule that was given nothing, with a policy that may be made
+pub record IsFresh {P : Type 0} (policies : SidePolicies P) (engine : Engine P) : Type 0 where
+  pub policy : P
+  pub made : policies.made policy
+  pub engine_is : engine ≡ fresh_under policies.rule policy
+
+-- a session reads the first `count` bytes, or all where there are fewer, and asks its policy at once
+pub record Reads {P : Type 0} (may : May P) (count : ℕ) (old : Engine P) (coming : List ℕ) (new : Engine P)
+    (left written : List ℕ) : Type 0 where
+  pub engages : Engages may old (take count coming) new written
+  pub left_is : left ≡ drop count coming
+
+-- Sessions with these policies. They have no author, and wait for nothing, so `line` may be any.
 abbrev pub sessions : {P : Type 0} → SidePolicies P → Kind (Engine P)
 sessions {P} policies = record {
-  begins = λ engine. (policy : P) × policies.made policy × (engine ≡ fresh_under policies.rule policy);
-  reads = λ old count coming new left written.
-      Engages policies.may old (take count coming) new written × (left ≡ drop count coming);
-  calls = λ old call new written. NothingComes old new written;
+  begins = IsFresh policies;
+  reads = Reads policies.may;
+  calls = λ call old coming new left written. NothingComes old new written × (left ≡ coming);
   rest = λ engine. engine.rest;
   line = λ engine. line.TooLong;
   game = λ engine. engine.game;
@@ -85,7 +95,7 @@ written_at event.Ended s = []
 
 -- Its author reads the first `count` bytes that are on their way, or all where there are fewer, and feeds them. What
 -- isn't used he keeps for the next call: here it stays on its way, so that it is lost where he crashes.
-pub record FeedsFront (old : StepsState) (count : ℕ) (coming : List ℕ) (new : StepsState) (left written : List ℕ)
+pub record FeedsFront (count : ℕ) (old : StepsState) (coming : List ℕ) (new : StepsState) (left written : List ℕ)
     : Type 0 where
   pub fed : StepsFed
   pub feeds : Feeds old (take count coming) fed new
@@ -118,12 +128,16 @@ Calls old (Call.set_version text) new written =
 Calls old (Call.add_command name) new written =
     OrRefused (AddsCommand old name new × (written ≡ [])) (RefusesName old.commands name) old new written
 
+-- a call takes nothing off what is on its way
+abbrev pub CallsOnly : Call → Does StepsState
+CallsOnly call old coming new left written = Calls old call new written × (left ≡ coming)
+
 -- sans-IO engines with this ko rule, each of which was given nothing at its start
 abbrev pub in_steps : KoRule → Kind StepsState
 in_steps rule = record {
   begins = λ s. s ≡ fresh_steps rule;
   reads = FeedsFront;
-  calls = Calls;
+  calls = CallsOnly;
   rest = λ s. s.rest;
   line = λ s. s.line;
   game = λ s. s.game;

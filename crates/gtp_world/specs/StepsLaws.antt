@@ -14,13 +14,12 @@ use Rattle.gtp_match.specs.declared.controller.Controller.{Controller}
 use Rattle.gtp_match.specs.Controller.{in_step, to_move}
 use Rattle.gtp_match.specs.Setup.{SetupRecord, IsSetup}
 use Rattle.gtp_match.specs.Sides.{side_of}
-use Rattle.gtp_world.specs.Lane.{Lane, SidePolicies}
-use Rattle.gtp_world.specs.World.{World, at_side, Reached, Holds, most_to_engine, most_to_controller}
-use Rattle.gtp_world.specs.Worlds.{Making, game_in}
+use Rattle.gtp_world.specs.Lane.{LaneOf, Lane, SidePolicies}
+use Rattle.gtp_world.specs.World.{WorldOf, World, at_side, lane_at, opening, EventOrCall, kind_at, RunsBy, as_any, Reached}
+use Rattle.gtp_world.specs.World.{Holds, most_to_engine, most_to_controller}
+use Rattle.gtp_world.specs.Worlds.{Making, sessions_by, game_in}
 use Rattle.gtp_world.specs.Joined.{Rules, IsFair, ruled}
-use Rattle.gtp_world.specs.Kinds.{Kind, sessions, in_steps}
-use Rattle.gtp_world.specs.StepsWorld.{StepsLane, StepsWorld, StepsEvent, StepsRuns, steps_lane_of, steps_opening}
-use Rattle.gtp_world.specs.StepsWorld.{kind_at}
+use Rattle.gtp_world.specs.Kinds.{Kind, in_steps}
 
 -- ---- the headline
 
@@ -45,30 +44,30 @@ module _ {B W : Type 0} (black : Kind B) (white : Kind W) where
   -- game. An engine that waits for a choice, before a verdict, is asked for it there. An engine whose side has answered
   -- all that it was sent waits for nothing of its author. None ever waits for an answer to a line of his own. The lists
   -- are short, and no verdict blames an engine except for a fourth refusal.
-  pub record StepsAgree (world : StepsWorld B W) : Type 0 where
-    pub there : (side : Colour) (engine : at_side B W side) → (steps_lane_of world side).engine ≡ Some engine
+  pub record StepsAgree (world : WorldOf B W) : Type 0 where
+    pub there : (side : Colour) (engine : at_side B W side) → (lane_at world side).engine ≡ Some engine
         → in_step world.controller side ≡ true → IsThere (kind_at black white side) world.controller.game engine
     pub same : (one : B) (two : W) → world.black.engine ≡ Some one → world.white.engine ≡ Some two
         → in_step world.controller Black ≡ true → in_step world.controller White ≡ true
         → Holds (black.game one) (white.game two)
     pub asked : (side colour : Colour) (engine : at_side B W side)
-        → (steps_lane_of world side).engine ≡ Some engine → world.controller.verdict ≡ None
+        → (lane_at world side).engine ≡ Some engine → world.controller.verdict ≡ None
         → (kind_at black white side).wait engine ≡ wait.Choice colour
         → IsAskedThere (kind_at black white side) world.controller side colour engine
     pub answered : (side : Colour) (engine : at_side B W side) (run : EngineRun)
-        → (steps_lane_of world side).engine ≡ Some engine → (side_of world.controller.sides side).up ≡ Some run
+        → (lane_at world side).engine ≡ Some engine → (side_of world.controller.sides side).up ≡ Some run
         → run.unanswered ≡ [] → (kind_at black white side).wait engine ≡ wait.Nothing
     pub no_line_of_its_own : (side : Colour) (engine : at_side B W side)
-        → (steps_lane_of world side).engine ≡ Some engine → (kind_at black white side).wait engine ≢ wait.Answer
+        → (lane_at world side).engine ≡ Some engine → (kind_at black white side).wait engine ≢ wait.Answer
     pub room : (side : Colour)
-        → (length (steps_lane_of world side).to_engine ≤ most_to_engine)
-        × (length (steps_lane_of world side).to_controller ≤ most_to_controller)
+        → (length (lane_at world side).to_engine ≤ most_to_engine)
+        × (length (lane_at world side).to_controller ≤ most_to_controller)
     pub fair : IsFair (rules_by black white) world.controller world.controller.verdict
 
   -- after every list of events from the opening of any setup
   abbrev pub StepsAlwaysAgree : Type 0
-  StepsAlwaysAgree = (setup : SetupRecord) (events : List StepsEvent) (world : StepsWorld B W) → IsSetup setup
-      → StepsRuns black white (steps_opening setup) events world → StepsAgree world
+  StepsAlwaysAgree = (setup : SetupRecord) (events : List EventOrCall) (world : WorldOf B W) → IsSetup setup
+      → RunsBy black white as_any (opening setup) events world → StepsAgree world
 
 -- ---- where such a world goes
 
@@ -99,7 +98,7 @@ pub record IsEngineLike {E P : Type 0} (kind : Kind E) (engine : E) (like : Engi
 -- A side is like a lane of the definition. The games of the two engines are the same, and so are the bytes on their way
 -- to the controller. Of the bytes on their way to the lane's engine the side's engine may have read some: those of the
 -- line that waits for its author, and none where none waits.
-pub record IsLike {E P : Type 0} (kind : Kind E) (one : StepsLane E) (lane : Lane P) : Type 0 where
+pub record IsLike {E P : Type 0} (kind : Kind E) (one : LaneOf E) (lane : Lane P) : Type 0 where
   pub game : game_in lane.engine ≡ game_by kind one.engine
   pub to_controller : lane.to_controller ≡ one.to_controller
   pub read : List ℕ
@@ -113,8 +112,8 @@ pub record IsLike {E P : Type 0} (kind : Kind E) (one : StepsLane E) (lane : Lan
 -- same controller, and lanes that both sides are like.
 abbrev pub GoesAlong : {B W P Q : Type 0} → Kind B → Kind W → SidePolicies P → SidePolicies Q → Type 0
 GoesAlong {B} {W} {P} {Q} black white policies_black policies_white =
-    (setup : SetupRecord) (events : List StepsEvent) (world : StepsWorld B W) → IsSetup setup
-    → StepsRuns black white (steps_opening setup) events world
+    (setup : SetupRecord) (events : List EventOrCall) (world : WorldOf B W) → IsSetup setup
+    → RunsBy black white as_any (opening setup) events world
     → (defined : World P Q) × Reached policies_black policies_white setup defined
     × (defined.controller ≡ world.controller)
     × IsLike black world.black defined.black × IsLike white world.white defined.white
@@ -129,12 +128,14 @@ BothInSteps Law = (black white : KoRule) → Law (in_steps black) (in_steps whit
 -- the two ko rules.
 abbrev pub BlackInSteps : {M P : Type 0} → (Making M → SidePolicies P) → (Kind StepsState → Kind (Engine P) → Type 0)
     → Type 0
-BlackInSteps {M} white_by Law = (black : KoRule) (white : Making M) → Law (in_steps black) (sessions (white_by white))
+BlackInSteps {M} white_by Law =
+    (black : KoRule) (white : Making M) → Law (in_steps black) (sessions_by white_by white)
 
 -- the same with White's sans-IO
 abbrev pub WhiteInSteps : {M P : Type 0} → (Making M → SidePolicies P) → (Kind (Engine P) → Kind StepsState → Type 0)
     → Type 0
-WhiteInSteps {M} black_by Law = (black : Making M) (white : KoRule) → Law (sessions (black_by black)) (in_steps white)
+WhiteInSteps {M} black_by Law =
+    (black : Making M) (white : KoRule) → Law (sessions_by black_by black) (in_steps white)
 
 -- Where such worlds go, of the same three. A sans-IO engine is like one whose policy may choose all that is lawful,
 -- and a session is like itself.
@@ -144,8 +145,8 @@ BothGoAlong = (black white : KoRule)
 
 abbrev pub BlackGoesAlong : {M P : Type 0} → (Making M → SidePolicies P) → Type 0
 BlackGoesAlong {M} white_by = (black : KoRule) (white : Making M)
-    → GoesAlong (in_steps black) (sessions (white_by white)) (any_policies black) (white_by white)
+    → GoesAlong (in_steps black) (sessions_by white_by white) (any_policies black) (white_by white)
 
 abbrev pub WhiteGoesAlong : {M P : Type 0} → (Making M → SidePolicies P) → Type 0
 WhiteGoesAlong {M} black_by = (black : Making M) (white : KoRule)
-    → GoesAlong (sessions (black_by black)) (in_steps white) (black_by black) (any_policies white)
+    → GoesAlong (sessions_by black_by black) (in_steps white) (black_by black) (any_policies white)

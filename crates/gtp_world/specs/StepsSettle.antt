@@ -1,6 +1,6 @@
 -- Catching up in worlds whose engines are sans-IO: the same starts and deliveries as in the definition's worlds bring
 -- both sides into step, and no author has to call.
-use Rattle.std.specs.Prelude.{◌≡◌, ◌≢◌, true, false, List, [], map, None, Some}
+use Rattle.std.specs.Prelude.{◌≡◌, ◌≢◌, true, false, List, [], None, Some}
 use Rattle.go_base.specs.declared.colours.Colour.{Colour}
 use Rattle.go_board.specs.Game.{IsGame}
 use Rattle.go_board.specs.declared.rules.KoRule.{KoRule}
@@ -8,28 +8,22 @@ use Rattle.gtp_session.specs.declared.events.Wait.TheVariants as wait
 use Rattle.gtp_match.specs.declared.sides.EngineRun.{EngineRun}
 use Rattle.gtp_match.specs.declared.verdicts.Action.TheVariants.{Done}
 use Rattle.gtp_match.specs.declared.verdicts.Verdict.{Verdict}
-use Rattle.gtp_match.specs.declared.controller.Controller.{Controller}
 use Rattle.gtp_match.specs.Controller.{in_step}
 use Rattle.gtp_match.specs.Next.{next}
 use Rattle.gtp_match.specs.Setup.{SetupRecord, IsSetup}
 use Rattle.gtp_match.specs.Sides.{side_of}
-use Rattle.gtp_world.specs.World.{at_side}
+use Rattle.gtp_world.specs.World.{WorldOf, at_side, lane_at, opening, EventOrCall, kind_at, RunsBy, as_one, as_any}
 use Rattle.gtp_world.specs.Joined.{ruled}
 use Rattle.gtp_world.specs.Settle.{settle}
 use Rattle.gtp_world.specs.Kinds.{Kind}
-use Rattle.gtp_world.specs.StepsWorld.{StepsWorld, StepsEvent, steps_lane_of, steps_opening, kind_at, StepsRuns}
 use Rattle.gtp_world.specs.StepsLaws.{IsThere}
-
--- the events that settle a world of the definition: starts, and rounds in which a command is sent, read and answered
-abbrev pub steps_settle : Controller → List StepsEvent
-steps_settle c = map (λ event. StepsEvent.happens event) (settle c)
 
 -- Nothing is going on: the controller isn't done, each side that is up has a running engine and has answered all that
 -- it was sent, and no move is to be taken back. And the controller's game is one under each side's ko rule.
-pub record IsQuietInSteps {B W : Type 0} (rule : Colour → KoRule) (world : StepsWorld B W) : Type 0 where
+pub record IsQuietInSteps {B W : Type 0} (rule : Colour → KoRule) (world : WorldOf B W) : Type 0 where
   pub not_done : (verdict : Verdict) → next world.controller ≢ Done verdict
   pub running : (side : Colour) (run : EngineRun) → (side_of world.controller.sides side).up ≡ Some run
-      → (engine : at_side B W side) × ((steps_lane_of world side).engine ≡ Some engine)
+      → (engine : at_side B W side) × ((lane_at world side).engine ≡ Some engine)
   pub answered : (side : Colour) (run : EngineRun) → (side_of world.controller.sides side).up ≡ Some run
       → run.unanswered ≡ []
   pub none_taken_back : world.controller.pending ≡ None
@@ -37,11 +31,11 @@ pub record IsQuietInSteps {B W : Type 0} (rule : Colour → KoRule) (world : Ste
 
 -- the side is in step, and its engine runs at the game that the old world's controller had, under its own ko rule, and
 -- waits for nothing; the controller has that game still
-pub record IsCaughtUpInSteps {B W : Type 0} (side : Colour) (kind : Kind (at_side B W side)) (old new : StepsWorld B W)
+pub record IsCaughtUpInSteps {B W : Type 0} (side : Colour) (kind : Kind (at_side B W side)) (old new : WorldOf B W)
     : Type 0 where
   pub in_step : in_step new.controller side ≡ true
   pub engine : at_side B W side
-  pub runs : (steps_lane_of new side).engine ≡ Some engine
+  pub runs : (lane_at new side).engine ≡ Some engine
   pub there : IsThere kind old.controller.game engine
   pub controller : new.controller.game ≡ old.controller.game
 
@@ -53,19 +47,19 @@ module _ {B W : Type 0} (black : Kind B) (white : Kind W) where
   -- from a reached world in which nothing is going on, these events make both sides catch up
   abbrev pub StepsCatchUp : Type 0
   StepsCatchUp =
-      (setup : SetupRecord) (events : List StepsEvent) (old new : StepsWorld B W) (side : Colour) → IsSetup setup
-      → StepsRuns black white (steps_opening setup) events old → IsQuietInSteps rule_at_kind old
-      → StepsRuns black white old (steps_settle old.controller) new
+      (setup : SetupRecord) (events : List EventOrCall) (old new : WorldOf B W) (side : Colour) → IsSetup setup
+      → RunsBy black white as_any (opening setup) events old → IsQuietInSteps rule_at_kind old
+      → RunsBy black white as_one old (settle old.controller) new
       → IsCaughtUpInSteps side (kind_at black white side) old new
 
   -- in the opening of every setup nothing is going on
   abbrev pub StepsOpeningsAreQuiet : Type 0
   StepsOpeningsAreQuiet = (setup : SetupRecord) → IsSetup setup
-      → IsQuietInSteps rule_at_kind (steps_opening {B = B} {W = W} setup)
+      → IsQuietInSteps rule_at_kind (opening {B = B} {W = W} setup)
 
   -- Where an engine waits for its author, its side is up and has a command that isn't answered. So the side isn't in
   -- step, and something is going on.
-  pub record IsStillAsked (world : StepsWorld B W) (side : Colour) : Type 0 where
+  pub record IsStillAsked (world : WorldOf B W) (side : Colour) : Type 0 where
     pub run : EngineRun
     pub up : (side_of world.controller.sides side).up ≡ Some run
     pub unanswered : run.unanswered ≢ []
@@ -75,9 +69,9 @@ module _ {B W : Type 0} (black : Kind B) (white : Kind W) where
   -- over every list of events from the opening of any setup
   abbrev pub StepsWaitUnanswered : Type 0
   StepsWaitUnanswered =
-      (setup : SetupRecord) (events : List StepsEvent) (world : StepsWorld B W) (side : Colour)
+      (setup : SetupRecord) (events : List EventOrCall) (world : WorldOf B W) (side : Colour)
       (engine : at_side B W side) → IsSetup setup
-      → StepsRuns black white (steps_opening setup) events world → (steps_lane_of world side).engine ≡ Some engine
+      → RunsBy black white as_any (opening setup) events world → (lane_at world side).engine ≡ Some engine
       → (kind_at black white side).wait engine ≢ wait.Nothing → IsStillAsked world side
 
   -- how such worlds catch up

@@ -11,7 +11,6 @@ use Rattle.gtp_match.specs.Next.{next}
 use Rattle.gtp_match.specs.Setup.{SetupRecord, IsSetup}
 use Rattle.gtp_match.specs.Sides.{side_of}
 use Rattle.gtp_world.specs.declared.events.Event.{Event}
-use Rattle.gtp_world.specs.EventLaws.{IsUp, IsRunning}
 use Rattle.gtp_world.specs.Lane.{SidePolicies}
 use Rattle.gtp_world.specs.World.{World, opening, Runs}
 use Rattle.gtp_world.specs.Worlds.{Making, MadeWorld, MadeReached, game_at, rule_at}
@@ -31,6 +30,14 @@ module _ {M N B W : Type 0} (black_by : Making M → SidePolicies B) (white_by :
       → game ≡ ruled (rule_at made side) made.world.controller.game
 
 -- ---- settling
+
+-- the controller counts the side as up
+abbrev pub IsUp : {B W : Type 0} → World B W → Colour → Type 0
+IsUp world side = (engine : EngineRun) × ((side_of world.controller.sides side).up ≡ Some engine)
+
+-- an engine of the side runs
+abbrev pub IsRunning : {B W : Type 0} → World B W → Colour → Type 0
+IsRunning world side = (game : GameRecord) × (game_at world side ≡ Some game)
 
 -- Nothing is going on: the controller isn't done, each side that is up has a running engine and has answered all that
 -- it was sent, and no move is to be taken back. And the controller's game is one under each side's ko rule.
@@ -53,8 +60,8 @@ pub record IsCaughtUp {B W : Type 0} (rule : KoRule) (old : World B W) (side : C
 -- in the opening of every setup nothing is going on, whatever the ko rules, and it may settle
 pub record OpeningsMaySettle (B W : Type 0) : Type 0 where
   pub quiet : (rule : Colour → KoRule) (setup : SetupRecord) → IsSetup setup
-      → IsQuiet rule (opening {B = B} {W = W} setup)
-  pub may : (rules : Rules) (setup : SetupRecord) → IsSetup setup → MaySettle rules (opening {B = B} {W = W} setup)
+      → IsQuiet {B = B} {W = W} rule (opening setup)
+  pub may : (rules : Rules) (setup : SetupRecord) → IsSetup setup → MaySettle {B = B} {W = W} rules (opening setup)
 
 module _ {B W : Type 0} (policies_black : SidePolicies B) (policies_white : SidePolicies W) where
   -- in a reached world that is settled both sides have caught up

@@ -1,3 +1,2 @@
 -- What functions inside the crate say of one another. No public clause speaks of it.
-pub mod Feeding
-pub mod StepsRoom
+pub mod Room

@@ -1,42 +1,41 @@
 //! One side of a world, and what happens between it and the controller.
 ghost use Rattle.std.specs.Prelude.{◌≡◌, ◌≤◌, length, MatchOption, Some, None};
 ghost use Rattle.gtp_match.specs.declared.verdicts.Action.TheVariants as action;
-ghost use Rattle.gtp_match.specs.Controller as controller;
 ghost use Rattle.gtp_match.specs.Next.{next, is_down};
 ghost use Rattle.gtp_match.specs.Sides.{side_of};
-ghost use Rattle.gtp_world.specs.Lane.{empty_lane, crashed_lane, LaneReads};
-ghost use Rattle.gtp_world.specs.World.{Starts, Sends, SideHears, SideFails, SideActs, SideBreaksOff};
-ghost use Rattle.gtp_world.specs.World.{side_of_action, side_of_event};
+ghost use Rattle.gtp_world.specs.Kinds.{Call as Calls, in_steps};
+ghost use Rattle.gtp_world.specs.Lane.{empty_lane};
+ghost use Rattle.gtp_world.specs.StepsWorlds.{event_of};
+ghost use Rattle.gtp_world.specs.World.{Starts, Sends, SideHears, SideFails, SideActs, SideBreaksOff, as_one};
+ghost use Rattle.gtp_world.specs.World.{side_of_action, side_of_event, side_of_any};
 ghost use Rattle.gtp_world.specs.World.{most_to_engine, most_to_controller};
-ghost use Rattle.gtp_world.specs.Worlds.{SeatHappens, game_in};
-ghost use Rattle.gtp_world.specs.private.Feeding.{HasRoom};
+ghost use Rattle.gtp_world.specs.Worlds.{SeatHappensBy, game_in};
+ghost use Rattle.gtp_world.specs.private.Room.{HasRoom, HasCallRoom};
 
+use crate::engines::Engines;
 use crate::events::Event;
 use crate::lane::Lane;
-use crate::maker::{Maker, Seated};
+use crate::maker::Maker;
+use crate::sessions::Sessions;
+use crate::steps_events::StepsEvent;
 use go_base::Side;
 use go_board::{Game, KoRule};
 use gtp_match::{Action, Match, Status};
 use std::marker::Model;
 
-/// One side: the maker of its engines' policies, their ko rule, and its engine with the bytes on the way to it and from
-/// it.
+/// One side: what its engines are made of, and its engine with the bytes on the way to it and from it.
 #[derive(Drop)]
-pub(crate) struct Seat<M: Maker> {
-    maker: M,
-    rule: KoRule,
-    lane: Lane<M::Made>,
+pub(crate) struct Seat<E: Engines> {
+    engines: E,
+    lane: Lane<E>,
 }
 
-impl<M: Maker> Model for Seat<M> {
-    ghost use Rattle.gtp_world.specs.Worlds.{Seat as Seats};
+impl<E: Engines> Model for Seat<E> {
+    ghost use Rattle.gtp_world.specs.Worlds.{SeatOf};
 
-    ghost Value = { Seats M M.Made };
+    ghost Value = { SeatOf E E.Engine };
 
-    ghost view = { λ s. record {
-      making = record { maker = s.maker; rule = s.rule };
-      lane = s.lane;
-    } };
+    ghost view = { λ s. record { making = s.engines; lane = s.lane } };
 }
 
 /// Whether a side is down.
@@ -49,36 +48,31 @@ pub(crate) fn is_down(played: &Match, side: Side) -> bool
     }
 }
 
-impl<M: Maker> Seat<M> {
+impl<E: Engines> Seat<E> {
     /// A side with no engine and with empty lists.
-    pub fn new(maker: M, rule: KoRule) -> Seat<M>
-        ensures { result ≡ record {
-          making = record { maker = maker; rule = rule };
-          lane = empty_lane;
-        } }
+    pub(crate) fn new(engines: E) -> Seat<E>
+        ensures { result ≡ record { making = engines; lane = empty_lane } }
     {
         Seat {
-            maker,
-            rule,
+            engines,
             lane: Lane::new(),
         }
     }
 
-    /// Starts the side's engine, with a new policy and the side's ko rule.
+    /// Starts the side's engine.
     fn start(&mut self, played: &mut Match, side: Side)
         requires { next played.old ≡ action.Start side }
         ensures making { self.new.making ≡ self.old.making }
-        ensures starts { Starts (⟦<M as Seated>⟧.policies self.old.making) side
-            played.old played.new self.new.lane }
+        ensures starts { Starts (E.kind self.old.making) side played.old played.new self.new.lane }
     {
         played.started(side);
-        self.lane = Lane::begin(self.maker.make(), self.rule);
+        self.lane = Lane::begin(self.engines.start());
     }
 
     /// Sends the side its next command.
     fn send(&mut self, played: &mut Match, side: Side)
         requires next { next played.old ≡ action.Send side }
-        requires room { HasRoom side played.old self.old.lane }
+        requires room { HasRoom E.has_room side played.old self.old.lane }
         ensures making { self.new.making ≡ self.old.making }
         ensures sends { Sends side played.old self.old.lane played.new self.new.lane }
     {
@@ -89,9 +83,9 @@ impl<M: Maker> Seat<M> {
     /// Does what the controller must do next at the side.
     fn act(&mut self, played: &mut Match, side: Side)
         requires side { side_of_action (next played.old) ≡ Some side }
-        requires room { HasRoom side played.old self.old.lane }
+        requires room { HasRoom E.has_room side played.old self.old.lane }
         ensures making { self.new.making ≡ self.old.making }
-        ensures acts { SideActs (⟦<M as Seated>⟧.policies self.old.making) side (next played.old)
+        ensures acts { SideActs (E.kind self.old.making) side (next played.old)
             played.old self.old.lane played.new self.new.lane }
     {
         match played.next() {
@@ -105,8 +99,8 @@ impl<M: Maker> Seat<M> {
     fn break_off(&mut self, played: &mut Match, side: Side)
         requires { side_of_action (next played.old) ≡ Some side }
         ensures making { self.new.making ≡ self.old.making }
-        ensures breaks { SideBreaksOff (⟦<M as Seated>⟧.policies self.old.making) side
-            (next played.old) played.old self.old.lane played.new self.new.lane }
+        ensures breaks { SideBreaksOff (E.kind self.old.making) side (next played.old)
+            played.old self.old.lane played.new self.new.lane }
     {
         match played.next() {
             Action::Send(_) => {
@@ -145,30 +139,30 @@ impl<M: Maker> Seat<M> {
         self.lane = Lane::new();
     }
 
-    /// One event happens at the side. Where it doesn't apply, nothing does.
+    /// Applies one event at the side. One that doesn't apply does nothing.
     pub(crate) fn step(&mut self, played: &mut Match, side: Side, event: Event)
         requires side { side_of_event played.old event ≡ Some side }
-        requires room { HasRoom side played.old self.old.lane }
-        ensures { SeatHappens ⟦<M as Seated>⟧.policies side event
+        requires room { HasRoom E.has_room side played.old self.old.lane }
+        ensures { SeatHappensBy E.kind side (as_one event)
             played.old self.old played.new self.new }
     {
         match event {
             Event::Act => self.act(played, side),
             // The side goes down and loses its engine, so it doesn't matter how many bytes went out.
             Event::BrokenWrite(_) => self.break_off(played, side),
-            Event::ToEngine(_, count) => self.lane.feed(count),
+            Event::ToEngine(_, count) => self.lane.feed(&self.engines, count),
             Event::ToController(_, count) => self.hear(played, side, count),
             Event::Crash(_, count) => self.lane.crash(count),
             Event::End(_) => self.end(played, side),
         }
     }
 
-    /// The engine's game, if one runs.
-    pub(crate) fn game(&self) -> Option<&Game>
-        ensures { MatchOption result (game_in self.now.lane.engine ≡ None) (λ game.
-            game_in self.now.lane.engine ≡ Some game.now) }
+    /// The engine, if one runs.
+    pub(crate) fn engine(&self) -> Option<&E::Engine>
+        ensures { MatchOption result (self.now.lane.engine ≡ None) (λ engine.
+            self.now.lane.engine ≡ Some engine.now) }
     {
-        self.lane.game()
+        self.lane.engine()
     }
 
     /// The bytes on the way to the engine.
@@ -185,5 +179,34 @@ impl<M: Maker> Seat<M> {
         ensures room { length result.now ≤ most_to_controller }
     {
         self.lane.to_controller()
+    }
+}
+
+impl<M: Maker> Seat<Sessions<M>> {
+    /// The session's game, if one runs.
+    pub(crate) fn game(&self) -> Option<&Game>
+        ensures { MatchOption result (game_in self.now.lane.engine ≡ None) (λ game.
+            game_in self.now.lane.engine ≡ Some game.now) }
+    {
+        match self.engine() {
+            Some(session) => Some(session.game()),
+            None => None,
+        }
+    }
+}
+
+impl Seat<KoRule> {
+    /// Applies one event or call at the side. One that doesn't apply does nothing.
+    pub(crate) fn apply(&mut self, played: &mut Match, side: Side, event: &StepsEvent<'_>)
+        requires side { side_of_any played.old (event_of event.now) ≡ Some side }
+        requires room { HasRoom ⟦<KoRule as Engines>⟧.has_room side played.old self.old.lane }
+        requires calls { (call : Calls) → HasCallRoom self.old.lane call }
+        ensures { SeatHappensBy in_steps side (event_of event.now)
+            played.old self.old played.new self.new }
+    {
+        match event {
+            StepsEvent::Happens(event) => self.step(played, side, *event),
+            StepsEvent::Calls(_, call) => self.lane.call(call),
+        }
     }
 }

@@ -1,17 +1,17 @@
 //! The world of sans-IO engines: a controller, two engines whose callers supply their choices, and the bytes on the way
 //! between them.
-ghost use Rattle.std.specs.Prelude.{◌≡◌, ◌≢◌, ◌≤◌, length, map, MatchOption, IfSome, None, Some};
+ghost use Rattle.std.specs.Prelude.{◌≡◌, ◌≢◌, ◌≤◌, length, MatchOption, IfSome, None, Some};
 ghost use Rattle.go_board.specs.declared.rules.KoRule.TheVariants.{Simple};
 ghost use Rattle.gtp_session.specs.declared.events.Wait.TheVariants as wait;
 ghost use Rattle.gtp_world.specs.Joined.{IsFair};
-ghost use Rattle.gtp_world.specs.StepsWorld.{steps_opening, side_of_steps_event};
 ghost use Rattle.gtp_world.specs.StepsWorlds.{RuledHappens, RuledRuns, RuledReached, event_of, side_lane, engine_at};
+ghost use Rattle.gtp_world.specs.StepsWorlds.{rules_of_ruled};
 ghost use Rattle.gtp_world.specs.StepsWorlds.{IsThereAtOnce, SameAtOnce, WaitsOnlyUnanswered};
-ghost use Rattle.gtp_world.specs.World.{most_to_engine, most_to_controller};
+ghost use Rattle.gtp_world.specs.World.{opening, side_of_any, most_to_engine, most_to_controller};
 ghost use Rattle.gtp_world.specs.Worlds.{HoldsInStep};
 
+use crate::seat::Seat;
 use crate::steps_events::StepsEvent;
-use crate::steps_seat::StepsSeat;
 use crate::world::side_of;
 use go_base::Side;
 use go_board::KoRule;
@@ -25,24 +25,25 @@ use std::marker::Model;
 #[derive(Drop)]
 pub struct StepsWorld {
     controller: Match,
-    black: StepsSeat,
-    white: StepsSeat,
+    black: Seat<KoRule>,
+    white: Seat<KoRule>,
 }
 
 impl Model for StepsWorld {
-    ghost use Rattle.gtp_world.specs.StepsWorlds.{RuledWorld, RuledReached, ruled_world};
+    ghost use Rattle.gtp_world.specs.StepsWorlds.{RuledWorld, RuledReached};
+    ghost use Rattle.gtp_world.specs.Worlds.{made_world};
 
     ghost Value = { RuledWorld };
 
-    ghost view = { λ w. ruled_world w.controller w.black w.white };
+    ghost view = { λ w. made_world w.controller w.black w.white };
 
     // Some events lead to it from the opening.
-    ghost invariant = { λ w. RuledReached (ruled_world w.controller w.black w.white) };
+    ghost invariant = { λ w. RuledReached (made_world w.controller w.black w.white) };
 }
 
 /// The side at which an event happens: that of the controller's next action, or that of the event itself.
 fn side_of_steps(controller: &Match, event: &StepsEvent<'_>) -> Option<Side>
-    ensures { result ≡ side_of_steps_event controller.now (event_of event.now) }
+    ensures { result ≡ side_of_any controller.now (event_of event.now) }
 {
     match event {
         StepsEvent::Happens(event) => side_of(controller, *event),
@@ -55,8 +56,9 @@ impl StepsWorld {
     /// ko.
     pub fn new(setup: Setup) -> StepsWorld
         ensures { result ≡ record {
-          rules = record { black = Simple; white = Simple };
-          world = steps_opening setup;
+          making_black = Simple;
+          making_white = Simple;
+          world = opening setup;
         } }
     {
         StepsWorld::with_rules(setup, KoRule::Simple, KoRule::Simple)
@@ -66,8 +68,9 @@ impl StepsWorld {
     /// ko rule.
     pub fn with_rules(setup: Setup, rule_black: KoRule, rule_white: KoRule) -> StepsWorld
         ensures { result ≡ record {
-          rules = record { black = rule_black; white = rule_white };
-          world = steps_opening setup;
+          making_black = rule_black;
+          making_white = rule_white;
+          world = opening setup;
         } }
     {
         let controller = Match::new(setup);
@@ -75,25 +78,25 @@ impl StepsWorld {
         let _ = controller.setup();
         StepsWorld {
             controller,
-            black: StepsSeat::new(rule_black),
-            white: StepsSeat::new(rule_white),
+            black: Seat::new(rule_black),
+            white: Seat::new(rule_white),
         }
     }
 
     /// Applies one event. One that doesn't apply does nothing.
     pub fn step(&mut self, event: &StepsEvent<'_>)
-        ensures { RuledHappens self.old (event_of event.now) self.new }
+        ensures { RuledHappens self.old event.now self.new }
     {
         match side_of_steps(&self.controller, event) {
-            Some(Side::Black) => self.black.step(&mut self.controller, Side::Black, event),
-            Some(Side::White) => self.white.step(&mut self.controller, Side::White, event),
+            Some(Side::Black) => self.black.apply(&mut self.controller, Side::Black, event),
+            Some(Side::White) => self.white.apply(&mut self.controller, Side::White, event),
             None => {}
         }
     }
 
     /// Applies all these events in turn.
     pub fn run(&mut self, events: &[StepsEvent<'_>])
-        ensures { RuledRuns self.old (map event_of events.now) self.new }
+        ensures { RuledRuns self.old events.now self.new }
     {
         for event in events {
             self.step(event);
@@ -136,7 +139,7 @@ impl StepsWorld {
     pub fn controller(&self) -> &Match
         ensures controller { result.now ≡ self.now.world.controller }
         // No verdict blames a side except for a fourth refusal, and a side is abandoned only after all its starts.
-        ensures fair { IsFair self.now.rules result.now result.now.verdict }
+        ensures fair { IsFair (rules_of_ruled self.now) result.now result.now.verdict }
     {
         &self.controller
     }

@@ -1,4 +1,4 @@
--- What is shown of a world of engines in steps.
+-- What is shown of a world of sans-IO engines.
 use Rattle.std.proofs.Common.{◌≡◌, ◌≢◌, Option, Some, None}
 use Rattle.std.specs.Prelude.{MatchOption, IfSome}
 use Rattle.go_base.specs.declared.colours.Colour.{Colour}
@@ -7,7 +7,7 @@ use Rattle.gtp_session.specs.declared.events.Wait.TheVariants as wait
 use Rattle.gtp_session.specs.Steps.{StepsState}
 use Rattle.gtp_world.specs.Joined.{rule_of}
 use Rattle.gtp_world.specs.Worlds.{HoldsInStep}
-use Rattle.gtp_world.specs.StepsWorlds.{RuledWorld, RuledReached, engine_at, IsThereAtOnce, SameAtOnce}
+use Rattle.gtp_world.specs.StepsWorlds.{RuledWorld, rules_of_ruled, RuledReached, engine_at, IsThereAtOnce, SameAtOnce}
 use Rattle.gtp_world.specs.StepsWorlds.{WaitsOnlyUnanswered}
 use Rattle.gtp_world.proofs.joined.AgreementLemmas.{holds_ruled, holds_both}
 use Rattle.gtp_world.proofs.joined.ReachedLemmas.{both_steps}
@@ -28,7 +28,7 @@ module _ (w : RuledWorld) (r : RuledReached w) where
   pub is_holding : (s : Colour) (e : StepsState) → engine_at w.world s ≡ Some e
       → HoldsInStep w.world.controller s e.game
   is_holding s e is step =
-      holds_ruled (rule_of w.rules s) e.game w.world.controller.game (is_there s e is step).game_is
+      holds_ruled (rule_of (rules_of_ruled w) s) e.game w.world.controller.game (is_there s e is step).game_is
 
   pub is_same : (s : Colour) (e : StepsState) → engine_at w.world s ≡ Some e → SameAtOnce w.world e
   is_same s e is black white other f is_other =

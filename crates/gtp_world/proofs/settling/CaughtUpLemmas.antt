@@ -21,10 +21,9 @@ use Rattle.gtp_world.specs.World.{World, opening}
 use Rattle.gtp_world.specs.Worlds.{game_in, game_at}
 use Rattle.gtp_world.specs.Joined.{Rules, rule_of, ruled, IsJoined}
 use Rattle.gtp_world.specs.Laws.{rules_of}
-use Rattle.gtp_world.specs.Settle.{settle, MaySettle, IsSettled, RunsWhereUp}
-use Rattle.gtp_world.specs.WordLaws.{IsQuiet, IsCaughtUp, OpeningsMaySettle, SettledIsCaughtUp, QuietWorldsCatchUp}
-use Rattle.gtp_world.proofs.settling.SettleLemmas.{settles}
-use Rattle.gtp_world.proofs.joined.EventLemmas.{opening_under, runs_keep, reached_has}
+use Rattle.gtp_world.specs.Settle.{MaySettle, IsSettled, RunsWhereUp}
+use Rattle.gtp_world.specs.WordLaws.{IsQuiet, IsCaughtUp, OpeningsMaySettle, SettledIsCaughtUp}
+use Rattle.gtp_world.proofs.joined.EventLemmas.{opening_under, reached_has}
 use Rattle.gtp_world.proofs.settling.IdleLemmas.{no_verdict}
 use Rattle.gtp_world.proofs.joined.InStepLemmas.{there}
 
@@ -77,7 +76,7 @@ opening_down setup Black = refl
 opening_down setup White = refl
 
 opening_quiet : {B W : Type 0} (rule : Colour → KoRule) (setup : SetupRecord) → IsSetup setup
-    → IsQuiet rule (opening {B = B} {W = W} setup)
+    → IsQuiet {B = B} {W = W} rule (opening setup)
 opening_quiet rule setup is = record {
   not_done = λ verdict done. let start = opening_starts setup in cc;
   running = λ s up. let e = sym (opening_down setup s) ∙ up.1 in absurd (cc e);
@@ -98,9 +97,9 @@ module _ {B W : Type 0} (mb : SidePolicies B) (mw : SidePolicies W) (law_b : All
   abbrev rules : Rules
   rules = rules_of mb mw
 
-  caught_up : (old new : World B W) (s : Colour) → IsJoined rules new → IsSettled old new
+  pub is_caught_up : (old new : World B W) (s : Colour) → IsJoined rules new → IsSettled old new
       → IsCaughtUp (rule_of rules s) old s new
-  caught_up old new s joined settled =
+  is_caught_up old new s joined settled =
       let x = runs_at old new settled s in
       record {
         in_step = settled.in_step s;
@@ -112,11 +111,4 @@ module _ {B W : Type 0} (mb : SidePolicies B) (mw : SidePolicies W) (law_b : All
 
   pub settled_is : SettledIsCaughtUp mb mw
   settled_is setup events old new s is runs settled =
-      caught_up old new s (reached_has mb mw law_b law_w setup events new is runs) settled
-
-  pub quiet_catches_up : QuietWorldsCatchUp mb mw
-  quiet_catches_up setup events old new s is runs quiet more =
-      caught_up old new s
-      (runs_keep mb mw law_b law_w old (settle old.controller) new more
-      (reached_has mb mw law_b law_w setup events old is runs))
-      (settles mb mw law_b law_w setup events old new is runs (may_settle rules old quiet) more)
+      is_caught_up old new s (reached_has mb mw law_b law_w setup events new is runs) settled

@@ -44,7 +44,8 @@ use Rattle.gtp_match.proofs.scripts.Lines.{next_written, sent_line}
 use Rattle.gtp_match.proofs.soundness.Calls.{my_engine}
 use Rattle.gtp_match.specs.Sides.{side_of, with_side, with_engine, heard_reply, confirmed}
 use Rattle.gtp_match.specs.Sides.{with_sent as with_sent_command}
-use Rattle.gtp_world.specs.Lane.{Lane, written_lane, EngineReads, LaneReads}
+use Rattle.gtp_world.specs.Kinds.{Reads}
+use Rattle.gtp_world.specs.Lane.{Lane, written_lane, EngineDoes, LaneDoes}
 use Rattle.gtp_world.specs.World.{lane_with_next, Sends, lane_where_up, HearsFront, HearsWhereUp, SideHears}
 use Rattle.gtp_match.specs.Controller.{next_text}
 use Rattle.gtp_session.proofs.engines.Replying.{lines-nothing}
@@ -54,7 +55,7 @@ use Rattle.gtp_world.proofs.exchange.ScriptLemmas.{GoesWellOn, script_well, well
 use Rattle.gtp_world.proofs.joined.AgreementLemmas.{reply_length}
 use Rattle.gtp_world.proofs.one_side.SideLemmas.{quiet_or_first}
 use Rattle.gtp_world.proofs.one_side.OutcomeLemmas.{scripted_outcome}
-use Rattle.gtp_world.proofs.joined.EventLemmas.{send_keeps, fed_keeps}
+use Rattle.gtp_world.proofs.joined.EventLemmas.{send_keeps, read_lane, fed_keeps}
 use Rattle.gtp_world.proofs.exchange.ExchangeLemmas.{order_lines, order_part}
 use Rattle.gtp_world.proofs.settling.IdleLemmas.{idle_lists_empty, idle_reads, no_orders_left, no_replies_left}
 use Rattle.gtp_world.specs.Exchange.{CanBeWritten, Answered, reply_with_id, reply_bytes, replayed, Owes}
@@ -401,15 +402,15 @@ module _ {P : Type 0} (may : May P) (lawful : AllowsLawful may) (rules : Rules) 
         }),
       )
 
-  pub round_done : (c1 : Controller) (l1 : Lane P) → Sends s c l c1 l1 → (l2 : Lane P) → LaneReads may l1 100 l2
-      → (c3 : Controller) (l3 : Lane P) → SideHears s c1 l2 100 c3 l3 → RoundDone s c c3 l3 count
+  pub round_done : (c1 : Controller) (l1 : Lane P) → Sends s c l c1 l1 → (l2 : Lane P)
+      → LaneDoes (Reads may 100) l1 l2 → (c3 : Controller) (l3 : Lane P) → SideHears s c1 l2 100 c3 l3 → RoundDone s c c3 l3 count
   round_done c1 l1 sends l2 fed c3 l3 heard =
       let sender_is : c1 ≡ sender = sends.controller_is ∙ ap (λ (x : Option EngineRun). sent_to c s x) ready.is_up in
       let sent_is : l1 ≡ sent_lane = sent_lane_is c1 l1 sends in
-      let r : EngineReads may sent_lane 100 ready.running l2 =
-      subst (λ (x : Lane P). LaneReads may x 100 l2) sent_is fed in
+      let r : EngineDoes (Reads may 100) sent_lane ready.running l2 =
+      subst (λ (x : Lane P). LaneDoes (Reads may 100) x l2) sent_is fed in
       let fed_is : l2 ≡ fed_lane r.after r.written =
-      r.lane ∙ ap (λ (t : List ℕ). record { engine = Some r.after; to_engine = t; to_controller = r.written })
+      read_lane may sent_lane 100 ready.running l2 r ∙ ap (λ (t : List ℕ). record { engine = Some r.after; to_engine = t; to_controller = r.written })
       (drop_all 100 (next_text c s engine) bytes_short) in
       let j2 : AreJoined rules c1 s (bare l2) lo =
       fed_keeps may lawful rules c1 s l1 l2 lo 100 fed (send_keeps rules c c1 s l l1 lo is sends j) in

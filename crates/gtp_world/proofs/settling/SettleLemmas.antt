@@ -1,16 +1,15 @@
--- Catching up: the starts, the rounds of Black, and the rounds of White.
-use Rattle.std.proofs.Common.{◌≡◌, ℕ, zero, suc, ◌+◌, ◌<◌, ◌≤◌, true, false, List, [], ◌∷◌, ◌++◌, length, drop, Option}
+-- Catching up: a start and a round of a side.
+use Rattle.std.proofs.Common.{◌≡◌, ℕ, zero, suc, ◌+◌, ◌<◌, ◌≤◌, true, false, List, [], ◌∷◌, length, drop, Option}
 use Rattle.std.proofs.Common.{Some, None, slice_get, refl, sym, ◌∙◌, ap, subst, arith}
 use Rattle.std.specs.Prelude.{◌&&◌, ◌==◌, not, nat_lt, is_some, IsSome}
 use Rattle.std.proofs.lemmas.Bool.Decides.{nat_tests}
-use Rattle.std.proofs.lemmas.List.{append-nil}
 use Rattle.go_base.specs.Colour.{other}
 use Rattle.go_base.specs.declared.colours.Colour.{Colour}
 use Rattle.go_base.specs.declared.colours.Colour.TheVariants.{Black, White}
 use Rattle.go_board.specs.Game.{GameRecord, IsGame}
 use Rattle.gtp_wire.specs.declared.commands.Command.{Command}
 use Rattle.gtp_session.proofs.choosing.Policies.{AllowsLawful}
-use Rattle.gtp_session.specs.Engine.{Engine, fresh_under}
+use Rattle.gtp_session.specs.Engine.{Engine}
 use Rattle.gtp_match.specs.declared.unanswered.SentCommand.{SentCommand}
 use Rattle.gtp_match.specs.declared.sides.EngineRun.{EngineRun}
 use Rattle.gtp_match.specs.declared.sides.SideState.{SideState}
@@ -32,10 +31,10 @@ use Rattle.gtp_match.proofs.soundness.Calls.{my_engine, idle_plan}
 use Rattle.gtp_world.specs.declared.events.Event.{Event}
 use Rattle.gtp_world.specs.declared.events.Event.TheVariants.{Act, ToEngine, ToController}
 use Rattle.gtp_world.specs.Lane.{Lane, SidePolicies}
-use Rattle.gtp_world.specs.World.{World, at_side, lane_of, SameLane, Sends, SideHears, policies_at, Happens, Runs}
-use Rattle.gtp_world.specs.Settle.{start_of, script_left, round, rounds, RunsWhereUp, MaySettle, IsSettled, Settles}
-use Rattle.gtp_world.proofs.joined.JoinedLemmas.{seen_from, acted}
-use Rattle.gtp_world.proofs.joined.EventLemmas.{lawful_at, happens_keeps, reached_has}
+use Rattle.gtp_world.specs.World.{World, at_side, lane_of, SameLane, Sends, SideHears, policies_at, Happens}
+use Rattle.gtp_world.specs.Settle.{script_left, RunsWhereUp, MaySettle, IsSettled}
+use Rattle.gtp_world.proofs.joined.JoinedLemmas.{seen_from, at_its_side, acted}
+use Rattle.gtp_world.proofs.joined.EventLemmas.{lawful_at, happens_keeps}
 use Rattle.gtp_world.proofs.settling.RoundLemmas.{at_put, other_put, IsReady, IsOneLine, one_line_sent, RoundDone}
 use Rattle.gtp_world.proofs.settling.RoundLemmas.{round_done}
 use Rattle.gtp_world.specs.Joined.{Rules, rule_of, ruled, bare, IsJoined}
@@ -217,13 +216,6 @@ module _ {B W : Type 0} (mb : SidePolicies B) (mw : SidePolicies W) (law_b : All
       ((my_engine v.controller s u h.inv.sound h.own.is_up).under_way h.none) h.own.idle in
       omega (arith, few, h.own.confirmed, ap (λ (g : GameRecord). length (script g)) h.game_is)
 
-  -- what some of the events lead to, and the rest of them
-  record Reaches (game : GameRecord) (s : Colour) (mine theirs : ℕ) (later : List Event) (last : World B W)
-      : Type 0 where
-    world : World B W
-    settling : Settling game world s mine theirs
-    rest : Runs mb mw world later last
-
   keeps : (v : World B W) (e : Event) (v2 : World B W) → Happens mb mw v e v2 → IsJoined rules v → IsJoined rules v2
   keeps v e v2 h j = happens_keeps mb mw law_b law_w v e v2 h j
 
@@ -269,12 +261,14 @@ module _ {B W : Type 0} (mb : SidePolicies B) (mw : SidePolicies W) (law_b : All
     pub round_settles : (v2 v3 : World B W) → Happens mb mw v1 (ToEngine s 100) v2
         → Happens mb mw v2 (ToController s 100) v3 → Settling game v3 s (n + 1) m
     round_settles v2 v3 b d =
+        let fed = at_its_side mb mw s (ToEngine s 100) v1 v2 b in
+        let heard = at_its_side mb mw s (ToController s 100) v2 v3 d in
         let hears : SideHears s v1.controller (lane_of v2 s) 100 v3.controller (lane_of v3 s) =
-        subst (λ (x : Controller). SideHears s x (lane_of v2 s) 100 v3.controller (lane_of v3 s)) b.0.0 d.0 in
+        subst (λ (x : Controller). SideHears s x (lane_of v2 s) 100 v3.controller (lane_of v3 s)) fed.0.0 heard.0 in
         let done : RoundDone s c v3.controller (lane_of v3 s) n =
         round_done (policies_at mb mw s).may (lawful_at mb mw law_b law_w s) rules s c (lane_of v s)
         (bare (lane_of v (other s))) n send_is_next (seen_from rules v s h.inv) (h.games s) h.free h.none h.own k here
-        v1.controller (lane_of v1 s) sent_now.0 (lane_of v2 s) b.0.1 v3.controller (lane_of v3 s) hears in
+        v1.controller (lane_of v1 s) sent_now.0 (lane_of v2 s) fed.0.1 v3.controller (lane_of v3 s) hears in
         record {
           inv = keeps v2 (ToController s 100) v3 d (keeps v1 (ToEngine s 100) v2 b (keeps v Act v1 a h.inv));
           none = done.verdict;
@@ -284,29 +278,9 @@ module _ {B W : Type 0} (mb : SidePolicies B) (mw : SidePolicies W) (law_b : All
           own = done.ready;
           others =
               stays_ready (side_of c.sides (other s)).up (side_of v3.controller.sides (other s)).up
-              (lane_of v (other s)) (lane_of v3 (other s)) m done.others (d.1 ∙ b.1 ∙ sent_now.1) h.others;
+              (lane_of v (other s)) (lane_of v3 (other s)) m done.others (heard.1 ∙ fed.1 ∙ sent_now.1)
+              h.others;
         }
-
-  side_round : (game : GameRecord) (k : Command) (v last : World B W) (s : Colour) (n m : ℕ) (later : List Event)
-      → Settling game v s n m → MaySend game s m → slice_get (script game) n ≡ Some k → n < length (script game)
-      → Runs mb mw v (round s ++ later) last → Reaches game s (n + 1) m later last
-  side_round game k v last s n m later h may scripted less (Runs.then_ {mid = v1} a
-      (Runs.then_ {mid = v2} b (Runs.then_ {mid = v3} d rest))) =
-      record { world = v3; settling = round_settles game k v v1 s n m h may scripted less a v2 v3 b d; rest = rest }
-
-  side_rounds : (game : GameRecord) (left : List Command) (v last : World B W) (s : Colour) (n m : ℕ)
-      (later : List Event) → Settling game v s n m → MaySend game s m → drop n (script game) ≡ left
-      → Runs mb mw v (rounds s left ++ later) last → Reaches game s (length (script game)) m later last
-  side_rounds game [] v last s n m later h may e runs =
-      let count : n ≡ length (script game) = omega (arith, within game v s n m h, drop_none (script game) n e) in
-      record { world = v; settling = subst (λ (x : ℕ). Settling game v s x m) count h; rest = runs }
-  side_rounds game (k ∷ left) v last s n m later h may e runs =
-      let head = drop_head (script game) n k left e in
-      let one : Reaches game s (n + 1) m (rounds s left ++ later) last =
-      side_round game k v last s n m (rounds s left ++ later) h may head.0 head.2 runs in
-      let number : n + 1 ≡ suc n = omega arith in
-      side_rounds game left one.world last s (n + 1) m later one.settling may
-      (ap (λ (x : ℕ). drop x (script game)) number ∙ head.1) one.rest
 
   -- ---- the starts
 
@@ -360,10 +334,10 @@ module _ {B W : Type 0} (mb : SidePolicies B) (mw : SidePolicies W) (law_b : All
           game_is = ap (λ (d : Controller). d.game) it ∙ game_is;
           ready =
               new_ready (side_of v1.controller.sides s).up (lane_of v1 s)
-              (fresh_under (policies_at mb mw s).rule begun.0.fresh_lane.policy)
+              begun.0.engine
               (ap (λ (d : Controller). (side_of d.sides s).up) it
               ∙ ap (λ (x : SideState). x.up) (at_put s _ v.controller.sides))
-              (ap (λ (l : Lane (at_side B W s)). l.engine) begun.0.fresh_lane.lane);
+              (ap (λ (l : Lane (at_side B W s)). l.engine) begun.0.lane);
           left = sym (ap (script_left old.controller.game) down);
           others =
               ap (λ (d : Controller). (side_of d.sides (other s)).up) it
@@ -388,13 +362,6 @@ module _ {B W : Type 0} (mb : SidePolicies B) (mw : SidePolicies W) (law_b : All
       others_lane = refl;
     }
 
-    -- the same, and the rest of the events
-    by_up : (last : World B W) (later : List Event) (up : Option EngineRun) → (side_of old.controller.sides s).up ≡ up
-        → IsIdle up → RunsWhereUp up (lane_of old s).engine → Runs mb mw v (start_of up ++ later) last
-        → (world : World B W) × Begun old v world s × Runs mb mw world later last
-    by_up last later None down idle running (Runs.then_ {mid = v1} a rest) = (v1, started v1 down a, rest)
-    by_up last later (Some u) is idle running rest = (v, was_up u is idle running, rest)
-
   -- both sides have begun
   pub both_begun : (old v v2 : World B W)
       → ((side : Colour) → IsGame (ruled (rule_of rules side) old.controller.game))
@@ -413,9 +380,6 @@ module _ {B W : Type 0} (mb : SidePolicies B) (mw : SidePolicies W) (law_b : All
   }
 
   -- ---- the end
-
-  runs_none : (v last : World B W) → Runs mb mw v [] last → last ≡ v
-  runs_none v last Runs.done = refl
 
   ready_in_step : {P : Type 0} (game : GameRecord) (up : Option EngineRun) (l : Lane P)
       → IsReady up l (length (script game)) → engine_in_step game up ≡ true
@@ -458,33 +422,3 @@ module _ {B W : Type 0} (mb : SidePolicies B) (mw : SidePolicies W) (law_b : All
         → next v.controller ≡ Start White
     white_starts v one down =
         starts_white v.controller one.ready.incarnation one.none one.free one.ready.is_up one.ready.idle down
-
-  pub settles : Settles mb mw
-  settles setup events old last is reached may runs =
-      let game = old.controller.game in
-      let all = length (script game) in
-      let black_left = script_left game old.controller.sides.black.up in
-      let white_left = script_left game old.controller.sides.white.up in
-      let j : IsJoined rules old = reached_has mb mw law_b law_w setup events old is reached in
-      let one =
-      by_up old old Black j may.verdict (nothing_pending old j may) refl refl refl (black_starts old j may) last
-      (start_of old.controller.sides.white.up ++ (rounds Black black_left ++ rounds White white_left))
-      old.controller.sides.black.up refl (may.idle Black) may.black runs in
-      let begun : Begun old old one.0 Black = one.1 in
-      let two =
-      by_up old one.0 White begun.inv begun.none begun.free begun.game_is begun.others begun.others_lane
-      (white_starts old j may one.0 begun) last (rounds Black black_left ++ rounds White white_left)
-      old.controller.sides.white.up refl (may.idle White) may.white one.2 in
-      let settling : Settling game two.0 Black begun.count two.1.count =
-      both_begun old one.0 two.0 may.games begun two.1 in
-      let three : Reaches game Black all two.1.count (rounds White white_left) last =
-      side_rounds game black_left two.0 last Black begun.count two.1.count (rounds White white_left)
-      settling tt begun.left two.2 in
-      let white_runs : Runs mb mw three.world (rounds White white_left ++ []) last =
-      subst (λ (es : List Event). Runs mb mw three.world es last)
-      (sym (append-nil (rounds White white_left))) three.rest in
-      let four : Reaches game White all all [] last =
-      side_rounds game white_left three.world last White two.1.count all []
-      (turned game three.world all two.1.count three.settling) (omega arith) two.1.left white_runs in
-      settled old last (subst (λ (v : World B W). Settling game v White all all)
-      (sym (runs_none four.world last four.rest)) four.settling)

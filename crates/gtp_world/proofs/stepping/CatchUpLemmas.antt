@@ -1,5 +1,5 @@
--- A world with engines in steps catches up as the world of the definition does that it is like.
-use Rattle.std.proofs.Common.{◌≡◌, ◌≢◌, ℕ, suc, ◌+◌, ◌<◌, true, false, List, [], ◌∷◌, ◌++◌, map, length, drop, Option}
+-- A world with sans-IO engines catches up as the world of sessions does that it is like.
+use Rattle.std.proofs.Common.{◌≡◌, ◌≢◌, ℕ, suc, ◌+◌, ◌<◌, true, false, List, [], ◌∷◌, ◌++◌, length, drop, Option}
 use Rattle.std.proofs.Common.{Some, None, slice_get, refl, sym, ◌∙◌, ap, subst, arith}
 use Rattle.std.specs.Prelude.{Bool, IsSome}
 use Rattle.std.proofs.lemmas.List.{append-nil}
@@ -20,71 +20,66 @@ use Rattle.gtp_match.specs.Sound.{IsIdle}
 use Rattle.gtp_world.specs.declared.events.Event.{Event}
 use Rattle.gtp_world.specs.declared.events.Event.TheVariants.{Act, ToEngine, ToController}
 use Rattle.gtp_world.specs.Joined.{rule_of, ruled, EngineBody, BareLane, body, body_of, bare, IsJoinedSide}
-use Rattle.gtp_world.specs.EventLaws.{IsRunning}
-use Rattle.gtp_world.specs.Lane.{SidePolicies}
+use Rattle.gtp_world.specs.Lane.{Lane, SidePolicies}
 use Rattle.gtp_world.specs.Laws.{rules_of}
-use Rattle.gtp_world.specs.Settle.{start_of, script_left, round, rounds, RunsWhereUp, MaySettle, IsSettled}
-use Rattle.gtp_world.specs.World.{World, at_side, lane_of, Happens}
-use Rattle.gtp_world.specs.WordLaws.{IsQuiet}
+use Rattle.gtp_world.specs.Settle.{start_of, script_left, round, rounds, settle, RunsWhereUp, MaySettle, IsSettled}
+use Rattle.gtp_world.specs.Settle.{Settles}
+use Rattle.gtp_world.specs.World.{WorldOf, World, at_side, lane_at, lane_of, kind_at, HappensBy, RunsBy, as_one, as_any}
+use Rattle.gtp_world.specs.World.{Happens}
+use Rattle.gtp_world.specs.WordLaws.{IsRunning, IsQuiet, QuietWorldsCatchUp}
 use Rattle.gtp_world.specs.Worlds.{game_in}
 use Rattle.gtp_world.specs.Kinds.{Kind}
-use Rattle.gtp_world.specs.StepsWorld.{StepsWorld, StepsEvent, StepsRuns, steps_lane_of, StepsHappens}
-use Rattle.gtp_world.specs.StepsWorld.{kind_at}
 use Rattle.gtp_world.specs.StepsLaws.{IsThere, StepsAgree}
-use Rattle.gtp_world.specs.StepsSettle.{steps_settle, IsQuietInSteps, IsCaughtUpInSteps, rule_at_kind, StepsCatchUp}
+use Rattle.gtp_world.specs.StepsSettle.{IsQuietInSteps, IsCaughtUpInSteps, rule_at_kind, StepsCatchUp}
 use Rattle.gtp_world.specs.StepsSettle.{StepsOpeningsAreQuiet, StepsWaitUnanswered, StepsSettle}
-use Rattle.gtp_world.proofs.joined.EventLemmas.{happens_keeps, opening_under}
-use Rattle.gtp_world.proofs.settling.CaughtUpLemmas.{may_settle, opening_starts, opening_down}
+use Rattle.gtp_world.proofs.joined.EventLemmas.{happens_keeps, opening_under, runs_keep, reached_has}
+use Rattle.gtp_world.proofs.settling.CaughtUpLemmas.{may_settle, opening_starts, opening_down, is_caught_up}
 use Rattle.gtp_world.proofs.settling.SettleLemmas.{MaySend, drop_head, drop_none, Settling, turned, within}
 use Rattle.gtp_world.proofs.settling.SettleLemmas.{one_line_comes}
 use Rattle.gtp_world.proofs.settling.SettleLemmas.{round_settles, Begun, started, was_up, both_begun, settled}
 use Rattle.gtp_world.proofs.settling.SettleLemmas.{nothing_pending, black_starts, white_starts}
-use Rattle.gtp_world.proofs.stepping.LikenessLemmas.{Likeness}
-use Rattle.gtp_world.proofs.stepping.LaneLemmas.{LikeAt, engine_at, OneLineWhereRunning, shown}
+use Rattle.gtp_world.proofs.stepping.LikenessLemmas.{Likeness, sessions_like}
+use Rattle.gtp_world.proofs.stepping.LaneLemmas.{LikeAt, engine_at, lane_like, lane_by, OneLineWhereRunning, shown}
 use Rattle.gtp_world.proofs.stepping.WorldLemmas.{LikeBlack, LikeWhite, world_like, leads_alike, delivery_leads}
 use Rattle.gtp_world.proofs.stepping.WorldLemmas.{IsReached, all_reached, runs_reach, reached_agrees}
-
--- the events of the definition, as events of such a world
-abbrev plain : List Event → List StepsEvent
-plain es = map (λ event. StepsEvent.happens event) es
 
 module _ {B W P Q : Type 0} {black : Kind B} {white : Kind W} {mb : SidePolicies P} {mw : SidePolicies Q}
     (like_b : Likeness black mb) (like_w : Likeness white mw) (law_b : AllowsLawful mb.may)
     (law_w : AllowsLawful mw.may) where
-  abbrev LikeBoth : StepsWorld B W → Type 0
+  abbrev LikeBoth : WorldOf B W → Type 0
   LikeBoth w = LikeBlack like_b like_w law_b law_w w × LikeWhite like_b like_w law_b law_w w
 
   -- the world of the definition
-  abbrev seen : (w : StepsWorld B W) → LikeBoth w → World P Q
+  abbrev seen : (w : WorldOf B W) → LikeBoth w → World P Q
   seen w x = world_like like_b like_w law_b law_w w x.0 x.1
 
   -- a world with this, and what the rest of the events lead to
-  record Goes (Is : World P Q → Type 0) (later : List Event) (last : StepsWorld B W) : Type 0 where
-    world : StepsWorld B W
+  record Goes (Is : World P Q → Type 0) (later : List Event) (last : WorldOf B W) : Type 0 where
+    world : WorldOf B W
     like : LikeBoth world
     is : Is (seen world like)
-    rest : StepsRuns black white world (plain later) last
+    rest : RunsBy black white as_one world later last
 
   -- an event, as one of the definition
-  record One (v : World P Q) (e : Event) (w2 : StepsWorld B W) : Type 0 where
+  record One (v : World P Q) (e : Event) (w2 : WorldOf B W) : Type 0 where
     like : LikeBoth w2
     happens : Happens mb mw v e (seen w2 like)
 
-  alike : (w w2 : StepsWorld B W) (x : LikeBoth w) (e : Event)
+  alike : (w w2 : WorldOf B W) (x : LikeBoth w) (e : Event)
       → ((own : Colour) (count : ℕ) → e ≡ ToEngine own count → ⊥)
-      → StepsHappens black white w (StepsEvent.happens e) w2 → One (seen w x) e w2
+      → HappensBy black white w (as_one e) w2 → One (seen w x) e w2
   alike w w2 x e other h =
       let l = leads_alike like_b like_w law_b law_w w w2 x.0 x.1 e other h in
       record { like = (l.0, l.1); happens = l.2 }
 
   -- a round of a side
-  steps_round : (game : GameRecord) (k : Command) (w last : StepsWorld B W) (x : LikeBoth w) (s : Colour) (n m : ℕ)
+  steps_round : (game : GameRecord) (k : Command) (w last : WorldOf B W) (x : LikeBoth w) (s : Colour) (n m : ℕ)
       (later : List Event) → Settling mb mw law_b law_w game (seen w x) s n m → MaySend game s m
       → slice_get (script game) n ≡ Some k → n < length (script game)
-      → StepsRuns black white w (plain (round s ++ later)) last
+      → RunsBy black white as_one w (round s ++ later) last
       → Goes (λ v. Settling mb mw law_b law_w game v s (n + 1) m) later last
-  steps_round game k w last x s n m later h may scripted less (StepsRuns.then_ {mid = w1} a
-      (StepsRuns.then_ {mid = w2} b (StepsRuns.then_ {mid = w3} d rest))) =
+  steps_round game k w last x s n m later h may scripted less (RunsBy.then_ {mid = w1} a
+      (RunsBy.then_ {mid = w2} b (RunsBy.then_ {mid = w3} d rest))) =
       let v : World P Q = seen w x in
       let one : One v Act w1 = alike w w1 x Act (λ own count e. cc) a in
       let v1 : World P Q = seen w1 one.like in
@@ -107,9 +102,9 @@ module _ {B W P Q : Type 0} {black : Kind B} {white : Kind W} {mb : SidePolicies
         rest = rest;
       }
 
-  steps_rounds : (game : GameRecord) (left : List Command) (w last : StepsWorld B W) (x : LikeBoth w) (s : Colour)
+  steps_rounds : (game : GameRecord) (left : List Command) (w last : WorldOf B W) (x : LikeBoth w) (s : Colour)
       (n m : ℕ) (later : List Event) → Settling mb mw law_b law_w game (seen w x) s n m → MaySend game s m
-      → drop n (script game) ≡ left → StepsRuns black white w (plain (rounds s left ++ later)) last
+      → drop n (script game) ≡ left → RunsBy black white as_one w (rounds s left ++ later) last
       → Goes (λ v. Settling mb mw law_b law_w game v s (length (script game)) m) later last
   steps_rounds game [] w last x s n m later h may e runs =
       let count : n ≡ length (script game) =
@@ -128,18 +123,18 @@ module _ {B W P Q : Type 0} {black : Kind B} {white : Kind W} {mb : SidePolicies
       steps_rounds game left one.world last one.like s (n + 1) m later one.is may
       (ap (λ (z : ℕ). drop z (script game)) number ∙ head.1) one.rest
 
-  runs_none : (w last : StepsWorld B W) → StepsRuns black white w [] last → last ≡ w
-  runs_none w last StepsRuns.done = refl
+  runs_none : (w last : WorldOf B W) → RunsBy black white as_one w [] last → last ≡ w
+  runs_none w last RunsBy.done = refl
 
   -- a side is started where it is down
-  begins : (w last : StepsWorld B W) (x : LikeBoth w) (later : List Event) (old : World P Q) (s : Colour)
+  begins : (w last : WorldOf B W) (x : LikeBoth w) (later : List Event) (old : World P Q) (s : Colour)
       (up : Option EngineRun)
       → ((v1 : World P Q) → up ≡ None → Happens mb mw (seen w x) Act v1
       → Begun mb mw law_b law_w old (seen w x) v1 s)
       → ((u : EngineRun) → up ≡ Some u → Begun mb mw law_b law_w old (seen w x) (seen w x) s)
-      → StepsRuns black white w (plain (start_of up ++ later)) last
+      → RunsBy black white as_one w (start_of up ++ later) last
       → Goes (λ v. Begun mb mw law_b law_w old (seen w x) v s) later last
-  begins w last x later old s None starts goes_on (StepsRuns.then_ {mid = w1} a rest) =
+  begins w last x later old s None starts goes_on (RunsBy.then_ {mid = w1} a rest) =
       let one : One (seen w x) Act w1 = alike w w1 x Act (λ own count e. cc) a in
       record { world = w1; like = one.like; is = starts (seen w1 one.like) refl one.happens; rest = rest }
   begins w last x later old s (Some u) starts goes_on rest =
@@ -163,7 +158,7 @@ module _ {B W P Q : Type 0} {black : Kind B} {white : Kind W} {mb : SidePolicies
   rule_is White = like_w.rule
 
   -- nothing is going on in the world of the definition either
-  seen_quiet : (w : StepsWorld B W) (x : LikeBoth w) → IsQuietInSteps (rule_at_kind black white) w
+  seen_quiet : (w : WorldOf B W) (x : LikeBoth w) → IsQuietInSteps (rule_at_kind black white) w
       → IsQuiet (rule_of (rules_of mb mw)) (seen w x)
   seen_quiet w x quiet = record {
     not_done = quiet.not_done;
@@ -173,20 +168,17 @@ module _ {B W P Q : Type 0} {black : Kind B} {white : Kind W} {mb : SidePolicies
     games = λ side. subst (λ (r : KoRule). IsGame (ruled r w.controller.game)) (rule_is side) (quiet.games side);
   }
     where
-      running : (side : Colour) → (engine : at_side B W side) × ((steps_lane_of w side).engine ≡ Some engine)
+      running : (side : Colour) → (engine : at_side B W side) × ((lane_at w side).engine ≡ Some engine)
           → IsRunning (seen w x) side
       running Black h = runs_some like_b w.black.engine x.0 h.0 h.1
       running White h = runs_some like_w w.white.engine x.1 h.0 h.1
 
-  module _ (setup : SetupRecord) (old last : StepsWorld B W)
+  module _ (setup : SetupRecord) (old last : WorldOf B W)
       (s : IsReached like_b like_w law_b law_w setup old)
-      (quiet : IsQuietInSteps (rule_at_kind black white) old)
-      (more : StepsRuns black white old (steps_settle old.controller) last) where
+      (may : MaySettle (rules_of mb mw) (seen old (s.like_black, s.like_white)))
+      (more : RunsBy black white as_one old (settle old.controller) last) where
     abbrev v : World P Q
     v = seen old (s.like_black, s.like_white)
-
-    abbrev may : MaySettle (rules_of mb mw) v
-    may = may_settle (rules_of mb mw) v (seen_quiet old (s.like_black, s.like_white) quiet)
 
     abbrev game : GameRecord
     game = old.controller.game
@@ -239,12 +231,12 @@ module _ {B W P Q : Type 0} {black : Kind B} {white : Kind W} {mb : SidePolicies
         steps_rounds game white_left three.world last three.like White two.is.count all []
         (turned mb mw law_b law_w game (seen three.world three.like) all two.is.count three.is) (omega arith)
         two.is.left
-        (subst (λ (es : List Event). StepsRuns black white three.world (plain es) last)
+        (subst (λ (es : List Event). RunsBy black white as_one three.world es last)
         (sym (append-nil (rounds White white_left))) three.rest)
 
     seen_settled : (y : LikeBoth last) × IsSettled v (seen last y)
     seen_settled =
-        subst (λ (w : StepsWorld B W). (y : LikeBoth w) × IsSettled v (seen w y))
+        subst (λ (w : WorldOf B W). (y : LikeBoth w) × IsSettled v (seen w y))
         (sym (runs_none four.world last four.rest))
         (four.like, settled mb mw law_b law_w v (seen four.world four.like) four.is)
 
@@ -253,7 +245,7 @@ module _ {B W P Q : Type 0} {black : Kind B} {white : Kind W} {mb : SidePolicies
         let y = seen_settled in
         let agree : StepsAgree black white last =
         reached_agrees like_b like_w law_b law_w setup last
-        (runs_reach like_b like_w law_b law_w setup old (steps_settle old.controller) last more s) in
+        (runs_reach like_b like_w law_b law_w as_one setup old (settle old.controller) last more s) in
         let it = runs side in
         let there : IsThere (kind_at black white side) last.controller.game it.0 =
         agree.there side it.0 it.1 (y.1.in_step side) in
@@ -265,13 +257,15 @@ module _ {B W P Q : Type 0} {black : Kind B} {white : Kind W} {mb : SidePolicies
           controller = y.1.record_stays;
         }
       where
-        runs : (side : Colour) → (engine : at_side B W side) × ((steps_lane_of last side).engine ≡ Some engine)
+        runs : (side : Colour) → (engine : at_side B W side) × ((lane_at last side).engine ≡ Some engine)
         runs Black = some_runs like_b last.black.engine seen_settled.0.0 seen_settled.1.black_runs
         runs White = some_runs like_w last.white.engine seen_settled.0.1 seen_settled.1.white_runs
 
   catches_up : StepsCatchUp black white
   catches_up setup events old new side is runs quiet more =
-      caught_up setup old new (all_reached like_b like_w law_b law_w setup events old is runs) quiet more side
+      let s = all_reached like_b like_w law_b law_w as_any setup events old is runs in
+      let like : LikeBoth old = (s.like_black, s.like_white) in
+      caught_up setup old new s (may_settle (rules_of mb mw) (seen old like) (seen_quiet old like quiet)) more side
 
   -- ---- the opening, and engines that wait
 
@@ -309,7 +303,7 @@ module _ {B W P Q : Type 0} {black : Kind B} {white : Kind W} {mb : SidePolicies
       }
     where
       s : IsReached like_b like_w law_b law_w setup w
-      s = all_reached like_b like_w law_b law_w setup events w is runs
+      s = all_reached like_b like_w law_b law_w as_any setup events w is runs
 
       agree : StepsAgree black white w
       agree = reached_agrees like_b like_w law_b law_w setup w s
@@ -317,7 +311,7 @@ module _ {B W P Q : Type 0} {black : Kind B} {white : Kind W} {mb : SidePolicies
       v2 : World P Q
       v2 = seen w (s.like_black, s.like_white)
 
-      side_up : (side : Colour) (engine : at_side B W side) → (steps_lane_of w side).engine ≡ Some engine
+      side_up : (side : Colour) (engine : at_side B W side) → (lane_at w side).engine ≡ Some engine
           → (run : EngineRun) × ((side_of w.controller.sides side).up ≡ Some run)
       side_up Black e is =
           let z = shown like_b w.black.engine s.like_black w.black.to_engine e is in
@@ -334,3 +328,50 @@ module _ {B W P Q : Type 0} {black : Kind B} {white : Kind W} {mb : SidePolicies
 
   pub settles_in_steps : StepsSettle black white
   settles_in_steps = record { openings = openings_quiet; quiet = catches_up; waits = waits_unanswered }
+
+-- ---- worlds of sessions, which are like themselves
+
+lane_seen : {P : Type 0} (policies : SidePolicies P) (l : Lane P) (sh : LikeAt (sessions_like policies) l.engine)
+    → lane_like (sessions_like policies) l sh ≡ l
+unfolding sessions_like
+lane_seen {P} policies l sh = by_engine l.engine sh
+  where
+    by_engine : (o : Option (Engine P)) (x : LikeAt (sessions_like policies) o)
+        → lane_by (sessions_like policies) o x l.to_engine l.to_controller
+        ≡ record { engine = o; to_engine = l.to_engine; to_controller = l.to_controller }
+    by_engine None x = refl
+    by_engine (Some e) x = refl
+
+module _ {B W : Type 0} (mb : SidePolicies B) (mw : SidePolicies W) (law_b : AllowsLawful mb.may)
+    (law_w : AllowsLawful mw.may) where
+  -- both sides of a world, as like themselves
+  abbrev LikeItself : World B W → Type 0
+  LikeItself w = LikeBoth (sessions_like mb) (sessions_like mw) law_b law_w w
+
+  abbrev itself : (w : World B W) → LikeItself w → World B W
+  itself w x = seen (sessions_like mb) (sessions_like mw) law_b law_w w x
+
+  is_itself : (w : World B W) (x : LikeItself w) → itself w x ≡ w
+  is_itself w x =
+      λ i. record {
+        controller = w.controller;
+        black = lane_seen mb w.black x.0 i;
+        white = lane_seen mw w.white x.1 i;
+      }
+
+  pub settles : Settles mb mw
+  settles setup events old new is runs may more =
+      let s = all_reached (sessions_like mb) (sessions_like mw) law_b law_w as_one setup events old is runs in
+      let x : LikeItself old = (s.like_black, s.like_white) in
+      let here : MaySettle (rules_of mb mw) (itself old x) =
+      subst (λ (w : World B W). MaySettle (rules_of mb mw) w) (sym (is_itself old x)) may in
+      let it = seen_settled (sessions_like mb) (sessions_like mw) law_b law_w setup old new s here more in
+      subst (λ (w : World B W). IsSettled w new) (is_itself old x)
+      (subst (λ (w : World B W). IsSettled (itself old x) w) (is_itself new it.0) it.1)
+
+  pub quiet_catches_up : QuietWorldsCatchUp mb mw
+  quiet_catches_up setup events old new s is runs quiet more =
+      is_caught_up mb mw law_b law_w old new s
+      (runs_keep mb mw law_b law_w old (settle old.controller) new more
+      (reached_has mb mw law_b law_w setup events old is runs))
+      (settles setup events old new is runs (may_settle (rules_of mb mw) old quiet) more)

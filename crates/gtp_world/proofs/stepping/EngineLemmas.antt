@@ -212,7 +212,7 @@ event_waits wait.Answer s n = refl
 
 reads_by : (s : StepsState) (w : Wait) → s.wait ≡ w → (sh : LikeBy s w) (count : ℕ) (coming : List ℕ)
     (s2 : StepsState) (left written : List ℕ) → IsFollowing (engine_by s w sh) (text_by s w sh ++ coming)
-    → FeedsFront s count coming s2 left written
+    → FeedsFront count s coming s2 left written
     → MovesTo (engine_by s w sh) (text_by s w sh ++ coming) s2 s2.wait left written
 reads_by s wait.Nothing e sh count coming s2 left written r f =
     let is : IsOpen s = record { goes_on = r.going; waits_not = e } in
@@ -406,7 +406,7 @@ module _ (s : StepsState) (coming : List ℕ) (follows : IsFollowing (as_engine 
 takes_by : (s : StepsState) (w : Wait) → s.wait ≡ w → (sh : LikeBy s w) (count : ℕ) (coming : List ℕ)
     (s2 : StepsState) (left written : List ℕ) → IsFollowing (engine_by s w sh) (text_by s w sh ++ coming)
     → IsOneLine (engine_by s w sh) (text_by s w sh ++ coming) → length (text_by s w sh ++ coming) ≤ count
-    → FeedsFront s count coming s2 left written → (left ≡ []) × (s2.wait ≡ wait.Nothing)
+    → FeedsFront count s coming s2 left written → (left ≡ []) × (s2.wait ≡ wait.Nothing)
 takes_by s wait.Nothing e sh count coming s2 left written r one short f =
     let is : IsOpen s = record { goes_on = r.going; waits_not = e } in
     let t =
@@ -476,8 +476,10 @@ steps_like rule = record {
   rule = refl;
   game = λ s sh. refl;
   begins = begins_as rule;
-  reads = λ s sh count coming s2 left written r h. reads_by s s.wait refl sh count coming s2 left written r h;
-  calls = λ s sh call coming s2 written r h. calls_by s s.wait refl sh call coming s2 written r h;
+  reads = λ count s sh coming s2 left written r h. reads_by s s.wait refl sh count coming s2 left written r h;
+  calls = λ call s sh coming s2 left written r h.
+      subst (λ (rest : List ℕ). MovesTo (engine_by s s.wait sh) (text_by s s.wait sh ++ coming) s2 s2.wait rest written)
+      (sym h.1) (calls_by s s.wait refl sh call coming s2 written r h.0);
   takes = λ s sh count coming s2 left written r one short h.
       takes_by s s.wait refl sh count coming s2 left written r one short h;
   idle = λ s sh unread empty. idle_by s s.wait refl sh unread empty;

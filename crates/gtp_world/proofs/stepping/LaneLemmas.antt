@@ -15,17 +15,13 @@ use Rattle.gtp_match.specs.Next.{next}
 use Rattle.gtp_match.specs.Sides.{side_of}
 use Rattle.gtp_world.specs.declared.events.Event.{Event}
 use Rattle.gtp_world.specs.declared.events.Event.TheVariants.{Act, BrokenWrite, ToEngine, ToController, Crash, End}
-use Rattle.gtp_world.specs.Lane.{Lane, SidePolicies, ReadsWhereRunning, crashed_lane}
-use Rattle.gtp_world.specs.World.{Starts, Sends, lane_with_next, lane_where_up, HearsWhereUp, FailsWhereUp, SideActs}
-use Rattle.gtp_world.specs.World.{SideBreaksOff, SideHappens, side_of_event}
-use Rattle.gtp_world.specs.Kinds.{Kind, Call}
-use Rattle.gtp_world.specs.StepsWorld.{StepsLane, running_steps_lane, StepsStarts, steps_lane_with_next, StepsSends}
-use Rattle.gtp_world.specs.StepsWorld.{StepsReadsBy, StepsCallsBy, steps_lane_where_up}
-use Rattle.gtp_world.specs.StepsWorld.{StepsHearsWhereUp, StepsFailsWhereUp, crashed_steps_lane, StepsActs}
-use Rattle.gtp_world.specs.StepsWorld.{StepsBreaksOff, StepsEvent, side_of_steps_event, StepsSideHappens}
+use Rattle.gtp_world.specs.Lane.{LaneOf, Lane, SidePolicies, Does, DoesWhereRunning, crashed_lane}
+use Rattle.gtp_world.specs.World.{Starts, Sends, lane_with_next, lane_where_up, HearsWhereUp, FailsWhereUp, EventOrCall}
+use Rattle.gtp_world.specs.World.{side_of_event, side_of_any, SideActs, SideBreaksOff, SideHappens, AnyHappens}
+use Rattle.gtp_world.specs.Kinds.{Kind, Reads, sessions}
 use Rattle.gtp_world.specs.StepsLaws.{IsEngineLike, IsLike}
 use Rattle.gtp_world.proofs.settling.RoundLemmas.{IsOneLine}
-use Rattle.gtp_world.proofs.stepping.LikenessLemmas.{IsFollowing, Moves, Likeness}
+use Rattle.gtp_world.proofs.stepping.LikenessLemmas.{IsFollowing, AllMove, Likeness}
 
 -- where an engine of the definition runs, it follows the controller
 abbrev pub FollowsWhereRunning : {P : Type 0} → Option (Engine P) → List ℕ → Type 0
@@ -51,7 +47,7 @@ module _ {E P : Type 0} {kind : Kind E} {policies : SidePolicies P} (like : Like
   coming_at (Some e) sh te = like.held e sh ++ te
 
   -- the lane that a side is like
-  abbrev pub lane_like : (s : StepsLane E) → LikeAt s.engine → Lane P
+  abbrev pub lane_like : (s : LaneOf E) → LikeAt s.engine → Lane P
   lane_like s sh = record {
     engine = engine_at s.engine sh;
     to_engine = coming_at s.engine sh s.to_engine;
@@ -61,37 +57,35 @@ module _ {E P : Type 0} {kind : Kind E} {policies : SidePolicies P} (like : Like
   abbrev pub lane_by : (o : Option E) → LikeAt o → List ℕ → List ℕ → Lane P
   lane_by o sh te tc = record { engine = engine_at o sh; to_engine = coming_at o sh te; to_controller = tc }
 
-  abbrev pub side_by : Option E → List ℕ → List ℕ → StepsLane E
+  abbrev pub side_by : Option E → List ℕ → List ℕ → LaneOf E
   side_by o te tc = record { engine = o; to_engine = te; to_controller = tc }
 
   -- the new side is like such a lane
-  abbrev pub Leads : (Lane P → Type 0) → StepsLane E → Type 0
+  abbrev pub Leads : (Lane P → Type 0) → LaneOf E → Type 0
   Leads Is new = (sh : LikeAt new.engine) × Is (lane_like new sh)
 
-  pub kept : (old new : StepsLane E) → new ≡ old → (sh : LikeAt old.engine) → Leads (λ l. l ≡ lane_like old sh) new
-  kept old new e sh = subst (λ (s : StepsLane E). Leads (λ l. l ≡ lane_like old sh) s) (sym e) (sh, refl)
+  pub kept : (old new : LaneOf E) → new ≡ old → (sh : LikeAt old.engine) → Leads (λ l. l ≡ lane_like old sh) new
+  kept old new e sh = subst (λ (s : LaneOf E). Leads (λ l. l ≡ lane_like old sh) s) (sym e) (sh, refl)
 
   -- it stays as it was, and so does the controller
-  stays : (before after : Controller) (old new : StepsLane E) (sh : LikeAt old.engine) → after ≡ before → new ≡ old
+  stays : (before after : Controller) (old new : LaneOf E) (sh : LikeAt old.engine) → after ≡ before → new ≡ old
       → Leads (λ l. (after ≡ before) × (l ≡ lane_like old sh)) new
   stays before after old new sh c e = let k = kept old new e sh in (k.0, (c, k.1))
 
-  starts : (side : Colour) (before after : Controller) (new : StepsLane E) → StepsStarts kind side before after new
-      → Leads (λ l. Starts policies side before after l) new
+  starts : (side : Colour) (before after : Controller) (new : LaneOf E) → Starts kind side before after new
+      → Leads (λ l. Starts (sessions policies) side before after l) new
   starts side before after new h =
-      subst (λ (s : StepsLane E). Leads (λ l. Starts policies side before after l) s) (sym h.lane)
+      subst (λ (s : LaneOf E). Leads (λ l. Starts (sessions policies) side before after l) s) (sym h.lane)
       (let b = like.begins h.engine h.begins in (
         b.0,
         record {
           controller_is = h.controller_is;
-          fresh_lane = record {
-            policy = b.1;
-            made = b.2;
-            lane = λ i. record {
-              engine = Some (b.3 i);
-              to_engine = (append-nil (like.held h.engine b.0) ∙ b.4) i;
-              to_controller = [];
-            };
+          engine = like.engine h.engine b.0;
+          begins = record { policy = b.1; made = b.2; engine_is = b.3 };
+          lane = λ i. record {
+            engine = Some (like.engine h.engine b.0);
+            to_engine = (append-nil (like.held h.engine b.0) ∙ b.4) i;
+            to_controller = [];
           };
         },
       ))
@@ -99,7 +93,7 @@ module _ {E P : Type 0} {kind : Kind E} {policies : SidePolicies P} (like : Like
   with_next : (before : Controller) (side : Colour) (up : Option EngineRun) (o : Option E) (te tc : List ℕ)
       (sh : LikeAt o)
       → Leads (λ l. l ≡ lane_with_next before side up (lane_by o sh te tc))
-      (steps_lane_with_next before side up (side_by o te tc))
+      (lane_with_next before side up (side_by o te tc))
   with_next before side None o te tc sh = (sh, refl)
   with_next before side (Some u) None te tc sh = (sh, refl)
   with_next before side (Some u) (Some e) te tc sh = (
@@ -111,129 +105,116 @@ module _ {E P : Type 0} {kind : Kind E} {policies : SidePolicies P} (like : Like
     },
   )
 
-  sends : (side : Colour) (before after : Controller) (old new : StepsLane E) (sh : LikeAt old.engine)
-      → StepsSends side before old after new → Leads (λ l. Sends side before (lane_like old sh) after l) new
+  sends : (side : Colour) (before after : Controller) (old new : LaneOf E) (sh : LikeAt old.engine)
+      → Sends side before old after new → Leads (λ l. Sends side before (lane_like old sh) after l) new
   sends side before after old new sh h =
-      subst (λ (s : StepsLane E). Leads (λ l. Sends side before (lane_like old sh) after l) s) (sym h.lane)
+      subst (λ (s : LaneOf E). Leads (λ l. Sends side before (lane_like old sh) after l) s) (sym h.lane)
       (let n = with_next before side (side_of before.sides side).up old.engine old.to_engine old.to_controller sh in
       (n.0, record { controller_is = h.controller_is; lane = n.1 }))
 
   -- an engine that moved, as one of the definition by this many bytes
-  moved_by : (te tc : List ℕ) (e : E) (sh : like.Like e) (new : StepsLane E) (after : E) (left written : List ℕ) (n : ℕ)
-      (sh2 : like.Like after) → new ≡ running_steps_lane after left (tc ++ written)
+  moved_by : (te tc : List ℕ) (e : E) (sh : like.Like e) (new : LaneOf E) (after : E) (left written : List ℕ) (n : ℕ)
+      (sh2 : like.Like after)
+      → new ≡ record { engine = Some after; to_engine = left; to_controller = tc ++ written }
       → Engages policies.may (like.engine e sh) (take n (like.held e sh ++ te)) (like.engine after sh2) written
       → like.held after sh2 ++ left ≡ drop n (like.held e sh ++ te)
-      → Leads (λ l. ReadsWhereRunning policies.may (lane_by (Some e) sh te tc) n (Some (like.engine e sh)) l) new
+      → Leads (λ l. DoesWhereRunning (Reads policies.may n) (lane_by (Some e) sh te tc) (Some (like.engine e sh)) l) new
   moved_by te tc e sh new after left written n sh2 lane engages rest =
-      subst (λ (s : StepsLane E). Leads (λ l. ReadsWhereRunning policies.may (lane_by (Some e) sh te tc) n
+      subst (λ (s : LaneOf E). Leads (λ l. DoesWhereRunning (Reads policies.may n) (lane_by (Some e) sh te tc)
       (Some (like.engine e sh)) l) s) (sym lane) (
         sh2,
         record {
           after = like.engine after sh2;
+          left = like.held after sh2 ++ left;
           written = written;
-          engages = engages;
-          lane = λ i. record {
-            engine = Some (like.engine after sh2);
-            to_engine = rest i;
-            to_controller = tc ++ written;
-          };
+          done = record { engages = engages; left_is = rest };
+          lane = refl;
         },
       )
 
-  moved : (te tc : List ℕ) (e : E) (sh : like.Like e) (new : StepsLane E) (after : E) (left written : List ℕ)
-      → new ≡ running_steps_lane after left (tc ++ written)
-      → Moves policies.may (like.engine e sh) (like.held e sh ++ te) (like.engine after) (like.held after) left written
+  -- whatever comes of an engine, some bytes that the engine of the definition reads lead there
+  does_by : (does : Does E) → AllMove policies.may like.engine like.held does
+      → (o : Option E) (te tc : List ℕ) (sh : LikeAt o) (new : LaneOf E)
+      → FollowsWhereRunning (engine_at o sh) (coming_at o sh te) → DoesWhereRunning does (side_by o te tc) o new
       → (n : ℕ)
-      × Leads (λ l. ReadsWhereRunning policies.may (lane_by (Some e) sh te tc) n (Some (like.engine e sh)) l) new
-  moved te tc e sh new after left written lane m =
-      (m.0, moved_by te tc e sh new after left written m.0 m.1 lane m.2 m.3)
-
-  reads_by : (o : Option E) (te tc : List ℕ) (sh : LikeAt o) (count : ℕ) (new : StepsLane E)
-      → FollowsWhereRunning (engine_at o sh) (coming_at o sh te) → StepsReadsBy kind o (side_by o te tc) count new
-      → (n : ℕ) × Leads (λ l. ReadsWhereRunning policies.may (lane_by o sh te tc) n (engine_at o sh) l) new
-  reads_by None te tc sh count new r h = (0, kept (side_by None te tc) new h sh)
-  reads_by (Some e) te tc sh count new r h =
-      moved te tc e sh new h.0 h.1 h.2 h.4 (like.reads e sh count te h.0 h.1 h.2 r h.3)
+      × Leads (λ l. DoesWhereRunning (Reads policies.may n) (lane_by o sh te tc) (engine_at o sh) l) new
+  does_by does moves None te tc sh new r h = (0, kept (side_by None te tc) new h sh)
+  does_by does moves (Some e) te tc sh new r h =
+      let m = moves e sh te h.after h.left h.written r h.done in
+      (m.0, moved_by te tc e sh new h.after h.left h.written m.0 m.1 h.lane m.2 m.3)
 
   -- one line that asks for no choice is read whole
-  line_read_by : (o : Option E) (te tc : List ℕ) (sh : LikeAt o) (count : ℕ) (new : StepsLane E)
+  line_read_by : (o : Option E) (te tc : List ℕ) (sh : LikeAt o) (count : ℕ) (new : LaneOf E)
       → FollowsWhereRunning (engine_at o sh) (coming_at o sh te)
       → OneLineWhereRunning (engine_at o sh) (coming_at o sh te)
-      → 100 ≤ count → StepsReadsBy kind o (side_by o te tc) count new
-      → Leads (λ l. ReadsWhereRunning policies.may (lane_by o sh te tc) count (engine_at o sh) l) new
+      → 100 ≤ count → DoesWhereRunning (kind.reads count) (side_by o te tc) o new
+      → Leads (λ l. DoesWhereRunning (Reads policies.may count) (lane_by o sh te tc) (engine_at o sh) l) new
   line_read_by None te tc sh count new r one most h = kept (side_by None te tc) new h sh
   line_read_by (Some e) te tc sh count new r one most h =
       let x : Engine P = like.engine e sh in
       let all : List ℕ = like.held e sh ++ te in
       let short : length all ≤ count = omega (arith, one.short, most) in
-      let m = like.reads e sh count te h.0 h.1 h.2 r h.3 in
-      let t = like.takes e sh count te h.0 h.1 h.2 r one short h.3 in
+      let m = like.reads count e sh te h.after h.left h.written r h.done in
+      let t = like.takes e sh count te h.after h.left h.written r one short h.done in
       let none : drop m.0 all ≡ [] =
-      sym m.3 ∙ ap (λ (z : List ℕ). z ++ h.1) (like.none_held h.0 m.1 t.1) ∙ t.0 in
+      sym m.3 ∙ ap (λ (z : List ℕ). z ++ h.left) (like.none_held h.after m.1 t.1) ∙ t.0 in
       let whole : take m.0 all ≡ all =
       sym (append-nil (take m.0 all)) ∙ ap (λ (z : List ℕ). take m.0 all ++ z) (sym none) ∙ take-append-drop m.0 all in
-      moved_by te tc e sh new h.0 h.1 h.2 count m.1 h.4
-      (subst (λ (z : List ℕ). Engages policies.may x z (like.engine h.0 m.1) h.2)
+      moved_by te tc e sh new h.after h.left h.written count m.1 h.lane
+      (subst (λ (z : List ℕ). Engages policies.may x z (like.engine h.after m.1) h.written)
       (whole ∙ sym (take_all count all short)) m.2)
       (m.3 ∙ none ∙ sym (drop_all count all short))
 
-  calls_by : (o : Option E) (te tc : List ℕ) (sh : LikeAt o) (call : Call) (new : StepsLane E)
-      → FollowsWhereRunning (engine_at o sh) (coming_at o sh te) → StepsCallsBy kind o (side_by o te tc) call new
-      → (n : ℕ) × Leads (λ l. ReadsWhereRunning policies.may (lane_by o sh te tc) n (engine_at o sh) l) new
-  calls_by None te tc sh call new r h = (0, kept (side_by None te tc) new h sh)
-  calls_by (Some e) te tc sh call new r h =
-      moved te tc e sh new h.0 te h.1 h.3 (like.calls e sh call te h.0 h.1 r h.2)
-
   where_up : (up : Option EngineRun) (o : Option E) (te tc : List ℕ) (sh : LikeAt o)
-      → Leads (λ l. l ≡ lane_where_up up (lane_by o sh te tc)) (steps_lane_where_up up (side_by o te tc))
+      → Leads (λ l. l ≡ lane_where_up up (lane_by o sh te tc)) (lane_where_up up (side_by o te tc))
   where_up None o te tc sh = (tt, refl)
   where_up (Some u) o te tc sh = (sh, refl)
 
-  hears : (side : Colour) (before : Controller) (up : Option EngineRun) (old : StepsLane E) (sh : LikeAt old.engine)
-      (count : ℕ) (after : Controller) (new : StepsLane E) → StepsHearsWhereUp side before up old count after new
+  hears : (side : Colour) (before : Controller) (up : Option EngineRun) (old : LaneOf E) (sh : LikeAt old.engine)
+      (count : ℕ) (after : Controller) (new : LaneOf E) → HearsWhereUp side before up old count after new
       → Leads (λ l. HearsWhereUp side before up (lane_like old sh) count after l) new
   hears side before None old sh count after new h = stays before after old new sh h.0 h.1
   hears side before (Some u) old sh count after new h =
-      subst (λ (s : StepsLane E). Leads (λ l. HearsWhereUp side before (Some u) (lane_like old sh) count after l) s)
-      (sym h.2)
+      subst (λ (s : LaneOf E). Leads (λ l. HearsWhereUp side before (Some u) (lane_like old sh) count after l) s)
+      (sym h.lane)
       (let w =
       where_up (side_of after.sides side).up old.engine old.to_engine (drop count old.to_controller) sh in
-      (w.0, record { fault = h.0; hears = h.1; lane = w.1 }))
+      (w.0, record { fault = h.fault; hears = h.hears; lane = w.1 }))
 
-  fails : (side : Colour) (before : Controller) (up : Option EngineRun) (old : StepsLane E) (sh : LikeAt old.engine)
-      (after : Controller) (new : StepsLane E) → StepsFailsWhereUp side before up old after new
+  fails : (side : Colour) (before : Controller) (up : Option EngineRun) (old : LaneOf E) (sh : LikeAt old.engine)
+      (after : Controller) (new : LaneOf E) → FailsWhereUp side before up old after new
       → Leads (λ l. FailsWhereUp side before up (lane_like old sh) after l) new
   fails side before None old sh after new h = stays before after old new sh h.0 h.1
   fails side before (Some u) old sh after new h =
-      subst (λ (s : StepsLane E). Leads (λ l. FailsWhereUp side before (Some u) (lane_like old sh) after l) s) (sym h.1)
+      subst (λ (s : LaneOf E). Leads (λ l. FailsWhereUp side before (Some u) (lane_like old sh) after l) s) (sym h.1)
       (tt, (h.0, refl))
 
   crash_by : (o : Option E) (te tc : List ℕ) (sh : LikeAt o) (count : ℕ)
-      → Leads (λ l. l ≡ crashed_lane (lane_by o sh te tc) count) (crashed_steps_lane (side_by o te tc) count)
+      → Leads (λ l. l ≡ crashed_lane (lane_by o sh te tc) count) (crashed_lane (side_by o te tc) count)
   crash_by None te tc sh count = (sh, refl)
   crash_by (Some e) te tc sh count = (tt, refl)
 
-  crashes : (old new : StepsLane E) (sh : LikeAt old.engine) (count : ℕ) → new ≡ crashed_steps_lane old count
+  crashes : (old new : LaneOf E) (sh : LikeAt old.engine) (count : ℕ) → new ≡ crashed_lane old count
       → Leads (λ l. l ≡ crashed_lane (lane_like old sh) count) new
   crashes old new sh count e =
-      subst (λ (s : StepsLane E). Leads (λ l. l ≡ crashed_lane (lane_like old sh) count) s) (sym e)
+      subst (λ (s : LaneOf E). Leads (λ l. l ≡ crashed_lane (lane_like old sh) count) s) (sym e)
       (crash_by old.engine old.to_engine old.to_controller sh count)
 
   -- ---- one event at its side
 
-  module _ (side : Colour) (before after : Controller) (old new : StepsLane E) (sh : LikeAt old.engine) where
-    acts : (a : Action) → StepsActs kind side a before old after new
-        → Leads (λ l. SideActs policies side a before (lane_like old sh) after l) new
+  module _ (side : Colour) (before after : Controller) (old new : LaneOf E) (sh : LikeAt old.engine) where
+    acts : (a : Action) → SideActs kind side a before old after new
+        → Leads (λ l. SideActs (sessions policies) side a before (lane_like old sh) after l) new
     acts (Start own) h = starts side before after new h
     acts (Send own) h = sends side before after old new sh h
     acts (Wait own) h = stays before after old new sh h.0 h.1
     acts (Done verdict) h = stays before after old new sh h.0 h.1
 
-    breaks : (a : Action) → StepsBreaksOff kind side a before old after new
-        → Leads (λ l. SideBreaksOff policies side a before (lane_like old sh) after l) new
+    breaks : (a : Action) → SideBreaksOff kind side a before old after new
+        → Leads (λ l. SideBreaksOff (sessions policies) side a before (lane_like old sh) after l) new
     breaks (Send own) h =
-        subst (λ (s : StepsLane E).
-        Leads (λ l. SideBreaksOff policies side (Send own) before (lane_like old sh) after l) s) (sym h.1)
+        subst (λ (s : LaneOf E).
+        Leads (λ l. SideBreaksOff (sessions policies) side (Send own) before (lane_like old sh) after l) s) (sym h.1)
         (tt, (h.0, refl))
     breaks (Start own) h = stays before after old new sh h.0 h.1
     breaks (Wait own) h = stays before after old new sh h.0 h.1
@@ -241,8 +222,8 @@ module _ {E P : Type 0} {kind : Kind E} {policies : SidePolicies P} (like : Like
 
     -- An event but that of bytes to an engine leads to where the same event of the definition leads.
     pub same_event : (e : Event) → ((own : Colour) (count : ℕ) → e ≡ ToEngine own count → ⊥)
-        → StepsSideHappens kind side (StepsEvent.happens e) before old after new
-        → Leads (λ l. SideHappens policies side e before (lane_like old sh) after l) new
+        → SideHappens kind side e before old after new
+        → Leads (λ l. SideHappens (sessions policies) side e before (lane_like old sh) after l) new
     same_event Act other h = acts (next before) h
     same_event (BrokenWrite count) other h = breaks (next before) h
     same_event (ToEngine own count) other h = absurd (other own count refl)
@@ -255,33 +236,35 @@ module _ {E P : Type 0} {kind : Kind E} {policies : SidePolicies P} (like : Like
     pub line_delivered : (own : Colour)
         → FollowsWhereRunning (engine_at old.engine sh) (coming_at old.engine sh old.to_engine)
         → OneLineWhereRunning (engine_at old.engine sh) (coming_at old.engine sh old.to_engine)
-        → StepsSideHappens kind side (StepsEvent.happens (ToEngine own 100)) before old after new
-        → Leads (λ l. SideHappens policies side (ToEngine own 100) before (lane_like old sh) after l) new
+        → SideHappens kind side (ToEngine own 100) before old after new
+        → Leads (λ l. SideHappens (sessions policies) side (ToEngine own 100) before (lane_like old sh) after l) new
     line_delivered own r one h =
         let l = line_read_by old.engine old.to_engine old.to_controller sh 100 new r one (omega arith) h.1 in
         (l.0, (h.0, l.1))
 
     -- An event leads to where some event of the definition at the same side leads.
-    abbrev pub SomeEvent : StepsEvent → Type 0
-    SomeEvent e = (defined : Event) × (side_of_event before defined ≡ side_of_steps_event before e)
-        × Leads (λ l. SideHappens policies side defined before (lane_like old sh) after l) new
+    abbrev pub SomeEvent : EventOrCall → Type 0
+    SomeEvent e = (defined : Event) × (side_of_event before defined ≡ side_of_any before e)
+        × Leads (λ l. SideHappens (sessions policies) side defined before (lane_like old sh) after l) new
 
-    pub some_event : (e : StepsEvent)
+    pub some_event : (e : EventOrCall)
         → FollowsWhereRunning (engine_at old.engine sh) (coming_at old.engine sh old.to_engine)
-        → StepsSideHappens kind side e before old after new → SomeEvent e
-    some_event (StepsEvent.happens Act) r h = (Act, refl, same_event Act (λ own count e. cc) h)
-    some_event (StepsEvent.happens (BrokenWrite count)) r h =
+        → AnyHappens kind side e before old after new → SomeEvent e
+    some_event (EventOrCall.happens Act) r h = (Act, refl, same_event Act (λ own count e. cc) h)
+    some_event (EventOrCall.happens (BrokenWrite count)) r h =
         (BrokenWrite count, refl, same_event (BrokenWrite count) (λ own count e. cc) h)
-    some_event (StepsEvent.happens (ToEngine own count)) r h =
-        let l = reads_by old.engine old.to_engine old.to_controller sh count new r h.1 in
+    some_event (EventOrCall.happens (ToEngine own count)) r h =
+        let l =
+        does_by (kind.reads count) (like.reads count) old.engine old.to_engine old.to_controller sh new r h.1 in
         (ToEngine own l.0, refl, (l.1.0, (h.0, l.1.1)))
-    some_event (StepsEvent.happens (ToController own count)) r h =
+    some_event (EventOrCall.happens (ToController own count)) r h =
         (ToController own count, refl, same_event (ToController own count) (λ own count e. cc) h)
-    some_event (StepsEvent.happens (Crash own count)) r h =
+    some_event (EventOrCall.happens (Crash own count)) r h =
         (Crash own count, refl, same_event (Crash own count) (λ own count e. cc) h)
-    some_event (StepsEvent.happens (End own)) r h = (End own, refl, same_event (End own) (λ own count e. cc) h)
-    some_event (StepsEvent.calls own call) r h =
-        let l = calls_by old.engine old.to_engine old.to_controller sh call new r h.1 in
+    some_event (EventOrCall.happens (End own)) r h = (End own, refl, same_event (End own) (λ own count e. cc) h)
+    some_event (EventOrCall.calls own call) r h =
+        let l =
+        does_by (kind.calls call) (like.calls call) old.engine old.to_engine old.to_controller sh new r h.1 in
         (ToEngine own l.0, refl, (l.1.0, (h.0, l.1.1)))
 
   -- ---- what is seen of it
@@ -310,7 +293,7 @@ module _ {E P : Type 0} {kind : Kind E} {policies : SidePolicies P} (like : Like
       subst (λ (g : E). IsEngineLike kind g x (like.held e z)) one
       (subst (λ (y : Engine P). IsEngineLike kind e y (like.held e z)) other (engine_like e z te follows))
 
-  pub is_like : (s : StepsLane E) (sh : LikeAt s.engine)
+  pub is_like : (s : LaneOf E) (sh : LikeAt s.engine)
       → FollowsWhereRunning (engine_at s.engine sh) (coming_at s.engine sh s.to_engine)
       → IsLike kind s (lane_like s sh)
   is_like s sh follows = by_engine s.engine s.to_engine s.to_controller sh follows

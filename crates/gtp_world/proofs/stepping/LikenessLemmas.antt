@@ -12,7 +12,7 @@ use Rattle.gtp_session.proofs.engines.Replying.{Replies-nothing}
 use Rattle.gtp_session.specs.Policy.{May}
 use Rattle.gtp_session.specs.Engine.{Engine, Replies, Engages, fresh_under}
 use Rattle.gtp_session.specs.StepsRuns.{IsTablesLine}
-use Rattle.gtp_world.specs.Lane.{SidePolicies}
+use Rattle.gtp_world.specs.Lane.{SidePolicies, Does}
 use Rattle.gtp_world.specs.Kinds.{Call, Kind, NothingComes, sessions}
 use Rattle.gtp_world.proofs.settling.RoundLemmas.{IsOneLine}
 
@@ -37,6 +37,14 @@ pub still : {P S : Type 0} (may : May P) (x : Engine P) (coming : List ℕ) (eng
 still may x coming engine held sh left written unread e h w =
     (0, sh, ([], subst (λ (y : Engine _). Replies may x [] y []) (sym e) (Replies-nothing may x unread), w), h)
 
+-- whatever comes of engines of a kind, the engines that they are like come there too
+abbrev pub AllMove : {E P : Type 0} {Like : E → Type 0} → May P → ((e : E) → Like e → Engine P)
+    → ((e : E) → Like e → List ℕ) → Does E → Type 0
+AllMove {E} {P} {Like} may engine held does =
+    (e : E) (sh : Like e) (coming : List ℕ) (e2 : E) (left written : List ℕ)
+    → IsFollowing (engine e sh) (held e sh ++ coming) → does e coming e2 left written
+    → Moves may (engine e sh) (held e sh ++ coming) (engine e2) (held e2) left written
+
 -- How engines of a kind are like engines of the definition: `engine` is the one that it is like, and `held` the text
 -- that this engine has read and that one has not.
 pub record Likeness {E P : Type 0} (kind : Kind E) (policies : SidePolicies P) : Type 1 where
@@ -47,16 +55,12 @@ pub record Likeness {E P : Type 0} (kind : Kind E) (policies : SidePolicies P) :
   pub game : (e : E) (sh : Like e) → (engine e sh).game ≡ kind.game e
   pub begins : (e : E) → kind.begins e
       → (sh : Like e) × (p : P) × policies.made p × (engine e sh ≡ fresh_under policies.rule p) × (held e sh ≡ [])
-  pub reads : (e : E) (sh : Like e) (count : ℕ) (coming : List ℕ) (e2 : E) (left written : List ℕ)
-      → IsFollowing (engine e sh) (held e sh ++ coming) → kind.reads e count coming e2 left written
-      → Moves policies.may (engine e sh) (held e sh ++ coming) (engine e2) (held e2) left written
-  pub calls : (e : E) (sh : Like e) (call : Call) (coming : List ℕ) (e2 : E) (written : List ℕ)
-      → IsFollowing (engine e sh) (held e sh ++ coming) → kind.calls e call e2 written
-      → Moves policies.may (engine e sh) (held e sh ++ coming) (engine e2) (held e2) coming written
+  pub reads : (count : ℕ) → AllMove policies.may engine held (kind.reads count)
+  pub calls : (call : Call) → AllMove policies.may engine held (kind.calls call)
   -- of one line on its way, which asks for no choice, nothing is left, and nothing is waited for
   pub takes : (e : E) (sh : Like e) (count : ℕ) (coming : List ℕ) (e2 : E) (left written : List ℕ)
       → IsFollowing (engine e sh) (held e sh ++ coming) → IsOneLine (engine e sh) (held e sh ++ coming)
-      → length (held e sh ++ coming) ≤ count → kind.reads e count coming e2 left written
+      → length (held e sh ++ coming) ≤ count → kind.reads count e coming e2 left written
       → (left ≡ []) × (kind.wait e2 ≡ wait.Nothing)
   pub idle : (e : E) (sh : Like e) → lines (engine e sh).rest ≡ [] → held e sh ≡ [] → kind.wait e ≡ wait.Nothing
   pub none_held : (e : E) (sh : Like e) → kind.wait e ≡ wait.Nothing → held e sh ≡ []
@@ -74,23 +78,23 @@ pub record Likeness {E P : Type 0} (kind : Kind E) (policies : SidePolicies P) :
 
 -- ---- a session is like itself
 
-session_stays : {P : Type 0} (may : May P) (e : Engine P) (coming : List ℕ) (e2 : Engine P) (written : List ℕ)
-    → IsFollowing e coming → NothingComes e e2 written
-    → Moves {S = Unit {0}} may e coming (λ sh. e2) (λ sh. []) coming written
-session_stays may e coming e2 written r h =
-    still may e coming (λ sh. e2) (λ sh. []) tt coming written r.unread h.0 refl h.1
+pub session_stays : {P : Type 0} (may : May P) (e : Engine P) (coming : List ℕ) (e2 : Engine P) (left written : List ℕ)
+    → IsFollowing e coming → NothingComes e e2 written × (left ≡ coming)
+    → Moves {S = Unit {0}} may e coming (λ sh. e2) (λ sh. []) left written
+session_stays may e coming e2 left written r h =
+    still may e coming (λ sh. e2) (λ sh. []) tt left written r.unread h.0.0 h.1 h.0.1
 
-pub sessions_like : {P : Type 0} (policies : SidePolicies P) → Likeness (sessions policies) policies
+unfoldable pub sessions_like : {P : Type 0} (policies : SidePolicies P) → Likeness (sessions policies) policies
 sessions_like policies = record {
   Like = λ e. Unit {0};
   engine = λ e sh. e;
   held = λ e sh. [];
   rule = refl;
   game = λ e sh. refl;
-  begins = λ e b. (tt, b.0, b.1, b.2, refl);
-  reads = λ e sh count coming e2 left written r h. (count, tt, h.0, h.1);
-  calls = λ e sh call coming e2 written r h. session_stays policies.may e coming e2 written r h;
-  takes = λ e sh count coming e2 left written r one short h. (h.1 ∙ drop_all count coming short, refl);
+  begins = λ e b. (tt, b.policy, b.made, b.engine_is, refl);
+  reads = λ count e sh coming e2 left written r h. (count, tt, h.engages, h.left_is);
+  calls = λ call e sh coming e2 left written r h. session_stays policies.may e coming e2 left written r h;
+  takes = λ e sh count coming e2 left written r one short h. (h.left_is ∙ drop_all count coming short, refl);
   idle = λ e sh unread empty. refl;
   none_held = λ e sh waits. refl;
   own_unread = λ e sh unread. unread;

@@ -1,4 +1,4 @@
--- A world with engines in steps is like a world of the definition, and each of its events like one of that world.
+-- A world with sans-IO engines is like a world of sessions, and each of its events like one of that world.
 use Rattle.std.proofs.Common.{◌≡◌, ◌≢◌, ℕ, true, List, [], ◌∷◌, ◌++◌, map, Option, Some, None, refl, ap, sym}
 use Rattle.std.proofs.Common.{◌∙◌, ◌≤◌, subst, length}
 use Rattle.std.specs.List.{AllByRecursion}
@@ -26,14 +26,12 @@ use Rattle.gtp_world.specs.declared.events.Event.TheVariants.{ToEngine}
 use Rattle.gtp_world.specs.Exchange.{sent_line, CanBeWritten, all_sent_bytes, replayed}
 use Rattle.gtp_world.specs.Joined.{Rules, rule_of, ruled, EngineBody, BareLane, body, body_of, bare, WillRead, IsFair}
 use Rattle.gtp_world.specs.Joined.{WillReadWhereRunning, IsJoinedAtEnd, IsJoinedSide, AreJoined, IsJoined}
-use Rattle.gtp_world.specs.Lane.{SidePolicies}
+use Rattle.gtp_world.specs.Lane.{LaneOf, SidePolicies}
 use Rattle.gtp_world.specs.Laws.{rules_of}
-use Rattle.gtp_world.specs.World.{World, at_side, lane_of, opening, side_of_event, SideHappens, HappensAt, Happens}
-use Rattle.gtp_world.specs.World.{Runs, Reached, Holds, Agrees}
-use Rattle.gtp_world.specs.World.{most_to_engine, most_to_controller}
-use Rattle.gtp_world.specs.Kinds.{Kind}
-use Rattle.gtp_world.specs.StepsWorld.{StepsLane, StepsWorld, StepsEvent, StepsRuns, side_of_steps_event, steps_opening}
-use Rattle.gtp_world.specs.StepsWorld.{steps_lane_of, StepsHappensAt, StepsHappens, kind_at}
+use Rattle.gtp_world.specs.World.{WorldOf, World, at_side, lane_at, lane_of, opening, EventOrCall, side_of_event}
+use Rattle.gtp_world.specs.World.{side_of_any, SideHappens, kind_at, HappensAt, HappensBy, RunsBy, as_one, as_any}
+use Rattle.gtp_world.specs.World.{Happens, Reached, Holds, Agrees, most_to_engine, most_to_controller}
+use Rattle.gtp_world.specs.Kinds.{Kind, sessions}
 use Rattle.gtp_world.specs.StepsLaws.{IsThere, IsAskedThere, StepsAgree, StepsAlwaysAgree, GoesAlong}
 use Rattle.gtp_world.proofs.exchange.ExchangeLemmas.{orders_lines, owes_idle}
 use Rattle.gtp_world.proofs.joined.AgreementLemmas.{settled_of, inv_agrees, same_game, step_parts}
@@ -106,7 +104,7 @@ in_step_idle game (Some u) h = (u, refl, (step_parts u.unanswered u.confirmed (l
 -- ---- one side
 
 module _ {E P : Type 0} {kind : Kind E} {policies : SidePolicies P} (like : Likeness kind policies) (rules : Rules)
-    (c : Controller) (side : Colour) (l : StepsLane E) (lo : BareLane) (sh : LikeAt like l.engine)
+    (c : Controller) (side : Colour) (l : LaneOf E) (lo : BareLane) (sh : LikeAt like l.engine)
     (j : AreJoined rules c side (bare (lane_like like l sh)) lo) where
   pub follows_now : FollowsWhereRunning (engine_at like l.engine sh) (coming_at like l.engine sh l.to_engine)
   follows_now =
@@ -161,50 +159,51 @@ module _ {B W P Q : Type 0} {black : Kind B} {white : Kind W} {policies_black : 
   abbrev pub rules : Rules
   rules = rules_of policies_black policies_white
 
-  abbrev pub LikeBlack : StepsWorld B W → Type 0
+  abbrev pub LikeBlack : WorldOf B W → Type 0
   LikeBlack w = LikeAt like_b w.black.engine
 
-  abbrev pub LikeWhite : StepsWorld B W → Type 0
+  abbrev pub LikeWhite : WorldOf B W → Type 0
   LikeWhite w = LikeAt like_w w.white.engine
 
   -- the world that it is like
-  abbrev pub world_like : (w : StepsWorld B W) → LikeBlack w → LikeWhite w → World P Q
+  abbrev pub world_like : (w : WorldOf B W) → LikeBlack w → LikeWhite w → World P Q
   world_like w x y =
       record { controller = w.controller; black = lane_like like_b w.black x; white = lane_like like_w w.white y }
 
   -- an event of the definition leads to a world that the new one is like
-  abbrev pub LeadsBy : World P Q → Event → StepsWorld B W → Type 0
+  abbrev pub LeadsBy : World P Q → Event → WorldOf B W → Type 0
   LeadsBy v e w2 =
       (x : LikeBlack w2) × (y : LikeWhite w2) × Happens policies_black policies_white v e (world_like w2 x y)
 
-  module _ (w w2 : StepsWorld B W) (x : LikeBlack w) (y : LikeWhite w) where
+  module _ (w w2 : WorldOf B W) (x : LikeBlack w) (y : LikeWhite w) where
     abbrev pub v : World P Q
     v = world_like w x y
 
+    abbrev HappensHere : Option Colour → Event → World P Q → Type 0
+    HappensHere o e new = HappensAt (sessions policies_black) (sessions policies_white) o v (as_one e) new
+
     -- an event of the definition at one side, and the other side stays
     black_leads : (e : Event) → side_of_event w.controller e ≡ Some Black
-        → Leads like_b (λ l. SideHappens policies_black Black e w.controller v.black w2.controller l) w2.black
+        → Leads like_b (λ l. SideHappens (sessions policies_black) Black e w.controller v.black w2.controller l) w2.black
         → w2.white ≡ w.white → LeadsBy v e w2
     black_leads e at l stays =
         let k = kept like_w w.white w2.white stays y in
-        let Leading : Option Colour → Type 0 =
-        λ o. HappensAt policies_black policies_white o v e (world_like w2 l.0 k.0) in
+        let Leading : Option Colour → Type 0 = λ o. HappensHere o e (world_like w2 l.0 k.0) in
         (l.0, k.0, subst Leading (sym at) (l.1, k.1))
 
     white_leads : (e : Event) → side_of_event w.controller e ≡ Some White
-        → Leads like_w (λ l. SideHappens policies_white White e w.controller v.white w2.controller l) w2.white
+        → Leads like_w (λ l. SideHappens (sessions policies_white) White e w.controller v.white w2.controller l) w2.white
         → w2.black ≡ w.black → LeadsBy v e w2
     white_leads e at l stays =
         let k = kept like_b w.black w2.black stays x in
-        let Leading : Option Colour → Type 0 =
-        λ o. HappensAt policies_black policies_white o v e (world_like w2 k.0 l.0) in
+        let Leading : Option Colour → Type 0 = λ o. HappensHere o e (world_like w2 k.0 l.0) in
         (k.0, l.0, subst Leading (sym at) (l.1, k.1))
 
     -- where no side is to act, nothing happens
     none_leads : (e : Event) → side_of_event w.controller e ≡ None → w2 ≡ w → LeadsBy v e w2
     none_leads e at h =
-        subst (λ (u : StepsWorld B W). LeadsBy v e u) (sym h)
-        (x, y, subst (λ (o : Option Colour). HappensAt policies_black policies_white o v e v) (sym at) refl)
+        subst (λ (u : WorldOf B W). LeadsBy v e u) (sym h)
+        (x, y, subst (λ (o : Option Colour). HappensHere o e v) (sym at) refl)
 
     black_follows : IsJoined rules v
         → FollowsWhereRunning (engine_at like_b w.black.engine x) (coming_at like_b w.black.engine x w.black.to_engine)
@@ -216,10 +215,10 @@ module _ {B W P Q : Type 0} {black : Kind B} {white : Kind W} {policies_black : 
         follows_now like_w rules w.controller White w.white (bare v.black) y
         (flipped rules w.controller Black (bare v.black) (bare v.white) j)
 
-    by_side : (o : Option Colour) (e : StepsEvent) → side_of_steps_event w.controller e ≡ o → IsJoined rules v
-        → StepsHappensAt black white o w e w2 → (defined : Event) × LeadsBy v defined w2
-    by_side None (StepsEvent.happens e) at j h = (e, none_leads e at h)
-    by_side None (StepsEvent.calls side call) at j h = absurd (cc at)
+    by_side : (o : Option Colour) (e : EventOrCall) → side_of_any w.controller e ≡ o → IsJoined rules v
+        → HappensAt black white o w e w2 → (defined : Event) × LeadsBy v defined w2
+    by_side None (EventOrCall.happens e) at j h = (e, none_leads e at h)
+    by_side None (EventOrCall.calls side call) at j h = absurd (cc at)
     by_side (Some Black) e at j h =
         let l = some_event like_b Black w.controller w2.controller w.black w2.black x e (black_follows j) h.0 in
         (l.0, black_leads l.0 (l.1 ∙ at) l.2 h.1)
@@ -228,7 +227,7 @@ module _ {B W P Q : Type 0} {black : Kind B} {white : Kind W} {policies_black : 
         (l.0, white_leads l.0 (l.1 ∙ at) l.2 h.1)
 
     same_by_side : (o : Option Colour) (e : Event) → ((own : Colour) (count : ℕ) → e ≡ ToEngine own count → ⊥)
-        → side_of_event w.controller e ≡ o → StepsHappensAt black white o w (StepsEvent.happens e) w2 → LeadsBy v e w2
+        → side_of_event w.controller e ≡ o → HappensAt black white o w (as_one e) w2 → LeadsBy v e w2
     same_by_side None e other at h = none_leads e at h
     same_by_side (Some Black) e other at h =
         black_leads e at (same_event like_b Black w.controller w2.controller w.black w2.black x e other h.0) h.1
@@ -237,13 +236,13 @@ module _ {B W P Q : Type 0} {black : Kind B} {white : Kind W} {policies_black : 
 
     -- an event but that of bytes to an engine leads to where the same event of the definition leads
     pub leads_alike : (e : Event) → ((own : Colour) (count : ℕ) → e ≡ ToEngine own count → ⊥)
-        → StepsHappens black white w (StepsEvent.happens e) w2 → LeadsBy v e w2
+        → HappensBy black white w (as_one e) w2 → LeadsBy v e w2
     leads_alike e other h = same_by_side (side_of_event w.controller e) e other refl h
 
     -- and so does the delivery of one line that asks for no choice
     pub delivery_leads : (side : Colour) → IsJoined rules v
         → OneLineWhereRunning (lane_of v side).engine (lane_of v side).to_engine
-        → StepsHappens black white w (StepsEvent.happens (ToEngine side 100)) w2 → LeadsBy v (ToEngine side 100) w2
+        → HappensBy black white w (as_one (ToEngine side 100)) w2 → LeadsBy v (ToEngine side 100) w2
     delivery_leads Black j one h =
         black_leads (ToEngine Black 100) refl
         (line_delivered like_b Black w.controller w2.controller w.black w2.black x Black (black_follows j) one h.0) h.1
@@ -251,49 +250,50 @@ module _ {B W P Q : Type 0} {black : Kind B} {white : Kind W} {policies_black : 
         white_leads (ToEngine White 100) refl
         (line_delivered like_w White w.controller w2.controller w.white w2.white y White (white_follows j) one h.0) h.1
 
-    pub leads : (e : StepsEvent) → IsJoined rules v → StepsHappens black white w e w2
+    pub leads : (e : EventOrCall) → IsJoined rules v → HappensBy black white w e w2
         → (defined : Event) × LeadsBy v defined w2
-    leads e j h = by_side (side_of_steps_event w.controller e) e refl j h
+    leads e j h = by_side (side_of_any w.controller e) e refl j h
 
   -- the world that it is like is joined, and was reached
-  pub record IsReached (setup : SetupRecord) (w : StepsWorld B W) : Type 0 where
+  pub record IsReached (setup : SetupRecord) (w : WorldOf B W) : Type 0 where
     pub like_black : LikeBlack w
     pub like_white : LikeWhite w
     pub joined : IsJoined rules (world_like w like_black like_white)
     pub reached : Reached policies_black policies_white setup (world_like w like_black like_white)
 
-  pub runs_reach : (setup : SetupRecord) (w : StepsWorld B W) (es : List StepsEvent) (w2 : StepsWorld B W)
-      → StepsRuns black white w es w2 → IsReached setup w → IsReached setup w2
-  runs_reach setup w es w2 StepsRuns.done s = s
-  runs_reach setup w es w2 (StepsRuns.then_ {mid = mid} {event = e} {events = more} h rest) s =
-      let n = leads w mid s.like_black s.like_white e s.joined h in
+  pub runs_reach : {A : Type 0} (as_event : A → EventOrCall) (setup : SetupRecord) (w : WorldOf B W) (es : List A)
+      (w2 : WorldOf B W) → RunsBy black white as_event w es w2 → IsReached setup w → IsReached setup w2
+  runs_reach as_event setup w es w2 RunsBy.done s = s
+  runs_reach as_event setup w es w2 (RunsBy.then_ {mid = mid} {event = e} {events = more} h rest) s =
+      let n = leads w mid s.like_black s.like_white (as_event e) s.joined h in
       let old : World P Q = world_like w s.like_black s.like_white in
       let new : World P Q = world_like mid n.1.0 n.1.1 in
-      runs_reach setup mid more w2 rest (record {
+      runs_reach as_event setup mid more w2 rest (record {
         like_black = n.1.0;
         like_white = n.1.1;
         joined = happens_keeps policies_black policies_white law_b law_w old n.0 new n.1.2 s.joined;
         reached = record {
           events = s.reached.events ++ n.0 ∷ [];
           runs =
-              runs_push policies_black policies_white (opening setup) s.reached.events old n.0 new s.reached.runs n.1.2;
+              runs_push (sessions policies_black) (sessions policies_white) as_one (opening setup) s.reached.events old
+              n.0 new s.reached.runs n.1.2;
         };
       })
 
-  pub all_reached : (setup : SetupRecord) (es : List StepsEvent) (w : StepsWorld B W) → IsSetup setup
-      → StepsRuns black white (steps_opening setup) es w → IsReached setup w
-  all_reached setup es w is runs =
-      runs_reach setup (steps_opening setup) es w runs
+  pub all_reached : {A : Type 0} (as_event : A → EventOrCall) (setup : SetupRecord) (es : List A) (w : WorldOf B W)
+      → IsSetup setup → RunsBy black white as_event (opening setup) es w → IsReached setup w
+  all_reached as_event setup es w is runs =
+      runs_reach as_event setup (opening setup) es w runs
       (record {
         like_black = tt;
         like_white = tt;
         joined = opening_has rules setup is;
-        reached = record { events = []; runs = Runs.done };
+        reached = record { events = []; runs = RunsBy.done };
       })
 
   pub goes_along : GoesAlong black white policies_black policies_white
   goes_along setup es w is runs =
-      let s = all_reached setup es w is runs in (
+      let s = all_reached as_any setup es w is runs in (
         world_like w s.like_black s.like_white,
         s.reached,
         refl,
@@ -301,7 +301,7 @@ module _ {B W P Q : Type 0} {black : Kind B} {white : Kind W} {policies_black : 
         is_like like_w w.white s.like_white (white_follows w w s.like_black s.like_white s.joined),
       )
 
-  pub reached_agrees : (setup : SetupRecord) (w : StepsWorld B W) → IsReached setup w → StepsAgree black white w
+  pub reached_agrees : (setup : SetupRecord) (w : WorldOf B W) → IsReached setup w → StepsAgree black white w
   reached_agrees setup w s = record {
     there = there;
     same = same;
@@ -327,30 +327,30 @@ module _ {B W P Q : Type 0} {black : Kind B} {white : Kind W} {policies_black : 
       turned : AreJoined rules c White (bare at.white) (bare at.black)
       turned = flipped rules c Black (bare at.black) (bare at.white) s.joined
 
-      there : (side : Colour) (engine : at_side B W side) → (steps_lane_of w side).engine ≡ Some engine
+      there : (side : Colour) (engine : at_side B W side) → (lane_at w side).engine ≡ Some engine
           → in_step c side ≡ true → IsThere (kind_at black white side) c.game engine
       there Black = there_now like_b rules c Black w.black (bare at.white) s.like_black s.joined like_b.rule
       there White = there_now like_w rules c White w.white (bare at.black) s.like_white turned like_w.rule
 
-      asked : (side colour : Colour) (engine : at_side B W side) → (steps_lane_of w side).engine ≡ Some engine
+      asked : (side colour : Colour) (engine : at_side B W side) → (lane_at w side).engine ≡ Some engine
           → c.verdict ≡ None → (kind_at black white side).wait engine ≡ wait.Choice colour
           → IsAskedThere (kind_at black white side) c side colour engine
       asked Black = asked_now like_b rules c Black w.black (bare at.white) s.like_black s.joined like_b.rule
       asked White = asked_now like_w rules c White w.white (bare at.black) s.like_white turned like_w.rule
 
       answered : (side : Colour) (engine : at_side B W side) (u : EngineRun)
-          → (steps_lane_of w side).engine ≡ Some engine → (side_of c.sides side).up ≡ Some u → u.unanswered ≡ []
+          → (lane_at w side).engine ≡ Some engine → (side_of c.sides side).up ≡ Some u → u.unanswered ≡ []
           → (kind_at black white side).wait engine ≡ wait.Nothing
       answered Black = idle_now like_b rules c Black w.black (bare at.white) s.like_black s.joined
       answered White = idle_now like_w rules c White w.white (bare at.black) s.like_white turned
 
-      not_other : (side : Colour) (engine : at_side B W side) → (steps_lane_of w side).engine ≡ Some engine
+      not_other : (side : Colour) (engine : at_side B W side) → (lane_at w side).engine ≡ Some engine
           → (kind_at black white side).wait engine ≢ wait.Answer
       not_other Black = not_other_now like_b rules c Black w.black (bare at.white) s.like_black s.joined
       not_other White = not_other_now like_w rules c White w.white (bare at.black) s.like_white turned
 
-      room : (side : Colour) → (length (steps_lane_of w side).to_engine ≤ most_to_engine)
-          × (length (steps_lane_of w side).to_controller ≤ most_to_controller)
+      room : (side : Colour) → (length (lane_at w side).to_engine ≤ most_to_engine)
+          × (length (lane_at w side).to_controller ≤ most_to_controller)
       room Black = (
         fewer_come like_b w.black.engine s.like_black w.black.to_engine most_to_engine (all.room Black).0,
         (all.room Black).1,
@@ -372,4 +372,4 @@ module _ {B W P Q : Type 0} {black : Kind B} {white : Kind W} {policies_black : 
           (subst (λ (g : GameRecord). Holds e.game g) (like_w.game two z.0) h)
 
   pub always_agree : StepsAlwaysAgree black white
-  always_agree setup es w is runs = reached_agrees setup w (all_reached setup es w is runs)
+  always_agree setup es w is runs = reached_agrees setup w (all_reached as_any setup es w is runs)

@@ -1,4 +1,4 @@
-use Rattle.gtp_world.proofs.settling.SettleLemmas.{settles}
+use Rattle.gtp_world.proofs.stepping.CatchUpLemmas.{settles}
 use Rattle.gtp_world.proofs.event_laws.DownLemmas.{starts_are_left}
 use Rattle.gtp_world.proofs.laws.worlds_settle.Goals as goal
 

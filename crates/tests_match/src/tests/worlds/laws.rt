@@ -18,7 +18,6 @@ fn the_laws_hold_of_each_maker() {
     laws::worlds_settle::<Kind, Kind>();
     laws::engines_in_step_are_there::<Kind, Kind>();
     laws::settled_worlds_are_caught_up::<Kind, Kind>();
-    laws::worlds_of_sessions_are_worlds::<Kind, Kind>();
     laws::worlds_of_steps_go_along::<Kind>();
     laws::engines_in_steps_are_there::<Kind>();
     laws::worlds_of_steps_catch_up::<Kind>();

@@ -22,16 +22,16 @@ pub invariant_of-self : goal.invariant_of-self
 invariant_of-self g c =
     let side : side_of_event c.self.inside.controller c.args.event ≡ Some Black =
     sym c.side_of.ensures ∙ c.in-Some-Black.is ∙ ap (λ (s : Colour). Some s) c.in-Some-Black.field-0-is in
-    reached_more _ _ _ c.args.event _ c.self.invariant
-    (black_happens _ _ c.self.inside.controller c.self.inside.black c.self.inside.white c.args.event c.step.new.played
+    reached_more _ _ _ _ c.args.event _ c.self.invariant
+    (black_happens _ _ _ c.self.inside.controller c.self.inside.black c.self.inside.white c.args.event c.step.new.played
     c.step.new.self side c.step.ensures)
 
 pub invariant_of-self-in-Some-White : goal.invariant_of-self-in-Some-White
 invariant_of-self-in-Some-White g c =
     let side : side_of_event c.self.inside.controller c.args.event ≡ Some White =
     sym c.side_of.ensures ∙ c.in-Some-White.is ∙ ap (λ (s : Colour). Some s) c.in-Some-White.field-0-is in
-    reached_more _ _ _ c.args.event _ c.self.invariant
-    (white_happens _ _ c.self.inside.controller c.self.inside.black c.self.inside.white c.args.event
+    reached_more _ _ _ _ c.args.event _ c.self.invariant
+    (white_happens _ _ _ c.self.inside.controller c.self.inside.black c.self.inside.white c.args.event
     c.step-in-Some-White.new.played c.step-in-Some-White.new.self side c.step-in-Some-White.ensures)
 
 pub returns-in-Some-Black : goal.returns-in-Some-Black
@@ -41,7 +41,7 @@ returns-in-Some-Black g c =
     subst (λ (old : MadeWorld _ _ _ _). MadeHappens (policies_by g.B.Made.Policy.may g.B.Maker.may_make)
     (policies_by g.W.Made.Policy.may g.W.Maker.may_make) old c.args.event
     (made_world c.step.new.played c.step.new.self c.self.inside.white)) c.self.view_is
-    (black_happens _ _ c.self.inside.controller c.self.inside.black c.self.inside.white c.args.event c.step.new.played
+    (black_happens _ _ _ c.self.inside.controller c.self.inside.black c.self.inside.white c.args.event c.step.new.played
     c.step.new.self side c.step.ensures)
 
 pub returns-in-Some-White : goal.returns-in-Some-White
@@ -51,5 +51,5 @@ returns-in-Some-White g c =
     subst (λ (old : MadeWorld _ _ _ _). MadeHappens (policies_by g.B.Made.Policy.may g.B.Maker.may_make)
     (policies_by g.W.Made.Policy.may g.W.Maker.may_make) old c.args.event
     (made_world c.step-in-Some-White.new.played c.self.inside.black c.step-in-Some-White.new.self)) c.self.view_is
-    (white_happens _ _ c.self.inside.controller c.self.inside.black c.self.inside.white c.args.event
+    (white_happens _ _ _ c.self.inside.controller c.self.inside.black c.self.inside.white c.args.event
     c.step-in-Some-White.new.played c.step-in-Some-White.new.self side c.step-in-Some-White.ensures)
