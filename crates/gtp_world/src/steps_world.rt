@@ -4,10 +4,11 @@ ghost use Rattle.std.specs.Prelude.{◌≡◌, ◌≢◌, ◌≤◌, length, Mat
 ghost use Rattle.go_board.specs.declared.rules.KoRule.TheVariants.{Simple};
 ghost use Rattle.gtp_session.specs.declared.events.Wait.TheVariants as wait;
 ghost use Rattle.gtp_world.specs.Joined.{IsFair};
-ghost use Rattle.gtp_world.specs.StepsWorlds.{RuledHappens, RuledRuns, RuledReached, event_of, side_lane, engine_at};
+ghost use Rattle.gtp_world.specs.StepsWorlds.{RuledHappens, RuledRuns, RuledReached, event_of, engine_at};
 ghost use Rattle.gtp_world.specs.StepsWorlds.{rules_of_ruled};
 ghost use Rattle.gtp_world.specs.StepsWorlds.{IsThereAtOnce, SameAtOnce, WaitsOnlyUnanswered};
-ghost use Rattle.gtp_world.specs.World.{opening, side_of_any, most_to_engine, most_to_controller};
+ghost use Rattle.gtp_world.specs.World.{opening, side_of_any, to_engine_of, to_controller_of, most_to_engine};
+ghost use Rattle.gtp_world.specs.World.{most_to_controller};
 ghost use Rattle.gtp_world.specs.Worlds.{HoldsInStep};
 
 use crate::seat::Seat;
@@ -146,7 +147,7 @@ impl StepsWorld {
 
     /// The bytes on the way to a side's engine.
     pub fn to_engine(&self, side: Side) -> &[u8]
-        ensures bytes { result.now ≡ (side_lane self.now.world side).to_engine }
+        ensures bytes { result.now ≡ to_engine_of self.now.world side }
         ensures room { length result.now ≤ most_to_engine }
     {
         match side {
@@ -157,7 +158,7 @@ impl StepsWorld {
 
     /// The bytes of a side on the way to the controller.
     pub fn to_controller(&self, side: Side) -> &[u8]
-        ensures bytes { result.now ≡ (side_lane self.now.world side).to_controller }
+        ensures bytes { result.now ≡ to_controller_of self.now.world side }
         ensures room { length result.now ≤ most_to_controller }
     {
         match side {

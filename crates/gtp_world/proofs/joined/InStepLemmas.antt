@@ -1,6 +1,5 @@
 -- A running engine in step is at the controller's game, under its own side's ko rule.
-use Rattle.std.proofs.Common.{◌≡◌, Option, Some, None, true, sym, ◌∙◌, ap}
-use Rattle.std.specs.Prelude.{IfSome, MatchOption}
+use Rattle.std.proofs.Common.{◌≡◌, Some, true, sym, ◌∙◌, ap}
 use Rattle.go_base.specs.Colour.{other}
 use Rattle.go_base.specs.declared.colours.Colour.{Colour}
 use Rattle.go_board.specs.Game.{GameRecord}
@@ -8,7 +7,7 @@ use Rattle.gtp_session.proofs.choosing.Policies.{AllowsLawful}
 use Rattle.gtp_session.specs.Policy.{May}
 use Rattle.gtp_match.specs.Controller.{in_step}
 use Rattle.gtp_world.specs.World.{World, lane_of}
-use Rattle.gtp_world.specs.Worlds.{MadeWorld, policies_by, rules_in, game_at, IsThereInStep}
+use Rattle.gtp_world.specs.Worlds.{policies_by, rules_in, game_at}
 use Rattle.gtp_world.specs.Joined.{Rules, rule_of, ruled, IsJoined, bare, body, body_of}
 use Rattle.gtp_world.specs.WordLaws.{EnginesInStepAreThere}
 use Rattle.gtp_world.proofs.joined.AgreementLemmas.{same_game}
@@ -28,11 +27,3 @@ pub engines_are_there : {M N B W : Type 0} (may_b : May B) (may_w : May W) (made
     → EnginesInStepAreThere (policies_by may_b made_b) (policies_by may_w made_w)
 engines_are_there may_b may_w made_b made_w law_b law_w w s game reached is step =
     there (rules_in w) w.world s game (reached_inv may_b may_w made_b made_w law_b law_w w reached) is step
-
-pub shown_there : {M N B W G : Type 0} (w : MadeWorld M N B W) (s : Colour)
-    → ((game : GameRecord) → game_at w.world s ≡ Some game → IsThereInStep w s game)
-    → (now : G → GameRecord) (r : Option G)
-    → MatchOption r (game_at w.world s ≡ None) (λ g. game_at w.world s ≡ Some (now g))
-    → IfSome r (λ g. IsThereInStep w s (now g))
-shown_there w s there now None m = tt
-shown_there w s there now (Some g) m = there (now g) m

@@ -1,6 +1,5 @@
 -- What is shown of a world of sans-IO engines.
-use Rattle.std.proofs.Common.{◌≡◌, ◌≢◌, Option, Some, None}
-use Rattle.std.specs.Prelude.{MatchOption, IfSome}
+use Rattle.std.proofs.Common.{◌≡◌, ◌≢◌, Some}
 use Rattle.go_base.specs.declared.colours.Colour.{Colour}
 use Rattle.go_base.specs.declared.colours.Colour.TheVariants.{Black, White}
 use Rattle.gtp_session.specs.declared.events.Wait.TheVariants as wait
@@ -12,13 +11,6 @@ use Rattle.gtp_world.specs.StepsWorlds.{WaitsOnlyUnanswered}
 use Rattle.gtp_world.proofs.joined.AgreementLemmas.{holds_ruled, holds_both}
 use Rattle.gtp_world.proofs.joined.ReachedLemmas.{both_steps}
 use Rattle.gtp_world.proofs.ruled.RuledLemmas.{ruled_agrees}
-
--- what holds of each running engine of a side holds of the one that is shown
-pub shown_of : {G : Type 0} (Shows : StepsState → Type 0) (engine : Option StepsState)
-    → ((e : StepsState) → engine ≡ Some e → Shows e) → (now : G → StepsState) (r : Option G)
-    → MatchOption r (engine ≡ None) (λ g. engine ≡ Some (now g)) → IfSome r (λ g. Shows (now g))
-shown_of Shows engine shows now None m = tt
-shown_of Shows engine shows now (Some g) m = shows (now g) m
 
 module _ (w : RuledWorld) (r : RuledReached w) where
   pub is_there : (s : Colour) (e : StepsState) → engine_at w.world s ≡ Some e → IsThereAtOnce w s e

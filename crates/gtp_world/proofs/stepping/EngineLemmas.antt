@@ -1,9 +1,9 @@
 -- An engine in steps is like an engine of the definition, for which the line that waits is still on its way.
-use Rattle.std.proofs.Common.{◌≡◌, ◌≢◌, ℕ, zero, suc, ◌≤◌, true, false, List, [], ◌∷◌, ◌++◌, length, take, drop}
+use Rattle.std.proofs.Common.{◌≡◌, ◌≢◌, ℕ, ◌≤◌, true, false, List, [], ◌∷◌, ◌++◌, length, take, drop}
 use Rattle.std.proofs.Common.{Option, Some, None, refl, ap, sym, ◌∙◌, subst, arith, inl, inr}
 use Rattle.std.specs.List.{AllByRecursion}
 use Rattle.std.specs.Prelude.{Bool}
-use Rattle.std.proofs.lemmas.List.{append-nil, take-append-drop, take_all}
+use Rattle.std.proofs.lemmas.List.{append-nil, take-append-drop, take-take, take_all, take_at, drop_at, length-take}
 use Rattle.go_base.specs.declared.colours.Colour.{Colour}
 use Rattle.go_base.specs.declared.choices.Choice.{Choice}
 use Rattle.go_base.specs.declared.choices.Choice.TheVariants.{Resign}
@@ -79,20 +79,6 @@ same_engine s w e sh coming s2 left written unread same l wr =
     (still any_lawful x te (engine_by s w) (text_by s w) sh left written unread refl
     (ap (λ (t : List ℕ). text_by s w sh ++ t) l) wr))
 
-take_front : (m k : ℕ) (xs : List ℕ) → m ≤ length (take k xs) → take m (take k xs) ≡ take m xs
-take_front zero k xs h = refl
-take_front (suc m) zero xs h = absurd (omega arith)
-take_front (suc m) (suc k) [] h = refl
-take_front (suc m) (suc k) (x ∷ xs) h = ap (λ (t : List ℕ). x ∷ t) (take_front m k xs (omega arith))
-
-take_whole : (xs ys : List ℕ) → take (length xs) (xs ++ ys) ≡ xs
-take_whole [] ys = refl
-take_whole (x ∷ xs) ys = ap (λ (t : List ℕ). x ∷ t) (take_whole xs ys)
-
-drop_whole : (xs ys : List ℕ) → drop (length xs) (xs ++ ys) ≡ ys
-drop_whole [] ys = refl
-drop_whole (x ∷ xs) ys = drop_whole xs ys
-
 -- its last reply, and whether it is that of a `genmove` that succeeded
 abbrev last_reply : StepsState → Bool → WrittenReply
 last_reply s genmove = record { text = s.reply; genmove = genmove }
@@ -114,7 +100,7 @@ one_reply x y line choice coming n text s2 genmove going t finds step = (
 module _ (s : StepsState) (is : IsOpen s) (coming : List ℕ) (follows : IsFollowing (as_engine s s.rest) coming)
     (count used : ℕ) (within : used ≤ length (take count coming)) where
   front_is : take used coming ≡ take used (take count coming)
-  front_is = sym (take_front used count coming within)
+  front_is = sym (take-take used count coming (omega (arith, within, length-take count coming)))
 
   cut_is : take used (take count coming) ++ drop used coming ≡ coming
   cut_is = ap (λ (t : List ℕ). t ++ drop used coming) (sym front_is) ∙ take-append-drop used coming
@@ -251,8 +237,8 @@ chosen s colour sh choice coming going asks lawful =
       length sh.text,
       tt,
       one_reply (as_engine s sh.before) (as_engine s2 s.rest) s.line choice (sh.text ++ coming) (length sh.text) sh.text
-          s2 true going (take_whole sh.text coming) finds step,
-      sym (drop_whole sh.text coming),
+          s2 true going (take_at sh.text coming (length sh.text) refl) finds step,
+      sym (drop_at sh.text coming (length sh.text) refl),
     )
 
 same_colour : (c d : Colour) → wait.Choice c ≡ wait.Choice d → Some c ≡ Some d

@@ -1,6 +1,6 @@
 -- One side of a world of engines of a kind is like a lane of the definition, and what happens there like what happens
 -- at that lane.
-use Rattle.std.proofs.Common.{◌≡◌, ℕ, List, [], ◌∷◌, ◌++◌, take, drop, Option, Some, None, refl, ap, sym, ◌∙◌, ◌≤◌}
+use Rattle.std.proofs.Common.{◌≡◌, ℕ, List, [], ◌++◌, take, drop, Option, Some, None, refl, ap, sym, ◌∙◌, ◌≤◌}
 use Rattle.std.proofs.Common.{subst, append_assoc, length, length-append, arith}
 use Rattle.std.proofs.lemmas.List.{append-nil, take-append-drop, take_all, drop_all}
 use Rattle.go_base.specs.declared.colours.Colour.{Colour}
@@ -20,6 +20,7 @@ use Rattle.gtp_world.specs.World.{Starts, Sends, lane_with_next, lane_where_up, 
 use Rattle.gtp_world.specs.World.{side_of_event, side_of_any, SideActs, SideBreaksOff, SideHappens, AnyHappens}
 use Rattle.gtp_world.specs.Kinds.{Kind, Reads, sessions}
 use Rattle.gtp_world.specs.StepsLaws.{IsEngineLike, IsLike}
+use Rattle.gtp_world.proofs.settling.IdleLemmas.{empty_left}
 use Rattle.gtp_world.proofs.settling.RoundLemmas.{IsOneLine}
 use Rattle.gtp_world.proofs.stepping.LikenessLemmas.{IsFollowing, AllMove, Likeness}
 
@@ -327,10 +328,6 @@ module _ {E P : Type 0} {kind : Kind E} {policies : SidePolicies P} (like : Like
       subst (λ (q : Option E). (y : LikeAt q) → (z : like.Like e) × (engine_at q y ≡ Some (like.engine e z))
       × (coming_at q y te ≡ like.held e z ++ te)) (sym is) (λ z. (z, refl, refl)) sh
 
-  first_empty : (xs ys : List ℕ) → xs ++ ys ≡ [] → xs ≡ []
-  first_empty [] ys e = refl
-  first_empty (x ∷ xs) ys e = absurd (cc e)
-
   -- where nothing is on its way to that engine, this one waits for nothing
   pub shown_idle : (o : Option E) (sh : LikeAt o) (te : List ℕ) (e : E) → o ≡ Some e
       → FollowsWhereRunning (engine_at o sh) (coming_at o sh te) → coming_at o sh te ≡ [] → kind.wait e ≡ wait.Nothing
@@ -338,7 +335,7 @@ module _ {E P : Type 0} {kind : Kind E} {policies : SidePolicies P} (like : Like
       let z = shown o sh te e is in
       let r : IsFollowing (like.engine e z.0) (coming_at o sh te) =
       subst (λ (q : Option (Engine P)). FollowsWhereRunning q (coming_at o sh te)) z.1 follows in
-      like.idle e z.0 r.unread (first_empty (like.held e z.0) te (sym z.2 ∙ none))
+      like.idle e z.0 r.unread (empty_left (like.held e z.0) te (sym z.2 ∙ none))
 
   pub fewer_come : (o : Option E) (sh : LikeAt o) (te : List ℕ) (n : ℕ) → length (coming_at o sh te) ≤ n
       → length te ≤ n

@@ -38,6 +38,7 @@ use Rattle.gtp_world.proofs.joined.AgreementLemmas.{settled_of, inv_agrees, same
 use Rattle.gtp_world.proofs.joined.EventLemmas.{opening_has, happens_keeps}
 use Rattle.gtp_world.proofs.joined.JoinedLemmas.{flipped}
 use Rattle.gtp_world.proofs.joined.ReachedLemmas.{runs_push}
+use Rattle.gtp_world.proofs.settling.IdleLemmas.{empty_right}
 use Rattle.gtp_world.proofs.stepping.AskedLemmas.{asked_in_turn}
 use Rattle.gtp_world.proofs.stepping.LikenessLemmas.{IsFollowing, Likeness}
 use Rattle.gtp_world.proofs.stepping.LaneLemmas.{FollowsWhereRunning, LikeAt, engine_at, coming_at, lane_like}
@@ -77,10 +78,6 @@ follows_where game v (Some u) (Some x) te tc h =
     settled_of game v u (record { engine = Some (body x); to_engine = te; to_controller = tc }) h in
     follows_by x te j.ahead j.waiting j.fit j.runs
 
-last_empty : (xs ys : List ℕ) → xs ++ ys ≡ [] → ys ≡ []
-last_empty [] ys e = e
-last_empty (x ∷ xs) ys e = absurd (cc e)
-
 -- where a side has answered all that it was sent, nothing is on its way to its engine
 nothing_comes : (game : GameRecord) (v : Option Verdict) (up : Option EngineRun) (u : EngineRun) (b : EngineBody)
     (l : BareLane) → up ≡ Some u → IsJoinedSide game v up l → u.unanswered ≡ [] → l.engine ≡ Some b → l.to_engine ≡ []
@@ -93,7 +90,7 @@ nothing_comes game v up u b l up_is h idle runs =
     let now =
     owes_idle (replayed game u.confirmed) u.unanswered settled.replies settled.waiting settled.ahead idle
     settled.owes in
-    last_empty reading.begun l.to_engine (reading.arriving ∙ ap all_sent_bytes now.0)
+    empty_right reading.begun l.to_engine (reading.arriving ∙ ap all_sent_bytes now.0)
 
 -- a side in step has answered all
 in_step_idle : (game : GameRecord) (up : Option EngineRun) → engine_in_step game up ≡ true

@@ -2,7 +2,8 @@ use Rattle.gtp_session.specs.declared.events.Wait.TheVariants as wait
 use Rattle.std.specs.Prelude.{◌≢◌}
 use Rattle.gtp_world.specs.Worlds.{HoldsInStep}
 use Rattle.gtp_world.specs.StepsWorlds.{engine_at, IsThereAtOnce, SameAtOnce, WaitsOnlyUnanswered}
-use Rattle.gtp_world.proofs.ruled.ShownLemmas.{shown_of, is_there, is_holding, is_same, is_answered, is_no_own}
+use Rattle.gtp_world.proofs.joined.ReachedLemmas.{shown_of}
+use Rattle.gtp_world.proofs.ruled.ShownLemmas.{is_there, is_holding, is_same, is_answered, is_no_own}
 use Rattle.gtp_world.proofs.steps_world.StepsWorld.running.Goals as goal
 
 pub returns-clause-there : goal.returns-clause-there
