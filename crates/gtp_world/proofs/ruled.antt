@@ -1,4 +1,4 @@
--- Worlds in which the engines of both sides are in steps, as the program keeps them.
+-- Worlds in which the engines of both sides are sans-IO, as the program keeps them.
 pub mod FeedLemmas
 pub mod RuledLemmas
 pub mod ShownLemmas

@@ -1,4 +1,4 @@
--- Worlds of engines in steps go where worlds of the definition go.
+-- Worlds of sans-IO engines go where worlds of sessions go.
 pub mod AskedLemmas
 pub mod CatchUpLemmas
 pub mod EngineLemmas

@@ -51,7 +51,7 @@ reply_with_id id given = reply_of_answer (Some id) given
 
 -- ---- answers
 
--- At the game before an engine answers the command as is given and goes on with the game after it: for some choice,
+-- At the game before an engine answers the command as is given and continues with the game after it: for some choice,
 -- which is lawful where its policy is asked for one.
 pub record Answered (before : GameRecord) (sent : SentCommand) (given : Reply) (after : GameRecord) : Type 0 where
   pub choice : Choice

@@ -33,7 +33,7 @@ abbrev pub script_left : GameRecord → Option EngineRun → List Command
 script_left game None = script game
 script_left game (Some engine) = drop (engine.confirmed + length engine.unanswered) (script game)
 
--- a round of a side: a command goes out, the engine reads and answers it, and the answer is heard
+-- a round of a side: a command is sent, the engine reads and answers it, and the answer is heard
 abbrev pub round : Colour → List Event
 round side = Act ∷ ToEngine side 100 ∷ ToController side 100 ∷ []
 

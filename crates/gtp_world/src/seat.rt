@@ -77,7 +77,7 @@ impl<E: Engines> Seat<E> {
         ensures sends { Sends side played.old self.old.lane played.new self.new.lane }
     {
         let text = played.send(side);
-        self.lane.hand(text.as_slice());
+        self.lane.write(text.as_slice());
     }
 
     /// Does what the controller must do next at the side.
@@ -148,7 +148,7 @@ impl<E: Engines> Seat<E> {
     {
         match event {
             Event::Act => self.act(played, side),
-            // The side goes down and loses its engine, so it doesn't matter how many bytes went out.
+            // The side goes down and loses its engine, so it doesn't matter how many bytes were written.
             Event::BrokenWrite(_) => self.break_off(played, side),
             Event::ToEngine(_, count) => self.lane.feed(&self.engines, count),
             Event::ToController(_, count) => self.hear(played, side, count),

@@ -95,14 +95,14 @@ script_may game is n (o ∷ os) plan = (
         nothing_left (x ∷ xs) p =
             absurd (omega (arith, slice_get_within (script game) (n + 1) x.command p.0, lacks))
 
--- where the answered commands end, the engine has the game that the script has there, and what waits goes on there
+-- where the answered commands end, the engine has the game that the script has there, and what waits continues there
 record WaitsFrom (game : GameRecord) (n : ℕ) (os waiting : List SentCommand) (ahead : GameRecord) : Type 0 where
   m : ℕ
   game_is : ahead ≡ replayed game m
   plan : InScript (script game) m waiting
   number : m + length waiting ≡ n + length os
 
--- where the script goes on after the commands that were sent: so the last move isn't among them
+-- where the script continues after the commands that were sent: so the last move isn't among them
 waits_from : (game : GameRecord) → IsGame (without_last game) → (n : ℕ) (os : List SentCommand) (rs : List Reply)
     (waiting : List SentCommand) (ahead : GameRecord) → n + length os < length (script game)
     → InScript (script game) n os

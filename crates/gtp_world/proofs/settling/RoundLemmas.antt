@@ -1,4 +1,4 @@
--- A round of a side: a script command goes out, is read and answered, and its answer is heard. It is confirmed.
+-- A round of a side: a script command is sent, read and answered, and its answer is heard. It is confirmed.
 use Rattle.std.proofs.Common.{◌≡◌, ℕ, ◌+◌, ◌≤◌, true, List, [], ◌∷◌, ◌++◌, length, drop, Option, Some, None, Ok, Err}
 use Rattle.std.proofs.Common.{slice_get, refl, sym, ◌∙◌, ap, subst, arith, length-append, lit≤}
 use Rattle.std.specs.List.{AllByRecursion}

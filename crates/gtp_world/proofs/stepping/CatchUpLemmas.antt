@@ -134,11 +134,11 @@ module _ {B W P Q : Type 0} {black : Kind B} {white : Kind W} {mb : SidePolicies
       → ((u : EngineRun) → up ≡ Some u → Begun mb mw law_b law_w old (seen w x) (seen w x) s)
       → RunsBy black white as_one w (start_of up ++ later) last
       → Goes (λ v. Begun mb mw law_b law_w old (seen w x) v s) later last
-  begins w last x later old s None starts goes_on (RunsBy.then_ {mid = w1} a rest) =
+  begins w last x later old s None starts continues (RunsBy.then_ {mid = w1} a rest) =
       let one : One (seen w x) Act w1 = alike w w1 x Act (λ own count e. cc) a in
       record { world = w1; like = one.like; is = starts (seen w1 one.like) refl one.happens; rest = rest }
-  begins w last x later old s (Some u) starts goes_on rest =
-      record { world = w; like = x; is = goes_on u refl; rest = rest }
+  begins w last x later old s (Some u) starts continues rest =
+      record { world = w; like = x; is = continues u refl; rest = rest }
 
   -- ---- from a reached world in which nothing is going on
 

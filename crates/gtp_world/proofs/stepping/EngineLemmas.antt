@@ -1,4 +1,4 @@
--- An engine in steps is like an engine of the definition, for which the line that waits is still on its way.
+-- A sans-IO engine is like a session, for which the line that waits is still on its way.
 use Rattle.std.proofs.Common.{◌≡◌, ◌≢◌, ℕ, ◌≤◌, true, false, List, [], ◌∷◌, ◌++◌, length, take, drop}
 use Rattle.std.proofs.Common.{Option, Some, None, refl, ap, sym, ◌∙◌, subst, arith, inl, inr}
 use Rattle.std.specs.List.{AllByRecursion}
@@ -33,7 +33,7 @@ use Rattle.gtp_world.specs.StepsLaws.{any_lawful, any_policies}
 use Rattle.gtp_world.proofs.settling.RoundLemmas.{IsOneLine}
 use Rattle.gtp_world.proofs.stepping.LikenessLemmas.{IsFollowing, Moves, still, Likeness}
 
--- ---- an engine in steps is like one whose policy may choose whatever is lawful
+-- ---- a sans-IO engine is like a session whose policy may choose whatever is lawful
 
 -- the line that waits for a choice: the text that it was read from, and what was held before that
 pub record IsHeld (s : StepsState) (colour : Colour) : Type 0 where
