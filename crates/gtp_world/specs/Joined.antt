@@ -24,7 +24,7 @@ use Rattle.gtp_match.specs.Unanswered.{most_unanswered}
 use Rattle.gtp_match.specs.Retakes.{most_retakes, retakes_of}
 use Rattle.gtp_match.specs.Taking.{moved_last, has_all}
 use Rattle.gtp_match.specs.declared.verdicts.ForfeitCause.TheVariants.{RefusedPlay, NoMove, NoVertex, IllegalMove}
-use Rattle.gtp_world.specs.Lane.{Lane}
+use Rattle.gtp_world.specs.Lane.{LaneOf, Lane, empty_lane}
 use Rattle.gtp_world.specs.World.{World}
 use Rattle.gtp_world.specs.Exchange.{CanBeWritten, all_sent_bytes, all_reply_bytes, Owes, AllMayBeSent, replayed}
 
@@ -59,10 +59,8 @@ pub record EngineBody : Type 0 where
 abbrev pub body : {P : Type 0} → Engine P → EngineBody
 body engine = record { rest = engine.rest; game = engine.game; ended = engine.ended }
 
-pub record BareLane : Type 0 where
-  pub engine : Option EngineBody
-  pub to_engine : List ℕ
-  pub to_controller : List ℕ
+abbrev pub BareLane : Type 0
+BareLane = LaneOf EngineBody
 
 abbrev pub body_of : {P : Type 0} → Option (Engine P) → Option EngineBody
 body_of None = None
@@ -73,7 +71,7 @@ bare lane = record { engine = body_of lane.engine; to_engine = lane.to_engine; t
 
 -- no engine, and empty lists
 abbrev pub bare_empty : BareLane
-bare_empty = record { engine = None; to_engine = []; to_controller = [] }
+bare_empty = empty_lane
 
 -- ---- bytes on their way to an engine
 
