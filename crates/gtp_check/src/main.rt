@@ -4,9 +4,9 @@
 use cli::failure::{Failure, PlanError};
 use cli::standard::hold_closed;
 use cli::words::arguments;
+use gtp_check_app::failure::{Mistake, NAME};
 use gtp_check_app::run::run;
 use gtp_check_app::streams::Streams;
-use gtp_check_plan::failure::{Mistake, NAME};
 use gtp_process::SystemStarter;
 use std::io::IsTerminal;
 use std::process::ExitCode;

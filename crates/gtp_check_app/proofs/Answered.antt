@@ -4,16 +4,16 @@ use Rattle.std.proofs.Common.{Option, None}
 use Rattle.std.specs.List.{IsDistinct}
 use Rattle.gtp_process.specs.declared.starter.Process.{Ghosts}
 use Rattle.gtp_process.specs.Starts.{Attempts}
-use Rattle.gtp_check_questions.specs.Lessons.{number_of}
-use Rattle.gtp_check_questions.specs.declared.lessons.Lesson.{Lesson}
-use Rattle.gtp_check_reasons.specs.declared.fault.Fault.{Fault}
-use Rattle.gtp_check_talks.specs.Among.{is_among}
-use Rattle.gtp_check_talks.specs.Dialogues.{Dialogue, IsExchanged, dialogue, wrong_purpose}
-use Rattle.gtp_check_talks.specs.Laws.{AreNotedOnce, IsMoveAnswered, MovesAreNotedOnceAnswered}
-use Rattle.gtp_check_talks.specs.Notes.{nothing_noted, started}
-use Rattle.gtp_check_talks.specs.declared.notes.Notes.{Notes}
-use Rattle.gtp_check_plan.specs.declared.plan.Plan.{Plan}
-use Rattle.gtp_check_summary.specs.declared.summary.Over.{Over}
+use Rattle.gtp_check_course.specs.Lessons.{number_of}
+use Rattle.gtp_check_course.specs.declared.lessons.Lesson.{Lesson}
+use Rattle.gtp_check_talk.specs.declared.fault.Fault.{Fault}
+use Rattle.gtp_check_talk.specs.Among.{is_among}
+use Rattle.gtp_check_talk.specs.Dialogues.{Dialogue, IsExchanged, dialogue, wrong_purpose}
+use Rattle.gtp_check_talk.specs.Laws.{AreNotedOnce, IsMoveAnswered, MovesAreNotedOnceAnswered}
+use Rattle.gtp_check_talk.specs.Notes.{nothing_noted, started}
+use Rattle.gtp_check_talk.specs.declared.notes.Notes.{Notes}
+use Rattle.gtp_check_course.specs.declared.plan.Plan.{Plan}
+use Rattle.gtp_check_texts.specs.declared.summary.Over.{Over}
 use Rattle.gtp_check_app.specs.declared.tally.Tally.{Tally}
 use Rattle.gtp_check_app.specs.RunLaws.{HasAnswered, IsAnsweredIn}
 use Rattle.gtp_check_app.specs.Sequence.{Beginning, Known, Point, Turns, first_point}

@@ -3,9 +3,9 @@ use Rattle.std.proofs.Common.{◌≡◌, Bool, true, false, inl, inr, refl, Resu
 use Rattle.std.specs.Prelude.{IfErr, IfOk, OnOk}
 use Rattle.std.proofs.lemmas.Option.{slice_get_cases}
 use Rattle.gtp_check_judge.specs.declared.exam.Exam.{Exam}
-use Rattle.gtp_check_questions.specs.declared.actions.Action.{Action}
-use Rattle.gtp_check_questions.specs.declared.actions.Action.TheVariants.{Done, Start}
-use Rattle.gtp_check_questions.specs.Course.{Course}
+use Rattle.gtp_check_course.specs.declared.actions.Action.{Action}
+use Rattle.gtp_check_course.specs.declared.actions.Action.TheVariants.{Done, Start}
+use Rattle.gtp_check_course.specs.Course.{Course}
 use Rattle.gtp_check_app.specs.Turns.{IsNext}
 
 up_by : (old : Course) (exam : Exam) (action : Action) (new : Course) → IsNext old exam action new

@@ -6,8 +6,8 @@ use Rattle.go_board.specs.declared.rules.KoRule.{KoRule}
 use Rattle.gtp_process.specs.declared.starter.Process.{Ghosts}
 use Rattle.gtp_process.specs.declared.starter.StartFault.{StartFault}
 use Rattle.gtp_process.specs.Starts.{Attempt, Attempts, Text, Tries, program_line}
-use Rattle.gtp_check_talks.specs.Dialogues.{AsksForMore, Wrong}
-use Rattle.gtp_check_plan.specs.declared.plan.Plan.{Plan}
+use Rattle.gtp_check_talk.specs.Dialogues.{AsksForMore, Wrong}
+use Rattle.gtp_check_course.specs.declared.plan.Plan.{Plan}
 use Rattle.gtp_check_app.specs.RunLaws.{IsAmong, IsGrounded, IsStartedBy, starts_of}
 
 -- one list of attempts begins with another

@@ -7,17 +7,17 @@ use Rattle.cli.specs.Requests.{Outputs, Shows, Writers}
 use Rattle.cli.specs.Status.{done}
 use Rattle.gtp_process.specs.declared.starter.Process.{Ghosts}
 use Rattle.gtp_process.specs.Starts.{Attempts, Text}
-use Rattle.gtp_check_questions.specs.declared.lessons.Lesson.{Lesson}
-use Rattle.gtp_check_reasons.specs.declared.fault.Fault.{Fault}
-use Rattle.gtp_check_talks.specs.Among.{is_among}
-use Rattle.gtp_check_talks.specs.Dialogues.{wrong_purpose}
-use Rattle.gtp_check_plan.specs.declared.plan.Plan.{Plan}
-use Rattle.gtp_check_summary.specs.declared.summary.Over.{Over}
+use Rattle.gtp_check_course.specs.declared.lessons.Lesson.{Lesson}
+use Rattle.gtp_check_talk.specs.declared.fault.Fault.{Fault}
+use Rattle.gtp_check_talk.specs.Among.{is_among}
+use Rattle.gtp_check_talk.specs.Dialogues.{wrong_purpose}
+use Rattle.gtp_check_course.specs.declared.plan.Plan.{Plan}
+use Rattle.gtp_check_texts.specs.declared.summary.Over.{Over}
 use Rattle.gtp_check_app.specs.declared.streams.Streams.{Streams}
 use Rattle.gtp_check_app.specs.declared.tally.Tally.{Tally}
 use Rattle.gtp_check_app.specs.Checks.{AsksForList, HasRun, IsHeld}
 use Rattle.gtp_check_app.specs.Laws.{APassIsEarned, IsPass}
-use Rattle.gtp_check_plan.specs.Options.{AsksForText}
+use Rattle.gtp_check_app.specs.Options.{AsksForText}
 use Rattle.gtp_check_app.specs.RunLaws.{AsksForCheck, HasAnswered, HasComplained, HasEarned, HasNotPassed, HasPassed}
 use Rattle.gtp_check_app.specs.RunLaws.{HasTurn}
 use Rattle.gtp_check_app.specs.RunLaws.{IsOverAt}

@@ -7,20 +7,20 @@ use Rattle.gtp_process.specs.Starts.{Attempts, program_line}
 use Rattle.gtp_check_judge.specs.declared.asking.CheckCommand.{CheckCommand}
 use Rattle.gtp_check_judge.specs.Check.{started}
 use Rattle.gtp_check_judge.specs.Exam.{begun}
-use Rattle.gtp_check_questions.specs.declared.suicides.Suicide.{Suicide}
+use Rattle.gtp_check_course.specs.declared.suicides.Suicide.{Suicide}
 use Rattle.gtp_check_shortening.specs.declared.flat.Shortening.{Shortening}
 use Rattle.gtp_check_shortening.specs.Reduction.{Reduction}
-use Rattle.gtp_check_reasons.specs.declared.fault.Fault.{Fault}
-use Rattle.gtp_check_reasons.specs.declared.fault.Fault.TheVariants.{CutOff, Wrote}
-use Rattle.gtp_check_talks.specs.declared.notes.Notes.{Notes}
-use Rattle.gtp_check_talks.specs.Dialogues.{AsksForMore, Converses, Dialogue, EndsWrong, IsTrial, Spares, SparesToEnd}
-use Rattle.gtp_check_talks.specs.Dialogues.{Wrong}
-use Rattle.gtp_check_talks.specs.Dialogues.{begun_with, wrong_with}
-use Rattle.gtp_check_talks.specs.Laws.{ComplaintsAreJustified, KoRulesStay, LossesAreNoWrongAnswers}
-use Rattle.gtp_check_talks.specs.Laws.{SilenceSaysAllIsRight}
-use Rattle.gtp_check_plan.specs.declared.plan.Plan.{Plan}
+use Rattle.gtp_check_talk.specs.declared.fault.Fault.{Fault}
+use Rattle.gtp_check_talk.specs.declared.fault.Fault.TheVariants.{CutOff, Wrote}
+use Rattle.gtp_check_talk.specs.declared.notes.Notes.{Notes}
+use Rattle.gtp_check_talk.specs.Dialogues.{AsksForMore, Converses, Dialogue, EndsWrong, IsTrial, Spares, SparesToEnd}
+use Rattle.gtp_check_talk.specs.Dialogues.{Wrong}
+use Rattle.gtp_check_talk.specs.Dialogues.{begun_with, wrong_with}
+use Rattle.gtp_check_talk.specs.Laws.{ComplaintsAreJustified, KoRulesStay, LossesAreNoWrongAnswers}
+use Rattle.gtp_check_talk.specs.Laws.{SilenceSaysAllIsRight}
+use Rattle.gtp_check_course.specs.declared.plan.Plan.{Plan}
 use Rattle.gtp_check_app.specs.RunLaws.{EndAlike, IsGrounded, IsShownBy, IsStarted, Starts, starts_of}
-use Rattle.gtp_check_talks.specs.Dialogues.{Standing, Trial}
+use Rattle.gtp_check_talk.specs.Dialogues.{Standing, Trial}
 use Rattle.gtp_check_app.specs.Turns.{standing_in}
 use Rattle.gtp_check_app.specs.Turns.{IsReduced, IsShortened, IsTried, Moment, Reduces, Shortens, State, TriesOne}
 use Rattle.gtp_check_app.specs.Trials.{LastGames, or_else}

@@ -9,16 +9,16 @@ use Rattle.gtp_process.specs.Starts.{Attempts, Tries, program_line}
 use Rattle.gtp_check_judge.specs.declared.exam.Exam.{Exam}
 use Rattle.gtp_check_judge.specs.Check.{after_loss, started, with_exam}
 use Rattle.gtp_check_judge.specs.Exam.{begun}
-use Rattle.gtp_check_questions.specs.Course.{Course}
-use Rattle.gtp_check_reasons.specs.declared.fault.Fault.{Fault}
+use Rattle.gtp_check_course.specs.Course.{Course}
+use Rattle.gtp_check_talk.specs.declared.fault.Fault.{Fault}
 use Rattle.gtp_check_texts.specs.Complaints.{complaint_lines}
-use Rattle.gtp_check_talks.specs.declared.engine.Engine.{Engine}
-use Rattle.gtp_check_talks.specs.declared.notes.Notes.{Notes}
-use Rattle.gtp_check_talks.specs.Notes.{started as noted_start}
-use Rattle.gtp_check_talks.specs.Dialogues.{Converses, Dialogue, EndsSo, IsExchanged, Wrong, begun_with, dialogue}
-use Rattle.gtp_check_plan.specs.declared.plan.Plan.{Plan}
-use Rattle.gtp_check_questions.specs.declared.lessons.Lesson.{Lesson}
-use Rattle.gtp_check_talks.specs.Dialogues.{wrong_purpose}
+use Rattle.gtp_check_talk.specs.declared.engine.Engine.{Engine}
+use Rattle.gtp_check_talk.specs.declared.notes.Notes.{Notes}
+use Rattle.gtp_check_talk.specs.Notes.{started as noted_start}
+use Rattle.gtp_check_talk.specs.Dialogues.{Converses, Dialogue, EndsSo, IsExchanged, Wrong, begun_with, dialogue}
+use Rattle.gtp_check_course.specs.declared.plan.Plan.{Plan}
+use Rattle.gtp_check_course.specs.declared.lessons.Lesson.{Lesson}
+use Rattle.gtp_check_talk.specs.Dialogues.{wrong_purpose}
 use Rattle.gtp_check_app.specs.declared.tally.Tally.{Tally}
 use Rattle.gtp_check_app.specs.Tally.{found, in_lesson, is_shown, started_again, with_hidden, with_known, without_start}
 use Rattle.gtp_check_app.specs.RunLaws.{IsGrounded, IsHeldWith, IsJustComplaint, came_in, complaints_in, fault_in}

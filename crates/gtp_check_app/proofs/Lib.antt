@@ -1,9 +1,12 @@
 mod Answered
+mod CommandLine
+mod CommandWords
 mod Gathering
 mod InStarts
 mod InStatus
 mod InTrials
 mod InTurns
+mod LessonLoops
 mod OverTurns
 mod Passing
 mod Progressing

@@ -1,6 +1,6 @@
 -- The laws of a whole check, from what holds of each turn.
 use Rattle.std.proofs.Common.{None}
-use Rattle.gtp_check_talks.specs.Dialogues.{dialogue}
+use Rattle.gtp_check_talk.specs.Dialogues.{dialogue}
 use Rattle.gtp_check_app.specs.RunLaws.{ComesTo, EachComplaintIsJust, SilentChecksAreRight}
 use Rattle.gtp_check_app.specs.Sequence.{Beginning, Known, Point}
 use Rattle.gtp_check_app.proofs.InTrials.{Laws}

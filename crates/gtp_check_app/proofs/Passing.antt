@@ -6,12 +6,12 @@ use Rattle.std.proofs.Common.{arith, length, drop, min}
 use Rattle.std.specs.Prelude.{◌↔◌}
 use Rattle.std.proofs.lemmas.Bool.{and_parts, and_from, eq-eqb, eqb-true}
 use Rattle.std.proofs.lemmas.List.Sums.{AllPass-from_list_all, list_all-from_AllPass}
-use Rattle.gtp_check_questions.specs.declared.lessons.Lesson.{Lesson}
+use Rattle.gtp_check_course.specs.declared.lessons.Lesson.{Lesson}
 use Rattle.cli.specs.Status.{done}
-use Rattle.gtp_check_plan.specs.declared.plan.Plan.{Plan}
+use Rattle.gtp_check_course.specs.declared.plan.Plan.{Plan}
 use Rattle.gtp_check_app.specs.Checks.{missed_from, status_in}
 use Rattle.gtp_check_app.specs.Laws.{IsPass}
-use Rattle.gtp_check_talks.specs.Among.{is_among}
+use Rattle.gtp_check_talk.specs.Among.{is_among}
 use Rattle.gtp_check_app.specs.Status.{is_earned, not_earned, something_found}
 use Rattle.gtp_check_app.specs.Turns.{State}
 

@@ -3,9 +3,9 @@ use Rattle.std.proofs.Common.{◌≡◌, ◌++◌, ◌∷◌, ◌-◌, ℕ, zero
 use Rattle.std.proofs.Common.{length, slice_get, take}
 use Rattle.std.specs.Prelude.{codes}
 use Rattle.byte_streams.specs.declared.calls.WriteOnce.{Ghosts as WriterGhosts}
-use Rattle.gtp_check_questions.specs.declared.lessons.Lesson.{Lesson}
-use Rattle.gtp_check_shortening.specs.declared.talk.Said.{Said}
-use Rattle.gtp_check_talks.specs.Dialogues.{Dialogue}
+use Rattle.gtp_check_course.specs.declared.lessons.Lesson.{Lesson}
+use Rattle.gtp_check_talk.specs.declared.said.Said.{Said}
+use Rattle.gtp_check_talk.specs.Dialogues.{Dialogue}
 use Rattle.gtp_check_app.specs.Progress.{AreWritten, IsShown, before_read, in_place, is_read_next, most_columns}
 use Rattle.gtp_check_app.specs.Progress.{no_text}
 use Rattle.gtp_check_app.specs.Progress.{text_written, waiting_for}

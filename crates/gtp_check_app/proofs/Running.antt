@@ -11,15 +11,15 @@ use Rattle.cli.specs.Requests.{Answers, IsRefused, Outputs, Shows, Writers, writ
 use Rattle.cli.specs.Status.{IsRequest, done, usage_failure}
 use Rattle.cli.specs.declared.failure.PlanError.{PlanError}
 use Rattle.cli.specs.declared.failure.PlanError.TheVariants.{BadArgument, BadWords, OutOfMemory}
-use Rattle.gtp_check_plan.specs.declared.failure.Mistake.{Mistake}
-use Rattle.gtp_check_plan.specs.declared.options.Options.{Options}
+use Rattle.gtp_check_app.specs.declared.failure.Mistake.{Mistake}
+use Rattle.gtp_check_app.specs.declared.options.Options.{Options}
 use Rattle.gtp_check_app.specs.declared.streams.Streams.{Streams}
 use Rattle.gtp_check_app.specs.Checks.{AsksForList, HasRun, IsHeld, IsHinted, missed_from, outputs_of}
-use Rattle.gtp_check_plan.specs.Options.{AsksFor, HasFault}
-use Rattle.gtp_check_plan.specs.Plans.{HasNoPlan}
+use Rattle.gtp_check_app.specs.Options.{AsksFor, HasFault}
+use Rattle.gtp_check_app.specs.Plans.{HasNoPlan}
 use Rattle.gtp_check_app.specs.Sequence.{Beginning, Known}
 use Rattle.gtp_check_app.specs.Status.{IsStatus, is_earned, not_earned, program_name, something_found}
-use Rattle.gtp_check_plan.specs.Mistakes.{mistake_text}
+use Rattle.gtp_check_app.specs.Mistakes.{mistake_text}
 use Rattle.gtp_check_app.specs.private.Answering.{IsAnswered, Lists}
 
 -- no request for the help or the version is want of memory

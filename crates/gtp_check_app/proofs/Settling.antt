@@ -6,15 +6,15 @@ use Rattle.byte_streams.specs.Writing.{LinesGoOut, line_out, no_line}
 use Rattle.gtp_process.specs.declared.starter.Process.{Ghosts}
 use Rattle.gtp_process.specs.Starts.{Attempts}
 use Rattle.gtp_check_texts.specs.declared.complaint.Complaint.{Complaint}
-use Rattle.gtp_check_reasons.specs.declared.fault.Fault.{Fault}
+use Rattle.gtp_check_talk.specs.declared.fault.Fault.{Fault}
 use Rattle.cli.specs.declared.failure.Failure.{Failure}
 use Rattle.gtp_check_shortening.specs.declared.flat.Shortening.{Shortening}
 use Rattle.gtp_check_judge.specs.declared.asking.CheckCommand.{CheckCommand}
-use Rattle.gtp_check_plan.specs.declared.plan.Plan.{Plan}
-use Rattle.gtp_check_shortening.specs.declared.talk.Purpose.{Purpose}
+use Rattle.gtp_check_course.specs.declared.plan.Plan.{Plan}
+use Rattle.gtp_check_talk.specs.declared.said.Purpose.{Purpose}
 use Rattle.gtp_check_app.specs.declared.tally.Tally.{Tally}
 use Rattle.gtp_check_texts.specs.Complaints.{complaint_lines}
-use Rattle.gtp_check_talks.specs.Dialogues.{IsTrial, Wrong, right, unstarted, wrong, wrong_purpose, wrong_talk}
+use Rattle.gtp_check_talk.specs.Dialogues.{IsTrial, Wrong, right, unstarted, wrong, wrong_purpose, wrong_talk}
 use Rattle.gtp_check_app.specs.Progress.{IsShown, cleared, clearing, looking, looking_line}
 use Rattle.gtp_check_shortening.specs.Shortening.{shortened}
 use Rattle.gtp_check_app.specs.Trials.{LastGames, shortenings_of}
@@ -22,7 +22,7 @@ use Rattle.gtp_check_app.specs.Tally.{found, is_shown}
 use Rattle.gtp_check_app.specs.declared.streams.Streams.{Streams}
 use Rattle.gtp_check_app.specs.Sequence.{Known, Point, StopsIn, first_line_broke, no_memory_for_first_line}
 use Rattle.gtp_check_app.specs.Sequence.{complaint_broke as turn_complaint_broke, no_memory_to_complain, point}
-use Rattle.gtp_check_talks.specs.Dialogues.{Standing, Trial}
+use Rattle.gtp_check_talk.specs.Dialogues.{Standing, Trial}
 use Rattle.gtp_check_app.specs.Turns.{standing_in}
 use Rattle.gtp_check_app.specs.Turns.{Closes, Complains, Exchanges, IsComplaint, IsReduced, IsShortened, IsTried}
 use Rattle.gtp_check_app.specs.Turns.{Moment, Reduces, Shortens, State, TriesOne, caption_of, found_in}

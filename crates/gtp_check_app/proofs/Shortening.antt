@@ -10,13 +10,14 @@ use Rattle.gtp_process.specs.declared.starter.StartFault.TheVariants as start_fa
 use Rattle.gtp_process.specs.Starts.{Attempts, Text, program_line}
 use Rattle.gtp_check_judge.specs.declared.asking.CheckCommand.{CheckCommand}
 use Rattle.gtp_check_shortening.specs.declared.flat.Shortening.{Shortening}
-use Rattle.gtp_check_plan.specs.declared.plan.Plan.{Plan}
-use Rattle.gtp_check_talks.specs.Dialogues.{AsksForMore, IsTrial, Wrong, none, one_more, right, unstarted, wrong}
-use Rattle.gtp_check_talks.specs.Dialogues.{wrong_talk}
-use Rattle.gtp_check_shortening.specs.declared.talk.Said.{Said}
-use Rattle.gtp_check_shortening.specs.Shortening.{commands_of, shortened}
+use Rattle.gtp_check_course.specs.declared.plan.Plan.{Plan}
+use Rattle.gtp_check_talk.specs.Dialogues.{AsksForMore, IsTrial, Wrong, none, one_more, right, unstarted, wrong}
+use Rattle.gtp_check_talk.specs.Dialogues.{wrong_talk}
+use Rattle.gtp_check_talk.specs.declared.said.Said.{Said}
+use Rattle.gtp_check_shortening.specs.Shortening.{shortened}
+use Rattle.gtp_check_talk.specs.Said.{commands_of}
 use Rattle.gtp_check_app.specs.Trials.{LastGames, left_by, shortenings_of}
-use Rattle.gtp_check_talks.specs.Dialogues.{Standing, Trial}
+use Rattle.gtp_check_talk.specs.Dialogues.{Standing, Trial}
 use Rattle.gtp_check_app.specs.Turns.{standing_in}
 use Rattle.gtp_check_app.specs.Turns.{IsReduced, IsShortened, IsTried, Moment, Reduces, Shortens, TriesOne}
 use Rattle.gtp_check_app.specs.Turns.{missed, none_left}

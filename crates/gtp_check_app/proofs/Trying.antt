@@ -5,7 +5,7 @@ use Rattle.std.proofs.Common.{length, take, get_or}
 use Rattle.std.proofs.lemmas.List.{append-nil, length-append, length-take, take-append-le, take_all}
 use Rattle.std.proofs.lemmas.List.Elements.{filter_more}
 use Rattle.gtp_check_shortening.specs.declared.flat.Shortening.{Shortening}
-use Rattle.gtp_check_shortening.specs.declared.talk.Said.{Said}
+use Rattle.gtp_check_talk.specs.declared.said.Said.{Said}
 use Rattle.gtp_check_app.specs.Trials.{is_for, those_for}
 
 -- what is tried of one more

@@ -5,11 +5,11 @@ use Rattle.byte_streams.specs.Writing.{no_line}
 use Rattle.gtp_process.specs.Endings.{IsEnded}
 use Rattle.gtp_process.specs.Quitting.{QuitsIfAny}
 use Rattle.gtp_check_judge.specs.Check.{after_loss}
-use Rattle.gtp_check_questions.specs.declared.actions.Action.TheVariants.{Done, Kill, Restart, Start}
+use Rattle.gtp_check_course.specs.declared.actions.Action.TheVariants.{Done, Kill, Restart, Start}
 use Rattle.cli.specs.declared.failure.Failure.{Failure}
-use Rattle.gtp_check_plan.specs.declared.plan.Plan.{Plan}
-use Rattle.gtp_check_summary.specs.declared.summary.Over.{Over}
-use Rattle.gtp_check_summary.specs.declared.summary.Over.TheVariants as over
+use Rattle.gtp_check_course.specs.declared.plan.Plan.{Plan}
+use Rattle.gtp_check_texts.specs.declared.summary.Over.{Over}
+use Rattle.gtp_check_texts.specs.declared.summary.Over.TheVariants as over
 use Rattle.gtp_check_app.specs.Sequence.{Known, Point, StopsIn, no_memory_to_start, point}
 use Rattle.gtp_check_app.specs.Turns.{Moment, State, done, kills, moment, process_of, restarts, starts}
 use Rattle.gtp_check_app.specs.private.Steps.{Begins, EndsTurn, Goes, IsRefused, begins, is_over}

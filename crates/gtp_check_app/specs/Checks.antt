@@ -17,22 +17,22 @@ use Rattle.cli.specs.Requests.{Outputs, Shows, outputs, writers}
 use Rattle.cli.specs.Status.{IsRequest, error_line, own_failure, usage_failure}
 use Rattle.cli.specs.declared.failure.Failure.{Failure}
 use Rattle.cli.specs.declared.failure.Failure.TheVariants.{OutOfMemory, Write}
-use Rattle.gtp_check_questions.specs.declared.lessons.Lesson.{Lesson}
-use Rattle.gtp_check_plan.specs.declared.failure.Mistake.{Mistake}
+use Rattle.gtp_check_course.specs.declared.lessons.Lesson.{Lesson}
+use Rattle.gtp_check_app.specs.declared.failure.Mistake.{Mistake}
 use Rattle.cli.specs.declared.failure.PlanError.TheVariants.{BadWords}
-use Rattle.gtp_check_plan.specs.declared.options.Options.{Options}
-use Rattle.gtp_check_plan.specs.declared.plan.Plan.{Plan}
-use Rattle.gtp_check_summary.specs.declared.summary.Ending.{Ending}
-use Rattle.gtp_check_summary.specs.declared.summary.Over.{Over}
-use Rattle.gtp_check_summary.specs.declared.summary.Over.TheVariants as over
+use Rattle.gtp_check_app.specs.declared.options.Options.{Options}
+use Rattle.gtp_check_course.specs.declared.plan.Plan.{Plan}
+use Rattle.gtp_check_texts.specs.declared.summary.Ending.{Ending}
+use Rattle.gtp_check_texts.specs.declared.summary.Over.{Over}
+use Rattle.gtp_check_texts.specs.declared.summary.Over.TheVariants as over
 use Rattle.gtp_check_app.specs.declared.streams.Streams.{Streams}
 use Rattle.gtp_check_texts.specs.Listing.{list_lines}
-use Rattle.gtp_check_plan.specs.Options.{AsksFor, AsksForText, HasFault}
-use Rattle.gtp_check_plan.specs.Plans.{HasNoPlan, IsPlanOf}
+use Rattle.gtp_check_app.specs.Options.{AsksFor, AsksForText, HasFault}
+use Rattle.gtp_check_app.specs.Plans.{HasNoPlan, IsPlanOf}
 use Rattle.gtp_check_app.specs.Progress.{IsShown, cleared}
 use Rattle.gtp_check_app.specs.Status.{ReportsFailure, ReportsMistake, hint_line, is_earned, program_name}
 use Rattle.gtp_check_app.specs.Status.{status_of}
-use Rattle.gtp_check_summary.specs.Summary.{last_lines}
+use Rattle.gtp_check_texts.specs.Summary.{last_lines}
 use Rattle.gtp_check_app.specs.Sequence.{Beginning, HasStopped, Known, Point, TurnsAreOver, beginning, first_point}
 use Rattle.gtp_check_app.specs.Turns.{State, process_of}
 

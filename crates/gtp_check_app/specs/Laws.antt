@@ -2,10 +2,10 @@
 use Rattle.std.specs.Prelude.{◌≡◌, ◌≤◌, ◌<◌, ◌↔◌, true, All, length}
 use Rattle.gtp_process.specs.declared.starter.Process.{Ghosts}
 use Rattle.cli.specs.Status.{done}
-use Rattle.gtp_check_plan.specs.declared.plan.Plan.{Plan}
+use Rattle.gtp_check_course.specs.declared.plan.Plan.{Plan}
 use Rattle.gtp_check_app.specs.Checks.{status_in}
-use Rattle.gtp_check_talks.specs.Among.{is_among}
-use Rattle.gtp_check_talks.specs.Laws.{MovesAreNotedOnceAnswered}
+use Rattle.gtp_check_talk.specs.Among.{is_among}
+use Rattle.gtp_check_talk.specs.Laws.{MovesAreNotedOnceAnswered}
 use Rattle.gtp_check_app.specs.Status.{not_earned, something_found}
 use Rattle.gtp_check_app.specs.Turns.{State}
 

@@ -1,5 +1,8 @@
 pub mod Checks
 pub mod Laws
+pub mod Mistakes
+pub mod Options
+pub mod Plans
 pub mod Progress
 pub mod RunLaws
 pub mod Sequence

@@ -8,11 +8,11 @@ use Rattle.std.specs.Option.{option_map_or}
 use Rattle.byte_streams.specs.declared.calls.WriteOnce.{Ghosts as WriterGhosts}
 use Rattle.byte_streams.specs.Writing.{IsWritten}
 use Rattle.go_base.specs.Bytes.{newline}
-use Rattle.gtp_check_questions.specs.Lessons.{name_of, number_of}
-use Rattle.gtp_check_questions.specs.declared.lessons.Lesson.{Lesson}
-use Rattle.gtp_check_shortening.specs.declared.talk.Said.{Said}
-use Rattle.gtp_check_talks.specs.Dialogues.{Dialogue}
-use Rattle.gtp_check_summary.specs.Summary.{plural}
+use Rattle.gtp_check_course.specs.Lessons.{name_of, number_of}
+use Rattle.gtp_check_course.specs.declared.lessons.Lesson.{Lesson}
+use Rattle.gtp_check_talk.specs.declared.said.Said.{Said}
+use Rattle.gtp_check_talk.specs.Dialogues.{Dialogue}
+use Rattle.gtp_check_texts.specs.Summary.{plural}
 
 -- ---- a line
 

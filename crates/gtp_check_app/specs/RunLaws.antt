@@ -10,26 +10,26 @@ use Rattle.gtp_process.specs.Starts.{Attempt, Attempts, program_line}
 use Rattle.gtp_check_judge.specs.declared.asking.CheckCommand.{CheckCommand}
 use Rattle.gtp_check_judge.specs.declared.judging.Kind.{Kind}
 use Rattle.gtp_check_judge.specs.Exam.{begun}
-use Rattle.gtp_check_questions.specs.declared.lessons.Lesson.{Lesson}
+use Rattle.gtp_check_course.specs.declared.lessons.Lesson.{Lesson}
 use Rattle.gtp_check_app.specs.declared.complaining.Caption.{Caption}
 use Rattle.gtp_check_texts.specs.Complaints.{complaint_lines}
 use Rattle.gtp_check_texts.specs.declared.complaint.Complaint.{Complaint}
-use Rattle.gtp_check_reasons.specs.declared.fault.Fault.{Fault}
-use Rattle.gtp_check_reasons.specs.declared.fault.Fault.TheVariants.{CutOff, Wrote}
-use Rattle.gtp_check_talks.specs.declared.engine.Engine.{Engine}
-use Rattle.gtp_check_talks.specs.declared.notes.Notes.{Notes}
-use Rattle.gtp_check_talks.specs.Dialogues.{Dialogue, EndsSo, Wrong, begun_with, dialogue, wrong_with}
-use Rattle.gtp_check_talks.specs.Laws.{IsLost, IsMoveAnswered, IsRightlyAnswered, IsWronglyWritten}
-use Rattle.gtp_check_plan.specs.declared.plan.Plan.{Plan}
+use Rattle.gtp_check_talk.specs.declared.fault.Fault.{Fault}
+use Rattle.gtp_check_talk.specs.declared.fault.Fault.TheVariants.{CutOff, Wrote}
+use Rattle.gtp_check_talk.specs.declared.engine.Engine.{Engine}
+use Rattle.gtp_check_talk.specs.declared.notes.Notes.{Notes}
+use Rattle.gtp_check_talk.specs.Dialogues.{Dialogue, EndsSo, Wrong, begun_with, dialogue, wrong_with}
+use Rattle.gtp_check_talk.specs.Laws.{IsLost, IsMoveAnswered, IsRightlyAnswered, IsWronglyWritten}
+use Rattle.gtp_check_course.specs.declared.plan.Plan.{Plan}
 use Rattle.gtp_check_app.specs.declared.streams.Streams.{Streams}
 use Rattle.gtp_check_app.specs.Progress.{IsShown}
 use Rattle.gtp_process.specs.Starts.{Text}
 use Rattle.cli.specs.Status.{done}
-use Rattle.gtp_check_summary.specs.declared.summary.Over.{Over}
-use Rattle.gtp_check_summary.specs.declared.summary.Over.TheVariants as over
+use Rattle.gtp_check_texts.specs.declared.summary.Over.{Over}
+use Rattle.gtp_check_texts.specs.declared.summary.Over.TheVariants as over
 use Rattle.gtp_check_app.specs.Checks.{AsksForList, AsksForPlan, HasRun}
 use Rattle.gtp_check_app.specs.Laws.{IsPass}
-use Rattle.gtp_check_plan.specs.Options.{AsksForText}
+use Rattle.gtp_check_app.specs.Options.{AsksForText}
 use Rattle.gtp_check_app.specs.Status.{not_earned, something_found}
 use Rattle.gtp_check_app.specs.Unjudged.{is_blamed}
 use Rattle.gtp_check_app.specs.Sequence.{Beginning, Known, Point, Turns, beginning, first_point}

@@ -7,12 +7,12 @@ use Rattle.gtp_process.specs.declared.starter.StartFault.TheVariants as start_fa
 use Rattle.gtp_process.specs.Starts.{Attempts, Tries, program_line}
 use Rattle.cli.specs.declared.failure.Failure.{Failure}
 use Rattle.cli.specs.declared.failure.Failure.TheVariants.{OutOfMemory, TooManyTurns, Write}
-use Rattle.gtp_check_questions.specs.declared.actions.Action.TheVariants.{Start}
-use Rattle.gtp_check_questions.specs.Course.{Course}
-use Rattle.gtp_check_reasons.specs.declared.fault.Fault.{Fault}
-use Rattle.gtp_check_talks.specs.Dialogues.{AsksForMore, Wrong}
-use Rattle.gtp_check_plan.specs.declared.plan.Plan.{Plan}
-use Rattle.gtp_check_summary.specs.declared.summary.Over.{Over}
+use Rattle.gtp_check_course.specs.declared.actions.Action.TheVariants.{Start}
+use Rattle.gtp_check_course.specs.Course.{Course}
+use Rattle.gtp_check_talk.specs.declared.fault.Fault.{Fault}
+use Rattle.gtp_check_talk.specs.Dialogues.{AsksForMore, Wrong}
+use Rattle.gtp_check_course.specs.declared.plan.Plan.{Plan}
+use Rattle.gtp_check_texts.specs.declared.summary.Over.{Over}
 use Rattle.gtp_check_app.specs.declared.streams.Streams.{Streams}
 use Rattle.gtp_check_app.specs.Progress.{IsShown, cleared, clearing, looking, looking_line}
 use Rattle.gtp_check_app.specs.Turns.{Asks, Closes, Complains, Exchanges, IsNext, IsOver, Moment, State, Turn}

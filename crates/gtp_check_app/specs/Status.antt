@@ -4,10 +4,10 @@ use Rattle.std.specs.List.{list_all}
 use Rattle.cli.specs.Failures.{IsReported, ReportsFailure as NamedReportsFailure}
 use Rattle.cli.specs.Status.{done, own_failure, usage_failure}
 use Rattle.cli.specs.declared.failure.Failure.{Failure}
-use Rattle.gtp_check_questions.specs.declared.lessons.Lesson.{Lesson}
-use Rattle.gtp_check_talks.specs.Among.{is_among}
-use Rattle.gtp_check_plan.specs.declared.failure.Mistake.{Mistake}
-use Rattle.gtp_check_plan.specs.Mistakes.{mistake_text}
+use Rattle.gtp_check_course.specs.declared.lessons.Lesson.{Lesson}
+use Rattle.gtp_check_talk.specs.Among.{is_among}
+use Rattle.gtp_check_app.specs.declared.failure.Mistake.{Mistake}
+use Rattle.gtp_check_app.specs.Mistakes.{mistake_text}
 use Rattle.byte_streams.specs.declared.calls.WriteOnce.{Ghosts}
 
 -- something was found

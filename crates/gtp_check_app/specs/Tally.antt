@@ -2,11 +2,11 @@
 use Rattle.std.specs.Prelude.{ℕ, ◌-◌, ◌==◌, Bool, true, false, nat_lt, if◌then◌else◌, count_by}
 use Rattle.std.specs.Prelude.{replicate}
 use Rattle.std.specs.Prelude.{List, [], Option, None, Some, slice_index, slice_set}
-use Rattle.gtp_check_questions.specs.Lessons.{number_of}
-use Rattle.gtp_check_questions.specs.declared.lessons.Lesson.{Lesson}
-use Rattle.gtp_check_reasons.specs.contracts.fault.FaultPartialEq.TheImpl as equality
-use Rattle.gtp_check_reasons.specs.declared.fault.Fault.{Fault}
-use Rattle.gtp_check_talks.specs.Counts.{one_more, with_more}
+use Rattle.gtp_check_course.specs.Lessons.{number_of}
+use Rattle.gtp_check_course.specs.declared.lessons.Lesson.{Lesson}
+use Rattle.gtp_check_talk.specs.contracts.fault.FaultPartialEq.TheImpl as equality
+use Rattle.gtp_check_talk.specs.declared.fault.Fault.{Fault}
+use Rattle.gtp_check_talk.specs.Counts.{one_more, with_more}
 use Rattle.gtp_check_app.specs.declared.tally.Tally.{Tally}
 
 -- Of one kind in one lesson so many complaints are shown.

@@ -8,15 +8,15 @@ use Rattle.gtp_check_judge.specs.declared.asking.CheckCommand.{CheckCommand}
 use Rattle.gtp_check_judge.specs.declared.asking.CheckCommand.TheVariants.{Match, FinalScore, Name, Version}
 use Rattle.gtp_check_judge.specs.declared.asking.CheckCommand.TheVariants.{KnownCommand, PlayInFull, GenmoveInFull}
 use Rattle.gtp_check_judge.specs.declared.asking.CheckCommand.TheVariants.{ListCommands}
-use Rattle.gtp_check_reasons.specs.RunOn.{runs_on}
-use Rattle.gtp_check_plan.specs.declared.plan.Plan.{Plan}
+use Rattle.gtp_check_texts.specs.reasons.RunOn.{runs_on}
+use Rattle.gtp_check_course.specs.declared.plan.Plan.{Plan}
 use Rattle.gtp_check_shortening.specs.declared.flat.Shortening.{Shortening}
 use Rattle.gtp_check_shortening.specs.declared.limits.Limits.{Limits}
-use Rattle.gtp_check_shortening.specs.declared.talk.Said.{Said}
-use Rattle.gtp_check_shortening.specs.Purposes.{is_same_lesson}
+use Rattle.gtp_check_talk.specs.declared.said.Said.{Said}
+use Rattle.gtp_check_talk.specs.Said.{is_same_lesson}
 use Rattle.gtp_check_shortening.specs.Reduction.{ended_after}
 use Rattle.gtp_check_shortening.specs.Shortening.{games_in, has_cut, shortened, shortenings}
-use Rattle.gtp_check_talks.specs.Dialogues.{Wrong, wrong_purpose, wrong_talk}
+use Rattle.gtp_check_talk.specs.Dialogues.{Wrong, wrong_purpose, wrong_talk}
 
 -- a conversation of so many commands isn't shortened
 abbrev pub few_commands : ℕ

@@ -18,40 +18,41 @@ use Rattle.go_board.specs.declared.rules.KoRule.{KoRule}
 use Rattle.go_board.specs.declared.rules.KoRule.TheVariants.{Simple}
 use Rattle.gtp_check_judge.specs.Check.{Check, after_loss, opening, started, with_exam}
 use Rattle.gtp_check_judge.specs.Exam.{HasRoomFor}
-use Rattle.gtp_check_questions.specs.declared.actions.Action.{Action}
-use Rattle.gtp_check_questions.specs.declared.actions.Action.TheVariants.{Ask, Done, Kill, Restart, Skip, Start}
-use Rattle.gtp_check_questions.specs.declared.lessons.Lesson.{Lesson}
-use Rattle.gtp_check_questions.specs.declared.lessons.Lesson.TheVariants as lesson
-use Rattle.gtp_check_questions.specs.Asking.{IsTurn, Renews, lesson_of}
-use Rattle.gtp_check_questions.specs.Course.{Course, GoesTo, Leaves, begun, part_over, with_finding}
-use Rattle.gtp_check_questions.specs.Course.{IsOver as CourseIsOver}
+use Rattle.gtp_check_course.specs.declared.actions.Action.{Action}
+use Rattle.gtp_check_course.specs.declared.actions.Action.TheVariants.{Ask, Done, Kill, Restart, Skip, Start}
+use Rattle.gtp_check_course.specs.declared.lessons.Lesson.{Lesson}
+use Rattle.gtp_check_course.specs.declared.lessons.Lesson.TheVariants as lesson
+use Rattle.gtp_check_course.specs.Asking.{IsTurn, Renews, lesson_of}
+use Rattle.gtp_check_course.specs.Course.{Course, GoesTo, Leaves, begun, part_over, with_finding}
+use Rattle.gtp_check_course.specs.Course.{IsOver as CourseIsOver}
 use Rattle.gtp_check_app.specs.declared.check.Check.{Check as Going}
 use Rattle.gtp_check_app.specs.declared.complaining.Caption.{Caption}
 use Rattle.gtp_check_texts.specs.declared.complaint.Complaint.{Complaint}
-use Rattle.gtp_check_talks.specs.declared.engine.Engine.{Engine}
-use Rattle.gtp_check_reasons.specs.declared.fault.Fault.{Fault}
-use Rattle.gtp_check_reasons.specs.declared.fault.Fault.TheVariants.{CutOff, Wrote}
+use Rattle.gtp_check_talk.specs.declared.engine.Engine.{Engine}
+use Rattle.gtp_check_talk.specs.declared.fault.Fault.{Fault}
+use Rattle.gtp_check_talk.specs.declared.fault.Fault.TheVariants.{CutOff, Wrote}
 use Rattle.gtp_check_texts.specs.declared.last_game.Shown.{Shown}
 use Rattle.gtp_check_texts.specs.declared.last_game.Shown.TheVariants.{LastGame, Whole}
 use Rattle.gtp_check_shortening.specs.declared.flat.Shortening.{Shortening}
-use Rattle.gtp_check_talks.specs.declared.notes.Notes.{Notes}
-use Rattle.gtp_check_plan.specs.declared.plan.Plan.{Plan}
-use Rattle.gtp_check_summary.specs.declared.summary.Over.{Over}
-use Rattle.gtp_check_summary.specs.declared.summary.Over.TheVariants as over
-use Rattle.gtp_check_shortening.specs.declared.talk.Purpose.{Purpose}
+use Rattle.gtp_check_talk.specs.declared.notes.Notes.{Notes}
+use Rattle.gtp_check_course.specs.declared.plan.Plan.{Plan}
+use Rattle.gtp_check_texts.specs.declared.summary.Over.{Over}
+use Rattle.gtp_check_texts.specs.declared.summary.Over.TheVariants as over
+use Rattle.gtp_check_talk.specs.declared.said.Purpose.{Purpose}
 use Rattle.gtp_check_app.specs.declared.tally.Tally.{Tally}
 use Rattle.gtp_check_texts.specs.Complaints.{complaint_lines}
-use Rattle.gtp_check_talks.specs.Dialogues.{EndsLike, IsAsked, IsExchanged, IsTrial, Standing, Wrong, begun_with}
-use Rattle.gtp_check_talks.specs.Dialogues.{dialogue, owed_purpose, standing, trial, wrong_purpose, wrong_talk}
-use Rattle.gtp_check_shortening.specs.Purposes.{is_same_lesson, is_same_purpose}
-use Rattle.gtp_check_talks.specs.Dialogues.{wrong_with}
-use Rattle.gtp_check_talks.specs.Notes.{nothing_noted}
-use Rattle.gtp_check_talks.specs.Notes.{started as noted_start}
+use Rattle.gtp_check_talk.specs.Dialogues.{EndsLike, IsAsked, IsExchanged, IsTrial, Standing, Wrong, begun_with}
+use Rattle.gtp_check_talk.specs.Dialogues.{dialogue, owed_purpose, standing, trial, wrong_purpose, wrong_talk}
+use Rattle.gtp_check_talk.specs.Said.{is_same_lesson, is_same_purpose}
+use Rattle.gtp_check_talk.specs.Dialogues.{wrong_with}
+use Rattle.gtp_check_talk.specs.Notes.{nothing_noted}
+use Rattle.gtp_check_talk.specs.Notes.{started as noted_start}
 use Rattle.gtp_check_app.specs.Progress.{before_read, clearing, looking}
-use Rattle.gtp_check_shortening.specs.Shortening.{commands_of, shortened}
+use Rattle.gtp_check_shortening.specs.Shortening.{shortened}
+use Rattle.gtp_check_talk.specs.Said.{commands_of}
 use Rattle.gtp_check_shortening.specs.Reduction.{Reduction, after_failure, after_success, next}
 use Rattle.gtp_check_shortening.specs.Reduction.{begun as begun_reduction}
-use Rattle.gtp_check_summary.specs.Summary.{first_line}
+use Rattle.gtp_check_texts.specs.Summary.{first_line}
 use Rattle.gtp_check_shortening.specs.Played.{played}
 use Rattle.gtp_check_shortening.specs.Superko.{IsPositional, game_before}
 use Rattle.gtp_check_app.specs.Unjudged.{HasPassedOver, is_blamed, is_unjudged}

@@ -2,12 +2,12 @@
 use Rattle.std.specs.Prelude.{◌≡◌, Bool, true, false, not, Option, None, Some, IfSome}
 use Rattle.go_board.specs.declared.faults.PlayFault.TheVariants.{Suicide as SuicideFault}
 use Rattle.gtp_check_judge.specs.declared.judging.Kind.TheVariants.{Unlawful}
-use Rattle.gtp_check_questions.specs.declared.suicides.Suicide.{Suicide}
-use Rattle.gtp_check_questions.specs.declared.suicides.Suicide.TheVariants.{Unasked}
-use Rattle.gtp_check_questions.specs.Asking.{lesson_of}
-use Rattle.gtp_check_questions.specs.Course.{Course, Leaves, part_over}
-use Rattle.gtp_check_reasons.specs.declared.fault.Fault.{Fault}
-use Rattle.gtp_check_reasons.specs.declared.fault.Fault.TheVariants.{Wrote}
+use Rattle.gtp_check_course.specs.declared.suicides.Suicide.{Suicide}
+use Rattle.gtp_check_course.specs.declared.suicides.Suicide.TheVariants.{Unasked}
+use Rattle.gtp_check_course.specs.Asking.{lesson_of}
+use Rattle.gtp_check_course.specs.Course.{Course, Leaves, part_over}
+use Rattle.gtp_check_talk.specs.declared.fault.Fault.{Fault}
+use Rattle.gtp_check_talk.specs.declared.fault.Fault.TheVariants.{Wrote}
 
 -- a `genmove` was answered with a suicide, where that isn't judged
 abbrev pub is_unjudged : Suicide → Fault → Bool

@@ -11,8 +11,8 @@ ghost use Rattle.gtp_check_app.specs.Turns.{AsksEngine, IsHeardOut, MayStart, be
 ghost use Rattle.gtp_check_app.specs.Turns.{process_of, purpose_in, state_of, without_engine};
 ghost use Rattle.gtp_check_app.specs.private.Steps.{Begins, EndsTurn, FirstGoesOut, FirstStops, Gathers};
 ghost use Rattle.gtp_check_app.specs.private.Steps.{IsPaired, IsRefused, Settles, StopsAfter};
-ghost use Rattle.gtp_check_talks.specs.Dialogues.{MayFollow, ends_in_pieces};
-ghost use Rattle.gtp_check_talks.specs.declared.engine.TheConstants.{LINES_ROOM};
+ghost use Rattle.gtp_check_talk.specs.Dialogues.{MayFollow, ends_in_pieces};
+ghost use Rattle.gtp_check_talk.specs.declared.engine.TheConstants.{LINES_ROOM};
 
 use crate::closing::{close, end_now, quit};
 use crate::progress::clear;
@@ -22,14 +22,12 @@ use crate::tally::Tally;
 use crate::unjudged::is_blamed;
 use byte_streams::{WriteOnce, write_text};
 use cli::failure::Failure;
+use gtp_check_course::{Action, Course, Lesson, Lessons, Plan};
 use gtp_check_judge::{CheckCommand, Examiner};
-use gtp_check_plan::plan::Plan;
-use gtp_check_questions::{Action, Course, Lesson, Lessons};
-use gtp_check_reasons::fault::Fault;
-use gtp_check_shortening::talk::Purpose;
-use gtp_check_summary::summary::{Ending, Over, first_line, last_lines};
-use gtp_check_talks::engine::{Engine, Room};
-use gtp_check_talks::notes::Notes;
+use gtp_check_talk::engine::{Engine, Room};
+use gtp_check_talk::notes::Notes;
+use gtp_check_talk::{Fault, Purpose};
+use gtp_check_texts::summary::{Ending, Over, first_line, last_lines};
 use gtp_process::{Process, StartFault, Starter, Unstarted};
 use std::alloc::{AllocError, Global};
 

@@ -4,7 +4,7 @@ ghost use Rattle.gtp_process.specs.Quitting.{QuitsIfAny};
 ghost use Rattle.gtp_check_app.specs.Checks.{IsClosedWhere};
 ghost use Rattle.gtp_check_app.specs.Turns.{process_of};
 
-use gtp_check_talks::engine::{Engine, Room};
+use gtp_check_talk::engine::{Engine, Room};
 use gtp_process::{Process, quit_and_end};
 
 /// Sends `quit` to an engine, if there is one, and ends it.

@@ -4,10 +4,10 @@ ghost use Rattle.std.specs.Prelude.{◌<◌, ◌^◌, count_by, length, option_m
 ghost use Rattle.byte_streams.specs.Writing.{BreaksAt, GoesOut};
 ghost use Rattle.gtp_process.specs.Starts.{program_line};
 ghost use Rattle.gtp_check_texts.specs.Complaints.{complaint_lines};
-ghost use Rattle.gtp_check_talks.specs.Dialogues.{AsksForMore, wrong_of, wrong_talk};
-ghost use Rattle.gtp_check_shortening.specs.Purposes.{is_same_lesson, is_same_purpose};
+ghost use Rattle.gtp_check_talk.specs.Dialogues.{AsksForMore, wrong_of, wrong_talk};
+ghost use Rattle.gtp_check_talk.specs.Said.{is_same_lesson, is_same_purpose};
 ghost use Rattle.gtp_check_app.specs.Progress.{IsShown, cleared};
-ghost use Rattle.gtp_check_shortening.specs.Shortening.{commands_of};
+ghost use Rattle.gtp_check_talk.specs.Said.{commands_of};
 ghost use Rattle.gtp_check_app.specs.Turns.{Closes, HasNoted, IsComplaint, IsReduced, IsShortened, Shortens};
 ghost use Rattle.gtp_check_app.specs.Trials.{is_for, limits_of, shortenings_of};
 ghost use Rattle.gtp_check_app.specs.Turns.{TriesOne, is_loss};
@@ -29,18 +29,16 @@ use crate::trials::{asked_for, left_by, own_of};
 use byte_streams::{WriteOnce, write_text};
 use cli::failure::Failure;
 use go_board::{Game, KoRule};
+use gtp_check_course::{Course, Lesson, Plan};
 use gtp_check_judge::{CheckCommand, Kind};
-use gtp_check_plan::plan::Plan;
-use gtp_check_questions::{Course, Lesson};
-use gtp_check_reasons::fault::Fault;
 use gtp_check_shortening::flat::{
     Shortening, commands_of, games_in, has_cut, shortened, shortenings,
 };
 use gtp_check_shortening::played::played;
 use gtp_check_shortening::superko::{game_before, is_positional};
-use gtp_check_shortening::talk::{Purpose, Said};
 use gtp_check_shortening::{Limits, Reduction};
-use gtp_check_talks::trial::{Trial, Tried, try_commands};
+use gtp_check_talk::trial::{Trial, Tried, try_commands};
+use gtp_check_talk::{Fault, Purpose, Said};
 use gtp_check_texts::complaint::{Complaint, complaint_text};
 use gtp_check_texts::last_game::Shown;
 use gtp_process::{Process, Starter};

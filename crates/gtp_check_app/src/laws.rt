@@ -4,7 +4,7 @@ ghost use Rattle.gtp_check_app.specs.RunLaws.{EachComplaintIsJust, SilentChecksA
 ghost use Rattle.gtp_check_app.specs.Sequence.{known_of};
 
 use byte_streams::WriteOnce;
-use gtp_check_talks::laws::{
+use gtp_check_talk::laws::{
     complaints_are_justified, ko_rules_stay, losses_are_no_wrong_answers,
     moves_are_noted_once_answered, silent_conversations_are_right,
 };

@@ -1,6 +1,6 @@
 //! What the program `gtp_check` does: it checks one engine that speaks the Go Text Protocol, version 2. This crate has
-//! the turns of a check and its progress line; `gtp_check_plan` reads the options, `gtp_check_questions` chooses the
-//! commands, and `gtp_check_judge` judges the replies.
+//! the options, the turns of a check and its progress line; `gtp_check_course` chooses the commands, `gtp_check_judge`
+//! judges the replies, and `gtp_check_texts` has what is written.
 //!
 //! [`run::run`] is the whole check. The program calls it with the arguments, the standard streams and the system's
 //! processes.
@@ -9,7 +9,10 @@
 mod check;
 mod closing;
 mod complaining;
+pub mod failure;
 pub mod laws;
+pub mod options;
+pub mod plan;
 pub mod progress;
 pub mod run;
 mod status;

@@ -1,24 +1,23 @@
 //! The progress line on a terminal, which each new one replaces.
 ghost use Rattle.std.specs.Prelude.{◌≡◌, ◌++◌, [], ◌∷◌, take};
-ghost use Rattle.gtp_check_talks.specs.Dialogues.{dialogue};
-ghost use Rattle.gtp_check_talks.specs.Notes.{nothing_noted};
+ghost use Rattle.gtp_check_talk.specs.Dialogues.{dialogue};
+ghost use Rattle.gtp_check_talk.specs.Notes.{nothing_noted};
 ghost use Rattle.gtp_check_app.specs.Progress.{IsShown, cleared, in_place, is_read_next, line_at, line_start};
 ghost use Rattle.gtp_check_app.specs.Progress.{looking_line};
 ghost use Rattle.gtp_check_app.specs.Progress.{most_columns, place_among, waiting_text};
-ghost use Rattle.gtp_check_reasons.specs.Texts.{joined};
+ghost use Rattle.gtp_check_texts.specs.Texts.{joined};
 ghost use Rattle.gtp_check_app.specs.Turns.{state_of, waiting};
 
 use crate::check::Check;
 use arrayvec::ArrayVec;
 use byte_streams::{WriteOnce, write_or_break};
 use go_base::{push, write_int};
+use gtp_check_course::{Lesson, Lessons, Plan};
 use gtp_check_judge::Examiner;
-use gtp_check_plan::plan::Plan;
-use gtp_check_questions::{Lesson, Lessons};
-use gtp_check_shortening::talk::{Said, said_at};
-use gtp_check_summary::summary::plural;
-use gtp_check_talks::engine::Engine;
+use gtp_check_talk::engine::Engine;
+use gtp_check_talk::{Said, said_at};
 use gtp_check_texts::complaint::without_newline;
+use gtp_check_texts::summary::plural;
 use gtp_process::{Process, Starter};
 
 /// How many columns of a line are written at most.

@@ -1,11 +1,11 @@
 //! The status of a check that is over.
 ghost use Rattle.std.specs.Prelude.{◌≡◌};
 ghost use Rattle.std.specs.List.{list_all};
-ghost use Rattle.gtp_check_talks.specs.Among.{is_among};
+ghost use Rattle.gtp_check_talk.specs.Among.{is_among};
 ghost use Rattle.gtp_check_app.specs.Status.{is_earned, status_of};
 
-use gtp_check_questions::Lesson;
-use gtp_check_talks::among::is_among;
+use gtp_check_course::Lesson;
+use gtp_check_talk::is_among;
 
 /// Returns the status of a check with this many complaints: 1 if there are any, else 0 if the engine has passed, and 4
 /// if it hasn't.

@@ -4,8 +4,8 @@ ghost use Rattle.gtp_check_app.specs.Tally.{alike, found, started_again, in_less
 ghost use Rattle.gtp_check_app.specs.Tally.{with_hidden, with_suicide};
 
 use arrayvec::ArrayVec;
-use gtp_check_questions::Lesson;
-use gtp_check_reasons::fault::Fault;
+use gtp_check_course::Lesson;
+use gtp_check_talk::Fault;
 
 /// How many complaints of one kind a lesson shows.
 const MOST_SHOWN_ALIKE: usize = 3;

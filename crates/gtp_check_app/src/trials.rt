@@ -1,13 +1,13 @@
 //! The commands of a trial, if a reply may have run on into the next one: with extra `name` commands, so that the fault
 //! is read.
 ghost use Rattle.std.specs.Prelude.{◌≡◌, ◌++◌, length, IfOk, OnOk};
-ghost use Rattle.gtp_check_talks.specs.Dialogues.{wrong_of};
+ghost use Rattle.gtp_check_talk.specs.Dialogues.{wrong_of};
 ghost use Rattle.gtp_check_app.specs.Trials.{asked_for, left_after, may_wait, most_between, needs_names};
 ghost use Rattle.gtp_check_app.specs.Trials.{left_by, own_of, own_spaced, ran_on, spaced, with_names, with_names_before};
 
 use gtp_check_judge::CheckCommand;
-use gtp_check_reasons::runs_on;
-use gtp_check_talks::trial::Tried;
+use gtp_check_talk::trial::Tried;
+use gtp_check_texts::reasons::runs_on;
 use gtp_wire::Command;
 use std::alloc::{AllocError, Global};
 

@@ -1,15 +1,14 @@
 //! A suicide that a `genmove` chose, if that isn't judged.
 ghost use Rattle.std.specs.Prelude.{◌≡◌, None, IsSome};
-ghost use Rattle.gtp_check_shortening.specs.Purposes.{is_same_purpose};
+ghost use Rattle.gtp_check_talk.specs.Said.{is_same_purpose};
 ghost use Rattle.gtp_check_app.specs.Turns.{PassesOver, purpose_in, state_of};
 ghost use Rattle.gtp_check_app.specs.Unjudged.{HasPassedOver, is_blamed, is_unjudged};
 
 use crate::check::{Check, purpose_in};
 use go_board::PlayFault;
+use gtp_check_course::{Course, Suicide};
 use gtp_check_judge::Kind;
-use gtp_check_questions::{Course, Suicide};
-use gtp_check_reasons::fault::Fault;
-use gtp_check_shortening::talk::Purpose;
+use gtp_check_talk::{Fault, Purpose};
 use gtp_process::{Process, Starter};
 
 /// Returns whether something is wrong that is judged.

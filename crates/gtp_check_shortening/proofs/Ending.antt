@@ -6,7 +6,7 @@ use Rattle.std.proofs.Math.Seq.{get_or-append_seam, take-append_seam}
 use Rattle.std.proofs.lemmas.Option.{slice_get-get_or}
 use Rattle.go_board.specs.Game.{GameRecord, fresh_game_under}
 use Rattle.go_board.specs.declared.rules.KoRule.{KoRule}
-use Rattle.gtp_check_shortening.specs.declared.talk.Said.{Said}
+use Rattle.gtp_check_talk.specs.declared.said.Said.{Said}
 use Rattle.gtp_check_shortening.specs.Superko.{after_all, game_before, on_size}
 
 last_at : (talk before : List Said) (last : Said) → talk ≡ before ++ last ∷ [] → length before + 1 ≡ length talk

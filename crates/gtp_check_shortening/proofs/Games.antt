@@ -8,7 +8,7 @@ use Rattle.std.proofs.lemmas.List.Sums.{sum_by-cons}
 use Rattle.std.proofs.lemmas.List.{at_drop_more, at_drop_all, reverse-append}
 use Rattle.go_board.specs.Game.{GameRecord}
 use Rattle.gtp_check_judge.specs.declared.asking.CheckCommand.{CheckCommand}
-use Rattle.gtp_check_shortening.specs.declared.talk.Said.{Said}
+use Rattle.gtp_check_talk.specs.declared.said.Said.{Said}
 use Rattle.gtp_check_shortening.specs.Shortening.{flat, games_in, is_clear, listed, role_of, start_of, stays, taken_back}
 use Rattle.gtp_check_shortening.specs.Shortening.{standing_back, stays_on, taken_by}
 use Rattle.gtp_check_shortening.specs.Superko.{after_all, after_asked}

@@ -13,7 +13,7 @@ use Rattle.gtp_check_shortening.specs.Superko.{play_of}
 use Rattle.gtp_check_shortening.specs.declared.last_game.LastGame.{LastGame}
 use Rattle.gtp_check_shortening.specs.declared.last_game.Setting.{Setting}
 use Rattle.gtp_check_shortening.specs.declared.last_game.Setting.TheVariants as setting
-use Rattle.gtp_check_shortening.specs.declared.talk.Said.{Said}
+use Rattle.gtp_check_talk.specs.declared.said.Said.{Said}
 
 -- ---- what is in force
 

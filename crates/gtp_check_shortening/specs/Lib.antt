@@ -1,6 +1,5 @@
 pub mod LastGame
 pub mod Played
-pub mod Purposes
 pub mod Reduction
 pub mod Shortening
 pub mod Superko

@@ -1,5 +1,5 @@
 -- Which shorter conversations are tried in place of a long one. (Own.)
-use Rattle.std.specs.Prelude.{ℕ, ◌+◌, ◌-◌, ◌==◌, Bool, true, false, nat_lt, if◌then◌else◌, count_by, map, take, drop}
+use Rattle.std.specs.Prelude.{ℕ, ◌+◌, ◌-◌, ◌==◌, Bool, true, false, nat_lt, if◌then◌else◌, count_by, take, drop}
 use Rattle.std.specs.Prelude.{◌&&◌, max, not, is_some, fold}
 use Rattle.std.specs.Prelude.{List, [], ◌∷◌, ◌++◌, length, reverse, Option, None, Some}
 use Rattle.std.specs.Bool.{then_some}
@@ -22,7 +22,8 @@ use Rattle.gtp_check_judge.specs.declared.asking.Known.TheVariants as known
 use Rattle.gtp_check_shortening.specs.declared.flat.Role.{Role}
 use Rattle.gtp_check_shortening.specs.declared.flat.Role.TheVariants as role
 use Rattle.gtp_check_shortening.specs.declared.flat.Shortening.{Shortening}
-use Rattle.gtp_check_shortening.specs.declared.talk.Said.{Said}
+use Rattle.gtp_check_talk.specs.declared.said.Said.{Said}
+use Rattle.gtp_check_talk.specs.Said.{commands_of}
 use Rattle.gtp_check_shortening.specs.Played.{played}
 use Rattle.gtp_check_shortening.specs.Superko.{after_all, play_of}
 
@@ -175,9 +176,6 @@ abbrev pub set_up_if : ℕ → List Said → List CheckCommand
 set_up_if start talk = if nat_lt start (length talk) then set_up start talk else []
 
 -- ---- a shorter conversation
-
-abbrev pub commands_of : List Said → List CheckCommand
-commands_of talk = map (λ said. said.command) talk
 
 -- the games whole; or flat, with the last command, which is the one that was answered wrongly
 abbrev pub games_as : Bool → List Said → List CheckCommand

@@ -16,7 +16,7 @@ use Rattle.gtp_check_judge.specs.declared.asking.CheckCommand.TheVariants.{ListC
 use Rattle.gtp_wire.specs.declared.commands.Command.{Command}
 use Rattle.gtp_wire.specs.declared.commands.Command.TheVariants.{Boardsize, Komi, ClearBoard, FixedHandicap, Play}
 use Rattle.gtp_wire.specs.declared.commands.Command.TheVariants.{Genmove, Undo, Quit}
-use Rattle.gtp_check_shortening.specs.declared.talk.Said.{Said}
+use Rattle.gtp_check_talk.specs.declared.said.Said.{Said}
 
 -- whether a move may be made: it is legal, and the record has room
 abbrev pub is_made : GameRecord → Move → Bool

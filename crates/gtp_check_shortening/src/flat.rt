@@ -1,7 +1,8 @@
 //! Shorter conversations, which are tried instead of a long one.
 ghost use Rattle.std.specs.Prelude.{◌≡◌, ◌≤◌, ◌+◌, ◌∷◌, ◌++◌, [], length, IfOk, OnOk};
 ghost use Rattle.std.specs.List.{list_any};
-ghost use Rattle.gtp_check_shortening.specs.Shortening.{command_role, commands_of, flat, games_as, games_in, last_such};
+ghost use Rattle.gtp_check_talk.specs.Said.{commands_of};
+ghost use Rattle.gtp_check_shortening.specs.Shortening.{command_role, flat, games_as, games_in, last_such};
 ghost use Rattle.gtp_check_shortening.specs.Shortening.{games_of, last_games, listed, with_plays};
 ghost use Rattle.gtp_check_shortening.specs.Shortening.{match_role, needed_for, needs, role_of, settings, shortened};
 ghost use Rattle.gtp_check_shortening.specs.Shortening.{set_up_if, shortenings, standing_before};
@@ -10,8 +11,8 @@ ghost use Rattle.gtp_check_shortening.specs.Shortening.{start_of, stays, taken_b
 
 use crate::played::played;
 use crate::standing::set_up;
-use crate::talk::Said;
 use gtp_check_judge::{CheckCommand, Known};
+use gtp_check_talk::Said;
 use gtp_wire::Command;
 use std::alloc::{AllocError, Global};
 

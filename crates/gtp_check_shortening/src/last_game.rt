@@ -7,9 +7,9 @@ ghost use Rattle.gtp_check_shortening.specs.LastGame.{made_by, sets, shows, size
 use crate::flat::start_of;
 use crate::played::asked_as;
 use crate::superko::play_of;
-use crate::talk::{Said, said_at};
 use go_base::{Move, Size};
 use gtp_check_judge::CheckCommand;
+use gtp_check_talk::{Said, said_at};
 use gtp_wire::Command;
 
 /// The last game of a conversation, and the commands that set what is in force when it begins.

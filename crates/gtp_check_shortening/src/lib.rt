@@ -1,4 +1,4 @@
-//! The conversation with an engine, and shorter ones, which are tried instead of a long one.
+//! Shorter conversations with an engine, which are tried instead of a long one.
 //!
 //! First its last commands are tried on the board as it stood before them (`standing`), and then its last games
 //! (`flat`). Then delta debugging makes it shorter: a [`Reduction`] says which commands to try next, and is told what
@@ -15,7 +15,6 @@ pub mod played;
 mod reduction;
 mod standing;
 pub mod superko;
-pub mod talk;
 
 pub use limits::Limits;
 pub use reduction::Reduction;

@@ -4,9 +4,9 @@ ghost use Rattle.gtp_wire.specs.declared.commands.Command.TheVariants as command
 ghost use Rattle.gtp_check_judge.specs.declared.asking.CheckCommand.TheVariants.{PlayInFull};
 ghost use Rattle.gtp_check_shortening.specs.Played.{asked_as, done_before, done_by, played, said_as};
 
-use crate::talk::Said;
 use go_base::Move;
 use gtp_check_judge::CheckCommand;
+use gtp_check_talk::Said;
 use gtp_wire::Command;
 use std::alloc::{AllocError, Global};
 

@@ -6,10 +6,10 @@ ghost use Rattle.gtp_check_shortening.specs.Shortening.{stands, stays_on, still_
 
 use crate::flat::{Commands, add_if, flat, role_of, stays, taken_by};
 use crate::superko::{game_after, play_of};
-use crate::talk::Said;
 use go_base::{Point, Vertex};
 use go_board::{Game, KoRule};
 use gtp_check_judge::CheckCommand;
+use gtp_check_talk::Said;
 use std::alloc::{AllocError, Global};
 
 /// Returns those of the commands from `start` on that set up the board as it is after all of them: what sets a game up,

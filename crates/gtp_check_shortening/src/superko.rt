@@ -7,10 +7,10 @@ ghost use Rattle.go_board.specs.Game.{fresh_game_under, without_last};
 ghost use Rattle.gtp_check_shortening.specs.Superko.{IsPositional, after_all, after_asked, after_match, after_play, game_before};
 ghost use Rattle.gtp_check_shortening.specs.Superko.{after_stones, play_of};
 
-use crate::talk::Said;
 use go_base::Move;
 use go_board::{Game, KoRule, PlayFault};
 use gtp_check_judge::CheckCommand;
+use gtp_check_talk::Said;
 use gtp_wire::Command;
 
 /// Returns whether the last command is a `play` that positional ko forbids after the commands before it, on the board

@@ -4,7 +4,8 @@ use Rattle.std.proofs.Common.{refl, sym, ◌∙◌, ap, arith, append_assoc, inl
 use Rattle.std.proofs.lemmas.Bool.{cases_lt}
 use Rattle.std.proofs.lemmas.List.{length-take, take_all, take-take}
 use Rattle.std.specs.List.{slice_split, onto_first, flat_map}
-use Rattle.gtp_check_reasons.specs.Lines.{is_newline, lines_of, all_but_last}
+use Rattle.gtp_check_talk.specs.Lines.{is_newline}
+use Rattle.gtp_check_texts.specs.Lines.{lines_of, all_but_last}
 use Rattle.gtp_check_texts.specs.Board.{comment_line}
 
 -- there is a part always

@@ -1,2 +1,6 @@
+mod CaptureTexts
 mod DrawnLines
+pub mod Joining
+mod LinesOfTexts
 mod StonesOnBoards
+mod StonesTaken

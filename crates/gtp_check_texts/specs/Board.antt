@@ -7,7 +7,7 @@ use Rattle.go_board.specs.Board.{stone_at}
 use Rattle.go_board.specs.Game.{GameRecord, board_of}
 use Rattle.go_board.specs.Show.{board_text}
 use Rattle.go_board.specs.decisions.Game.{stone?}
-use Rattle.gtp_check_reasons.specs.Lines.{all_but_last, lines_of}
+use Rattle.gtp_check_texts.specs.Lines.{all_but_last, lines_of}
 
 -- a line that engines skip, since it begins with `#`
 abbrev pub comment_line : List ℕ → List ℕ

@@ -5,29 +5,29 @@ use Rattle.std.specs.Borrow.{Bor}
 use Rattle.std.specs.Fmt.{decimal}
 use Rattle.std.specs.List.{concat, list_any}
 use Rattle.std.specs.Prelude.{option_map}
-use Rattle.gtp_check_questions.specs.Lessons.{is_in_pieces, name_of}
+use Rattle.gtp_check_course.specs.Lessons.{is_in_pieces, name_of}
 use Rattle.go_base.specs.Bytes.{space}
 use Rattle.gtp_process.specs.Shown.{ending_text, quoted}
 use Rattle.gtp_process.specs.declared.starter.Ending.{Ending}
 use Rattle.gtp_wire.specs.Replies.{most_shown}
-use Rattle.gtp_check_reasons.specs.Kinds.{fault_text}
+use Rattle.gtp_check_texts.specs.reasons.Kinds.{fault_text}
 use Rattle.gtp_check_judge.specs.declared.asking.CheckCommand.{CheckCommand}
-use Rattle.gtp_check_reasons.specs.Answers.{before_rule, right_answer}
-use Rattle.gtp_check_reasons.specs.Colours.{told_after}
-use Rattle.gtp_check_reasons.specs.Rules.{rule_text}
+use Rattle.gtp_check_texts.specs.reasons.Answers.{before_rule, right_answer}
+use Rattle.gtp_check_texts.specs.reasons.Colours.{told_after}
+use Rattle.gtp_check_texts.specs.reasons.Rules.{rule_text}
 use Rattle.gtp_check_texts.specs.Board.{drawn_board}
-use Rattle.gtp_check_reasons.specs.RunOn.{run_on_line, runs_on}
-use Rattle.gtp_check_reasons.specs.Reasons.{reason}
+use Rattle.gtp_check_texts.specs.reasons.RunOn.{run_on_line, runs_on}
+use Rattle.gtp_check_texts.specs.reasons.Reasons.{reason}
 use Rattle.go_board.specs.Game.{GameRecord}
-use Rattle.gtp_check_shortening.specs.declared.talk.Said.{Said}
+use Rattle.gtp_check_talk.specs.declared.said.Said.{Said}
 use Rattle.gtp_check_texts.specs.Conversation.{after_lines, asked_line, before_lines, faulty_line}
 use Rattle.gtp_check_texts.specs.LastGame.{last_game_lines}
-use Rattle.gtp_check_reasons.specs.Reasons.{in_a_row_line}
+use Rattle.gtp_check_texts.specs.reasons.Reasons.{in_a_row_line}
 use Rattle.gtp_check_texts.specs.declared.complaint.Complaint.{Complaint}
 use Rattle.gtp_check_texts.specs.declared.last_game.Shown.{Shown}
 use Rattle.gtp_check_texts.specs.declared.last_game.Shown.TheVariants.{LastGame, Whole}
-use Rattle.gtp_check_reasons.specs.declared.fault.Fault.{Fault}
-use Rattle.gtp_check_reasons.specs.declared.fault.Fault.TheVariants.{Wrote, CutOff}
+use Rattle.gtp_check_talk.specs.declared.fault.Fault.{Fault}
+use Rattle.gtp_check_talk.specs.declared.fault.Fault.TheVariants.{Wrote, CutOff}
 use Rattle.gtp_process.specs.declared.causes.PipeCause.TheVariants.{Ended}
 
 -- ---- the lines

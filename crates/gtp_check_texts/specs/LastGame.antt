@@ -10,7 +10,7 @@ use Rattle.gtp_check_judge.specs.declared.asking.CheckCommand.{CheckCommand}
 use Rattle.gtp_check_judge.specs.declared.asking.CheckCommand.TheVariants.{GenmoveInFull, Match}
 use Rattle.gtp_check_shortening.specs.LastGame.{last_game, left_out, made_by, shows}
 use Rattle.gtp_check_shortening.specs.declared.last_game.LastGame.{LastGame}
-use Rattle.gtp_check_shortening.specs.declared.talk.Said.{Said}
+use Rattle.gtp_check_talk.specs.declared.said.Said.{Said}
 use Rattle.gtp_check_texts.specs.Conversation.{line_of}
 use Rattle.gtp_check_texts.specs.declared.complaint.Complaint.{Complaint}
 

@@ -3,4 +3,9 @@ pub mod Complaints
 pub mod Conversation
 pub mod Junk
 pub mod LastGame
+pub mod Laws
+pub mod Lines
 pub mod Listing
+pub mod Summary
+pub mod Texts
+pub mod reasons

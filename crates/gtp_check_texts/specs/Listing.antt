@@ -1,12 +1,12 @@
 -- The list of lessons. (Own.)
 use Rattle.std.specs.Prelude.{ℕ, List, [], ◌∷◌, codes, length, drop, map, min}
 use Rattle.std.specs.List.{concat}
-use Rattle.gtp_check_questions.specs.Lessons.{all_lessons, name_of}
-use Rattle.gtp_check_questions.specs.declared.lessons.Lesson.{Lesson}
-use Rattle.gtp_check_questions.specs.declared.lessons.Lesson.TheVariants.{Start, Sizes, Ko, Captures, Suicide, Joining}
-use Rattle.gtp_check_questions.specs.declared.lessons.Lesson.TheVariants.{Handicaps, Komi, Drawn, Record, Genmoves}
-use Rattle.gtp_check_questions.specs.declared.lessons.Lesson.TheVariants.{Games}
-use Rattle.gtp_check_questions.specs.declared.lessons.Lesson.TheVariants.{Restarts}
+use Rattle.gtp_check_course.specs.Lessons.{all_lessons, name_of}
+use Rattle.gtp_check_course.specs.declared.lessons.Lesson.{Lesson}
+use Rattle.gtp_check_course.specs.declared.lessons.Lesson.TheVariants.{Start, Sizes, Ko, Captures, Suicide, Joining}
+use Rattle.gtp_check_course.specs.declared.lessons.Lesson.TheVariants.{Handicaps, Komi, Drawn, Record, Genmoves}
+use Rattle.gtp_check_course.specs.declared.lessons.Lesson.TheVariants.{Games}
+use Rattle.gtp_check_course.specs.declared.lessons.Lesson.TheVariants.{Restarts}
 
 -- what a lesson asks
 abbrev pub asked_text : Lesson → List ℕ

@@ -8,12 +8,12 @@ ghost use Rattle.go_board.specs.Board.{stone_at, HasStone};
 ghost use Rattle.go_board.specs.Game.{board_of};
 ghost use Rattle.go_board.specs.decisions.Game.{stone?};
 ghost use Rattle.gtp_check_texts.specs.Board.{comment_line, drawn_board, IsBlankRow};
-ghost use Rattle.gtp_check_reasons.specs.Lines.{all_but_last, lines_of};
+ghost use Rattle.gtp_check_texts.specs.Lines.{all_but_last, lines_of};
 
+use crate::lines::ended_line;
+use crate::texts::add_all;
 use go_base::{Colour, Point};
 use go_board::Game;
-use gtp_check_reasons::ended_line;
-use gtp_check_reasons::texts::add_all;
 use std::alloc::AllocError;
 
 /// Appends the board of a game as lines that begin with `#`: its rows from the top down, then the columns' letters. It

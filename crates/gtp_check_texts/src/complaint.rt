@@ -6,30 +6,29 @@ ghost use Rattle.std.specs.Io.BufRead.{strip_last};
 ghost use Rattle.gtp_process.specs.Shown.{quoted};
 ghost use Rattle.gtp_wire.specs.Replies.{most_shown};
 ghost use Rattle.gtp_check_texts.specs.Complaints.{in_a_row};
-ghost use Rattle.gtp_check_reasons.specs.Answers.{before_rule};
+ghost use Rattle.gtp_check_texts.specs.reasons.Answers.{before_rule};
 ghost use Rattle.gtp_check_texts.specs.Complaints.{ahead_lines, ahead_text, answer_of, asked_lines, board_lines};
 ghost use Rattle.gtp_check_texts.specs.Complaints.{complaint_lines, ended_text, faulty_said, head_line, is_within};
 ghost use Rattle.gtp_check_texts.specs.Complaints.{ko_line, may_run_on, pieces_line, pieces_text, rule_line, rule_of, shown_before, told};
 ghost use Rattle.gtp_check_texts.specs.Complaints.{within_text, wrote_line};
 ghost use Rattle.gtp_check_texts.specs.Conversation.{after_lines, asked_line, before_lines, faulty_line, line_end};
 ghost use Rattle.gtp_check_texts.specs.Conversation.{line_of, line_start, lines_to};
-ghost use Rattle.gtp_check_reasons.specs.Rules.{rule_text};
-ghost use Rattle.gtp_check_reasons.specs.RunOn.{run_on_line};
+ghost use Rattle.gtp_check_texts.specs.reasons.Rules.{rule_text};
+ghost use Rattle.gtp_check_texts.specs.reasons.RunOn.{run_on_line};
 
 use crate::board::add_board;
 use crate::last_game::{Shown, add_last_game};
-use arrayvec::ArrayVec;
-use go_base::write_int;
-use go_board::Game;
-use gtp_check_judge::CheckCommand;
-use gtp_check_questions::Lesson;
-use gtp_check_reasons::fault::Fault;
-use gtp_check_reasons::texts::add_all;
-use gtp_check_reasons::{
+use crate::reasons::{
     ANSWER_ROOM, add_reason, fault_text, in_a_row_line, right_answer, rule_text, run_on_line,
     runs_on, told_after,
 };
-use gtp_check_shortening::talk::{Said, said_at};
+use crate::texts::add_all;
+use arrayvec::ArrayVec;
+use go_base::write_int;
+use go_board::Game;
+use gtp_check_course::Lesson;
+use gtp_check_judge::CheckCommand;
+use gtp_check_talk::{Fault, Said, said_at};
 use gtp_process::{Ending, PipeCause, push_ending, push_quoted};
 use gtp_wire::MOST_SHOWN;
 use std::alloc::{AllocError, Global};

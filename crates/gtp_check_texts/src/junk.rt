@@ -2,7 +2,7 @@
 ghost use Rattle.std.specs.Prelude.{◌≡◌, ◌≤◌, length};
 ghost use Rattle.gtp_check_texts.specs.Junk.{first_line};
 
-use gtp_check_reasons::line_len;
+use gtp_check_talk::line_len;
 use gtp_wire::MOST_SHOWN;
 
 /// Returns the first line of what an engine wrote, without its newline, at most 80 bytes of it.

@@ -4,11 +4,11 @@ ghost use Rattle.gtp_check_texts.specs.LastGame.{answered_lines, choice_at, choi
 ghost use Rattle.gtp_check_texts.specs.LastGame.{last_game_lines, left_out_line};
 
 use crate::complaint::Complaint;
+use crate::texts::add_all;
 use go_base::Move;
 use gtp_check_judge::CheckCommand;
-use gtp_check_reasons::texts::add_all;
 use gtp_check_shortening::last_game::{LastGame, last_game, made_by};
-use gtp_check_shortening::talk::{Said, said_at};
+use gtp_check_talk::{Said, said_at};
 use gtp_wire::Command;
 use std::alloc::{AllocError, Global};
 

@@ -2,8 +2,8 @@
 ghost use Rattle.std.specs.Prelude.{◌≡◌, ◌++◌, length, IfOk, OnOk};
 ghost use Rattle.gtp_check_texts.specs.Listing.{asked_text, lesson_line, list_lines, spaces_after};
 
-use gtp_check_questions::{LESSONS, Lesson};
-use gtp_check_reasons::texts::add_all;
+use crate::texts::add_all;
+use gtp_check_course::{LESSONS, Lesson};
 use std::alloc::{AllocError, Global};
 
 /// Returns the lessons, one a line: the name, and what is asked.

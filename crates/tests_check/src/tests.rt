@@ -1,6 +1,6 @@
-//! Tests of the judge and the questions of a check, and of its texts, options and counts.
+//! Tests of the judge and the course of a check, and of its texts, options and counts.
 
 mod check;
 mod commands;
+mod course;
 mod judge;
-mod questions;

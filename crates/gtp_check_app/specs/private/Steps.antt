@@ -9,21 +9,21 @@ use Rattle.gtp_process.specs.Quitting.{QuitsIfAny}
 use Rattle.gtp_process.specs.Starts.{Attempts, Tries, program_line}
 use Rattle.gtp_check_judge.specs.declared.exam.Exam.{Exam}
 use Rattle.gtp_check_judge.specs.Check.{started}
-use Rattle.gtp_check_questions.specs.declared.actions.Action.{Action}
-use Rattle.gtp_check_questions.specs.declared.actions.Action.TheVariants as action
-use Rattle.gtp_check_questions.specs.Course.{Course}
+use Rattle.gtp_check_course.specs.declared.actions.Action.{Action}
+use Rattle.gtp_check_course.specs.declared.actions.Action.TheVariants as action
+use Rattle.gtp_check_course.specs.Course.{Course}
 use Rattle.gtp_check_app.specs.declared.check.Next.{Next}
 use Rattle.gtp_check_app.specs.declared.streams.Streams.{Streams}
 use Rattle.gtp_check_app.specs.declared.check.Next.TheVariants.{Exchange, Kill, Over, Restart, Start}
-use Rattle.gtp_check_talks.specs.declared.engine.Engine.{Engine}
-use Rattle.gtp_check_reasons.specs.declared.fault.Fault.{Fault}
+use Rattle.gtp_check_talk.specs.declared.engine.Engine.{Engine}
+use Rattle.gtp_check_talk.specs.declared.fault.Fault.{Fault}
 use Rattle.cli.specs.declared.failure.Failure.{Failure}
 use Rattle.cli.specs.declared.failure.Failure.TheVariants.{OutOfMemory, Write}
-use Rattle.gtp_check_talks.specs.declared.notes.Notes.{Notes}
-use Rattle.gtp_check_plan.specs.declared.plan.Plan.{Plan}
-use Rattle.gtp_check_summary.specs.declared.summary.Over.{Over as WhyOver}
-use Rattle.gtp_check_talks.specs.Dialogues.{AsksForMore, Wrong, begun_with, dialogue}
-use Rattle.gtp_check_talks.specs.Notes.{started as noted_start}
+use Rattle.gtp_check_talk.specs.declared.notes.Notes.{Notes}
+use Rattle.gtp_check_course.specs.declared.plan.Plan.{Plan}
+use Rattle.gtp_check_texts.specs.declared.summary.Over.{Over as WhyOver}
+use Rattle.gtp_check_talk.specs.Dialogues.{AsksForMore, Wrong, begun_with, dialogue}
+use Rattle.gtp_check_talk.specs.Notes.{started as noted_start}
 use Rattle.gtp_check_app.specs.Progress.{IsShown, cleared, clearing, looking, looking_line}
 use Rattle.gtp_check_app.specs.Tally.{started_again}
 use Rattle.gtp_check_app.specs.Sequence.{Known, Point, StopsIn, point}

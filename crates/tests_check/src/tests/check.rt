@@ -14,8 +14,8 @@ mod worked_texts;
 use crate::asserts::{assert_true, some};
 use crate::tests::commands::command;
 use go_base::Size;
-use gtp_check_questions::Lesson;
-use gtp_check_shortening::talk::{Purpose, Said};
+use gtp_check_course::Lesson;
+use gtp_check_talk::{Purpose, Said};
 use std::process::Abort;
 
 /// A conversation of these commands on a board of this size, each with the end of its line. A right engine refuses none

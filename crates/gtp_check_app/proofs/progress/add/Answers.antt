@@ -1,6 +1,6 @@
 use Rattle.std.proofs.Common.{◌-◌, arith}
 use Rattle.std.proofs.lemmas.List.{take_min}
-use Rattle.gtp_check_reasons.proofs.Joining.{joined_cut}
+use Rattle.gtp_check_texts.proofs.Joining.{joined_cut}
 use Rattle.gtp_check_app.proofs.progress.add.Goals as goal
 
 pub returns : goal.returns

@@ -1,7 +1,7 @@
 use Rattle.std.proofs.Common.{◌∙◌, ◌++◌, ap, List, ℕ, refl, sym, take}
 use Rattle.std.proofs.lemmas.List.{append-nil}
-use Rattle.gtp_check_reasons.specs.Texts.{joined}
-use Rattle.gtp_check_reasons.proofs.Joining.{appended-step, cut_front}
+use Rattle.gtp_check_texts.specs.Texts.{joined}
+use Rattle.gtp_check_texts.proofs.Joining.{appended-step, cut_front}
 use Rattle.gtp_check_app.proofs.progress.cut.Goals as goal
 
 pub loop-part-init : goal.loop-part-init

@@ -1,6 +1,6 @@
 use Rattle.std.proofs.Common.{◌≡◌, ◌++◌, take}
 use Rattle.gtp_check_app.specs.Progress.{most_columns}
-use Rattle.gtp_check_reasons.specs.Texts.{joined}
+use Rattle.gtp_check_texts.specs.Texts.{joined}
 use Rattle.gtp_check_app.proofs.progress.cut.Given as goal
 
 -- as much as fits of the texts so far

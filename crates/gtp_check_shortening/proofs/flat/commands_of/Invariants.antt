@@ -1,5 +1,5 @@
 use Rattle.std.proofs.Common.{◌≡◌, take}
-use Rattle.gtp_check_shortening.specs.Shortening.{commands_of}
+use Rattle.gtp_check_talk.specs.Said.{commands_of}
 use Rattle.gtp_check_shortening.proofs.flat.commands_of.Given as goal
 
 -- those so far

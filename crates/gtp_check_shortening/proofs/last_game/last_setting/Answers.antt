@@ -3,7 +3,7 @@ use Rattle.std.proofs.Common.{slice_get, sym}
 use Rattle.std.proofs.lemmas.Option.{slice_get-get_or}
 use Rattle.gtp_check_shortening.specs.LastGame.{last_setting, sets, sets_at}
 use Rattle.gtp_check_shortening.specs.declared.last_game.Setting.{Setting}
-use Rattle.gtp_check_shortening.specs.declared.talk.Said.{Said}
+use Rattle.gtp_check_talk.specs.declared.said.Said.{Said}
 use Rattle.gtp_check_shortening.proofs.last_game.last_setting.Goals as goal
 use Rattle.gtp_check_shortening.proofs.last_game.last_setting.Goals.{then-sets, else-sets}
 

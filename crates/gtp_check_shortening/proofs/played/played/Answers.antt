@@ -1,6 +1,6 @@
 use Rattle.std.proofs.Common.{◌≡◌, ◌∙◌, ◌++◌, List, ap, append_assoc, drop, sym, ◌+◌}
 use Rattle.std.proofs.lemmas.List.{append-nil}
-use Rattle.gtp_check_shortening.specs.declared.talk.Said.{Said}
+use Rattle.gtp_check_talk.specs.declared.said.Said.{Said}
 use Rattle.gtp_check_shortening.specs.Played.{done_before, played}
 use Rattle.gtp_check_shortening.proofs.Playing.{played_here, played_out}
 use Rattle.gtp_check_shortening.proofs.played.played.Goals as goal

@@ -2,7 +2,7 @@ use Rattle.std.proofs.Common.{◌≡◌, ◌∙◌, ◌++◌, ap, append_assoc, 
 use Rattle.gtp_check_texts.specs.Complaints.{ahead_lines, asked_lines, head_line, ko_line, may_run_on, rule_line}
 use Rattle.gtp_check_texts.specs.Complaints.{wrote_line}
 use Rattle.gtp_check_texts.specs.Conversation.{after_lines}
-use Rattle.gtp_check_reasons.specs.RunOn.{run_on_line}
+use Rattle.gtp_check_texts.specs.reasons.RunOn.{run_on_line}
 use Rattle.gtp_check_texts.proofs.complaint.complaint_text.Goals as goal
 
 -- a text that was added to those before comes before the rest

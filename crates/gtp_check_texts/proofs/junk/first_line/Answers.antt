@@ -1,6 +1,6 @@
 use Rattle.std.proofs.Common.{◌∙◌, ℕ, take, min, ap}
 use Rattle.std.specs.List.{position_or_len}
-use Rattle.gtp_check_reasons.specs.Lines.{is_newline}
+use Rattle.gtp_check_talk.specs.Lines.{is_newline}
 use Rattle.gtp_check_texts.proofs.DrawnLines.{take_shorter}
 use Rattle.gtp_check_texts.proofs.junk.first_line.Goals as goal
 

@@ -1,8 +1,8 @@
 use Rattle.std.proofs.Common.{◌≡◌, ◌∙◌, [], ap, arith, map, take}
 use Rattle.std.specs.List.{concat}
-use Rattle.gtp_check_questions.specs.Lessons.{all_lessons}
+use Rattle.gtp_check_course.specs.Lessons.{all_lessons}
 use Rattle.gtp_check_texts.specs.Listing.{lesson_line}
-use Rattle.gtp_check_reasons.proofs.Joining.{appended-step}
+use Rattle.gtp_check_texts.proofs.Joining.{appended-step}
 use Rattle.gtp_check_texts.proofs.listing.list_text.Goals as goal
 
 pub loop-lesson-preserved : goal.loop-lesson-preserved

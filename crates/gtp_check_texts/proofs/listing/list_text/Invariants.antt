@@ -1,6 +1,6 @@
 use Rattle.std.proofs.Common.{◌≡◌, map, take}
 use Rattle.std.specs.List.{concat}
-use Rattle.gtp_check_questions.specs.Lessons.{all_lessons}
+use Rattle.gtp_check_course.specs.Lessons.{all_lessons}
 use Rattle.gtp_check_texts.specs.Listing.{lesson_line}
 use Rattle.gtp_check_texts.proofs.listing.list_text.Given as goal
 

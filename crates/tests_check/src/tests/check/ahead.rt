@@ -5,13 +5,12 @@ use crate::asserts::{assert_equal, assert_equal_for, assert_true, some, text_of}
 use crate::tests::commands::command;
 use byte_streams::CallFault;
 use go_board::KoRule;
+use gtp_check_course::{Lesson, Suicide};
 use gtp_check_judge::{CheckCommand, Examiner, Kind};
-use gtp_check_questions::{Lesson, Suicide};
-use gtp_check_reasons::fault::Fault;
-use gtp_check_shortening::talk::Purpose;
-use gtp_check_talks::engine::Room;
-use gtp_check_talks::notes::Notes;
-use gtp_check_talks::trial::{Trial, Tried, try_commands};
+use gtp_check_talk::engine::Room;
+use gtp_check_talk::notes::Notes;
+use gtp_check_talk::trial::{Trial, Tried, try_commands};
+use gtp_check_talk::{Fault, Purpose};
 use gtp_check_texts::complaint::{Complaint, complaint_text};
 use gtp_check_texts::last_game::Shown;
 use gtp_process::{Ending, Process, StartFault, Starter};

@@ -2,11 +2,10 @@
 use super::talk_of;
 use crate::asserts::{assert_equal_for, some};
 use go_board::{Game, KoRule, PlayFault};
+use gtp_check_course::Lesson;
 use gtp_check_judge::{Cause, Kind};
-use gtp_check_questions::Lesson;
-use gtp_check_reasons::fault::Fault;
 use gtp_check_shortening::superko::game_before;
-use gtp_check_shortening::talk::Said;
+use gtp_check_talk::{Fault, Said};
 use gtp_check_texts::complaint::{Complaint, complaint_text};
 use gtp_check_texts::last_game::Shown;
 use gtp_process::{Ending, PipeCause};

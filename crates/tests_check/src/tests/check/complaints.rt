@@ -2,11 +2,10 @@
 use super::{talk_for, talk_of};
 use crate::asserts::{assert_equal_for, assert_true, text_of};
 use go_board::{Game, KoRule};
+use gtp_check_course::Lesson;
 use gtp_check_judge::{Cause, Kind};
-use gtp_check_questions::Lesson;
-use gtp_check_reasons::fault::Fault;
 use gtp_check_shortening::superko::game_before;
-use gtp_check_shortening::talk::{Purpose, Said};
+use gtp_check_talk::{Fault, Purpose, Said};
 use gtp_check_texts::complaint::{Complaint, complaint_text};
 use gtp_check_texts::last_game::Shown;
 use gtp_process::{Ending, PipeCause};

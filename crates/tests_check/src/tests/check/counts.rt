@@ -1,10 +1,10 @@
 //! What was found and noted.
 use crate::asserts::assert_equal;
 use gtp_check_app::tally::Tally;
+use gtp_check_course::Lesson;
 use gtp_check_judge::Kind;
-use gtp_check_questions::Lesson;
-use gtp_check_reasons::fault::Fault;
-use gtp_check_talks::notes::Notes;
+use gtp_check_talk::Fault;
+use gtp_check_talk::notes::Notes;
 
 #[test]
 fn three_of_a_kind_are_shown_and_starts_without_a_right_answer_are_counted(rt: HostRuntime) {

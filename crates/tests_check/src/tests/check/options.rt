@@ -3,10 +3,10 @@ use crate::asserts::{assert_equal, assert_true_for};
 use cli::failure::PlanError;
 use go_base::Size;
 use go_board::KoRule;
-use gtp_check_plan::failure::Mistake;
-use gtp_check_plan::options::read_options;
-use gtp_check_plan::plan::plan_of;
-use gtp_check_questions::{Lesson, Suicide};
+use gtp_check_app::failure::Mistake;
+use gtp_check_app::options::read_options;
+use gtp_check_app::plan::plan_of;
+use gtp_check_course::{Lesson, Suicide};
 use std::test::Fail;
 
 #[test]

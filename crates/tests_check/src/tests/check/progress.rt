@@ -1,10 +1,10 @@
 //! The progress lines, compared with lines written by hand.
 use super::talk_of;
 use crate::asserts::{assert_equal, assert_equal_for, text_of};
+use gtp_check_app::options::read_options;
+use gtp_check_app::plan::plan_of;
 use gtp_check_app::progress::{in_place, line_at, waiting_text};
-use gtp_check_plan::options::read_options;
-use gtp_check_plan::plan::plan_of;
-use gtp_check_questions::Lesson;
+use gtp_check_course::Lesson;
 use std::test::Fail;
 
 /// The arguments of a check, the command and the lesson that it waits for, the numbers of commands and starts so far,

@@ -1,12 +1,12 @@
 //! The hint that an answer may have run on into the next one.
 use super::talk_of;
 use crate::asserts::{assert_equal_for, text_of};
+use gtp_check_course::Lesson;
 use gtp_check_judge::Kind;
-use gtp_check_questions::Lesson;
-use gtp_check_reasons::fault::Fault;
-use gtp_check_reasons::runs_on;
+use gtp_check_talk::Fault;
 use gtp_check_texts::complaint::{Complaint, complaint_text};
 use gtp_check_texts::last_game::Shown;
+use gtp_check_texts::reasons::runs_on;
 use gtp_process::Ending;
 use std::test::Fail;
 

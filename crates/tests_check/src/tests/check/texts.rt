@@ -2,13 +2,13 @@
 use crate::asserts::assert_equal;
 use go_base::{Colour, Move};
 use go_board::KoRule;
+use gtp_check_app::options::read_options;
+use gtp_check_app::plan::plan_of;
+use gtp_check_course::{LESSONS, Lesson};
 use gtp_check_judge::{Asked, CheckCommand, Due, Examiner, Heard};
-use gtp_check_plan::options::read_options;
-use gtp_check_plan::plan::plan_of;
-use gtp_check_questions::{LESSONS, Lesson};
-use gtp_check_summary::summary::{Ending, Over, first_line, last_lines};
-use gtp_check_talks::notes::Notes;
+use gtp_check_talk::notes::Notes;
 use gtp_check_texts::listing::list_text;
+use gtp_check_texts::summary::{Ending, Over, first_line, last_lines};
 use gtp_wire::{Command, Reply};
 use std::str;
 use std::test::Fail;

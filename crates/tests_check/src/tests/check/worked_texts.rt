@@ -1,13 +1,12 @@
 //! What complaints say of worked positions.
 use go_base::{Colour, Komi, Move, Size, Vertex};
 use go_board::{Game, KoRule, PlayFault};
+use gtp_check_course::Lesson;
 use gtp_check_judge::{Cause, CheckCommand, Kind};
-use gtp_check_questions::Lesson;
-use gtp_check_reasons::add_reason;
-use gtp_check_reasons::fault::Fault;
-use gtp_check_shortening::talk::{Purpose, Said};
+use gtp_check_talk::{Fault, Purpose, Said};
 use gtp_check_texts::complaint::{Complaint, complaint_text};
 use gtp_check_texts::last_game::Shown;
+use gtp_check_texts::reasons::add_reason;
 use gtp_check_texts::{add_board, first_line};
 use gtp_process::Ending;
 use gtp_wire::Command;

@@ -4,7 +4,7 @@ use Rattle.byte_streams.specs.Writing.{line_out, no_line}
 use Rattle.go_board.specs.declared.rules.KoRule.{KoRule}
 use Rattle.gtp_check_texts.specs.Complaints.{complaint_lines}
 use Rattle.gtp_check_texts.specs.declared.complaint.Complaint.{Complaint}
-use Rattle.gtp_check_talks.specs.Dialogues.{Wrong, wrong_of}
+use Rattle.gtp_check_talk.specs.Dialogues.{Wrong, wrong_of}
 use Rattle.gtp_check_app.specs.declared.complaining.Caption.{Caption}
 use Rattle.gtp_check_app.specs.Progress.{cleared, looking_line}
 use Rattle.gtp_check_app.specs.Sequence.{known_of}

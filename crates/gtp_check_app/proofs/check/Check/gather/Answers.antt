@@ -1,5 +1,5 @@
 use Rattle.std.proofs.Common.{◌∙◌, arith, refl}
-use Rattle.gtp_check_questions.specs.declared.actions.Action.TheVariants.{Ask, Skip, Wait}
+use Rattle.gtp_check_course.specs.declared.actions.Action.TheVariants.{Ask, Skip, Wait}
 use Rattle.gtp_check_app.specs.Turns.{IsNext, asks, nothing, passes}
 use Rattle.gtp_check_app.proofs.Gathering.{next_up}
 use Rattle.gtp_check_app.proofs.check.Check.gather.Goals as goal

@@ -2,8 +2,8 @@ use Rattle.std.proofs.Common.{◌≡◌, ◌∙◌, ap, arith, false, length, re
 use Rattle.std.proofs.lemmas.Result.{err_from_is_err_and}
 use Rattle.gtp_process.specs.Starts.{program_line}
 use Rattle.gtp_check_judge.specs.declared.asking.CheckCommand.{CheckCommand}
-use Rattle.gtp_check_shortening.specs.declared.talk.Said.{Said}
-use Rattle.gtp_check_talks.specs.Dialogues.{none, wrong_of, wrong_talk}
+use Rattle.gtp_check_talk.specs.declared.said.Said.{Said}
+use Rattle.gtp_check_talk.specs.Dialogues.{none, wrong_of, wrong_talk}
 use Rattle.gtp_check_app.specs.Trials.{left_by, shortenings_of}
 use Rattle.gtp_check_app.specs.Turns.{moment, state_of}
 use Rattle.gtp_check_app.proofs.Shortening.{Missed, all_missed, found_here, missed_asks, one_asks, one_missed}

@@ -1,5 +1,5 @@
 use Rattle.std.proofs.Common.{◌≡◌, take}
-use Rattle.gtp_check_talks.specs.Dialogues.{wrong_of}
+use Rattle.gtp_check_talk.specs.Dialogues.{wrong_of}
 use Rattle.gtp_check_app.specs.Turns.{moment, state_of}
 use Rattle.gtp_check_app.proofs.Shortening.{Missed}
 use Rattle.gtp_check_app.proofs.check.Check.last_games.Given as goal

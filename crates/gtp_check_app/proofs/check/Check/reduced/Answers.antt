@@ -4,8 +4,8 @@ use Rattle.std.specs.Option.{option_copied, unwrap_or}
 use Rattle.std.proofs.lemmas.Result.{err_from_is_err_and}
 use Rattle.gtp_process.specs.Starts.{program_line}
 use Rattle.gtp_check_judge.specs.declared.asking.CheckCommand.{CheckCommand}
-use Rattle.gtp_check_talks.specs.declared.trial.Tried.{Tried}
-use Rattle.gtp_check_talks.specs.Dialogues.{Wrong, none, wrong_of}
+use Rattle.gtp_check_talk.specs.declared.trial.Tried.{Tried}
+use Rattle.gtp_check_talk.specs.Dialogues.{Wrong, none, wrong_of}
 use Rattle.gtp_check_shortening.specs.Reduction.{begun, next}
 use Rattle.gtp_check_shortening.specs.declared.limits.Limits.{Limits}
 use Rattle.gtp_check_app.specs.Trials.{limits_of}

@@ -1,6 +1,6 @@
 use Rattle.std.proofs.Common.{◌≡◌, option_map}
 use Rattle.std.specs.Prelude.{unwrap_or}
-use Rattle.gtp_check_talks.specs.Dialogues.{wrong_of}
+use Rattle.gtp_check_talk.specs.Dialogues.{wrong_of}
 use Rattle.gtp_check_shortening.specs.Reduction.{begun}
 use Rattle.gtp_check_app.specs.private.LastGames.{games_of}
 use Rattle.gtp_check_app.specs.Trials.{limits_of}

@@ -1,6 +1,6 @@
 use Rattle.std.proofs.lemmas.Result.{err_from_is_err_and}
 use Rattle.gtp_process.specs.Starts.{program_line}
-use Rattle.gtp_check_talks.specs.Dialogues.{wrong_of, wrong_talk}
+use Rattle.gtp_check_talk.specs.Dialogues.{wrong_of, wrong_talk}
 use Rattle.gtp_check_app.specs.Trials.{shortenings_of}
 use Rattle.gtp_check_app.specs.Turns.{both_ways}
 use Rattle.gtp_check_app.proofs.Shortening.{shortens_asks, then_more}

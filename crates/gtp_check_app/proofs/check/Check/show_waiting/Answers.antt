@@ -1,5 +1,5 @@
 use Rattle.std.proofs.Common.{◌∙◌, sym}
-use Rattle.gtp_check_talks.specs.Dialogues.{dialogue}
+use Rattle.gtp_check_talk.specs.Dialogues.{dialogue}
 use Rattle.gtp_check_app.specs.Progress.{no_text}
 use Rattle.gtp_check_app.proofs.Progressing.{none_shown, placed_cut, waits_for, waits_for_none, waits_not}
 use Rattle.gtp_check_app.proofs.check.Check.show_waiting.Goals as goal

@@ -1,6 +1,6 @@
 use Rattle.std.proofs.Common.{◌≡◌, true}
 use Rattle.std.proofs.lemmas.Result.{err_from_is_err_and}
-use Rattle.gtp_check_talks.specs.Dialogues.{none, wrong_of}
+use Rattle.gtp_check_talk.specs.Dialogues.{none, wrong_of}
 use Rattle.gtp_check_app.specs.Turns.{IsTried, TriesOne}
 use Rattle.gtp_check_app.proofs.check.Check.try_one.Goals as goal
 

@@ -1,7 +1,7 @@
 use Rattle.std.proofs.Common.{refl, rules, [], ◌∷◌}
 use Rattle.std.proofs.lemmas.Result.{err_from_is_err_and}
 use Rattle.byte_streams.specs.Writing.{line_out, no_line}
-use Rattle.gtp_check_summary.specs.Summary.{first_line}
+use Rattle.gtp_check_texts.specs.Summary.{first_line}
 use Rattle.gtp_check_app.specs.Turns.{due, not_due}
 use Rattle.gtp_check_app.specs.private.Steps.{first_broke, first_goes_out, first_refused}
 use Rattle.gtp_check_app.proofs.Progressing.{none_shown}

@@ -1,0 +1,82 @@
+-- What the options of a check come to. (Own.)
+use Rattle.std.specs.Prelude.{◌≡◌, ◌≢◌, ℕ, ◌==◌, ◌&&◌, ◌||◌, not, Bool, true, false, List, [], Option, None, Some}
+use Rattle.std.specs.Prelude.{map, filter, length}
+use Rattle.std.specs.Borrow.{Bor}
+use Rattle.std.specs.List.{list_any}
+use Rattle.clap.specs.Words.{Text}
+use Rattle.go_base.specs.Size.{IsSize}
+use Rattle.gtp_check_course.specs.Lessons.{all_lessons, number_of}
+use Rattle.gtp_check_course.specs.declared.lessons.Lesson.{Lesson}
+use Rattle.gtp_check_course.specs.declared.lessons.Lesson.TheVariants.{Start, Sizes, Ko, Captures, Suicide, Joining}
+use Rattle.gtp_check_course.specs.declared.lessons.Lesson.TheVariants.{Handicaps, Komi, Drawn, Record, Genmoves}
+use Rattle.gtp_check_course.specs.declared.lessons.Lesson.TheVariants.{Games}
+use Rattle.gtp_check_course.specs.declared.lessons.Lesson.TheVariants.{Restarts}
+use Rattle.gtp_wire.specs.Words.{words}
+use Rattle.gtp_check_app.specs.declared.failure.Mistake.{Mistake}
+use Rattle.gtp_check_app.specs.declared.failure.Mistake.TheVariants.{NoCommand, NoLesson}
+use Rattle.cli.specs.declared.failure.PlanError.{PlanError}
+use Rattle.cli.specs.declared.failure.PlanError.TheVariants.{BadArgument, BadWords, OutOfMemory}
+use Rattle.gtp_check_talk.specs.Among.{is_among}
+use Rattle.gtp_check_app.specs.declared.options.Options.{Options}
+use Rattle.gtp_check_course.specs.declared.plan.Plan.{Plan}
+
+-- the command of an engine: the words of its text, which is split at spaces
+abbrev pub IsCommand : Text → List (Bor Text) → Type 0
+IsCommand text command = map (λ word. word.now) command ≡ words text
+
+-- the size of the boards of scenes: that of the number, where it is one
+pub record IsSceneSize (number : ℕ) (size : Option ℕ) : Type 0 where
+  pub given : IsSize number → size ≡ Some number
+  pub none : ¬ IsSize number → size ≡ None
+
+-- ---- the lessons
+
+-- the lesson is one of those of `--quick`: all up to the scenes
+abbrev pub is_quick : Lesson → Bool
+is_quick Start = true
+is_quick Sizes = true
+is_quick Ko = true
+is_quick Captures = true
+is_quick Suicide = true
+is_quick Joining = true
+is_quick Handicaps = false
+is_quick Komi = false
+is_quick Drawn = false
+is_quick Record = false
+is_quick Genmoves = false
+is_quick Games = false
+is_quick Restarts = false
+
+-- The options ask for the lesson: it is one of those of `--only`, where there are any, none of `--skip`, and under
+-- `--quick` one of those.
+abbrev pub is_chosen : Options → Lesson → Bool
+is_chosen options lesson =
+    (length options.only.items == 0 || is_among options.only.items lesson)
+    && (not (is_among options.skip.items lesson) && (not options.quick || is_quick lesson))
+
+-- ---- the plan
+
+-- what the options come to, where progress is shown or not
+pub record IsPlanOf (options : Options) (shows_progress : Bool) (plan : Plan) : Type 0 where
+  pub command : IsCommand options.command.now plan.words.items
+  pub has_words : words options.command.now ≢ []
+  pub scene_size : IsSceneSize options.size plan.scene_size
+  pub rule : plan.rule ≡ options.rule
+  pub suicide : plan.suicide ≡ options.suicide
+  pub seed : plan.seed ≡ options.seed
+  pub lessons : plan.lessons.items ≡ filter (is_chosen options) all_lessons
+  pub has_lessons : plan.lessons.items ≢ []
+  pub left_out : plan.left_out.items ≡ filter (λ lesson. not (is_chosen options lesson)) all_lessons
+  pub singly : plan.singly ≡ options.singly
+  pub restarts : plan.restarts ≡ options.restarts
+  pub trials : plan.trials ≡ options.trials
+  pub progress : plan.shows_progress ≡ shows_progress
+
+-- Why the options come to no plan: the command has no word; or it has, and no lesson is left; or memory was refused.
+-- That an argument isn't UTF-8 is none of theirs.
+abbrev pub HasNoPlan : Options → PlanError Mistake → Type 0
+HasNoPlan options BadArgument = ⊥
+HasNoPlan options (BadWords NoCommand) = words options.command.now ≡ []
+HasNoPlan options (BadWords NoLesson) =
+    (words options.command.now ≢ []) × (filter (is_chosen options) all_lessons ≡ [])
+HasNoPlan options OutOfMemory = Unit {0}

@@ -1,0 +1,161 @@
+-- What holds of every course.
+use Rattle.std.specs.Prelude.{Bool, ◌≡◌, ℕ, ◌+◌, ◌*◌, ◌<◌, ◌≤◌, List, [], ◌∷◌, length, slice_get, Option, Some}
+use Rattle.go_base.specs.Colour.{other}
+use Rattle.go_base.specs.Size.{most_size}
+use Rattle.go_base.specs.declared.colours.Colour.{Colour}
+use Rattle.go_base.specs.declared.moves.Move.{Move}
+use Rattle.go_board.specs.Game.{GameRecord}
+use Rattle.go_board.specs.Refusals.{RefusesVertex}
+use Rattle.go_board.specs.declared.faults.PlayFault.TheVariants.{Suicide as SuicideFault}
+use Rattle.gtp_wire.specs.declared.commands.Command.TheVariants as command
+use Rattle.gtp_check_judge.specs.declared.asking.CheckCommand.{CheckCommand}
+use Rattle.gtp_check_judge.specs.Asking.{IsPlayOf}
+use Rattle.gtp_check_judge.specs.declared.exam.Exam.{Exam}
+use Rattle.gtp_check_course.specs.declared.actions.Action.{Action}
+use Rattle.gtp_check_course.specs.declared.actions.Action.TheVariants.{Start, Restart, Kill, Ask, Wait, Skip, Done}
+use Rattle.gtp_check_course.specs.declared.actions.Question.{Question}
+use Rattle.gtp_check_course.specs.declared.actions.Question.TheVariants.{Nothing}
+use Rattle.gtp_check_course.specs.declared.boards.Board.{Board}
+use Rattle.gtp_check_course.specs.declared.draws.Draws.{Draws}
+use Rattle.gtp_check_course.specs.declared.lessons.Lesson.{Lesson}
+use Rattle.gtp_check_course.specs.declared.lessons.Lesson.TheVariants as lesson
+use Rattle.gtp_check_course.specs.declared.stretches.Stretch.{Stretch}
+use Rattle.gtp_check_course.specs.declared.suicides.Suicide.{Suicide}
+use Rattle.gtp_check_course.specs.declared.suicides.Suicide.TheVariants.{Unasked}
+use Rattle.gtp_check_course.specs.Course.{Course, GoesTo, IsIn, Leaves, begun, with_finding}
+use Rattle.gtp_check_course.specs.Lessons.{stretches_of}
+use Rattle.gtp_check_course.specs.Questions.{IsQuestion, asks, last_of}
+use Rattle.gtp_check_course.specs.Scenes.{scene_of, turned_act, turned_colour}
+use Rattle.gtp_check_course.specs.Stretches.{steps_of}
+
+-- ---- a course is bounded
+
+-- a command that is asked, a step that asks nothing, and the end of an engine each count as one
+abbrev pub counted : Action → ℕ
+counted (Ask command) = 1
+counted Restart = 1
+counted Kill = 1
+counted Skip = 1
+counted Start = 0
+counted Wait = 0
+counted Done = 0
+
+abbrev pub starts : Action → ℕ
+starts Start = 1
+starts (Ask command) = 0
+starts Restart = 0
+starts Kill = 0
+starts Wait = 0
+starts Skip = 0
+starts Done = 0
+
+-- The calls on a course of these lessons: how many of them asked a command, asked nothing or ended an engine, how many
+-- starts there were, and the course after them. Whatever the engine has answered, each call of `next` goes on. A part
+-- may be left at any time, and something may be found in an earlier one.
+pub data Walks (lessons : List Lesson) (scene_size : Option ℕ) (seed : ℕ) (suicide : Suicide)
+    : ℕ → ℕ → Course → Type 0 where
+  begins : Walks lessons scene_size seed suicide 0 0 (begun lessons scene_size seed suicide)
+  goes : {asked started : ℕ} {old new : Course} (exam : Exam) (action : Action)
+      → Walks lessons scene_size seed suicide asked started old → GoesTo old exam action new
+      → Walks lessons scene_size seed suicide (counted action + asked) (starts action + started) new
+  leaves : {asked started : ℕ} {old new : Course}
+      → Walks lessons scene_size seed suicide asked started old → Leaves old new
+      → Walks lessons scene_size seed suicide asked started new
+  finds : {asked started : ℕ} {old : Course} (is_loss : Bool) → Walks lessons scene_size seed suicide asked started old
+      → Walks lessons scene_size seed suicide asked started (with_finding is_loss old)
+
+-- No more commands are asked, steps passed over and engines ended, all together, than the lessons have steps at most,
+-- and five after each start.
+abbrev pub EveryCourseIsBounded : Type 0
+EveryCourseIsBounded = (lessons : List Lesson) (scene_size : Option ℕ) (seed : ℕ) (suicide : Suicide)
+    (asked started : ℕ) (course : Course) → Walks lessons scene_size seed suicide asked started course
+    → IsIn course.lessons course.place
+    → asked ≤ 67200000 * (length lessons + 1) + 5 * (started + 1)
+
+-- ---- suicide
+
+-- Where suicide isn't asked, no `play` that is asked is one in the examiner's game, by the rules of that, however its
+-- colour is written.
+abbrev pub NoSuicideIsAsked : Type 0
+NoSuicideIsAsked = (lessons : List Lesson) (scene_size : Option ℕ) (seed asked started : ℕ) (old new : Course)
+    (exam : Exam) (command : CheckCommand) (move : Move) → Walks lessons scene_size seed Unasked asked started old
+    → IsPlayOf move command → GoesTo old exam (Ask command) new
+    → ¬ RefusesVertex exam.game move.colour move.vertex SuicideFault
+
+-- ---- what stretches ask
+
+-- The step of this number of a stretch asks this, whatever is drawn, and whatever the game is.
+pub record AsksAt (stretch : Stretch) (board : Board) (step : ℕ) (question : Question) : Type 0 where
+  pub within : step < steps_of stretch
+  pub is : (draws : Draws) (game : GameRecord)
+      → IsQuestion stretch (record { number = step; draws = draws }) board game question
+
+-- The stretch asks the moves of the board's scene, in their order, each so.
+abbrev pub AsksEachMove : (Move → Question) → Stretch → Board → Type 0
+AsksEachMove asked stretch board = (number : ℕ) (act : Colour × ℕ × ℕ) → slice_get board.scene.now number ≡ Some act
+    → AsksAt stretch board number (asked (turned_act board.way act board.size))
+
+abbrev pub PlaysEachMove : Stretch → Board → Type 0
+PlaysEachMove stretch board = AsksEachMove (λ move. asks (command.Play move)) stretch board
+
+-- Stretches of the part come one right after the other, from this number on. The first step of each asks this, in this
+-- order.
+pub data AsksInTurn (lesson : Lesson) (part : ℕ) (board : Board) : ℕ → List Question → Type 0 where
+  none : {number : ℕ} → AsksInTurn lesson part board number []
+  next : {number : ℕ} {question : Question} {later : List Question} (stretch : Stretch)
+      → slice_get (stretches_of lesson part) number ≡ Some stretch → AsksAt stretch board 0 question
+      → AsksInTurn lesson part board (number + 1) later → AsksInTurn lesson part board number (question ∷ later)
+
+-- ---- each ko is answered
+
+-- The crossing stays empty, where the colour of this act has the rest of the board: it is that of the act, one of the
+-- two gaps, or the far corner.
+pub data StaysEmpty (board : Board) (act : Colour × ℕ × ℕ) : ℕ → ℕ → Type 0 where
+  acts : StaysEmpty board act act.1 act.2
+  first : StaysEmpty board act board.gaps.first.0 board.gaps.first.1
+  second : StaysEmpty board act board.gaps.second.0 board.gaps.second.1
+  corner : StaysEmpty board act board.size board.size
+
+-- the move of the act's colour on a crossing
+abbrev pub fills : Board → Colour × ℕ × ℕ → ℕ → ℕ → Question
+fills board act column row = asks (command.Play (turned_act board.way (act.0, column, row) board.size))
+
+-- A step of the stretch asks nothing, or fills a crossing that doesn't stay empty.
+pub data Fills (stretch : Stretch) (board : Board) (act : Colour × ℕ × ℕ) (step : ℕ) : Type 0 where
+  nothing : AsksAt stretch board step Nothing → Fills stretch board act step
+  plays : (column row : ℕ) → ¬ StaysEmpty board act column row → AsksAt stretch board step (fills board act column row)
+      → Fills stretch board act step
+
+-- The stretch has the act's colour play on all crossings of the board but those that stay empty, and on no other.
+pub record Seals (stretch : Stretch) (board : Board) (act : Colour × ℕ × ℕ) : Type 0 where
+  pub all : (column row : ℕ) → 1 ≤ column → column ≤ board.size → 1 ≤ row → row ≤ board.size
+      → ¬ StaysEmpty board act column row
+      → (step : ℕ) × AsksAt stretch board step (fills board act column row)
+  pub only : (step : ℕ) → step < steps_of stretch → Fills stretch board act step
+
+-- Six stretches of the part come one right after the other. The board is cleared; the moves of the scene are asked, and
+-- the last of them, the act, is taken back; the act's colour fills the board; it acts, and nothing else is asked; and
+-- the engine is asked for a move of the other colour.
+pub record AsksForAnswer (lesson : Lesson) (part : ℕ) (board : Board) (act : Colour × ℕ × ℕ) : Type 0 where
+  pub number : ℕ
+  pub clears : AsksInTurn lesson part board number (asks command.ClearBoard ∷ [])
+  pub moves : Stretch
+  pub has_moves : slice_get (stretches_of lesson part) (number + 1) ≡ Some moves
+  pub plays_each : PlaysEachMove moves board
+  pub takes_back : AsksInTurn lesson part board (number + 2) (asks command.Undo ∷ [])
+  pub seal : Stretch
+  pub has_seal : slice_get (stretches_of lesson part) (number + 3) ≡ Some seal
+  pub seals : Seals seal board act
+  pub acts : Stretch
+  pub has_acts : slice_get (stretches_of lesson part) (number + 4) ≡ Some acts
+  pub alone : steps_of acts ≡ 1
+  pub plays : AsksAt acts board 0 (asks (command.Play (turned_act board.way act board.size)))
+  pub answers : AsksInTurn lesson part board (number + 5)
+      (asks (command.Genmove (other (turned_colour board.way act.0))) ∷ [])
+
+-- In each part of the lesson of kos a move of the other colour is asked for right after the act, which is the last
+-- move of the scene, on a board where hardly a point is empty.
+abbrev pub EachKoIsAnswered : Type 0
+EachKoIsAnswered = (part : ℕ) (board : Board) (act : Colour × ℕ × ℕ) → board.scene.now ≡ scene_of lesson.Ko part
+    → 1 ≤ board.size → board.size ≤ most_size → last_of board.scene.now ≡ Some act
+    → AsksForAnswer lesson.Ko part board act

@@ -1,0 +1,28 @@
+//! Laws of the course. Each is the contract of a function that does nothing.
+ghost use Rattle.gtp_check_course.specs.Laws.{EveryCourseIsBounded, EachKoIsAnswered, NoSuicideIsAsked};
+ghost use Rattle.gtp_check_course.specs.Posing.{EachQuestionIsAsked};
+
+/// Whatever is answered, and whenever a part is left: the commands that are asked, the steps that are passed over and
+/// the engines that are ended are together at most 67,200,000 for each lesson and once more, plus five after each
+/// start.
+pub fn every_course_is_bounded()
+    ensures { EveryCourseIsBounded }
+{}
+
+/// What a step asks is asked whenever it may be asked and isn't left out: a probe as a `play`, and if that is legal an
+/// `undo` comes next. A step is passed over only if that isn't so, or if it asks nothing. Then the next step comes.
+pub fn each_question_is_asked()
+    ensures { EachQuestionIsAsked }
+{}
+
+/// If suicide isn't asked, no `play` that is asked is one in the examiner's game, however its colour is written.
+pub fn no_suicide_is_asked()
+    ensures { NoSuicideIsAsked }
+{}
+
+/// In each part of the lesson `ko` the board is cleared, the moves of the scene are asked, and the last of them, the
+/// act, is undone. Then its colour fills the board except for the act's point, two gaps and the far corner, and acts.
+/// Right after that the engine is asked for a move of the other colour.
+pub fn each_ko_is_answered()
+    ensures { EachKoIsAnswered }
+{}

@@ -1,0 +1,205 @@
+//! The lessons of a course.
+ghost use Rattle.std.specs.Prelude.{◌≡◌, ◌≤◌, length, map};
+ghost use Rattle.gtp_check_course.specs.Places.{most_parts, most_stretches};
+ghost use Rattle.gtp_check_course.specs.Lessons.{is_in_pieces, name_of, number_of, parts_of};
+ghost use Rattle.gtp_check_course.specs.Lessons.{start_parts, stretches_of};
+ghost use Rattle.gtp_check_course.specs.Scenes.{scenes_of};
+
+use crate::scenes::{CAPTURES, JOINING, KO, SUICIDE, Scene, WAYS};
+use crate::stretches::Stretch;
+use crate::{games, tables};
+use arrayvec::ArrayVec;
+
+/// How many lessons there are.
+const ALL: usize = 13;
+
+/// The lessons of a course, in their order.
+pub type Lessons = ArrayVec<Lesson, ALL>;
+
+/// A lesson: a subject on which the engine is asked.
+#[derive(Clone, Copy, Debug, PartialEq, Eq)]
+pub enum Lesson {
+    /// Some moves of the engine's own on the smallest board from 5x5 that it accepts, and that board after a restart.
+    /// Then a few commands whose lines come in two chunks each, some moves whose colours are written in full, and
+    /// `list_commands`.
+    Start,
+    /// Each size from 1 to 25: whether the engine accepts it, each of its points, and two points that it doesn't have.
+    /// Then the capture of all stones of a full board, which is undone with the moves before it, on some sizes with all
+    /// of them.
+    Sizes,
+    /// Kos, and what looks like one: who may retake, and when.
+    Ko,
+    /// Captures of one stone and of several, of one chain and of several.
+    Captures,
+    /// Moves that leave their own chain without a liberty.
+    Suicide,
+    /// Moves that join chains, and captures of chains that were joined.
+    Joining,
+    /// Each number of handicap stones on each size.
+    Handicaps,
+    /// Komis, and the score of an empty board, also after captures were undone.
+    Komi,
+    /// Random games on several sizes, with probes.
+    Drawn,
+    /// Records of nearly 2,000 moves, and a ko after 1,010 passes, which is undone with some of them. Then a ko and 300
+    /// passes after it.
+    Record,
+    /// Moves of the engine's own, on small boards up to a full one, with `undo` between. Then some on a board where
+    /// White has no legal point, and the capture of all stones.
+    Genmoves,
+    /// Games in one process.
+    Games,
+    /// Games after a restart, with a `quit` and without.
+    Restarts,
+}
+
+impl Default for Lesson {
+    ghost use Rattle.gtp_check_course.specs.declared.lessons.Lesson.{Lesson};
+
+    ghost is_default = { λ lesson. lesson ≡ Lesson.Start };
+
+    /// The first lesson.
+    fn default() -> Lesson {
+        Lesson::Start
+    }
+}
+
+/// All lessons, in the order of a course.
+pub const LESSONS: [Lesson; ALL] = [
+    Lesson::Start,
+    Lesson::Sizes,
+    Lesson::Ko,
+    Lesson::Captures,
+    Lesson::Suicide,
+    Lesson::Joining,
+    Lesson::Handicaps,
+    Lesson::Komi,
+    Lesson::Drawn,
+    Lesson::Record,
+    Lesson::Genmoves,
+    Lesson::Games,
+    Lesson::Restarts,
+];
+
+impl Lesson {
+    /// Returns the name, as a user writes it.
+    pub fn name(self) -> &'static str
+        ensures { result.now ≡ name_of self }
+    {
+        match self {
+            Lesson::Start => "start",
+            Lesson::Sizes => "sizes",
+            Lesson::Ko => "ko",
+            Lesson::Captures => "captures",
+            Lesson::Suicide => "suicide",
+            Lesson::Joining => "joining",
+            Lesson::Handicaps => "handicaps",
+            Lesson::Komi => "komi",
+            Lesson::Drawn => "drawn",
+            Lesson::Record => "record",
+            Lesson::Genmoves => "genmoves",
+            Lesson::Games => "games",
+            Lesson::Restarts => "restarts",
+        }
+    }
+
+    /// Returns its number among all lessons, counted from 0.
+    pub fn number(self) -> usize
+        ensures number { result ≡ number_of self }
+        ensures few { result ≤ 12 }
+    {
+        match self {
+            Lesson::Start => 0,
+            Lesson::Sizes => 1,
+            Lesson::Ko => 2,
+            Lesson::Captures => 3,
+            Lesson::Suicide => 4,
+            Lesson::Joining => 5,
+            Lesson::Handicaps => 6,
+            Lesson::Komi => 7,
+            Lesson::Drawn => 8,
+            Lesson::Record => 9,
+            Lesson::Genmoves => 10,
+            Lesson::Games => 11,
+            Lesson::Restarts => 12,
+        }
+    }
+
+    /// Returns how many parts it has.
+    pub fn parts(self) -> u32
+        ensures parts { result ≡ parts_of self }
+        ensures few { result ≤ most_parts }
+    {
+        match self {
+            Lesson::Start => 4,
+            Lesson::Sizes => 25,
+            Lesson::Ko => 6 * WAYS,
+            Lesson::Captures => 8 * WAYS,
+            Lesson::Suicide => 5 * WAYS,
+            Lesson::Joining => 4 * WAYS,
+            Lesson::Handicaps => 300,
+            Lesson::Komi => 16,
+            Lesson::Drawn => 11,
+            Lesson::Genmoves => 9,
+            Lesson::Record => 3,
+            Lesson::Games | Lesson::Restarts => 5,
+        }
+    }
+
+    /// Returns whether the line of each command of this part, counted from 0, is sent in two chunks. A correct engine
+    /// waits for the newline.
+    pub fn is_in_pieces(self, part: u32) -> bool
+        ensures { result ≡ is_in_pieces self part }
+    {
+        match self {
+            Lesson::Start => part == 1,
+            _ => false,
+        }
+    }
+
+    /// Returns what this part of it, counted from 0, asks.
+    pub(crate) fn stretches(self, part: u32) -> &'static [Stretch]
+        ensures stretches { result.now ≡ stretches_of self part }
+        ensures few { length result.now ≤ most_stretches }
+    {
+        match self {
+            Lesson::Start => start_parts(part),
+            Lesson::Sizes => &tables::SIZES,
+            Lesson::Ko => &tables::KO,
+            Lesson::Captures | Lesson::Joining => &tables::SCENE,
+            Lesson::Suicide => &tables::REFUSED,
+            Lesson::Handicaps => &tables::HANDICAPS,
+            Lesson::Komi => &tables::KOMI,
+            Lesson::Drawn => &tables::DRAWN,
+            Lesson::Record => &games::RECORD,
+            Lesson::Genmoves => &games::GENMOVES,
+            Lesson::Games => &games::GAMES,
+            Lesson::Restarts => &games::RESTARTS,
+        }
+    }
+
+    /// Returns its scenes. A lesson without scenes of its own has those of kos.
+    pub(crate) fn scenes(self) -> &'static [Scene]
+        ensures { map (λ scene. scene.now) result.now ≡ scenes_of self }
+    {
+        match self {
+            Lesson::Captures => &CAPTURES,
+            Lesson::Suicide => &SUICIDE,
+            Lesson::Joining => &JOINING,
+            _ => &KO,
+        }
+    }
+}
+
+/// Returns what this part of the first lesson asks.
+fn start_parts(part: u32) -> &'static [Stretch]
+    ensures stretches { result.now ≡ start_parts part }
+    ensures few { length result.now ≤ most_stretches }
+{
+    match part {
+        1 => &tables::PIECES,
+        2 => &tables::IN_FULL,
+        3 => &tables::LIST,
+        _ => &tables::START,
+    }
+}

@@ -1,3 +1,0 @@
-mod CommandLine
-mod CommandWords
-mod LessonLoops

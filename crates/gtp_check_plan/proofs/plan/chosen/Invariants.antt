@@ -1,7 +1,0 @@
-use Rattle.gtp_check_plan.specs.Plans.{is_chosen}
-use Rattle.gtp_check_plan.proofs.LessonLoops.{AreKept}
-use Rattle.gtp_check_plan.proofs.plan.chosen.Given as goal
-
--- those of the lessons so far are kept
-abbrev pub invariant-loop-lesson : goal.invariant-loop-lesson
-invariant-loop-lesson l = AreKept (is_chosen l.options) l.lesson-index l.lessons

@@ -1,4 +1,0 @@
-pub mod Mistakes
-pub mod Options
-pub mod Plans
-pub mod private

@@ -1,2 +1,0 @@
--- What nobody has to check: no public clause speaks of it.
-pub mod CommandLine

@@ -1,9 +1,0 @@
-use Rattle.std.proofs.Common.{rules}
-use Rattle.gtp_check_questions.proofs.course.Course.ask_opening.Goals as goal
-
-pub returns-clause-goes : goal.returns-clause-goes
-returns-clause-goes c = (
-  search rules,
-  λ left. c.requires.no_move c.args.examiner.now.exam.game left.is,
-  search rules,
-)

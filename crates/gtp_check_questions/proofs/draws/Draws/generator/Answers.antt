@@ -1,7 +1,0 @@
-use Rattle.std.proofs.Common.{rules}
-use Rattle.gtp_check_questions.specs.Draws.{generator_of_step}
-use Rattle.gtp_check_questions.proofs.draws.Draws.generator.Goals as goal
-
-pub returns : goal.returns
-unfolding generator_of_step
-returns c = search rules

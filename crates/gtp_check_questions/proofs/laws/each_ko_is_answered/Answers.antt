@@ -1,5 +1,0 @@
-use Rattle.gtp_check_questions.proofs.AnsweredKos.{each_ko}
-use Rattle.gtp_check_questions.proofs.laws.each_ko_is_answered.Goals as goal
-
-pub returns : goal.returns
-returns c = each_ko

@@ -1,5 +1,0 @@
-use Rattle.gtp_check_questions.proofs.PosedQuestions.{each_asked}
-use Rattle.gtp_check_questions.proofs.laws.each_question_is_asked.Goals as goal
-
-pub returns : goal.returns
-returns c = each_asked

@@ -1,4 +1,0 @@
-mod CaptureTexts
-pub mod Joining
-mod LinesOfTexts
-mod StonesTaken

@@ -1,5 +1,0 @@
-use Rattle.gtp_check_talks.proofs.Rules.{rule_stays}
-use Rattle.gtp_check_talks.proofs.laws.ko_rules_stay.Goals as goal
-
-pub returns : goal.returns
-returns g c start after fault ends = rule_stays g.P.Process start after fault ends

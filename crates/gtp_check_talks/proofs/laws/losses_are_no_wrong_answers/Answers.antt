@@ -1,6 +1,0 @@
-use Rattle.gtp_check_talks.proofs.Silence.{lost}
-use Rattle.gtp_check_talks.proofs.laws.losses_are_no_wrong_answers.Goals as goal
-
-pub returns : goal.returns
-returns g c rule process first cause after ends =
-    lost g.P.Process rule process first c.silence_says_all_is_right.ensures cause after ends

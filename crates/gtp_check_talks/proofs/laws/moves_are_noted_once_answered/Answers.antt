@@ -1,5 +1,0 @@
-use Rattle.gtp_check_talks.proofs.NotedSince.{are_noted}
-use Rattle.gtp_check_talks.proofs.laws.moves_are_noted_once_answered.Goals as goal
-
-pub returns : goal.returns
-returns g c = are_noted g.P.Process

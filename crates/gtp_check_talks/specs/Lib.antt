@@ -1,6 +1,0 @@
-pub mod Among
-pub mod Counts
-pub mod Dialogues
-pub mod Laws
-pub mod Notes
-pub mod private

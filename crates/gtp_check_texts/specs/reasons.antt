@@ -1,0 +1,9 @@
+pub mod Answers
+pub mod Colours
+pub mod Illegal
+pub mod Kinds
+pub mod Plays
+pub mod Reasons
+pub mod Rules
+pub mod RunOn
+pub mod Sentences
