@@ -1,13 +1,17 @@
 -- The words that a step draws. Each step has words of its own, by the seed of the course and by where the step is.
 use Rattle.std.specs.Prelude.{ℕ, ◌*◌, ◌%◌}
 use Rattle.rand_pcg.specs.Lcg.{Lcg, advance}
-use Rattle.rand_pcg.specs.Pcg.{multiplier_128, pcg64}
-use Rattle.gtp_session.specs.Random.{generator_of}
+use Rattle.rand_core.specs.Pcg32Seed.{pcg32_seed}
+use Rattle.rand_pcg.specs.Pcg.{multiplier_128, pcg64, pcg64_of_seed}
 use Rattle.gtp_check_course.specs.declared.draws.Draws.{Draws}
 
 -- how many words are kept for a step
 abbrev pub words_of_step : ℕ
 words_of_step = 128
+
+-- the generator that `seed_from_u64` makes of a seed
+abbrev pub generator_of : ℕ → Lcg
+generator_of seed = pcg64_of_seed (pcg32_seed 32 seed)
 
 -- the generator of a step's words: that of the seed, past the words of all steps that have lower numbers
 unfoldable pub generator_of_step : Draws → Lcg

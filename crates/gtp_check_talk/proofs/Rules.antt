@@ -7,7 +7,6 @@ use Rattle.gtp_wire.specs.declared.commands.Command.TheVariants.{Genmove, Undo, 
 use Rattle.gtp_wire.specs.declared.replies.Reply.{Reply}
 use Rattle.gtp_wire.specs.declared.replies.ReplyFault.{ReplyFault}
 use Rattle.gtp_process.specs.declared.starter.Process.{Ghosts}
-use Rattle.gtp_session.specs.CommandAnswers.{after_command}
 use Rattle.gtp_check_judge.specs.declared.asking.CheckCommand.{CheckCommand}
 use Rattle.gtp_check_judge.specs.declared.asking.CheckCommand.TheVariants.{Match, FinalScore, Name, Version}
 use Rattle.gtp_check_judge.specs.declared.asking.CheckCommand.TheVariants.{KnownCommand, ListCommands, PlayInFull}
@@ -30,7 +29,7 @@ use Rattle.gtp_check_talk.specs.Dialogues.{IsHeard, IsRead}
 
 -- ---- a command
 
-command_rule : (game : GameRecord) (command : Command) → (after_command game command).rule ≡ game.rule
+command_rule : (game : GameRecord) (command : Command) → (after_check game (Match command)).rule ≡ game.rule
 command_rule game (Boardsize size) = refl
 command_rule game (Komi komi) = refl
 command_rule game ClearBoard = refl
