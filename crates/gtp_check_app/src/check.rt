@@ -2,6 +2,7 @@
 ghost use Rattle.std.specs.Prelude.{◌≡◌, ◌+◌, ◌<◌, ◌≤◌, ◌⊎◌, true, false, None, IfOk, IfErr, IfSome, IsSome};
 ghost use Rattle.std.specs.Prelude.{length, OnOk};
 ghost use Rattle.arrayvec.specs.ArrayVec.{array_vec_len};
+ghost use Rattle.gtp_wire.specs.declared.commands.TheConstants.{MOST_COMMAND_BYTES};
 ghost use Rattle.gtp_process.specs.Endings.{IsEnded};
 ghost use Rattle.gtp_process.specs.Quitting.{QuitsIfAny};
 ghost use Rattle.gtp_check_judge.specs.Exam.{HasRoomFor};
@@ -201,14 +202,14 @@ impl<S: Starter> Check<S> {
     /// Returns whether another command may be asked before the engine is read.
     fn has_room(&self, singly: bool) -> bool
         ensures room { result ≡ true → IfSome self.now.engine (λ engine.
-            array_vec_len engine.waiting + 64 ≤ LINES_ROOM) }
+            array_vec_len engine.waiting + MOST_COMMAND_BYTES ≤ LINES_ROOM) }
         ensures follows { result ≡ true → IfSome self.now.engine (λ engine.
             MayFollow engine.talk.items engine.waiting.items) }
         ensures alone { result ≡ true → IsSome self.now.engine → singly ≡ true
             → length self.now.examiner.exam.unanswered ≡ 0 }
         ensures full { result ≡ false → IsSome self.now.engine }
         ensures why { result ≡ false → IfSome self.now.engine (λ engine.
-            ((LINES_ROOM < array_vec_len engine.waiting + 64)
+            ((LINES_ROOM < array_vec_len engine.waiting + MOST_COMMAND_BYTES)
             ⊎ ((ends_in_pieces engine.talk.items ≡ true) × (0 < length engine.waiting.items)))
             ⊎ ((singly ≡ true) × (0 < length self.now.examiner.exam.unanswered))) }
     {
@@ -240,7 +241,7 @@ impl<S: Starter> Check<S> {
         requires may { HasRoomFor self.old.examiner.exam command }
         requires there { IsSome self.old.engine }
         requires room { IfSome self.old.engine (λ engine.
-            array_vec_len engine.waiting + 64 ≤ LINES_ROOM) }
+            array_vec_len engine.waiting + MOST_COMMAND_BYTES ≤ LINES_ROOM) }
         requires follows { IfSome self.old.engine (λ engine.
             MayFollow engine.talk.items engine.waiting.items) }
         ensures asks { OnOk result

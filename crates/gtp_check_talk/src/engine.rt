@@ -92,7 +92,8 @@ impl<P: Process> Engine<P> {
 
     /// Returns whether another line can wait to be sent. It can't follow one that is sent in two chunks.
     pub fn has_room(&self) -> bool
-        ensures room { result ≡ true → array_vec_len self.now.waiting + 64 ≤ LINES_ROOM }
+        ensures room { result ≡ true
+            → array_vec_len self.now.waiting + MOST_COMMAND_BYTES ≤ LINES_ROOM }
         ensures follows { result ≡ true
             → MayFollow self.now.talk.items self.now.waiting.items }
         ensures full { result ≡ false → IsFull self.now.talk.items self.now.waiting.items }
@@ -114,7 +115,7 @@ impl<P: Process> Engine<P> {
         notes: &mut Notes,
     ) -> Result<(), AllocError>
         requires may { HasRoomFor examiner.old.exam command }
-        requires room { array_vec_len self.old.waiting + 64 ≤ LINES_ROOM }
+        requires room { array_vec_len self.old.waiting + MOST_COMMAND_BYTES ≤ LINES_ROOM }
         requires follows { MayFollow self.old.talk.items self.old.waiting.items }
         ensures asked { OnOk result (IsAsked purpose (dialogue self.old examiner.old.exam notes.old)
             command (dialogue self.new examiner.new.exam notes.new)) }
