@@ -69,6 +69,23 @@ pub struct Options<'a> {
     pub trials: u32,
 }
 
+/// The names of the lessons, in the order of a course.
+const LESSON_NAMES: &[&str] = &[
+    "start",
+    "sizes",
+    "ko",
+    "captures",
+    "suicide",
+    "joining",
+    "handicaps",
+    "komi",
+    "drawn",
+    "record",
+    "genmoves",
+    "games",
+    "restarts",
+];
+
 /// The options, in the order of the help.
 static OPTIONS: [OptionRow<'static>; 11] = [
     OptionRow {
@@ -100,46 +117,12 @@ static OPTIONS: [OptionRow<'static>; 11] = [
     },
     OptionRow {
         name: "only",
-        takes: Takes::Names(
-            "LESSON",
-            &[
-                "start",
-                "sizes",
-                "ko",
-                "captures",
-                "suicide",
-                "joining",
-                "handicaps",
-                "komi",
-                "drawn",
-                "record",
-                "genmoves",
-                "games",
-                "restarts",
-            ],
-        ),
+        takes: Takes::Names("LESSON", LESSON_NAMES),
         help: "Run only this lesson (repeatable)",
     },
     OptionRow {
         name: "skip",
-        takes: Takes::Names(
-            "LESSON",
-            &[
-                "start",
-                "sizes",
-                "ko",
-                "captures",
-                "suicide",
-                "joining",
-                "handicaps",
-                "komi",
-                "drawn",
-                "record",
-                "genmoves",
-                "games",
-                "restarts",
-            ],
-        ),
+        takes: Takes::Names("LESSON", LESSON_NAMES),
         help: "Skip this lesson (repeatable)",
     },
     OptionRow {
