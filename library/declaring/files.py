@@ -11,7 +11,6 @@ READ = (
     sentences.DEFINITION,
     "crates/go_board/src/**/*.rt",
     "crates/gtp_match/src/**/*.rt",
-    "crates/gtp_referee/src/**/*.rt",
     "crates/gtp_wire/src/**/*.rt",
     "library/declaring/*.in",
     "library/vintsaky.h",

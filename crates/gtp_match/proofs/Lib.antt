@@ -7,4 +7,5 @@ pub mod taking_back
 pub mod reporting
 pub mod soundness
 pub mod bounds
+pub mod refereeing
 pub mod Interface

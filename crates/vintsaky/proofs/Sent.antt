@@ -57,10 +57,10 @@ use Rattle.gtp_match.specs.contracts.retakes.Retakes.TheInside as retakes_fields
 use Rattle.gtp_match.specs.contracts.controller.Controller as controller_type
 use Rattle.gtp_match.specs.contracts.matches.Match as match_type
 use Rattle.gtp_match.specs.contracts.matches.Match.TheInside as match_fields
-use Rattle.gtp_referee.specs.contracts.rulings.Ruling as ruling_type
-use Rattle.gtp_referee.specs.contracts.rulings.Ruled as ruled_type
-use Rattle.gtp_referee.specs.contracts.refereed.RefereedMatch as refereed_type
-use Rattle.gtp_referee.specs.contracts.refereed.RefereedMatch.TheInside as refereed_fields
+use Rattle.gtp_match.specs.contracts.referee.rulings.Ruling as ruling_type
+use Rattle.gtp_match.specs.contracts.referee.rulings.Ruled as ruled_type
+use Rattle.gtp_match.specs.contracts.referee.refereed.RefereedMatch as refereed_type
+use Rattle.gtp_match.specs.contracts.referee.refereed.RefereedMatch.TheInside as refereed_fields
 use Rattle.gtp_session.specs.contracts.events.Wait as wait_type
 use Rattle.gtp_session.specs.contracts.own_commands.OwnName as own_name_type
 use Rattle.gtp_session.specs.contracts.own_commands.OwnName.TheInside as own_name_fields
@@ -251,7 +251,7 @@ match_inside = declared_send match_fields.the_type (search (of_fields, controlle
 match : IsSend match_type.the_row
 match = search (of_fields, match_inside) depth 20
 
--- ---- gtp_referee
+-- ---- gtp_match: the referee
 
 ruling : IsSend ruling_type.the_row
 ruling = search of_fields depth 20

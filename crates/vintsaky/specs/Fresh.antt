@@ -3,8 +3,8 @@ use Rattle.std.specs.Prelude.{pos}
 use Rattle.go_board.specs.Game.{GameRecord, fresh_game_under}
 use Rattle.go_board.specs.declared.rules.KoRule.TheVariants.{Simple}
 use Rattle.gtp_match.specs.Setup.{setup_of}
-use Rattle.gtp_referee.specs.Refereed as referee
-use Rattle.gtp_referee.specs.Refereed.{Refereed}
+use Rattle.gtp_match.specs.referee.Refereed as referee
+use Rattle.gtp_match.specs.referee.Refereed.{Refereed}
 use Rattle.gtp_session.specs.Steps.{StepsState, fresh_steps}
 
 -- size 19, no komi, simple ko

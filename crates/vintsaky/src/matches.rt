@@ -2,12 +2,12 @@
 ghost use Rattle.std.specs.Prelude.{◌≡◌};
 ghost use Rattle.std.specs.Borrow.{Lends, full_share, sem};
 ghost use Rattle.std.specs.Ptr.{lies_at};
-ghost use Rattle.gtp_referee.specs.Refereed.{Refereed};
-ghost use Rattle.gtp_referee.specs.contracts.refereed.RefereedMatch.{the_row as match_row};
+ghost use Rattle.gtp_match.specs.referee.Refereed.{Refereed};
+ghost use Rattle.gtp_match.specs.contracts.referee.refereed.RefereedMatch.{the_row as match_row};
 
 pub mod exports;
 
-use gtp_referee::RefereedMatch;
+use gtp_match::referee::RefereedMatch;
 use std::marker::{Model, Send};
 
 /// A match in the caller's memory.

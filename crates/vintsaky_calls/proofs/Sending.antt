@@ -20,8 +20,8 @@ use Rattle.gtp_match.specs.declared.verdicts.Action.{Action}
 use Rattle.gtp_match.specs.declared.verdicts.Action.TheVariants as action
 use Rattle.gtp_match.proofs.hearing.LeftAlone.{send_leaves, sent_is_owed}
 use Rattle.gtp_match.proofs.scripts.Lines.{sent_line}
-use Rattle.gtp_referee.specs.Refereed.{Refereed, next_where}
-use Rattle.gtp_referee.specs.declared.rulings.Ruled.{Ruled}
+use Rattle.gtp_match.specs.referee.Refereed.{Refereed, next_where}
+use Rattle.gtp_match.specs.declared.referee.rulings.Ruled.{Ruled}
 use Rattle.vintsaky_calls.specs.Laws.{unanswered_by, unanswered_of, WroteOneMore, SentWereWritten, WrittenWereSent}
 use Rattle.vintsaky_calls.specs.Matches.{most_command, Sends}
 use Rattle.vintsaky_calls.specs.Texts.{Puts}

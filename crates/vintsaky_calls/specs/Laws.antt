@@ -13,7 +13,7 @@ use Rattle.gtp_match.specs.Sides.{side_of}
 use Rattle.gtp_match.specs.Sound.{IsSound}
 use Rattle.gtp_match.specs.declared.sides.EngineRun.{EngineRun}
 use Rattle.gtp_match.specs.declared.unanswered.SentCommand.{SentCommand}
-use Rattle.gtp_referee.specs.Refereed.{Refereed}
+use Rattle.gtp_match.specs.referee.Refereed.{Refereed}
 use Rattle.gtp_session.specs.Steps.{StepsState, IsOpen}
 use Rattle.gtp_session.specs.declared.events.Wait.TheVariants as wait
 use Rattle.vintsaky_calls.specs.Codes.{CallResult, colour_code}

@@ -29,13 +29,13 @@ use Rattle.gtp_match.specs.Controller as controller
 use Rattle.gtp_match.specs.Setup.{SetupRecord, IsSetup, RefusesSetup}
 use Rattle.gtp_match.specs.Sides.{side_of, restarts}
 use Rattle.gtp_match.specs.Unanswered.{has_genmove}
-use Rattle.gtp_referee.specs.Refereed as referee
-use Rattle.gtp_referee.specs.Refereed.{Refereed, GoesOn, next, owed}
-use Rattle.gtp_referee.specs.ResultLine.{line_of}
-use Rattle.gtp_referee.specs.declared.rulings.Ruled.{Ruled}
-use Rattle.gtp_referee.specs.declared.rulings.Ruling.{Ruling}
-use Rattle.gtp_referee.specs.declared.rulings.Ruling.TheVariants as ruling
-use Rattle.gtp_referee.specs.declared.rulings.RulingFault.TheVariants as ruling_fault
+use Rattle.gtp_match.specs.referee.Refereed as referee
+use Rattle.gtp_match.specs.referee.Refereed.{Refereed, GoesOn, next, owed}
+use Rattle.gtp_match.specs.referee.ResultLine.{line_of}
+use Rattle.gtp_match.specs.declared.referee.rulings.Ruled.{Ruled}
+use Rattle.gtp_match.specs.declared.referee.rulings.Ruling.{Ruling}
+use Rattle.gtp_match.specs.declared.referee.rulings.Ruling.TheVariants as ruling
+use Rattle.gtp_match.specs.declared.referee.rulings.RulingFault.TheVariants as ruling_fault
 use Rattle.vintsaky_calls.specs.Codes.{colour_code, NoColour, CallResult}
 use Rattle.vintsaky_calls.specs.Texts.{Puts}
 use Rattle.vintsaky_calls.specs.declared.causes.Cause.{Cause}

@@ -4,8 +4,8 @@ ghost use Rattle.vintsaky_calls.specs.Matches.{maybe_side_code, ending_code, end
 
 use crate::codes::number_of_colour;
 use go_base::Side;
+use gtp_match::referee::Ruling;
 use gtp_match::{ForfeitCause, Verdict};
-use gtp_referee::Ruling;
 
 /// The number of a side, or 0.
 pub(crate) fn number_of_side(side: Option<Side>) -> u32

@@ -7,7 +7,7 @@ ghost use Rattle.gtp_match.specs.Taking.{taking_back};
 ghost use Rattle.vintsaky_calls.specs.Matches.{maybe_side_code, BeginCall, NextCall, StartedCall, SendCall, HearCall};
 ghost use Rattle.vintsaky_calls.specs.Matches.{HearReportingCall, owed_out, OwedCall, StatusCall, LostCall, InStepCall};
 ghost use Rattle.vintsaky_calls.specs.Matches.{RestartsCall, VerdictCall, ResultCall, AdjudicateCall};
-ghost use Rattle.gtp_referee.specs.Ruling.{reason_of};
+ghost use Rattle.gtp_match.specs.referee.Ruling.{reason_of};
 ghost use Rattle.vintsaky_calls.specs.Texts.{Writes};
 
 use crate::causes::Cause;
@@ -19,8 +19,8 @@ use crate::losses::{number_of_loss, number_of_retake, put_owed, put_reported};
 use crate::texts::put;
 use go_base::{Komi, Size};
 use go_board::Game;
+use gtp_match::referee::{RefereedMatch, RulingFault, result_line};
 use gtp_match::{Action, Setup, SetupFault, Status, record_line};
-use gtp_referee::{RefereedMatch, RulingFault, result_line};
 use gtp_wire::MOST_COMMAND_BYTES;
 
 /// Implements `vintsaky_match_begin`.

@@ -4,7 +4,7 @@ use std::fmt;
 use std::marker::PhantomData;
 
 use gtp_match::record_line;
-use gtp_referee::{RefereedMatch, result_line};
+use gtp_match::referee::{RefereedMatch, result_line};
 
 use crate::NotSync;
 use crate::game::Game;

@@ -3,8 +3,8 @@
 use std::fmt;
 
 use go_board::PlayFault;
+use gtp_match::referee::{Ruled, Ruling};
 use gtp_match::{ForfeitCause, LossCause, SideFault};
-use gtp_referee::{Ruled, Ruling};
 use gtp_wire::write_command;
 
 use crate::texts;

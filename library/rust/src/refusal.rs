@@ -5,7 +5,7 @@ use std::fmt;
 
 use go_board::{HandicapFault, PlayFault};
 use gtp_match::SetupFault;
-use gtp_referee::RulingFault;
+use gtp_match::referee::RulingFault;
 use gtp_session::steps::{AnswerFault, ChoiceFault, CommandFault};
 use vintsaky_calls::library::cause_text;
 

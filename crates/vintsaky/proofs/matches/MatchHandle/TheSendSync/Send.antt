@@ -1,6 +1,6 @@
 -- The handle may go to another thread, as the match in its memory may.
 use denote.Param.Send.{IsSend, owning_send}
-use Rattle.gtp_referee.specs.contracts.refereed.RefereedMatch.{the_row as T}
+use Rattle.gtp_match.specs.contracts.referee.refereed.RefereedMatch.{the_row as T}
 use Rattle.vintsaky.specs.contracts.matches.MatchHandle.{the_row, the_type}
 use Rattle.vintsaky.proofs.Sends.{pointer_send, lies_keyless, exits_quietly}
 use Rattle.vintsaky.proofs.Sent.{refereed}

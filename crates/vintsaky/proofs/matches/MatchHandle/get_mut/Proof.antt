@@ -1,5 +1,5 @@
 -- `get_mut` meets its contract: a match is borrowed.
-use Rattle.gtp_referee.specs.contracts.refereed.RefereedMatch.{the_row}
+use Rattle.gtp_match.specs.contracts.referee.refereed.RefereedMatch.{the_row}
 use Rattle.vintsaky.specs.declared.matches.MatchHandle.{MatchHandle}
 use Rattle.vintsaky.specs.contracts.matches.MatchHandle.{the_type, the_codes}
 use Rattle.vintsaky.specs.contracts.matches.MatchHandle.get_mut as f

@@ -1,6 +1,6 @@
 -- `vintsaky_match_place` meets its contract: a match is placed.
-use Rattle.gtp_referee.specs.contracts.refereed.RefereedMatch.{the_row}
-use Rattle.gtp_referee.proofs.refereed.RefereedMatch.TheLaws.{the_row_laws}
+use Rattle.gtp_match.specs.contracts.referee.refereed.RefereedMatch.{the_row}
+use Rattle.gtp_match.proofs.referee.refereed.RefereedMatch.TheLaws.{the_row_laws}
 use Rattle.vintsaky.specs.Fresh.{fresh_match}
 use Rattle.vintsaky.specs.declared.matches.MatchHandle.{MatchHandle}
 use Rattle.vintsaky.specs.contracts.matches.MatchHandle.{the_type, the_codes}

@@ -7,9 +7,9 @@ use Rattle.go_base.specs.Bytes.{space}
 use Rattle.gtp_match.specs.ResultLine.{cause_text}
 use Rattle.gtp_match.specs.declared.verdicts.ForfeitCause.{ForfeitCause}
 use Rattle.gtp_match.specs.declared.verdicts.ForfeitCause.TheVariants.{RefusedPlay, NoMove, NoVertex, IllegalMove}
-use Rattle.gtp_referee.specs.declared.rulings.Ruled.{Ruled}
-use Rattle.gtp_referee.specs.declared.rulings.Ruling.{Ruling}
-use Rattle.gtp_referee.specs.declared.rulings.Ruling.TheVariants.{Time, Reason}
+use Rattle.gtp_match.specs.declared.referee.rulings.Ruled.{Ruled}
+use Rattle.gtp_match.specs.declared.referee.rulings.Ruling.{Ruling}
+use Rattle.gtp_match.specs.declared.referee.rulings.Ruling.TheVariants.{Time, Reason}
 
 -- the most bytes of a reason
 abbrev pub most_reason : ℕ

@@ -1,13 +1,16 @@
 //! A match that a referee may end.
 ghost use Rattle.std.specs.Prelude.{◌≡◌, ◌≢◌, [], Some, IfSome, IfOk, IfErr};
 ghost use Rattle.gtp_match.specs.declared.verdicts.Action.TheVariants as action;
-ghost use Rattle.gtp_referee.specs.Ruling.{IsReason, Rules};
-ghost use Rattle.gtp_referee.specs.declared.rulings.RulingFault.TheVariants as fault;
+ghost use Rattle.gtp_match.specs.referee.Ruling.{IsReason, Rules};
+ghost use Rattle.gtp_match.specs.declared.referee.rulings.RulingFault.TheVariants as fault;
 
-use crate::rulings::{Ruled, Ruling, RulingFault, is_reason, kept_reason};
+use crate::losses::Owed;
+use crate::matches::Match;
+use crate::referee::rulings::{Ruled, Ruling, RulingFault, is_reason, kept_reason};
+use crate::reports::Report;
+use crate::setup::Setup;
+use crate::verdicts::{Action, Verdict};
 use go_base::Side;
-use gtp_match::laws::next_is_due;
-use gtp_match::{Action, Match, Owed, Report, Setup, Verdict};
 use gtp_wire::CommandText;
 use std::marker::Model;
 
@@ -22,7 +25,7 @@ pub struct RefereedMatch {
 }
 
 impl Model for RefereedMatch {
-    ghost use Rattle.gtp_referee.specs.Refereed.{Refereed, IsRefereed};
+    ghost use Rattle.gtp_match.specs.referee.Refereed.{Refereed, IsRefereed};
 
     ghost Value = { Refereed };
 
@@ -37,9 +40,9 @@ impl RefereedMatch {
     ghost use Rattle.gtp_match.specs.Losing.{CanBeShown};
     ghost use Rattle.gtp_match.specs.Sides.{side_of};
     ghost use Rattle.gtp_match.specs.Sound.{IsSound};
-    ghost use Rattle.gtp_referee.specs.Ruling.{reason_of};
-    ghost use Rattle.gtp_referee.specs.Refereed.{new, next, owed, started, sent, lost, Hears, IsRefereed};
-    ghost use Rattle.gtp_referee.specs.Refereed.{AdjudicateCall};
+    ghost use Rattle.gtp_match.specs.referee.Ruling.{reason_of};
+    ghost use Rattle.gtp_match.specs.referee.Refereed.{new, next, owed, started, sent, lost, Hears, IsRefereed};
+    ghost use Rattle.gtp_match.specs.referee.Refereed.{AdjudicateCall};
 
     /// A match with this setup that hasn't begun and has no ruling.
     pub fn new(setup: Setup) -> RefereedMatch
@@ -84,11 +87,7 @@ impl RefereedMatch {
         ensures verdict { result ≡ self.now.controller.verdict }
         ensures given { IsRefereed self.now }
     {
-        next_is_due();
-        match self.played.next() {
-            Action::Done(given) => Some(given),
-            Action::Start(_) | Action::Send(_) | Action::Wait(_) => None,
-        }
+        self.played.verdict()
     }
 
     /// What to do next. Returns `None` after a ruling: there is nothing left to do.
@@ -133,10 +132,7 @@ impl RefereedMatch {
     {
         match &self.ruled {
             None => self.played.hear_reporting(side, bytes),
-            Some(_) => Report {
-                retake: None,
-                loss: None,
-            },
+            Some(_) => Report::nothing(),
         }
     }
 

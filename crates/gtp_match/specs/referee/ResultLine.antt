@@ -5,10 +5,10 @@ use Rattle.std.specs.List.{concat}
 use Rattle.gtp_match.specs.ResultLine.{won_against, counts_text, result_text}
 use Rattle.gtp_match.specs.declared.controller.Controller.{Controller}
 use Rattle.gtp_match.specs.declared.verdicts.Verdict.{Verdict}
-use Rattle.gtp_referee.specs.Refereed.{Refereed}
-use Rattle.gtp_referee.specs.declared.rulings.Ruled.{Ruled}
-use Rattle.gtp_referee.specs.declared.rulings.Ruling.{Ruling}
-use Rattle.gtp_referee.specs.declared.rulings.Ruling.TheVariants.{Time, Reason}
+use Rattle.gtp_match.specs.referee.Refereed.{Refereed}
+use Rattle.gtp_match.specs.declared.referee.rulings.Ruled.{Ruled}
+use Rattle.gtp_match.specs.declared.referee.rulings.Ruling.{Ruling}
+use Rattle.gtp_match.specs.declared.referee.rulings.Ruling.TheVariants.{Time, Reason}
 
 -- `T`, or `F(REASON)`
 abbrev pub ruling_text : Ruling → List ℕ

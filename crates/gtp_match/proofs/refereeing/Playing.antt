@@ -4,10 +4,11 @@ use Rattle.gtp_match.specs.Calls.{Call, CallsBy, CallsExactly}
 use Rattle.gtp_match.specs.Next as going
 use Rattle.gtp_match.specs.declared.controller.Controller.{Controller}
 use Rattle.gtp_match.specs.declared.verdicts.Action.{Action}
-use Rattle.gtp_referee.proofs.Staying.{one_leaves, all_leave}
-use Rattle.gtp_referee.specs.Calls.{RefereedCall, Does, Leads, in_match, all_in_match, IsPlayed, RefereedArePlayed}
-use Rattle.gtp_referee.specs.Refereed.{Refereed, next_where, lost_where, HearsWhere}
-use Rattle.gtp_referee.specs.declared.rulings.Ruled.{Ruled}
+use Rattle.gtp_match.proofs.refereeing.Staying.{one_leaves, all_leave}
+use Rattle.gtp_match.specs.referee.Calls.{RefereedCall, Does, Leads, in_match, all_in_match, IsPlayed}
+use Rattle.gtp_match.specs.referee.Calls.{RefereedArePlayed}
+use Rattle.gtp_match.specs.referee.Refereed.{Refereed, next_where, lost_where, HearsWhere}
+use Rattle.gtp_match.specs.declared.referee.rulings.Ruled.{Ruled}
 
 -- ---- one call
 

@@ -1,5 +1,5 @@
 //! Laws of matches with a referee. Each is the contract of a function with an empty body.
-ghost use Rattle.gtp_referee.specs.Calls.{RulingsStay, RefereedArePlayed, RulingLinesDiffer};
+ghost use Rattle.gtp_match.specs.referee.Calls.{RulingsStay, RefereedArePlayed, RulingLinesDiffer};
 
 /// Once a ruling is given, no call changes the match or the ruling: there is no next action, and no side owes anything.
 pub fn rulings_stay()

@@ -1,7 +1,7 @@
 //! Rulings, and the reasons that they may have.
 ghost use Rattle.std.specs.Prelude.{◌≡◌, ◌↔◌, ◌≤◌, IsTrue, length};
 ghost use Rattle.std.specs.List.{list_all};
-ghost use Rattle.gtp_referee.specs.Ruling.{IsReason, most_reason, is_reason_byte, is_forfeit_text, reason_in};
+ghost use Rattle.gtp_match.specs.referee.Ruling.{IsReason, most_reason, is_reason_byte, is_forfeit_text, reason_in};
 
 use arrayvec::ArrayVec;
 use go_base::{Side, push};

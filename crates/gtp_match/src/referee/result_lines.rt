@@ -1,24 +1,17 @@
 //! The result line of a match that is over, by its own verdict or by a ruling.
-ghost use Rattle.std.specs.Prelude.{◌≡◌, ◌+◌, ◌≤◌, ◌++◌, length, Some, IfSome, IfNone};
+ghost use Rattle.std.specs.Prelude.{◌≡◌, ◌+◌, ◌≤◌, ◌++◌, Some, IfSome, IfNone};
 ghost use Rattle.arrayvec.specs.ArrayVec.{array_vec_len};
-ghost use Rattle.gtp_match.specs.ResultLine.{won_against, counts_text};
-ghost use Rattle.gtp_referee.specs.Refereed.{GoesOn};
-ghost use Rattle.gtp_referee.specs.ResultLine.{line_of, ruled_head, ruled_line, ruling_text};
+ghost use Rattle.gtp_match.specs.referee.Refereed.{GoesOn};
+ghost use Rattle.gtp_match.specs.referee.ResultLine.{line_of, ruled_head, ruled_line, ruling_text};
 
-use crate::refereed::RefereedMatch;
-use crate::rulings::{Ruled, Ruling};
+use crate::matches::Match;
+use crate::referee::refereed::RefereedMatch;
+use crate::referee::rulings::{Ruled, Ruling};
+use crate::result_lines::{
+    self, MOST_HEAD_BYTES, MOST_NUMBER_BYTES, ResultText, push_counts, won_against,
+};
 use arrayvec::ArrayVec;
-use go_base::{Side, push, write_int};
-use gtp_match::{Match, ResultText};
-
-/// The most bytes before the ruling: `game `, ten digits and `: `.
-const MOST_NUMBER_BYTES: usize = 17;
-
-/// The most bytes of a ruling: those of `W+F()` and of a reason.
-const MOST_RULING_BYTES: usize = 25;
-
-/// The most bytes up to the end of the ruling.
-const MOST_HEAD_BYTES: usize = MOST_NUMBER_BYTES + MOST_RULING_BYTES;
+use go_base::{push, write_int};
 
 /// Returns the result line of a match that is over, without its newline: `game N: VERDICT moves M restarts RB RW`. If a
 /// ruling ended the match, the verdict is `W+T` or `W+F(REASON)` when Black loses, and `B+T` or `B+F(REASON)` when
@@ -28,7 +21,7 @@ pub fn result_line(game: u32, ended: &RefereedMatch) -> Option<ResultText>
     ensures none { IfNone result (GoesOn ended.now) }
 {
     match ended.ruled() {
-        None => gtp_match::result_line(game, ended.played()),
+        None => result_lines::result_line(game, ended.played()),
         Some(given) => Some(ruled_line(game, ended.played(), given)),
     }
 }
@@ -70,28 +63,4 @@ fn push_ruling(text: &mut ResultText, ruling: &Ruling)
             push(text, b")");
         }
     }
-}
-
-/// The winner, if this side loses.
-fn won_against(side: Side) -> &'static [u8]
-    ensures text { result.now ≡ won_against side }
-    ensures few { length result.now ≤ 2 }
-{
-    match side {
-        Side::Black => b"W+",
-        Side::White => b"B+",
-    }
-}
-
-/// Appends the numbers of moves and restarts.
-fn push_counts(text: &mut ResultText, ended: &Match)
-    requires { array_vec_len text.old ≤ MOST_HEAD_BYTES }
-    ensures { text.new.items ≡ text.old.items ++ counts_text ended.now }
-{
-    push(text, b" moves ");
-    push(text, &write_int(ended.game().moves().len() as u32));
-    push(text, b" restarts ");
-    push(text, &write_int(ended.restarts(Side::Black)));
-    push(text, b" ");
-    push(text, &write_int(ended.restarts(Side::White)));
 }

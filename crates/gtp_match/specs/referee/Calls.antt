@@ -8,11 +8,11 @@ use Rattle.gtp_match.specs.declared.losses.Loss.{Loss}
 use Rattle.gtp_match.specs.declared.reports.Retake.{Retake}
 use Rattle.gtp_match.specs.declared.verdicts.Action.TheVariants.{Start, Send}
 use Rattle.gtp_match.specs.declared.verdicts.Verdict.{Verdict}
-use Rattle.gtp_referee.specs.Refereed.{Refereed, next, started, sent, lost, owed, Hears, AdjudicateCall}
-use Rattle.gtp_referee.specs.ResultLine.{ruled_line}
-use Rattle.gtp_referee.specs.Ruling.{IsRuling}
-use Rattle.gtp_referee.specs.declared.rulings.Ruled.{Ruled}
-use Rattle.gtp_referee.specs.declared.rulings.RulingFault.{RulingFault}
+use Rattle.gtp_match.specs.referee.Refereed.{Refereed, next, started, sent, lost, owed, Hears, AdjudicateCall}
+use Rattle.gtp_match.specs.referee.ResultLine.{ruled_line}
+use Rattle.gtp_match.specs.referee.Ruling.{IsRuling}
+use Rattle.gtp_match.specs.declared.referee.rulings.Ruled.{Ruled}
+use Rattle.gtp_match.specs.declared.referee.rulings.RulingFault.{RulingFault}
 
 -- a call that changes a match with a referee
 pub data RefereedCall : Type 0 where

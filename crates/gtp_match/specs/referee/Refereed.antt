@@ -16,11 +16,11 @@ use Rattle.gtp_match.specs.declared.losses.Owed.{Owed}
 use Rattle.gtp_match.specs.declared.reports.Retake.{Retake}
 use Rattle.gtp_match.specs.declared.verdicts.Action.{Action}
 use Rattle.gtp_match.specs.declared.verdicts.SideFault.{SideFault}
-use Rattle.gtp_referee.specs.Ruling.{IsReason, IsRuling, Rules}
-use Rattle.gtp_referee.specs.declared.rulings.Ruled.{Ruled}
-use Rattle.gtp_referee.specs.declared.rulings.Ruling.{Ruling}
-use Rattle.gtp_referee.specs.declared.rulings.RulingFault.{RulingFault}
-use Rattle.gtp_referee.specs.declared.rulings.RulingFault.TheVariants as fault
+use Rattle.gtp_match.specs.referee.Ruling.{IsReason, IsRuling, Rules}
+use Rattle.gtp_match.specs.declared.referee.rulings.Ruled.{Ruled}
+use Rattle.gtp_match.specs.declared.referee.rulings.Ruling.{Ruling}
+use Rattle.gtp_match.specs.declared.referee.rulings.RulingFault.{RulingFault}
+use Rattle.gtp_match.specs.declared.referee.rulings.RulingFault.TheVariants as fault
 
 -- what a match of `gtp_match` is, and the ruling that ended it, if one did
 pub record Refereed : Type 0 where

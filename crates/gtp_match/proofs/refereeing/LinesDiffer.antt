@@ -13,11 +13,11 @@ use Rattle.gtp_match.specs.declared.verdicts.ForfeitCause.{ForfeitCause}
 use Rattle.gtp_match.specs.declared.verdicts.ForfeitCause.TheVariants.{RefusedPlay, NoMove, NoVertex, IllegalMove}
 use Rattle.gtp_match.specs.declared.verdicts.Verdict.{Verdict}
 use Rattle.gtp_match.specs.declared.verdicts.Verdict.TheVariants.{Score, Resign, Limit, Forfeit, Unfit, Abandoned}
-use Rattle.gtp_referee.specs.Calls.{RulingLinesDiffer}
-use Rattle.gtp_referee.specs.ResultLine.{ruled_text, ruling_text}
-use Rattle.gtp_referee.specs.Ruling.{IsRuling, is_reason_byte, is_forfeit_text}
-use Rattle.gtp_referee.specs.declared.rulings.Ruling.{Ruling}
-use Rattle.gtp_referee.specs.declared.rulings.Ruling.TheVariants.{Time, Reason}
+use Rattle.gtp_match.specs.referee.Calls.{RulingLinesDiffer}
+use Rattle.gtp_match.specs.referee.ResultLine.{ruled_text, ruling_text}
+use Rattle.gtp_match.specs.referee.Ruling.{IsRuling, is_reason_byte, is_forfeit_text}
+use Rattle.gtp_match.specs.declared.referee.rulings.Ruling.{Ruling}
+use Rattle.gtp_match.specs.declared.referee.rulings.Ruling.TheVariants.{Time, Reason}
 
 -- ---- lists up to a byte that they lack
 

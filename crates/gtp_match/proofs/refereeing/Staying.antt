@@ -1,9 +1,9 @@
 -- After a ruling every call leaves the match as it is.
 use Rattle.std.proofs.Common.{◌≡◌, List, Some, None, refl, sym, ap, subst, ◌∙◌}
 use Rattle.gtp_match.specs.declared.verdicts.Action.{Action}
-use Rattle.gtp_referee.specs.Calls.{RefereedCall, Does, Leads, RulingsStay}
-use Rattle.gtp_referee.specs.Refereed.{Refereed, next_where, lost_where, owed_where, HearsWhere}
-use Rattle.gtp_referee.specs.declared.rulings.Ruled.{Ruled}
+use Rattle.gtp_match.specs.referee.Calls.{RefereedCall, Does, Leads, RulingsStay}
+use Rattle.gtp_match.specs.referee.Refereed.{Refereed, next_where, lost_where, owed_where, HearsWhere}
+use Rattle.gtp_match.specs.declared.referee.rulings.Ruled.{Ruled}
 
 module _ (r : Refereed) {given : Ruled} (ruled : r.ruled ≡ Some given) where
   nothing_next : {due : Action} → next_where r.controller r.ruled ≡ Some due → ⊥

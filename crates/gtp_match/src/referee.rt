@@ -1,8 +1,7 @@
 //! A match that a referee may end: a match controller, and a ruling by which a side loses.
 //!
-//! A [`RefereedMatch`] is a [`Match`](gtp_match::Match) until a ruling is given. Then it is over, and nothing that its
+//! A [`RefereedMatch`] is a [`Match`](crate::Match) until a ruling is given. Then it is over, and nothing that its
 //! sides do changes it.
-#![tactic(auto)]
 
 pub mod laws;
 mod refereed;
