@@ -8,4 +8,3 @@ pub mod reporting
 pub mod soundness
 pub mod bounds
 pub mod refereeing
-pub mod Interface

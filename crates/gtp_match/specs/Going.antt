@@ -1,22 +1,19 @@
--- That a match goes on, what shows a fault, and what may be retaken, said without the tables.
-use Rattle.std.specs.Prelude.{◌≡◌, ◌≢◌, ℕ, ◌+◌, ◌<◌, ◌≤◌, ◌↔◌, true, List, [], ◌∷◌, ◌++◌, length, slice_get, None, Some}
+-- That a match goes on, and what shows a fault, said without the tables.
+use Rattle.std.specs.Prelude.{◌≡◌, ◌≢◌, ℕ, ◌+◌, ◌≤◌, ◌↔◌, true, List, [], ◌∷◌, ◌++◌, length, slice_get, None, Some}
 use Rattle.std.specs.Prelude.{MatchOption, Err}
 use Rattle.go_base.specs.Colour.{other}
 use Rattle.go_base.specs.declared.colours.Colour.{Colour}
-use Rattle.go_base.specs.declared.moves.Move.{Move}
 use Rattle.go_board.specs.Game.{GameRecord}
 use Rattle.gtp_wire.specs.Replies.{IsFirst}
 use Rattle.gtp_wire.specs.declared.replies.Reply.{Reply}
 use Rattle.gtp_wire.specs.declared.replies.ReplyFault.TheVariants as reply_fault
-use Rattle.gtp_match.specs.Controller.{new, in_step}
+use Rattle.gtp_match.specs.Controller.{in_step}
 use Rattle.gtp_match.specs.Hearing.{Hears}
 use Rattle.gtp_match.specs.Next.{next}
 use Rattle.gtp_match.specs.Replying.{EndsReply, IsGenmove}
-use Rattle.gtp_match.specs.Retakes.{retakes_of, with_retake}
 use Rattle.gtp_match.specs.Script.{script}
 use Rattle.gtp_match.specs.Sides.{side_of}
 use Rattle.gtp_match.specs.Sound.{IsSound, IsIdle}
-use Rattle.gtp_match.specs.Taking.{may_retake}
 use Rattle.gtp_match.specs.declared.controller.Controller.{Controller}
 use Rattle.gtp_match.specs.declared.sides.EngineRun.{EngineRun}
 use Rattle.gtp_match.specs.declared.unanswered.SentCommand.{SentCommand}
@@ -89,25 +86,3 @@ FaultsHaveCauses =
     (c new : Controller) (s : Colour) (bytes : List ℕ) (used : ℕ) (shown : SideFault)
     → Hears c s bytes used (Some shown) new
     → MatchOption (side_of c.sides s).up ⊥ (λ engine. ShowsFault engine bytes used shown)
-
--- ---- retakes
-
--- A `play` that the engine refused is met by a retake: it is the script's last command, the last move is the other
--- side's, and of its number there were less than three retakes.
-pub record IsMet (c : Controller) (s : Colour) (engine : EngineRun) : Type 0 where
-  pub last_command : engine.confirmed + 1 ≡ length (script c.game)
-  pub place : ℕ
-  pub move : Move
-  pub there : slice_get c.game.moves place ≡ Some move
-  pub last : place + 1 ≡ length c.game.moves
-  pub by_other : move.colour ≡ other s
-  pub few : retakes_of c.retakes (place + 1) < 3
-
-pub record RetakesAreMet : Type 0 where
-  -- a `play` may be retaken exactly where it is so
-  pub met : (c : Controller) (s : Colour) (engine : EngineRun) → may_retake c s engine ≡ true ↔ IsMet c s engine
-  -- with one retake more of a number there is one more of it, and no more of any other
-  pub one_more : (retakes : List ℕ) (number : ℕ) → 0 < number → number ≤ length retakes
-      → retakes_of (with_retake number retakes) number ≡ retakes_of retakes number + 1
-  pub others_stay : (retakes : List ℕ) (number another : ℕ) → 0 < number → another ≢ number
-      → retakes_of (with_retake number retakes) another ≡ retakes_of retakes another

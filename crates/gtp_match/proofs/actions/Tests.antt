@@ -8,8 +8,7 @@ use Rattle.gtp_match.specs.declared.verdicts.Action.{Action}
 use Rattle.gtp_match.specs.declared.verdicts.Action.TheVariants.{Start, Send, Wait, Done}
 use Rattle.gtp_match.specs.declared.verdicts.Verdict.{Verdict}
 use Rattle.gtp_match.specs.declared.controller.Controller.{Controller}
-use Rattle.gtp_match.specs.Controller.{to_move}
-use Rattle.gtp_match.specs.Next.{has_unanswered, must_answer, is_down, has_script_left, next_of_idle, next_of_free}
+use Rattle.gtp_match.specs.Next.{has_unanswered, must_answer, is_down, has_script_left}
 use Rattle.gtp_match.specs.Next.{next_of, next_where, next}
 
 -- the tests of the lines for a match of which nothing is unanswered, in their order
@@ -58,14 +57,6 @@ next_by t idle =
     (cond t.black_unanswered (Send Black)
     (cond t.white_unanswered (Send White)
     idle)))
-
-pub next_of_idle_tests : (game : GameRecord) (black white : Option EngineRun)
-    → next_of_idle game black white ≡ next_idle_by (to_move game) (idle_tests_of game black white)
-next_of_idle_tests game black white = refl
-
-pub next_of_tests : (pending : Option Colour) (game : GameRecord) (black white : Option EngineRun)
-    → next_of pending game black white ≡ next_by (tests_of game black white) (next_of_free pending game black white)
-next_of_tests pending game black white = refl
 
 pub next_live : (c : Controller) → c.verdict ≡ None
     → next c ≡ next_of c.pending c.game c.sides.black.up c.sides.white.up

@@ -1,10 +1,12 @@
 -- A command that is sent leaves the other side as it was, and what is owed then.
-use Rattle.std.proofs.Common.{◌≡◌, ◌+◌, Option, Some, None, refl, ◌∙◌, ap}
+use Rattle.std.proofs.Common.{◌≡◌, ◌+◌, [], ◌∷◌, ◌++◌, Option, Some, None, refl, ◌∙◌, ap}
 use Rattle.go_base.specs.Colour.{other}
 use Rattle.go_base.specs.declared.colours.Colour.{Colour}
 use Rattle.go_base.specs.declared.colours.Colour.TheVariants.{Black, White}
-use Rattle.gtp_match.specs.Controller.{next_command, sent, sent_to}
-use Rattle.gtp_match.specs.Leaving.{OwesWhatIsSent}
+use Rattle.gtp_wire.specs.Commands.{words_of}
+use Rattle.gtp_wire.specs.Lines.{lines}
+use Rattle.gtp_wire.specs.declared.lines.Line.TheVariants as line
+use Rattle.gtp_match.specs.Controller.{next_command, next_text, sent, sent_to}
 use Rattle.gtp_match.specs.Next.{next}
 use Rattle.gtp_match.specs.Sides.{side_of, with_side, with_sent}
 use Rattle.gtp_match.specs.Sound.{IsSound}
@@ -12,6 +14,7 @@ use Rattle.gtp_match.specs.declared.controller.Controller.{Controller}
 use Rattle.gtp_match.specs.declared.sides.EngineRun.{EngineRun}
 use Rattle.gtp_match.specs.declared.sides.Sides.{Sides}
 use Rattle.gtp_match.specs.declared.sides.SideState.{SideState}
+use Rattle.gtp_match.specs.declared.unanswered.SentCommand.{SentCommand}
 use Rattle.gtp_match.specs.declared.verdicts.Action.TheVariants.{Send}
 use Rattle.gtp_match.proofs.scripts.Lines.{sent_line}
 use Rattle.gtp_match.proofs.hearing.Changes.{up_there}
@@ -32,6 +35,18 @@ send_leaves c s = by_up (side_of c.sides s).up
     by_up (Some engine) = with_side_other c.sides s _
 
 -- ---- what is owed
+
+-- The side's engine after it was sent a command: this is the last that it has unanswered, with the id and the words of
+-- its line. What it had unanswered before, what it has confirmed and what it wrote stay.
+pub record OwesWhatIsSent (c : Controller) (s : Colour) (engine : EngineRun) : Type 0 where
+  pub after : EngineRun
+  pub up : (side_of (sent c s).sides s).up ≡ Some after
+  pub entry : SentCommand
+  pub last : after.unanswered ≡ engine.unanswered ++ entry ∷ []
+  pub line : lines (next_text c s engine)
+      ≡ line.Command (record { id = Some entry.id; words = words_of entry.command }) ∷ []
+  pub confirmed : after.confirmed ≡ engine.confirmed
+  pub reader : after.reader ≡ engine.reader
 
 pub sent_is_owed : (c : Controller) (s : Colour) (engine : EngineRun) → IsSound c → next c ≡ Send s
     → (side_of c.sides s).up ≡ Some engine → OwesWhatIsSent c s engine

@@ -35,7 +35,7 @@ use Rattle.gtp_match.specs.declared.verdicts.SideFault.{SideFault}
 use Rattle.gtp_match.specs.declared.verdicts.Verdict.{Verdict}
 use Rattle.gtp_match.proofs.hearing.Exactly.{wider}
 use Rattle.gtp_match.proofs.soundness.Heard.{hears_sound}
-use Rattle.gtp_match.proofs.taking_back.MayRetake.{retakes_are_met}
+use Rattle.gtp_match.proofs.taking_back.MayRetake.{met_if, one_more}
 use Rattle.gtp_match.proofs.replies.Outcomes.{Answered, answered_by, first_is}
 use Rattle.gtp_match.proofs.soundness.Replies.{few_left}
 use Rattle.gtp_match.proofs.hearing.Changes.{up_in, up_there, down_there}
@@ -113,10 +113,10 @@ of_last_move c new side engine reply text sound none up is may more =
     let a = answered_by c.game c.pending side engine reply Refuses (λ f x. cc) plan is in
     let idle = nothing_more c side engine reply sound none up is may in
     let few = few_left engine.unanswered idle in
-    let met = (retakes_are_met.met c side engine).0 may in
+    let met = met_if c side engine may in
     let inside : length c.game.moves ≤ length c.retakes =
     omega (arith, sound.few_moves, sound.setup.moves.1, sound.retakes.places) in
-    let one = retakes_are_met.one_more c.retakes (length c.game.moves) (omega (arith, met.last)) inside in
+    let one = one_more c.retakes (length c.game.moves) (omega (arith, met.last)) inside in
     let of_new : retakes_of new.retakes (length c.game.moves) ≡ retakes_of c.retakes (length c.game.moves) + 1 =
     ap (λ (xs : List ℕ). retakes_of xs (length c.game.moves)) more ∙ one in
     let low : retakes_of c.retakes (length c.game.moves) < 3 =

@@ -15,6 +15,8 @@ use Rattle.go_board.specs.Game.{GameRecord, IsGame, IsLegal, first_moves}
 use Rattle.gtp_wire.specs.declared.commands.Command.{Command}
 use Rattle.gtp_wire.specs.declared.commands.Command.TheVariants.{Play, FixedHandicap}
 use Rattle.gtp_wire.specs.Commands.{words_of, IsWritable, IsInLimits}
+use Rattle.gtp_wire.specs.Lines.{lines}
+use Rattle.gtp_wire.specs.declared.lines.Line.TheVariants as line
 use Rattle.go_base.proofs.general.Lists.{AllByRecursion-append}
 use Rattle.gtp_match.specs.declared.sides.EngineRun.{EngineRun}
 use Rattle.gtp_match.specs.declared.controller.Controller.{Controller}
@@ -22,7 +24,6 @@ use Rattle.gtp_match.specs.Controller.{next_command, next_text, script_or_genmov
 use Rattle.gtp_match.specs.Script.{script, handicap_commands}
 use Rattle.gtp_match.specs.Sound.{IsSound}
 use Rattle.gtp_match.specs.declared.verdicts.Action.TheVariants.{Send}
-use Rattle.gtp_match.specs.Calls.{IsOneLine}
 use Rattle.gtp_match.specs.Next.{next}
 use Rattle.gtp_match.specs.Sides.{side_of}
 use Rattle.gtp_wire.proofs.written.CommandWords.{command_is_read, command_short}
@@ -91,6 +92,11 @@ next_written c s engine h = by_pending c.pending
         (script_or_genmove s (slice_get (script c.game) (engine.confirmed + length engine.unanswered))))
     by_pending (Some maker) = record { writable = tt; limits = tt }
     by_pending None = by_script (slice_get (script c.game) (engine.confirmed + length engine.unanswered)) refl
+
+-- the bytes are one line, of this id and of the command's words, and at most 64
+pub record IsOneLine (bytes : List ℕ) (id : ℕ) (words : List (List ℕ)) : Type 0 where
+  pub line : lines bytes ≡ line.Command (record { id = Some id; words = words }) ∷ []
+  pub short : length bytes ≤ 64
 
 -- its line
 pub sent_line : (c : Controller) (s : Colour) (engine : EngineRun) → IsSound c → next c ≡ Send s

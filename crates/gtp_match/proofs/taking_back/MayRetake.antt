@@ -1,16 +1,13 @@
 -- Where a refused `play` may be retaken, and what is counted then.
-use Rattle.std.proofs.Common.{◌≡◌, ℕ, zero, suc, ◌+◌, ◌-◌, ◌<◌, ◌≤◌, List, length, Option, Some, None, refl, ◌∙◌}
-use Rattle.std.proofs.Common.{Bool, true, false, ap, ◌&&◌, arith, get_or-set_same, get_or-set_other}
-use Rattle.std.specs.Prelude.{◌==◌, ◌≢◌, slice_get, nat_lt}
+use Rattle.std.proofs.Common.{◌≡◌, ℕ, zero, suc, ◌+◌, ◌-◌, ◌<◌, ◌≤◌, List, length, Option, Some, None, refl}
+use Rattle.std.proofs.Common.{Bool, true, false, ◌&&◌, arith, get_or-set_same}
+use Rattle.std.specs.Prelude.{◌==◌, slice_get, nat_lt}
 use Rattle.std.proofs.lemmas.Bool.Decides.{nat_tests}
 use Rattle.std.proofs.lemmas.Option.{slice_get_within}
 use Rattle.go_base.specs.Colour.{other}
 use Rattle.go_base.specs.declared.colours.Colour.{Colour}
-use Rattle.go_base.specs.declared.colours.Colour.TheVariants.{Black, White}
 use Rattle.go_base.specs.declared.moves.Move.{Move}
 use Rattle.go_board.specs.Game.{GameRecord}
-use Rattle.go_board.specs.Taken.{same_colour}
-use Rattle.gtp_match.specs.Going.{IsMet, RetakesAreMet}
 use Rattle.gtp_match.specs.Retakes.{most_retakes, retakes_of, with_retake}
 use Rattle.gtp_match.specs.Script.{script}
 use Rattle.gtp_match.specs.Taking.{last_move, is_by, moved_last, owes_last, may_retake}
@@ -21,16 +18,6 @@ use Rattle.gtp_match.proofs.scripts.WithoutLast.{same_is}
 both : (x y : Bool) → (x && y) ≡ true → (x ≡ true) × (y ≡ true)
 both true y e = (refl, e)
 both false y e = absurd (cc)
-
-and_true : (x y : Bool) → x ≡ true → y ≡ true → (x && y) ≡ true
-and_true true y e f = f
-and_true false y e f = absurd (cc)
-
-same_if : (a b : Colour) → a ≡ b → same_colour a b ≡ true
-same_if Black Black e = refl
-same_if White White e = refl
-same_if Black White e = absurd (cc)
-same_if White Black e = absurd (cc)
 
 -- the last move of the game is one of this colour
 record HasLast (game : GameRecord) (colour : Colour) : Type 0 where
@@ -55,14 +42,18 @@ has_last game colour e = by_move (last_move game) refl e
           by = same_is move.colour colour h;
         }
 
-last_is : (game : GameRecord) (colour : Colour) (place : ℕ) (move : Move) → slice_get game.moves place ≡ Some move
-    → place + 1 ≡ length game.moves → move.colour ≡ colour → moved_last game colour ≡ true
-last_is game colour place move there last by =
-    let here : length game.moves - 1 ≡ place = omega (arith, last) in
-    ap (λ n. is_by (slice_get game.moves n) colour) here ∙ ap (λ m. is_by m colour) there
-    ∙ same_if move.colour colour by
+-- A `play` that the engine refused is met by a retake: it is the script's last command, the last move is the other
+-- side's, and of its number there were less than three retakes.
+pub record IsMet (c : Controller) (s : Colour) (engine : EngineRun) : Type 0 where
+  pub last_command : engine.confirmed + 1 ≡ length (script c.game)
+  pub place : ℕ
+  pub move : Move
+  pub there : slice_get c.game.moves place ≡ Some move
+  pub last : place + 1 ≡ length c.game.moves
+  pub by_other : move.colour ≡ other s
+  pub few : retakes_of c.retakes (place + 1) < 3
 
-met_if : (c : Controller) (s : Colour) (engine : EngineRun) → may_retake c s engine ≡ true → IsMet c s engine
+pub met_if : (c : Controller) (s : Colour) (engine : EngineRun) → may_retake c s engine ≡ true → IsMet c s engine
 met_if c s engine e =
     let a = both (owes_last c.game engine) _ e in
     let b = both (moved_last c.game (other s)) _ a.1 in
@@ -84,36 +75,9 @@ met_if c s engine e =
     below : (n : ℕ) → nat_lt n most_retakes ≡ true → n < 3
     below n e = grind (arith, nat_tests)
 
-if_met : (c : Controller) (s : Colour) (engine : EngineRun) → IsMet c s engine → may_retake c s engine ≡ true
-if_met c s engine m =
-    and_true (owes_last c.game engine) _ (same (engine.confirmed + 1) (length (script c.game)) m.last_command)
-    (and_true (moved_last c.game (other s)) _ (last_is c.game (other s) m.place m.move m.there m.last m.by_other)
-    (below (retakes_of c.retakes (length c.game.moves)) (rw m.last at m.few)))
-  where
-    same : (m n : ℕ) → m ≡ n → (m == n) ≡ true
-    same m n e = grind (arith, nat_tests)
-
-    below : (n : ℕ) → n < 3 → nat_lt n most_retakes ≡ true
-    below n h = grind (arith, nat_tests)
-
-one_more : (retakes : List ℕ) (number : ℕ) → 0 < number → number ≤ length retakes
+pub one_more : (retakes : List ℕ) (number : ℕ) → 0 < number → number ≤ length retakes
     → retakes_of (with_retake number retakes) number ≡ retakes_of retakes number + 1
 one_more retakes zero some within = absurd (omega (arith, some))
 one_more retakes (suc k) some within =
     let e : suc k - 1 ≡ k = omega arith in
     rw e (get_or-set_same retakes k (retakes_of retakes (suc k) + 1) 0 (omega (arith, within)))
-
-others_stay : (retakes : List ℕ) (number another : ℕ) → 0 < number → another ≢ number
-    → retakes_of (with_retake number retakes) another ≡ retakes_of retakes another
-others_stay retakes zero another some apart = absurd (omega (arith, some))
-others_stay retakes (suc k) zero some apart = refl
-others_stay retakes (suc k) (suc j) some apart =
-    let e : suc k - 1 ≡ k = omega arith in
-    rw e (get_or-set_other retakes k j (retakes_of retakes (suc k) + 1) 0 (λ same. apart (ap suc same)))
-
-pub retakes_are_met : RetakesAreMet
-retakes_are_met = record {
-  met = λ c s engine. (met_if c s engine, if_met c s engine);
-  one_more = one_more;
-  others_stay = others_stay;
-}
