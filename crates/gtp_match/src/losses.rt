@@ -4,14 +4,13 @@ ghost use Rattle.gtp_match.specs.Losing.{owed_of, BreaksRule};
 ghost use Rattle.gtp_wire.specs.Replies.{most_shown};
 ghost use Rattle.gtp_match.specs.private.Notices.{bytes_in};
 
-use crate::reply_table::{Outcome, judge};
 use crate::sides::EngineRun;
 use crate::unanswered::SentCommand;
-use crate::verdicts::{ForfeitCause, SideFault};
+use crate::verdicts::SideFault;
 use arrayvec::ArrayVec;
 use go_base::{Choice, Side, push};
 use go_board::{Game, PlayFault};
-use gtp_wire::{MOST_SHOWN, Reply};
+use gtp_wire::MOST_SHOWN;
 
 /// The beginning of what a side wrote.
 pub type ShownBytes = ArrayVec<u8, MOST_SHOWN>;

@@ -75,20 +75,6 @@ pub record NobodyBusy (t : Tests) : Type 0 where
   pub white_idle : t.white_unanswered ≡ false
 
 module _ (t : Tests) (idle : Action) where
-  pub at_black_must_answer : t.black_must_answer ≡ true → Wait Black ≡ next_by t idle
-  at_black_must_answer a = rw a refl
-
-  pub at_white_must_answer : t.black_must_answer ≡ false → t.white_must_answer ≡ true → Wait White ≡ next_by t idle
-  at_white_must_answer a b = rw (a, b) refl
-
-  pub at_black_unanswered : t.black_must_answer ≡ false → t.white_must_answer ≡ false → t.black_unanswered ≡ true
-      → Send Black ≡ next_by t idle
-  at_black_unanswered a b x = rw (a, b, x) refl
-
-  pub at_white_unanswered : t.black_must_answer ≡ false → t.white_must_answer ≡ false → t.black_unanswered ≡ false
-      → t.white_unanswered ≡ true → Send White ≡ next_by t idle
-  at_white_unanswered a b x y = rw (a, b, x, y) refl
-
   pub at_idle : NobodyBusy t → idle ≡ next_by t idle
   at_idle n = rw (n.black_free, n.white_free, n.black_idle, n.white_idle) refl
 
@@ -106,7 +92,3 @@ module _ (mover : Colour) (t : IdleTests) where
   pub at_white_script_left : t.black_down ≡ false → t.white_down ≡ false → t.black_script_left ≡ false
       → t.white_script_left ≡ true → Send White ≡ next_idle_by mover t
   at_white_script_left x y p q = rw (x, y, p, q) refl
-
-  pub at_none : t.black_down ≡ false → t.white_down ≡ false → t.black_script_left ≡ false → t.white_script_left ≡ false
-      → Send mover ≡ next_idle_by mover t
-  at_none x y p q = rw (x, y, p, q) refl
