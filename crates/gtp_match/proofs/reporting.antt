@@ -5,3 +5,5 @@ pub mod LossReports
 pub mod AllBytes
 pub mod RetakeOnce
 pub mod RetakeReports
+pub mod Exact
+pub mod OldAndNew
