@@ -1,6 +1,6 @@
 -- Why a side fails by what it writes: it goes down, is unfit or forfeits. (Own.)
-use Rattle.std.specs.Prelude.{◌≡◌, ◌⊎◌, ◌<◌, ◌↔◌, ℕ, List, [], ◌++◌, length, take, drop, Option, None, Some, IfSome}
-use Rattle.std.specs.Prelude.{IsSome, Ok, Err, option_map, if◌then◌else◌}
+use Rattle.std.specs.Prelude.{◌≡◌, ◌⊎◌, ◌↔◌, ℕ, List, length, take, Option, None, Some, IfSome}
+use Rattle.std.specs.Prelude.{IsSome, if◌then◌else◌}
 use Rattle.go_base.specs.Colour.{other}
 use Rattle.go_base.specs.declared.choices.Choice.{Choice}
 use Rattle.go_base.specs.declared.choices.Choice.TheVariants as choice
@@ -9,9 +9,8 @@ use Rattle.go_board.specs.declared.faults.PlayFault.{PlayFault}
 use Rattle.go_board.specs.Game.{GameRecord, IsLegal}
 use Rattle.go_board.specs.Refusals.{RefusesVertex}
 use Rattle.gtp_wire.specs.declared.replies.Reply.{Reply}
-use Rattle.gtp_wire.specs.declared.replies.ReplyFault.{ReplyFault}
 use Rattle.gtp_wire.specs.Commands.{IsWritable}
-use Rattle.gtp_wire.specs.Replies.{GivesNoAnswer, IsFirst, most_shown}
+use Rattle.gtp_wire.specs.Replies.{most_shown}
 use Rattle.gtp_match.specs.declared.controller.Controller.{Controller}
 use Rattle.gtp_match.specs.declared.losses.Loss.{Loss}
 use Rattle.gtp_match.specs.declared.losses.LossCause.{LossCause}
@@ -26,8 +25,6 @@ use Rattle.gtp_match.specs.declared.verdicts.ForfeitCause.TheVariants as forfeit
 use Rattle.gtp_match.specs.declared.verdicts.SideFault.{SideFault}
 use Rattle.gtp_match.specs.declared.verdicts.Verdict.{Verdict}
 use Rattle.gtp_match.specs.declared.verdicts.Verdict.TheVariants as verdict
-use Rattle.gtp_match.specs.Hearing.{HearsExactly, side_fault}
-use Rattle.gtp_match.specs.ReplyTable.{outcome}
 use Rattle.gtp_wire.specs.ReplyWords.{choice_of_text}
 use Rattle.gtp_match.specs.Sides.{side_of}
 use Rattle.gtp_match.specs.Taking.{may_retake}
@@ -85,55 +82,14 @@ HasLossCause c side engine reply made.Refuses cause =
 HasLossCause c side engine reply made.TakesBack cause = cause ≡ None
 HasLossCause c side engine reply made.Keeps cause = cause ≡ Some KeepsMove
 
--- ---- bytes that are heard once
-
 -- a loss by this text, which is a reply or shows a fault
 abbrev pub loss_of : EngineRun → List ℕ → LossCause → Loss
 loss_of engine text cause = record { cause = cause; owed = owed_of engine text }
-
--- The loss by bytes that are heard once, of a side that is up and before any verdict: by the reply that they end, if
--- its outcome has a cause; by the fault that they show; and none where they do neither. A reply is shown alone, without
--- what follows it. Of a text that is no reply all is shown that was heard: what was kept, and all of these bytes.
-pub data LosesUp (c : Controller) (side : Colour) (engine : EngineRun) (bytes : List ℕ) : Option Loss → Type 0 where
-  by_reply : {count : ℕ} {value : Reply} (cause : Option LossCause) → IsFirst (engine.reader ++ bytes) count (Ok value)
-      → HasLossCause c side engine value (outcome c.game side (oldest engine.unanswered) value) cause
-      → LosesUp c side engine bytes (option_map (loss_of engine (take count (engine.reader ++ bytes))) cause)
-  by_fault : {count : ℕ} {shown : ReplyFault} → IsFirst (engine.reader ++ bytes) count (Err shown)
-      → LosesUp c side engine bytes (Some (loss_of engine (engine.reader ++ bytes) (Shows (side_fault shown))))
-  nothing_yet : GivesNoAnswer (engine.reader ++ bytes) → LosesUp c side engine bytes None
-
--- there is none at a side that is down, nor after a verdict
-abbrev pub LosesWhere : Controller → Colour → List ℕ → Option Verdict → Option EngineRun → Option Loss → Type 0
-LosesWhere c side bytes None None loss = loss ≡ None
-LosesWhere c side bytes None (Some engine) loss = LosesUp c side engine bytes loss
-LosesWhere c side bytes (Some verdict) up loss = loss ≡ None
-
-abbrev pub Loses : Controller → Colour → List ℕ → Option Loss → Type 0
-Loses c side bytes loss = LosesWhere c side bytes c.verdict (side_of c.sides side).up loss
-
--- ---- all bytes
 
 -- the first of two losses
 abbrev pub first_of : Option Loss → Option Loss → Option Loss
 first_of None later = later
 first_of (Some loss) later = Some loss
-
--- Bytes are heard until they are used up or show a fault, each time some of those that are left; and the first loss by
--- them is reported, if there is any.
-pub data HearsReporting (side : Colour)
-    : Controller → List ℕ → Option SideFault → Option Loss → Controller → Type 0 where
-  used_up : {c : Controller} → HearsReporting side c [] None None c
-  faulty : {c new : Controller} {bytes : List ℕ} {shown : SideFault} {loss : Option Loss} (used : ℕ)
-      → 0 < length bytes → HearsExactly c side bytes used (Some shown) new → Loses c side bytes loss
-      → HearsReporting side c bytes (Some shown) loss new
-  goes_on : {c mid new : Controller} {bytes : List ℕ} {shown : Option SideFault} {later : Option Loss} (used : ℕ)
-      (loss : Option Loss) → 0 < length bytes → HearsExactly c side bytes used None mid → Loses c side bytes loss
-      → HearsReporting side mid (drop used bytes) shown later new
-      → HearsReporting side c bytes shown (first_of loss later) new
-
--- all bytes are heard, and the first loss by them, if any, is this one
-abbrev pub HearsAllReporting : Colour → Controller → List ℕ → Option Loss → Controller → Type 0
-HearsAllReporting side c bytes loss new = (shown : Option SideFault) × HearsReporting side c bytes shown loss new
 
 -- ---- by what a side fails
 
@@ -171,12 +127,3 @@ pub record ReportsLoss (side : Colour) (c new : Controller) (fault : Option Side
   pub down : IsSome fault ↔ GoesDown c new side
   -- the other side stays as it is, so that one never goes down
   pub other_stays : side_of new.sides (other side) ≡ side_of c.sides (other side)
-
--- This holds of bytes that are heard once, and of all bytes of a chunk, which are heard reply by reply. Of the match
--- nothing is asked. Once a verdict was given no side fails by what is heard, and nothing is reported.
-pub record LossesAreReported : Type 0 where
-  pub once : (c new : Controller) (side : Colour) (bytes : List ℕ) (used : ℕ) (fault : Option SideFault)
-      (loss : Option Loss) → HearsExactly c side bytes used fault new → Loses c side bytes loss
-      → ReportsLoss side c new fault loss
-  pub all : (c new : Controller) (side : Colour) (bytes : List ℕ) (fault : Option SideFault) (loss : Option Loss)
-      → HearsReporting side c bytes fault loss new → ReportsLoss side c new fault loss

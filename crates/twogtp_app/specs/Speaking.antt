@@ -1,18 +1,15 @@
 -- What the process of a side is sent, and what is read of it, in a turn.
 use Rattle.std.specs.Prelude.{◌≡◌, ◌≢◌, ◌<◌, ◌+◌, ℕ, List, [], ◌++◌, length, Option, Some, None}
 use Rattle.std.specs.Prelude.{option_map}
-use Rattle.std.specs.Option.{option_to_list}
 use Rattle.std.specs.Io.KnownBytes.{Appends, Keeps}
 use Rattle.go_base.specs.declared.colours.Colour.{Colour}
 use Rattle.gtp_match.specs.declared.controller.Controller.{Controller}
 use Rattle.gtp_match.specs.declared.sides.EngineRun.{EngineRun}
 use Rattle.gtp_match.specs.declared.verdicts.Action.TheVariants.{Send}
-use Rattle.gtp_match.specs.declared.verdicts.SideFault.{SideFault}
 use Rattle.gtp_match.specs.Controller.{next_text, sent, lost}
-use Rattle.gtp_match.specs.Hearing.{HearsAllExactly}
-use Rattle.gtp_match.specs.Losing.{HearsAllReporting, owed}
+use Rattle.gtp_match.specs.Losing.{owed}
 use Rattle.gtp_match.specs.Next.{next}
-use Rattle.gtp_match.specs.Retaking.{HearsAllRetakes}
+use Rattle.gtp_match.specs.Reporting.{HearsReport}
 use Rattle.gtp_match.specs.declared.losses.Loss.{Loss}
 use Rattle.gtp_match.specs.Sides.{side_of}
 use Rattle.gtp_process.specs.declared.starter.Process.{Ghosts}
@@ -68,24 +65,20 @@ pub data AreSent {P : Type 0} (known : Ghosts P) (c : Controller) (side : Colour
       → Keeps (known.given before) (known.given after)
       → AreSent known c side before after (lost new side) (cut_off Writing new side)
 
--- Why a side failed by bytes, all of which were heard: the first loss by them, if any.
-abbrev pub LostBy : Colour → Controller → List ℕ → Controller → Option TurnLoss → Type 0
-LostBy side c bytes new reported =
-    (loss : Option Loss) × HearsAllReporting side c bytes loss new × (reported ≡ option_map Wrote loss)
-
--- What is reported of bytes, all of which were heard: the `play` that is retaken by them, if any, and why the side
--- failed by them, if it did.
+-- All bytes of a side are heard, and this is reported of them: the `play` that is retaken by them, if any, and why the
+-- side failed by them, if it did.
 abbrev pub ReportedBy : Colour → Controller → List ℕ → Controller → TurnReport → Type 0
 ReportedBy side c bytes new report =
-    HearsAllRetakes side c bytes (option_to_list report.retake) new × LostBy side c bytes new report.loss
+    (loss : Option Loss) × HearsReport side c bytes (record { retake = report.retake; loss = loss }) new
+    × (report.loss ≡ option_map Wrote loss)
 
 -- A side was waited for. What its process gave, a byte at least, was heard, all of it, and no call broke. Or its output
 -- ended, or the process was cut off, and it gave nothing: the side fails. It was sent nothing.
 pub data IsHeard {P : Type 0} (known : Ghosts P) (c : Controller) (side : Colour) (before after : P)
     : Controller → TurnReport → Type 0 where
-  heard : {new : Controller} {report : TurnReport} (bytes : List ℕ) (fault : Option SideFault)
+  heard : {new : Controller} {report : TurnReport} (bytes : List ℕ)
       → 0 < length bytes → Appends (known.given before) (known.given after) bytes
-      → HearsAllExactly side c bytes fault new → ReportedBy side c bytes new report
+      → ReportedBy side c bytes new report
       → IsUnbroken known.fails known.succeeds before after
       → Keeps (known.taken before) (known.taken after)
       → IsHeard known c side before after new report

@@ -1,9 +1,7 @@
 //! Sends a side's process its commands, and reads its replies.
 ghost use Rattle.std.specs.Prelude.{◌≡◌, None, Option};
 ghost use Rattle.gtp_match.specs.declared.verdicts.Action.TheVariants as action;
-ghost use Rattle.gtp_match.specs.declared.verdicts.SideFault.{SideFault};
 ghost use Rattle.gtp_match.specs.Controller.{lost};
-ghost use Rattle.gtp_match.specs.Hearing.{HearsAllExactly};
 ghost use Rattle.gtp_match.specs.Next.{next};
 ghost use Rattle.gtp_match.specs.Sides.{side_of, status_of};
 ghost use Rattle.twogtp_app.specs.Speaking.{AreSent, HearsFromSide, IsHeard, ReportedBy, SendsToSide, cut_off, in_turn};
@@ -91,8 +89,6 @@ fn hear_from<P: Process>(
 /// Passes all bytes of a side to the match, and returns what to report: a refused `play` that is retaken, and why the
 /// side failed.
 fn hear_bytes(game: &mut Match, side: Side, bytes: &[u8]) -> TurnReport
-    ensures heard { (fault : Option SideFault)
-        × HearsAllExactly side game.old bytes.now fault game.new }
     ensures reported { ReportedBy side game.old bytes.now game.new result }
     ensures shown { ReportCanBeShown result }
 {

@@ -35,9 +35,9 @@ use Rattle.gtp_match.specs.Unanswered.{oldest}
 use Rattle.gtp_match.specs.Sides.{side_of, with_side, with_engine, with_engine_of, heard_reply}
 use Rattle.gtp_match.specs.ReplyTable.{outcome, outcome_of, script_outcome, play_outcome, undo_outcome}
 use Rattle.gtp_match.specs.ReplyTable.{genmove_outcome}
-use Rattle.gtp_match.specs.ReplyTable.{choice_outcome, has_id, after_outcome, fault_of}
+use Rattle.gtp_match.specs.ReplyTable.{choice_outcome, has_id, after_outcome}
 use Rattle.gtp_wire.specs.ReplyWords.{choice_of_text}
-use Rattle.gtp_match.specs.Hearing.{side_fault, KeepsAll, HearsUp, HearsWhere, HearsExactly}
+use Rattle.gtp_match.specs.Hearing.{KeepsAll, HearsUp, HearsWhere, HearsExactly}
 use Rattle.gtp_match.specs.private.Conditions.{MayReply, MayHear, MayBe, MayApply}
 use Rattle.gtp_match.specs.private.Feeding.{HasRead, fed_engine}
 
@@ -155,37 +155,29 @@ nothing_got c side e bytes fed new g =
 
 -- ---- nothing was returned
 
-pub hears_nothing_yet : (c : Controller) (side : Colour) (e : EngineRun) (bytes : List ℕ) (fed : ReplyFed)
-    (new : Sides) → HasGot c side e bytes fed new None → HearsExactly c side bytes fed.used None (with_sides c new)
-hears_nothing_yet c side e bytes fed new g =
+-- all bytes were used, and are kept
+pub quiet_is : (c : Controller) (side : Colour) (e : EngineRun) (bytes : List ℕ) (fed : ReplyFed) (new : Sides)
+    → HasGot c side e bytes fed new None
+    → (fed.used ≡ length bytes) × (with_sides c new ≡ with_side_up c side (record e { reader = e.reader ++ bytes }))
+quiet_is c side e bytes fed new g =
     let f = g.has_fed in
     let used : fed.used ≡ length bytes =
     subst (λ (got : Option (Result Reply ReplyFault)). IfNone got (fed.used ≡ length bytes)) g.is f.read.all in
     let kept : e.reader ++ take fed.used bytes ≡ e.reader ++ bytes =
-    ap (λ t. e.reader ++ t) (take_all fed.used bytes (omega (arith, used))) in
-    let H : ℕ → Controller → Type 0 = λ n c2. HearsExactly c side bytes n None c2 in
-    let new_is : with_sides c new ≡ with_side_up c side (record e { reader = e.reader ++ bytes }) =
-    fed_is c side e bytes fed new f ∙ ap (with_side_up c side) (fed_engine_by e bytes fed None g.is)
-    ∙ ap (λ t. let h : EngineRun = record e { reader = t } in with_side_up c side h) kept
-    in
-    subst (λ n. H n (with_sides c new)) (sym used)
-    (subst (H (length bytes)) (sym new_is)
-    (hears_up c side e bytes (length bytes) None (with_side_up c side (record e { reader = e.reader ++ bytes }))
-    g.none f.up (HearsUp.nothing_yet (nothing_got c side e bytes fed new g) refl)))
+    ap (λ t. e.reader ++ t) (take_all fed.used bytes (omega (arith, used))) in (
+      used,
+      fed_is c side e bytes fed new f ∙ ap (with_side_up c side) (fed_engine_by e bytes fed None g.is)
+      ∙ ap (λ t. let h : EngineRun = record e { reader = t } in with_side_up c side h) kept,
+    )
 
 -- ---- a fault was returned
 
-pub hears_faulted : (c : Controller) (side : Colour) (e : EngineRun) (bytes : List ℕ) (fed : ReplyFed) (new : Sides)
+pub faulted_is : (c : Controller) (side : Colour) (e : EngineRun) (bytes : List ℕ) (fed : ReplyFed) (new : Sides)
     (fault : ReplyFault) (c2 : Controller) → HasGot c side e bytes fed new (Some (Err fault))
-    → c2 ≡ downed (with_sides c new) side
-    → HearsExactly c side bytes fed.used (Some (side_fault fault)) c2
-hears_faulted c side e bytes fed new fault c2 g is =
-    let c2_is : c2 ≡ downed c side =
+    → c2 ≡ downed (with_sides c new) side → c2 ≡ downed c side
+faulted_is c side e bytes fed new fault c2 g is =
     is ∙ ap (λ (x : Controller). downed x side) (fed_is c side e bytes fed new g.has_fed)
-    ∙ down_after_up c side (fed_engine e bytes fed) in
-    let H : Controller → Type 0 = λ x. HearsExactly c side bytes fed.used (Some (side_fault fault)) x in
-    subst H (sym c2_is) (hears_up c side e bytes fed.used (Some (side_fault fault)) (downed c side) g.none
-    g.has_fed.up (HearsUp.faulted (first_got c side e bytes fed new (Err fault) g)))
+    ∙ down_after_up c side (fed_engine e bytes fed)
 
 -- ---- a reply was returned
 
@@ -196,28 +188,21 @@ up_replied c side e bytes fed new reply g =
     ap (λ (s : Sides). (side_of s side).up) g.has_fed.new_is ∙ up_of c.sides side (fed_engine e bytes fed)
     ∙ ap (λ x. Some x) (fed_engine_by e bytes fed (Some (Ok reply)) g.is)
 
-pub hears_replied : (c : Controller) (side : Colour) (e : EngineRun) (bytes : List ℕ) (fed : ReplyFed) (new : Sides)
-    (reply : Reply) (o : Outcome) (fault : Option SideFault) (c2 : Controller)
-    → HasGot c side e bytes fed new (Some (Ok reply)) → o ≡ outcome c.game side (oldest e.unanswered) reply
-    → fault ≡ fault_of o → IfSome (side_of new side).up (λ engine. c2 ≡ after_outcome (with_sides c new) side engine o)
-    → HearsExactly c side bytes fed.used fault c2
-hears_replied c side e bytes fed new reply o fault c2 g o_is fault_is applied =
+pub replied_is : (c : Controller) (side : Colour) (e : EngineRun) (bytes : List ℕ) (fed : ReplyFed) (new : Sides)
+    (reply : Reply) (o : Outcome) (c2 : Controller) → HasGot c side e bytes fed new (Some (Ok reply))
+    → o ≡ outcome c.game side (oldest e.unanswered) reply
+    → IfSome (side_of new side).up (λ engine. c2 ≡ after_outcome (with_sides c new) side engine o)
+    → c2 ≡ after_outcome c side (heard_reply e) (outcome c.game side (oldest e.unanswered) reply)
+replied_is c side e bytes fed new reply o c2 g o_is applied =
     let applied_is : c2 ≡ after_outcome (with_sides c new) side (heard_reply e) o =
     subst (λ (u : Option EngineRun). IfSome u (λ engine. c2 ≡ after_outcome (with_sides c new) side engine o))
     (up_replied c side e bytes fed new reply g) applied in
-    let c2_is : c2 ≡ after_outcome c side (heard_reply e) (outcome c.game side (oldest e.unanswered) reply) =
     applied_is
     ∙ ap (λ (x : Controller). after_outcome x side (heard_reply e) o)
     (fed_is c side e bytes fed new g.has_fed
     ∙ ap (with_side_up c side) (fed_engine_by e bytes fed (Some (Ok reply)) g.is))
     ∙ outcome_after_up c side (heard_reply e) (heard_reply e) o
     ∙ ap (after_outcome c side (heard_reply e)) o_is
-    in
-    let H : Option SideFault → Controller → Type 0 = λ x y. HearsExactly c side bytes fed.used x y in
-    subst (λ x. H x c2) (sym (fault_is ∙ ap fault_of o_is))
-    (subst (H (fault_of (outcome c.game side (oldest e.unanswered) reply))) (sym c2_is)
-    (hears_up c side e bytes fed.used _ _ g.none g.has_fed.up
-    (HearsUp.replied (first_got c side e bytes fed new (Ok reply) g))))
 
 -- ---- what the table asks for may be done
 

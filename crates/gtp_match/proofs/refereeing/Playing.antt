@@ -5,6 +5,7 @@ use Rattle.gtp_match.specs.Next as going
 use Rattle.gtp_match.specs.declared.controller.Controller.{Controller}
 use Rattle.gtp_match.specs.declared.verdicts.Action.{Action}
 use Rattle.gtp_match.proofs.refereeing.Staying.{one_leaves, all_leave}
+use Rattle.gtp_match.proofs.reporting.Exact.{chunk_exact}
 use Rattle.gtp_match.specs.referee.Calls.{RefereedCall, Does, Leads, in_match, all_in_match, IsPlayed}
 use Rattle.gtp_match.specs.referee.Calls.{RefereedArePlayed}
 use Rattle.gtp_match.specs.referee.Refereed.{Refereed, next_where, lost_where, HearsWhere}
@@ -27,8 +28,7 @@ module _ (r : Refereed) (free : r.ruled ≡ None) where
   one_in_match (Does.send e) rest = CallsBy.send (due_in_match e) rest
   one_in_match (Does.hear {new = new} {s = s} {bytes = bytes} loss retake heard) rest =
       let on = subst (HearsWhere s r bytes loss retake new) free heard in
-      let all = on.in_match.heard in
-      CallsBy.hear_all all.0 all.1 rest
+      CallsBy.hear_all on.in_match.0 (chunk_exact _ _ _ _ _ _ _ on.in_match.1) rest
   one_in_match {calls = calls} {last = last} (Does.lose {s = s}) rest =
       CallsBy.lose
       (subst (λ (c : Controller). CallsExactly c calls last)

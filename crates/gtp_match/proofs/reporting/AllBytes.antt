@@ -1,6 +1,7 @@
 -- What a match reports of the bytes that it hears.
-use Rattle.std.proofs.Common.{◌≡◌, ◌≤◌, ◌<◌, ℕ, List, [], length, drop, Option, Some, None, true, false, inl, inr}
+use Rattle.std.proofs.Common.{◌≡◌, ◌≤◌, ◌<◌, ℕ, List, [], ◌++◌, length, drop, Option, Some, None, true, false, inl, inr}
 use Rattle.std.proofs.Common.{refl, sym, subst, arith, is_some}
+use Rattle.std.specs.Option.{option_to_list}
 use Rattle.std.specs.Prelude.{IfSome, option_map}
 use Rattle.go_base.specs.Handicap.{AllowsHandicap}
 use Rattle.go_base.specs.Int.{most_int}
@@ -13,14 +14,14 @@ use Rattle.gtp_wire.specs.declared.commands.Command.TheVariants.{Genmove, Undo, 
 use Rattle.gtp_match.specs.declared.controller.Controller.{Controller}
 use Rattle.gtp_match.specs.declared.losses.Loss.{Loss}
 use Rattle.gtp_match.specs.declared.losses.LossCause.{LossCause}
+use Rattle.gtp_match.specs.declared.reports.Retake.{Retake}
 use Rattle.gtp_match.specs.declared.sides.EngineRun.{EngineRun}
 use Rattle.gtp_match.specs.declared.unanswered.SentCommand.{SentCommand}
 use Rattle.gtp_match.specs.declared.verdicts.SideFault.{SideFault}
 use Rattle.gtp_match.specs.declared.verdicts.Verdict.{Verdict}
 use Rattle.gtp_match.specs.private.Conditions.{MayBeAnswered, MayReply}
-use Rattle.gtp_match.specs.Hearing.{HearsExactly, HearsAllExactly, HearsAllBy}
-use Rattle.gtp_match.specs.Losing.{Loses, LosesUp, LosesWhere, by_reply, by_fault, nothing_yet, loss_of, owed}
-use Rattle.gtp_match.specs.Losing.{owed_where, CanBeShown, HearsReporting, first_of, used_up, faulty, goes_on}
+use Rattle.gtp_match.specs.Losing.{loss_of, owed, owed_where, CanBeShown, first_of}
+use Rattle.gtp_match.specs.Reporting.{HearsOnce, HearsChunk}
 use Rattle.gtp_match.specs.Sides.{side_of}
 use Rattle.gtp_match.specs.Sound.{IsSound}
 use Rattle.gtp_match.specs.Unanswered.{oldest}
@@ -74,59 +75,54 @@ names_oldest-of : (engine : EngineRun) (text : List ℕ) (o : Option LossCause)
 names_oldest-of engine text None = tt
 names_oldest-of engine text (Some x) = refl
 
--- the command that a loss names is the oldest of the engine
-names_oldest : (c : Controller) (side : Colour) (engine : EngineRun) (bytes : List ℕ) (loss : Option Loss)
-    → LosesUp c side engine bytes loss → IfSome loss (λ l. l.owed.oldest ≡ oldest engine.unanswered)
-names_oldest c side engine bytes loss (by_reply cause first has) = names_oldest-of engine _ cause
-names_oldest c side engine bytes loss (by_fault first) = refl
-names_oldest c side engine bytes loss (nothing_yet nothing) = tt
-
 shows_named : (loss : Option Loss) (entry : Option SentCommand) → IfSome entry (λ e. IsWritable e.command)
     → IfSome loss (λ l. l.owed.oldest ≡ entry) → IfSome loss (λ l. CanBeShown l.owed)
 shows_named None entry can named = tt
 shows_named (Some loss) entry can named = rw named can
 
--- what a side lost can be shown
-pub loss_shown : (c : Controller) (side : Colour) (bytes : List ℕ) (loss : Option Loss) → IsSound c
-    → Loses c side bytes loss → IfSome loss (λ l. CanBeShown l.owed)
-loss_shown c side bytes loss sound = by_both c.verdict (side_of c.sides side).up refl refl
-  where
-    by_both : (v : Option Verdict) (u : Option EngineRun) → c.verdict ≡ v → (side_of c.sides side).up ≡ u
-        → LosesWhere c side bytes v u loss → IfSome loss (λ l. CanBeShown l.owed)
-    by_both None None none up loses = rw loses tt
-    by_both None (Some engine) none up loses =
-        shows_named loss (oldest engine.unanswered) (my_oldest c side engine sound none up)
-        (names_oldest c side engine bytes loss loses)
-    by_both (Some verdict) u over up loses = rw loses tt
+-- what is reported of a loss can be shown
+pub loss_shown : (c new : Controller) (side : Colour) (bytes : List ℕ) (used : ℕ) (fault : Option SideFault)
+    (retake : Option Retake) (loss : Option Loss) → IsSound c → HearsOnce c side bytes used fault retake loss new
+    → IfSome loss (λ l. CanBeShown l.owed)
+loss_shown c new side bytes used fault retake loss sound (HearsOnce.replied engine reply cause none up first has) =
+    shows_named _ (oldest engine.unanswered) (my_oldest c side engine sound none up) (names_oldest-of engine _ cause)
+loss_shown c new side bytes used fault retake loss sound (HearsOnce.faulted engine shown none up first) =
+    my_oldest c side engine sound none up
+loss_shown c new side bytes used fault retake loss sound (HearsOnce.nothing_yet engine none up nothing) = tt
+loss_shown c new side bytes used fault retake loss sound (HearsOnce.while_down none down) = tt
+loss_shown c new side bytes used fault retake loss sound (HearsOnce.after_verdict verdict over) = tt
 
 -- ---- all bytes
 
--- what is heard and reported is heard
-pub telling_hears : (side : Colour) (c new : Controller) (bytes : List ℕ) (shown : Option SideFault)
-    (loss : Option Loss)
-    → HearsReporting side c bytes shown loss new → HearsAllExactly side c bytes shown new
-telling_hears side c new bytes shown loss used_up = HearsAllBy.used_up
-telling_hears side c new bytes shown loss (faulty used some h loses) = HearsAllBy.faulty used some h
-telling_hears side c new bytes shown loss (goes_on {mid = mid} {later = later} used first some h loses more) =
-    HearsAllBy.goes_on used some h (telling_hears side mid new (drop used bytes) shown later more)
+pub chunk_faulty : (side : Colour) (c new : Controller) (bytes : List ℕ) (used : ℕ) (fault : Option SideFault)
+    (retake : Option Retake) (loss : Option Loss) → is_some fault ≡ true → 0 < length bytes
+    → HearsOnce c side bytes used fault retake loss new
+    → HearsChunk side c bytes fault (option_to_list retake) loss new
+chunk_faulty side c new bytes used None retake loss e some h = absurd (cc)
+chunk_faulty side c new bytes used (Some shown) retake loss e some h = HearsChunk.faulty used retake some h
 
-pub reports_fault : (side : Colour) (c new : Controller) (bytes : List ℕ) (used : ℕ) (fault : Option SideFault)
-    (loss : Option Loss) → is_some fault ≡ true → 0 < length bytes
-    → HearsExactly c side bytes used fault new → Loses c side bytes loss → HearsReporting side c bytes fault loss new
-reports_fault side c new bytes used None loss e some h loses = absurd (cc)
-reports_fault side c new bytes used (Some shown) loss e some h loses = faulty used some h loses
+pub chunk_more : (side : Colour) (c mid new : Controller) (bytes left : List ℕ) (used : ℕ)
+    (fault shown : Option SideFault) (retake : Option Retake) (loss : Option Loss) (retakes : List Retake)
+    (later : Option Loss) → is_some fault ≡ false → 0 < length bytes
+    → HearsOnce c side bytes used fault retake loss mid → left ≡ drop used bytes
+    → HearsChunk side mid left shown retakes later new
+    → HearsChunk side c bytes shown (option_to_list retake ++ retakes) (first_of loss later) new
+chunk_more side c mid new bytes left used (Some f) shown retake loss retakes later e some h is more = absurd (cc)
+chunk_more side c mid new bytes left used None shown retake loss retakes later e some h is more =
+    HearsChunk.goes_on used retake loss some h
+    (subst (λ (t : List ℕ). HearsChunk side mid t shown retakes later new) is more)
 
-pub reports_more : (side : Colour) (c mid new : Controller) (bytes left : List ℕ) (used : ℕ)
-    (fault shown : Option SideFault) (loss later : Option Loss) → is_some fault ≡ false
-    → 0 < length bytes → HearsExactly c side bytes used fault mid → Loses c side bytes loss → left ≡ drop used bytes
-    → HearsReporting side mid left shown later new
-    → HearsReporting side c bytes shown (first_of loss later) new
-reports_more side c mid new bytes left used (Some f) shown loss later e some h loses is more = absurd (cc)
-reports_more side c mid new bytes left used None shown loss later e some h loses is more =
-    goes_on used loss some h loses (subst (λ (t : List ℕ). HearsReporting side mid t shown later new) is more)
+-- the same retakes by other names
+pub chunk_is : {side : Colour} {c new : Controller} {bytes : List ℕ} {fault : Option SideFault}
+    {retakes same : List Retake} {loss : Option Loss} → retakes ≡ same
+    → HearsChunk side c bytes fault retakes loss new → HearsChunk side c bytes fault same loss new
+chunk_is {side} {c} {new} {bytes} {fault} {retakes} {same} {loss} is h =
+    subst (λ (rs : List Retake). HearsChunk side c bytes fault rs loss new) is h
 
-pub reports_end : (side : Colour) (c : Controller) (left : List ℕ) → left ≡ [] → HearsReporting side c left None None c
-reports_end side c left none = subst (λ (t : List ℕ). HearsReporting side c t None None c) (sym none) used_up
+pub chunk_end : (side : Colour) (c : Controller) (left : List ℕ) → left ≡ []
+    → HearsChunk side c left None [] None c
+chunk_end side c left none =
+    subst (λ (t : List ℕ). HearsChunk side c t None [] None c) (sym none) HearsChunk.used_up
 
 -- the first of three
 pub first_of_all : (a b d : Option Loss) → first_of (first_of a b) d ≡ first_of a (first_of b d)

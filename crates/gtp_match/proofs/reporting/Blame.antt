@@ -1,6 +1,6 @@
 -- Of bytes that are heard once, a loss is reported exactly where they show a fault or a side is blamed.
-use Rattle.std.proofs.Common.{◌≡◌, ℕ, ◌+◌, List, ◌++◌, length, take, Option, Some, None, Ok, Err, Bool, true, false}
-use Rattle.std.proofs.Common.{refl, sym, ap, subst, cond, inl, inr}
+use Rattle.std.proofs.Common.{◌≡◌, ℕ, List, length, Option, Some, None, Bool, true, false}
+use Rattle.std.proofs.Common.{refl, sym, subst, cond, inl, inr, ◌∙◌}
 use Rattle.std.specs.Prelude.{◌↔◌, ◌==◌, ℤ, IsSome, IfSome, option_map}
 use Rattle.go_base.specs.Colour.{other}
 use Rattle.go_base.specs.Decide.{holds}
@@ -11,14 +11,10 @@ use Rattle.go_base.specs.declared.vertices.Vertex.{Vertex}
 use Rattle.go_board.specs.Area.{score}
 use Rattle.go_board.specs.Game.{GameRecord, IsLegal, with_move}
 use Rattle.go_board.specs.decisions.Game.{finished?, legal?}
-use Rattle.gtp_wire.proofs.first_answers.OneAnswer.{one_first}
 use Rattle.gtp_wire.specs.declared.commands.Command.{Command}
 use Rattle.gtp_wire.specs.declared.commands.Command.TheVariants as command
 use Rattle.gtp_wire.specs.declared.replies.Reply.{Reply}
-use Rattle.gtp_wire.specs.declared.replies.ReplyFault.{ReplyFault}
-use Rattle.gtp_match.specs.Hearing.{KeepsAll, HearsUp, side_fault}
-use Rattle.gtp_match.specs.Losing.{HasLossCause, BreaksRule, CauseFits, loss_of, LosesUp, by_reply, by_fault}
-use Rattle.gtp_match.specs.Losing.{nothing_yet}
+use Rattle.gtp_match.specs.Losing.{HasLossCause, BreaksRule, CauseFits, loss_of}
 use Rattle.gtp_match.specs.ReplyTable.{outcome, outcome_of, genmove_outcome, choice_outcome, script_outcome}
 use Rattle.gtp_match.specs.ReplyTable.{play_outcome, undo_outcome, has_id, after_outcome, fault_of, refused, retaken_at}
 use Rattle.gtp_wire.specs.ReplyWords.{choice_of_text}
@@ -272,43 +268,29 @@ fits_with : (engine : EngineRun) (text : List ℕ) (cause : Option LossCause) (P
 fits_with engine text None P fits = tt
 fits_with engine text (Some x) P fits = fits
 
-pub up_given : (c new : Controller) (side : Colour) (engine : EngineRun) (bytes : List ℕ) (used : ℕ)
-    (fault : Option SideFault) (loss : Option Loss) → c.verdict ≡ None
-    → HearsUp KeepsAll c side engine bytes used fault new → LosesUp c side engine bytes loss
-    → (IsSome loss ↔ LosesBy c new fault) × IfSome loss (λ l. CauseFits new side fault l.cause)
-up_given c new side engine bytes used fault loss none (HearsUp.replied {value = x} p)
-    (by_reply {count = n} {value = y} cause q has) =
-    let e = one_first (engine.reader ++ bytes) (length engine.reader + used) n (Ok x) (Ok y) p q in
-    let same : y ≡ x = cc in
-    let text = take n (engine.reader ++ bytes) in
-    let o = outcome c.game side (oldest engine.unanswered) x in
-    let is : HasLossCause c side engine x o cause =
-    subst (λ (r : Reply). HasLossCause c side engine r (outcome c.game side (oldest engine.unanswered) r) cause) same
-    has
-    in (
-      given_with engine text cause (LosesBy c new fault) (cause_is_loss c side engine x o cause none refl is),
-      fits_with engine text cause (Fits c side engine o) (cause_fits c side engine x o cause is),
+-- what is reported of bytes that are heard once: a loss exactly where one comes of them, and its cause fits
+abbrev pub IsJust : Controller → Controller → Colour → Option SideFault → Option Loss → Type 0
+IsJust c new side fault loss = (IsSome loss ↔ LosesBy c new fault) × IfSome loss (λ l. CauseFits new side fault l.cause)
+
+pub reply_just : (c : Controller) (side : Colour) (engine : EngineRun) (reply : Reply) (text : List ℕ)
+    (cause : Option LossCause) → c.verdict ≡ None
+    → HasLossCause c side engine reply (outcome c.game side (oldest engine.unanswered) reply) cause
+    → IsJust c (after_outcome c side (heard_reply engine) (outcome c.game side (oldest engine.unanswered) reply)) side
+    (fault_of (outcome c.game side (oldest engine.unanswered) reply)) (option_map (loss_of engine text) cause)
+reply_just c side engine reply text cause none has =
+    let o = outcome c.game side (oldest engine.unanswered) reply in (
+      given_with engine text cause (LosesBy c (after_outcome c side (heard_reply engine) o) (fault_of o))
+          (cause_is_loss c side engine reply o cause none refl has),
+      fits_with engine text cause (Fits c side engine o) (cause_fits c side engine reply o cause has),
     )
-up_given c new side engine bytes used fault loss none (HearsUp.replied {value = x} p)
-    (by_fault {count = n} {shown = y} q) =
-    let e = one_first (engine.reader ++ bytes) (length engine.reader + used) n (Ok x) (Err y) p q in absurd (cc)
-up_given c new side engine bytes used fault loss none (HearsUp.replied {value = x} p) (nothing_yet nothing) =
-    absurd (nothing (length engine.reader + used) (Ok x) p.inside p.is_given)
-up_given c new side engine bytes used fault loss none (HearsUp.faulted {shown = x} p)
-    (by_reply {count = n} {value = y} cause q has) =
-    let e = one_first (engine.reader ++ bytes) (length engine.reader + used) n (Err x) (Ok y) p q in absurd (cc)
-up_given c new side engine bytes used fault loss none (HearsUp.faulted {shown = x} p)
-    (by_fault {count = n} {shown = y} q) =
-    let e = one_first (engine.reader ++ bytes) (length engine.reader + used) n (Err x) (Err y) p q in
-    let same : x ≡ y = cc in
-    (both loss c new fault refl (LosesBy.shows refl), ap (λ (f : ReplyFault). Some (side_fault f)) same)
-up_given c new side engine bytes used fault loss none (HearsUp.faulted {shown = x} p) (nothing_yet nothing) =
-    absurd (nothing (length engine.reader + used) (Err x) p.inside p.is_given)
-up_given c new side engine bytes used fault loss none (HearsUp.nothing_yet nothing is)
-    (by_reply {count = n} {value = y} cause q has) =
-    absurd (nothing n (Ok y) q.inside q.is_given)
-up_given c new side engine bytes used fault loss none (HearsUp.nothing_yet nothing is)
-    (by_fault {count = n} {shown = y} q) =
-    absurd (nothing n (Err y) q.inside q.is_given)
-up_given c new side engine bytes used fault loss none (HearsUp.nothing_yet nothing is) (nothing_yet also) =
-    (neither loss c new fault refl refl (λ x. subst IsNoBlame (sym none) no_verdict), tt)
+
+pub fault_just : (c new : Controller) (side : Colour) (loss : Loss) (shown : SideFault) → loss.cause ≡ Shows shown
+    → IsJust c new side (Some shown) (Some loss)
+fault_just c new side loss shown is =
+    (both (Some loss) c new (Some shown) refl (LosesBy.shows refl),
+    subst (λ (x : LossCause). CauseFits new side (Some shown) x) (sym is) refl)
+
+pub quiet_just : (c new : Controller) (side : Colour) → c.verdict ≡ None → new.verdict ≡ c.verdict
+    → IsJust c new side None None
+quiet_just c new side none same =
+    (neither {A = Loss} None c new None refl refl (λ x. subst IsNoBlame (sym (same ∙ none)) no_verdict), tt)

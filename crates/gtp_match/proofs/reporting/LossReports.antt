@@ -1,14 +1,14 @@
 -- Of bytes that are heard, once or all, a loss is reported exactly where a side fails.
-use Rattle.std.proofs.Common.{◌≡◌, ℕ, List, drop, Option, Some, None}
+use Rattle.std.proofs.Common.{◌≡◌, ℕ, List, ◌++◌, drop, Option, Some, None}
 use Rattle.std.proofs.Common.{refl, sym, ◌∙◌, ap, subst, inl, inr}
 use Rattle.std.specs.Prelude.{◌↔◌, ◌⊎◌, IsSome, IfSome}
 use Rattle.go_base.specs.Colour.{other}
 use Rattle.go_base.specs.declared.colours.Colour.{Colour}
 use Rattle.go_base.specs.declared.colours.Colour.TheVariants.{Black, White}
 use Rattle.gtp_match.specs.Controller.{downed}
-use Rattle.gtp_match.specs.Hearing.{KeepsAll, HearsUp, IsIgnored, HearsWhere, HearsExactly}
-use Rattle.gtp_match.specs.Losing.{Loses, LosesUp, LosesWhere, first_of, HearsReporting, used_up, faulty, goes_on}
-use Rattle.gtp_match.specs.Losing.{GoesDown, LosesSide, CauseFits, ReportsLoss}
+use Rattle.gtp_match.specs.Hearing.{side_fault}
+use Rattle.gtp_match.specs.Losing.{first_of, loss_of, GoesDown, LosesSide, CauseFits, ReportsLoss}
+use Rattle.gtp_match.specs.Reporting.{HearsOnce, HearsChunk, text_up_to}
 use Rattle.gtp_match.specs.ReplyTable.{outcome, after_outcome, fault_of}
 use Rattle.gtp_match.specs.Sides.{side_of, with_engine_of, heard_reply, answered, confirmed, taken_back}
 use Rattle.gtp_match.specs.Taking.{may_retake}
@@ -17,6 +17,7 @@ use Rattle.gtp_match.specs.declared.controller.Controller.{Controller}
 use Rattle.gtp_match.specs.declared.losses.Loss.{Loss}
 use Rattle.gtp_match.specs.declared.losses.LossCause.{LossCause}
 use Rattle.gtp_match.specs.declared.losses.LossCause.TheVariants as why
+use Rattle.gtp_match.specs.declared.reports.Retake.{Retake}
 use Rattle.gtp_match.specs.declared.sides.EngineRun.{EngineRun}
 use Rattle.gtp_match.specs.declared.sides.Sides.{Sides}
 use Rattle.gtp_match.specs.declared.reply_table.Outcome.{Outcome}
@@ -25,7 +26,7 @@ use Rattle.gtp_match.specs.declared.reply_table.Outcome.TheVariants.{Refuses, Ta
 use Rattle.gtp_match.specs.declared.verdicts.SideFault.{SideFault}
 use Rattle.gtp_match.specs.declared.verdicts.Verdict.{Verdict}
 use Rattle.gtp_match.specs.declared.verdicts.Verdict.TheVariants as verdict
-use Rattle.gtp_match.proofs.reporting.Blame.{LosesBy, up_given}
+use Rattle.gtp_match.proofs.reporting.Blame.{LosesBy, IsJust, reply_just, fault_just, quiet_just}
 use Rattle.gtp_match.proofs.replies.Refusals.{refused_all}
 use Rattle.gtp_match.proofs.hearing.Changes.{up_there, down_there}
 use Rattle.gtp_match.proofs.soundness.Calls.{mine_or_theirs}
@@ -107,14 +108,6 @@ leaves_outcome c side engine Refuses =
 leaves_outcome c side engine TakesBack = Leaves.keeps_up (taken_back engine) refl refl
 leaves_outcome c side engine Keeps = Leaves.keeps_up engine refl refl
 
-leaves_heard : (c new : Controller) (side : Colour) (engine : EngineRun) (bytes : List ℕ) (used : ℕ)
-    (fault : Option SideFault) → HearsUp KeepsAll c side engine bytes used fault new → Leaves side c fault new
-leaves_heard c new side engine bytes used fault (HearsUp.replied {value = x} first) =
-    leaves_outcome c side (heard_reply engine) (outcome c.game side (oldest engine.unanswered) x)
-leaves_heard c new side engine bytes used fault (HearsUp.faulted first) = Leaves.puts_down refl refl
-leaves_heard c new side engine bytes used fault (HearsUp.nothing_yet {kept = kept} nothing is) =
-    Leaves.keeps_up (record engine { reader = kept }) refl refl
-
 leaves_other : (c new : Controller) (side : Colour) (fault : Option SideFault) → Leaves side c fault new
     → other_stays side c.sides new.sides
 leaves_other c new side fault (Leaves.puts_down some is) =
@@ -182,27 +175,17 @@ no_step side c = record {
   stays_over = λ v e. e;
 }
 
-ignored_step : (side : Colour) (c new : Controller) (bytes : List ℕ) (used : ℕ) (fault : Option SideFault)
-    (loss : Option Loss) → loss ≡ None → IsIgnored KeepsAll c bytes used fault new → Step side c new fault loss
-ignored_step side c new bytes used fault loss nothing is =
-    subst (λ (l : Option Loss). Step side c new fault l) (sym nothing)
-    (subst (λ (f : Option SideFault). Step side c new f None) (sym is.no_fault)
-    (subst (λ (x : Controller). Step side c x None None) (sym is.same) (no_step side c)))
-
-up_step : (side : Colour) (c new : Controller) (engine : EngineRun) (bytes : List ℕ) (used : ℕ)
-    (fault : Option SideFault) (loss : Option Loss) → c.verdict ≡ None → (side_of c.sides side).up ≡ Some engine
-    → HearsUp KeepsAll c side engine bytes used fault new → LosesUp c side engine bytes loss
-    → Step side c new fault loss
-up_step side c new engine bytes used fault loss none up hears loses =
-    let leaves : Leaves side c fault new = leaves_heard c new side engine bytes used fault hears in
+up_step : (side : Colour) (c new : Controller) (engine : EngineRun) (fault : Option SideFault) (loss : Option Loss)
+    → c.verdict ≡ None → (side_of c.sides side).up ≡ Some engine → Leaves side c fault new
+    → IsJust c new side fault loss → Step side c new fault loss
+up_step side c new engine fault loss none up leaves just =
     let was : IsSome (side_of c.sides side).up = subst (λ (o : Option EngineRun). IsSome o) (sym up) refl in
     let down = down_by_fault c new side fault was leaves in
     let stays = leaves_other c new side fault leaves in
-    let law = up_given c new side engine bytes used fault loss none hears loses in
     record {
       is_given = record {
-        exact = lost_by c new side fault loss down stays law.0;
-        cause = law.1;
+        exact = lost_by c new side fault loss down stays just.0;
+        cause = just.1;
         down = down;
         other_stays = stays;
       };
@@ -211,17 +194,20 @@ up_step side c new engine bytes used fault loss none up hears loses =
     }
 
 heard_step : (side : Colour) (c new : Controller) (bytes : List ℕ) (used : ℕ) (fault : Option SideFault)
-    (loss : Option Loss) → HearsExactly c side bytes used fault new → Loses c side bytes loss
+    (retake : Option Retake) (loss : Option Loss) → HearsOnce c side bytes used fault retake loss new
     → Step side c new fault loss
-heard_step side c new bytes used fault loss hears loses =
-    by_state c.verdict (side_of c.sides side).up refl refl hears loses
-  where
-    by_state : (v : Option Verdict) (up : Option EngineRun) → c.verdict ≡ v → (side_of c.sides side).up ≡ up
-        → HearsWhere KeepsAll c side bytes v up used fault new → LosesWhere c side bytes v up loss
-        → Step side c new fault loss
-    by_state (Some v) up is is_up h l = ignored_step side c new bytes used fault loss l h
-    by_state None None is is_up h l = ignored_step side c new bytes used fault loss l h
-    by_state None (Some engine) is is_up h l = up_step side c new engine bytes used fault loss is is_up h l
+heard_step side c new bytes used fault retake loss (HearsOnce.replied engine reply cause none up first has) =
+    up_step side c _ engine _ _ none up
+    (leaves_outcome c side (heard_reply engine) (outcome c.game side (oldest engine.unanswered) reply))
+    (reply_just c side engine reply (text_up_to engine bytes used) cause none has)
+heard_step side c new bytes used fault retake loss (HearsOnce.faulted engine shown none up first) =
+    up_step side c _ engine _ _ none up (Leaves.puts_down refl refl)
+    (fault_just c _ side (loss_of engine (engine.reader ++ bytes) (why.Shows (side_fault shown))) _ refl)
+heard_step side c new bytes used fault retake loss (HearsOnce.nothing_yet engine none up nothing) =
+    up_step side c _ engine _ _ none up
+    (Leaves.keeps_up (record engine { reader = engine.reader ++ bytes }) refl refl) (quiet_just c _ side none refl)
+heard_step side c new bytes used fault retake loss (HearsOnce.while_down none down) = no_step side c
+heard_step side c new bytes used fault retake loss (HearsOnce.after_verdict verdict over) = no_step side c
 
 -- ---- all bytes
 
@@ -317,23 +303,26 @@ two_steps side c mid new shown loss later one more = record {
     said_of (LosesSide.is_unfit {loser = s} none given) =
         given_by_one (verdict.Unfit s) (λ a b x y. LosesSide.is_unfit x y) none given mid.verdict refl
 
-all_steps : (side : Colour) (c new : Controller) (bytes : List ℕ) (fault : Option SideFault) (loss : Option Loss)
-    → HearsReporting side c bytes fault loss new → Step side c new fault loss
-all_steps side c new bytes fault loss used_up = no_step side c
-all_steps side c new bytes fault loss (faulty used some hears loses) =
-    heard_step side c new bytes used fault loss hears loses
-all_steps side c new bytes fault loss (goes_on {mid = mid} {later = later} used first some hears loses more) =
-    two_steps side c mid new fault first later (heard_step side c mid bytes used None first hears loses)
-    (all_steps side mid new (drop used bytes) fault later more)
+all_steps : (side : Colour) (c new : Controller) (bytes : List ℕ) (fault : Option SideFault) (retakes : List Retake)
+    (loss : Option Loss) → HearsChunk side c bytes fault retakes loss new → Step side c new fault loss
+all_steps side c new bytes fault retakes loss HearsChunk.used_up = no_step side c
+all_steps side c new bytes fault retakes loss (HearsChunk.faulty used retake some h) =
+    heard_step side c new bytes used fault retake loss h
+all_steps side c new bytes fault retakes loss
+    (HearsChunk.goes_on {mid = mid} {retakes = more} {later = later} used retake first some h rest) =
+    two_steps side c mid new fault first later (heard_step side c mid bytes used None retake first h)
+    (all_steps side mid new (drop used bytes) fault more later rest)
 
 -- ---- the law
 
 pub once_loss_reported : (c new : Controller) (side : Colour) (bytes : List ℕ) (used : ℕ) (fault : Option SideFault)
-    (loss : Option Loss) → HearsExactly c side bytes used fault new → Loses c side bytes loss
+    (retake : Option Retake) (loss : Option Loss) → HearsOnce c side bytes used fault retake loss new
     → ReportsLoss side c new fault loss
-once_loss_reported c new side bytes used fault loss hears loses =
-    (heard_step side c new bytes used fault loss hears loses).is_given
+once_loss_reported c new side bytes used fault retake loss h =
+    (heard_step side c new bytes used fault retake loss h).is_given
 
 pub all_losses_reported : (c new : Controller) (side : Colour) (bytes : List ℕ) (fault : Option SideFault)
-    (loss : Option Loss) → HearsReporting side c bytes fault loss new → ReportsLoss side c new fault loss
-all_losses_reported c new side bytes fault loss hears = (all_steps side c new bytes fault loss hears).is_given
+    (retakes : List Retake) (loss : Option Loss) → HearsChunk side c bytes fault retakes loss new
+    → ReportsLoss side c new fault loss
+all_losses_reported c new side bytes fault retakes loss h =
+    (all_steps side c new bytes fault retakes loss h).is_given

@@ -1,91 +1,36 @@
 -- What a match reports as retaken of the bytes that it hears: of one piece one retake at most.
-use Rattle.std.proofs.Common.{◌≡◌, ◌+◌, ◌<◌, ℕ, List, [], ◌++◌, length, take, drop, Option, Some, None}
-use Rattle.std.proofs.Common.{Ok, Err, Bool, true, false, cond, refl, sym, ◌∙◌, ap, subst, is_some}
-use Rattle.std.specs.Prelude.{IsSome, IfSome, option_map}
+use Rattle.std.proofs.Common.{◌≡◌, ℕ, List, [], ◌++◌, drop, Option, Some, None}
+use Rattle.std.proofs.Common.{Bool, true, false, cond, refl, sym, ◌∙◌, ap, subst}
+use Rattle.std.specs.Prelude.{IsSome, IfSome}
 use Rattle.std.specs.Option.{option_or, option_to_list}
 use Rattle.go_base.specs.Colour.{other}
 use Rattle.go_base.specs.declared.colours.Colour.{Colour}
-use Rattle.gtp_wire.proofs.first_answers.OneAnswer.{one_first}
 use Rattle.gtp_wire.specs.Commands.{IsWritable}
 use Rattle.gtp_wire.specs.declared.replies.Reply.{Reply}
-use Rattle.gtp_wire.specs.declared.replies.ReplyFault.{ReplyFault}
-use Rattle.gtp_wire.specs.declared.reply_reader.ReplyFed.{ReplyFed}
 use Rattle.gtp_match.specs.Controller.{with_side_up, downed}
-use Rattle.gtp_match.specs.Hearing.{KeepsAll, HearsUp, HearsWhere, HearsExactly}
 use Rattle.gtp_match.specs.Losing.{CanBeShown}
-use Rattle.gtp_wire.specs.Replies.{most_shown}
-use Rattle.gtp_match.specs.private.Notices.{HasNotice, count_in, held, noticed, retake_in, retake_owing}
-use Rattle.gtp_match.specs.declared.reports.Notice.{Notice}
-use Rattle.gtp_match.specs.declared.reports.Finding.{Finding}
 use Rattle.gtp_match.specs.ReplyTable.{outcome, after_outcome, retaken_at, refused}
-use Rattle.gtp_match.specs.Retaking.{retake_by, retake_of, RetakesUp, RetakesWhere, RetakesOnce, by_reply, by_fault}
-use Rattle.gtp_match.specs.Retaking.{nothing_yet, HearsRetakes, used_up, faulty, goes_on}
+use Rattle.gtp_match.specs.Reporting.{HearsOnce, text_up_to}
+use Rattle.gtp_match.specs.Retaking.{retake_by, retake_of}
 use Rattle.gtp_match.specs.Sides.{side_of, heard_reply, answered}
 use Rattle.gtp_match.specs.Sound.{HasPlan, IsIdle, IsSound}
 use Rattle.gtp_match.specs.Taking.{may_retake, has_all}
 use Rattle.gtp_match.specs.Unanswered.{oldest}
 use Rattle.gtp_match.specs.declared.controller.Controller.{Controller}
+use Rattle.gtp_match.specs.declared.losses.Loss.{Loss}
 use Rattle.gtp_match.specs.declared.reports.Retake.{Retake}
 use Rattle.gtp_match.specs.declared.sides.EngineRun.{EngineRun}
-use Rattle.gtp_match.specs.declared.sides.Sides.{Sides}
 use Rattle.gtp_match.specs.declared.reply_table.Outcome.{Outcome}
 use Rattle.gtp_match.specs.declared.reply_table.Outcome.TheVariants.{Down, Unfit, Forfeits, Confirms, Resigns, Moves}
 use Rattle.gtp_match.specs.declared.reply_table.Outcome.TheVariants.{Refuses, TakesBack, Keeps}
 use Rattle.gtp_match.specs.declared.unanswered.SentCommand.{SentCommand}
 use Rattle.gtp_match.specs.declared.verdicts.SideFault.{SideFault}
 use Rattle.gtp_match.specs.declared.verdicts.Verdict.{Verdict}
-use Rattle.gtp_match.proofs.hearing.Reading.{HasGot, first_got, nothing_got}
-use Rattle.gtp_match.proofs.reporting.LossOnce.{held_up, owed_showing, shown_alone}
 use Rattle.gtp_match.proofs.replies.Outcomes.{answered_by}
 use Rattle.gtp_match.proofs.soundness.Replies.{retake_is, last_alone}
 use Rattle.gtp_match.proofs.hearing.Changes.{up_in, up_there, down_there}
 use Rattle.gtp_match.proofs.soundness.Calls.{my_engine}
 use Rattle.gtp_match.proofs.reporting.AllBytes.{my_oldest}
-
--- ---- what a reader returned, of an engine that is up and before any verdict
-
-pub retakes_up : (c : Controller) (side : Colour) (engine : EngineRun) (bytes : List ℕ) (retake : Option Retake)
-    → c.verdict ≡ None → (side_of c.sides side).up ≡ Some engine → RetakesUp c side engine bytes retake
-    → RetakesOnce c side bytes retake
-retakes_up c side engine bytes retake none up h =
-    let P : Option EngineRun → Type 0 = λ u. RetakesWhere c side bytes None u retake in
-    let Q : Option Verdict → Type 0 = λ v. RetakesWhere c side bytes v (side_of c.sides side).up retake in
-    subst Q (sym none) (subst P (sym up) h)
-
--- a retake by what was found, of an engine
-retake_found : (engine : EngineRun) (bytes text : List ℕ) (finding : Option Finding)
-    → retake_in bytes text (option_map (noticed engine) finding)
-    ≡ option_map (retake_owing (owed_showing engine (take most_shown (bytes ++ text)))) (count_in finding)
-retake_found engine bytes text None = refl
-retake_found engine bytes text (Some finding) = refl
-
--- a reply reports what its outcome does
-pub reply_retakes : (c : Controller) (side : Colour) (e : EngineRun) (bytes : List ℕ) (fed : ReplyFed) (new : Sides)
-    (reply : Reply) (notice : Option Notice) → HasGot c side e bytes fed new (Some (Ok reply))
-    → HasNotice c side e reply (outcome c.game side (oldest e.unanswered) reply) notice
-    → RetakesOnce c side bytes (retake_in (held c side) (take fed.used bytes) notice)
-reply_retakes c side e bytes fed new reply notice g has =
-    let up = g.has_fed.up in
-    let whole = take (length e.reader + fed.used) (e.reader ++ bytes) in
-    rw (held_up c side e up)
-    (subst (λ (r : Option Retake). RetakesOnce c side bytes r)
-    (has.1.retake whole ∙ ap (λ (t : List ℕ). option_map (retake_owing (owed_showing e t)) (count_in has.0))
-    (sym (shown_alone e.reader bytes fed.used))
-    ∙ sym (ap (retake_in (take most_shown e.reader) (take fed.used bytes)) has.2
-    ∙ retake_found e (take most_shown e.reader) (take fed.used bytes) has.0))
-    (retakes_up c side e bytes _ g.none up (by_reply (first_got c side e bytes fed new (Ok reply) g))))
-
--- a fault reports no retake
-pub fault_retakes : (c : Controller) (side : Colour) (e : EngineRun) (bytes : List ℕ) (fed : ReplyFed) (new : Sides)
-    (fault : ReplyFault) → HasGot c side e bytes fed new (Some (Err fault)) → RetakesOnce c side bytes None
-fault_retakes c side e bytes fed new fault g =
-    retakes_up c side e bytes _ g.none g.has_fed.up (by_fault (first_got c side e bytes fed new (Err fault) g))
-
--- nor does a text that gives no answer yet
-pub quiet_retakes : (c : Controller) (side : Colour) (e : EngineRun) (bytes : List ℕ) (fed : ReplyFed) (new : Sides)
-    → HasGot c side e bytes fed new None → RetakesOnce c side bytes None
-quiet_retakes c side e bytes fed new g =
-    retakes_up c side e bytes _ g.none g.has_fed.up (nothing_yet (nothing_got c side e bytes fed new g))
 
 -- ---- the ways in which bytes are heard and reported
 
@@ -101,51 +46,19 @@ pub data Reports (c new : Controller) (side : Colour) (retake : Option Retake) :
   was_down : c.verdict ≡ None → (side_of c.sides side).up ≡ None → new ≡ c → retake ≡ None → Reports c new side retake
   was_over : (v : Verdict) → c.verdict ≡ Some v → new ≡ c → retake ≡ None → Reports c new side retake
 
-up_reports : (c new : Controller) (side : Colour) (engine : EngineRun) (bytes : List ℕ) (used : ℕ)
-    (fault : Option SideFault) (retake : Option Retake) → c.verdict ≡ None → (side_of c.sides side).up ≡ Some engine
-    → HearsUp KeepsAll c side engine bytes used fault new → RetakesUp c side engine bytes retake
-    → Reports c new side retake
-up_reports c new side engine bytes used fault retake none up (HearsUp.replied {value = x} p)
-    (by_reply {count = n} {value = y} q) =
-    let e = one_first (engine.reader ++ bytes) (length engine.reader + used) n (Ok x) (Ok y) p q in
-    let same : y ≡ x = cc in
-    let text = take n (engine.reader ++ bytes) in
-    Reports.replied engine x text none up refl
-    (ap (λ (r : Reply). retake_by c side engine text (outcome c.game side (oldest engine.unanswered) r)) same)
-up_reports c new side engine bytes used fault retake none up (HearsUp.replied {value = x} p)
-    (by_fault {count = n} {shown = y} q) =
-    let e = one_first (engine.reader ++ bytes) (length engine.reader + used) n (Ok x) (Err y) p q in absurd (cc)
-up_reports c new side engine bytes used fault retake none up (HearsUp.replied {value = x} p) (nothing_yet nothing) =
-    absurd (nothing (length engine.reader + used) (Ok x) p.inside p.is_given)
-up_reports c new side engine bytes used fault retake none up (HearsUp.faulted {shown = x} p)
-    (by_reply {count = n} {value = y} q) =
-    let e = one_first (engine.reader ++ bytes) (length engine.reader + used) n (Err x) (Ok y) p q in absurd (cc)
-up_reports c new side engine bytes used fault retake none up (HearsUp.faulted p) (by_fault q) =
-    Reports.faulted none refl refl
-up_reports c new side engine bytes used fault retake none up (HearsUp.faulted p) (nothing_yet nothing) =
-    Reports.faulted none refl refl
-up_reports c new side engine bytes used fault retake none up (HearsUp.nothing_yet nothing is)
-    (by_reply {count = n} {value = y} q) =
-    absurd (nothing n (Ok y) q.inside q.is_given)
-up_reports c new side engine bytes used fault retake none up (HearsUp.nothing_yet {kept = text} nothing is)
-    (by_fault q) =
-    Reports.kept_quiet engine text none up refl refl
-up_reports c new side engine bytes used fault retake none up (HearsUp.nothing_yet {kept = text} nothing is)
-    (nothing_yet also) =
-    Reports.kept_quiet engine text none up refl refl
-
 pub reports : (c new : Controller) (side : Colour) (bytes : List ℕ) (used : ℕ) (fault : Option SideFault)
-    (retake : Option Retake) → HearsExactly c side bytes used fault new → RetakesOnce c side bytes retake
+    (retake : Option Retake) (loss : Option Loss) → HearsOnce c side bytes used fault retake loss new
     → Reports c new side retake
-reports c new side bytes used fault retake hears retakes =
-    by_state c.verdict (side_of c.sides side).up refl refl hears retakes
-  where
-    by_state : (v : Option Verdict) (up : Option EngineRun) → c.verdict ≡ v → (side_of c.sides side).up ≡ up
-        → HearsWhere KeepsAll c side bytes v up used fault new → RetakesWhere c side bytes v up retake
-        → Reports c new side retake
-    by_state (Some v) up is is_up h r = Reports.was_over v is h.same r
-    by_state None None is is_up h r = Reports.was_down is is_up h.same r
-    by_state None (Some engine) is is_up h r = up_reports c new side engine bytes used fault retake is is_up h r
+reports c new side bytes used fault retake loss (HearsOnce.replied engine reply cause none up first has) =
+    Reports.replied engine reply (text_up_to engine bytes used) none up refl refl
+reports c new side bytes used fault retake loss (HearsOnce.faulted engine shown none up first) =
+    Reports.faulted none refl refl
+reports c new side bytes used fault retake loss (HearsOnce.nothing_yet engine none up nothing) =
+    Reports.kept_quiet engine (engine.reader ++ bytes) none up refl refl
+reports c new side bytes used fault retake loss (HearsOnce.while_down none down) =
+    Reports.was_down none down refl refl
+reports c new side bytes used fault retake loss (HearsOnce.after_verdict verdict over) =
+    Reports.was_over verdict over refl refl
 
 -- ---- a retake is by the refusal of the one command that the side owes
 
@@ -308,25 +221,6 @@ pub shows_either : (a b : Option Retake) → IfSome a (λ r. CanBeShown r.owed) 
 shows_either None b p q = q
 shows_either (Some x) b p q = p
 
-pub retakes_faulty : (side : Colour) (c new : Controller) (bytes : List ℕ) (used : ℕ) (fault : Option SideFault)
-    (retake : Option Retake) → is_some fault ≡ true → 0 < length bytes
-    → HearsExactly c side bytes used fault new → RetakesOnce c side bytes retake
-    → HearsRetakes side c bytes fault (option_to_list retake) new
-retakes_faulty side c new bytes used None retake e some h retakes = absurd (cc)
-retakes_faulty side c new bytes used (Some shown) retake e some h retakes = faulty used retake some h retakes
-
-pub retakes_more : (side : Colour) (c mid new : Controller) (bytes left : List ℕ) (used : ℕ)
-    (fault shown : Option SideFault) (retake : Option Retake) (later : List Retake) → is_some fault ≡ false
-    → 0 < length bytes → HearsExactly c side bytes used fault mid → RetakesOnce c side bytes retake
-    → left ≡ drop used bytes → HearsRetakes side mid left shown later new
-    → HearsRetakes side c bytes shown (option_to_list retake ++ later) new
-retakes_more side c mid new bytes left used (Some f) shown retake later e some h retakes is more = absurd (cc)
-retakes_more side c mid new bytes left used None shown retake later e some h retakes is more =
-    goes_on used retake some h retakes (subst (λ (t : List ℕ). HearsRetakes side mid t shown later new) is more)
-
-pub retakes_end : (side : Colour) (c : Controller) (left : List ℕ) → left ≡ [] → HearsRetakes side c left None [] c
-retakes_end side c left none = subst (λ (t : List ℕ). HearsRetakes side c t None [] c) (sym none) used_up
-
 -- ---- the command that a retake names can be shown
 
 names_refused : (c : Controller) (side : Colour) (engine : EngineRun) (text : List ℕ) (o : Outcome)
@@ -337,26 +231,15 @@ names_refused c side engine text o retake can (IsRefusal.is_retaken refuses may 
 names_refused c side engine text o retake can (IsRefusal.is_not nothing) =
     subst (λ (r : Option Retake). IfSome r (λ x. CanBeShown x.owed)) (sym nothing) tt
 
-up_shown : (c : Controller) (side : Colour) (engine : EngineRun) (bytes : List ℕ) (retake : Option Retake)
-    → IfSome (oldest engine.unanswered) (λ e. IsWritable e.command) → RetakesUp c side engine bytes retake
+pub retake_shown : (c new : Controller) (side : Colour) (bytes : List ℕ) (used : ℕ) (fault : Option SideFault)
+    (retake : Option Retake) (loss : Option Loss) → IsSound c → HearsOnce c side bytes used fault retake loss new
     → IfSome retake (λ r. CanBeShown r.owed)
-up_shown c side engine bytes retake can (by_reply {count = n} {value = x} first) =
-    names_refused c side engine _ _ retake can
-    (which c side engine (take n (engine.reader ++ bytes)) (outcome c.game side (oldest engine.unanswered) x) retake
-    refl)
-up_shown c side engine bytes retake can (by_fault first) = tt
-up_shown c side engine bytes retake can (nothing_yet nothing) = tt
-
-pub retake_shown : (c : Controller) (side : Colour) (bytes : List ℕ) (retake : Option Retake) → IsSound c
-    → RetakesOnce c side bytes retake → IfSome retake (λ r. CanBeShown r.owed)
-retake_shown c side bytes retake sound = by_both c.verdict (side_of c.sides side).up refl refl
-  where
-    nothing : retake ≡ None → IfSome retake (λ r. CanBeShown r.owed)
-    nothing is = subst (λ (r : Option Retake). IfSome r (λ x. CanBeShown x.owed)) (sym is) tt
-
-    by_both : (v : Option Verdict) (u : Option EngineRun) → c.verdict ≡ v → (side_of c.sides side).up ≡ u
-        → RetakesWhere c side bytes v u retake → IfSome retake (λ r. CanBeShown r.owed)
-    by_both None None none up h = nothing h
-    by_both None (Some engine) none up h =
-        up_shown c side engine bytes retake (my_oldest c side engine sound none up) h
-    by_both (Some verdict) u over up h = nothing h
+retake_shown c new side bytes used fault retake loss sound
+    (HearsOnce.replied engine reply cause none up first has) =
+    names_refused c side engine (text_up_to engine bytes used) (outcome c.game side (oldest engine.unanswered) reply) _
+    (my_oldest c side engine sound none up)
+    (which c side engine (text_up_to engine bytes used) (outcome c.game side (oldest engine.unanswered) reply) _ refl)
+retake_shown c new side bytes used fault retake loss sound (HearsOnce.faulted engine shown none up first) = tt
+retake_shown c new side bytes used fault retake loss sound (HearsOnce.nothing_yet engine none up nothing) = tt
+retake_shown c new side bytes used fault retake loss sound (HearsOnce.while_down none down) = tt
+retake_shown c new side bytes used fault retake loss sound (HearsOnce.after_verdict verdict over) = tt

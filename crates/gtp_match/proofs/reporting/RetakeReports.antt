@@ -13,18 +13,17 @@ use Rattle.go_board.specs.Game.{GameRecord}
 use Rattle.gtp_wire.specs.declared.commands.Command.TheVariants as command
 use Rattle.gtp_wire.specs.declared.replies.Reply.{Reply}
 use Rattle.gtp_match.specs.Controller.{with_side_up}
-use Rattle.gtp_match.specs.Hearing.{HearsExactly}
 use Rattle.gtp_match.specs.ReplyTable.{outcome, after_outcome, retaken_at, refused}
 use Rattle.gtp_match.specs.Retakes.{retakes_of, with_retake, total_of}
-use Rattle.gtp_match.specs.Retaking.{retake_by, retake_of, RetakesOnce, HearsRetakes, used_up, faulty, goes_on}
-use Rattle.gtp_match.specs.Retaking.{IsOfLastMove}
-use Rattle.gtp_match.specs.Retaking.{AreReported}
+use Rattle.gtp_match.specs.Reporting.{HearsOnce, HearsChunk}
+use Rattle.gtp_match.specs.Retaking.{retake_by, retake_of, IsOfLastMove, AreReported}
 use Rattle.gtp_match.specs.Script.{script, handicap_commands}
 use Rattle.gtp_match.specs.Sides.{side_of, heard_reply, confirmed, taken_back}
 use Rattle.gtp_match.specs.Sound.{InScript, HasPlan, IsIdle, IsSound}
 use Rattle.gtp_match.specs.Taking.{may_retake, has_all}
 use Rattle.gtp_match.specs.Unanswered.{oldest}
 use Rattle.gtp_match.specs.declared.controller.Controller.{Controller}
+use Rattle.gtp_match.specs.declared.losses.Loss.{Loss}
 use Rattle.gtp_match.specs.declared.reports.Retake.{Retake}
 use Rattle.gtp_match.specs.declared.sides.EngineRun.{EngineRun}
 use Rattle.gtp_match.specs.declared.reply_table.Outcome.{Outcome}
@@ -34,6 +33,7 @@ use Rattle.gtp_match.specs.declared.unanswered.SentCommand.{SentCommand}
 use Rattle.gtp_match.specs.declared.verdicts.SideFault.{SideFault}
 use Rattle.gtp_match.specs.declared.verdicts.Verdict.{Verdict}
 use Rattle.gtp_match.proofs.hearing.Exactly.{wider}
+use Rattle.gtp_match.proofs.reporting.Exact.{once_exact}
 use Rattle.gtp_match.proofs.soundness.Heard.{hears_sound}
 use Rattle.gtp_match.proofs.taking_back.MayRetake.{met_if, one_more}
 use Rattle.gtp_match.proofs.replies.Outcomes.{Answered, answered_by, first_is}
@@ -300,15 +300,17 @@ none_joined : (retake : Option Retake) (later : List Retake) → retake ≡ None
 none_joined retake later e f = ap (λ (r : Option Retake). option_to_list r ++ later) e ∙ f
 
 done_all : (side : Colour) (c new : Controller) (bytes : List ℕ) (fault : Option SideFault) (retakes : List Retake)
-    → HearsRetakes side c bytes fault retakes new → IsDone c side → (retakes ≡ []) × (new.retakes ≡ c.retakes)
-done_all side c new bytes fault retakes used_up done = (refl, refl)
-done_all side c new bytes fault retakes (faulty used retake some hears once) done =
-    let d = done_step c new side retake (reports c new side bytes used _ retake hears once) done in
+    (loss : Option Loss) → HearsChunk side c bytes fault retakes loss new → IsDone c side
+    → (retakes ≡ []) × (new.retakes ≡ c.retakes)
+done_all side c new bytes fault retakes loss HearsChunk.used_up done = (refl, refl)
+done_all side c new bytes fault retakes loss (HearsChunk.faulty used retake some h) done =
+    let d = done_step c new side retake (reports c new side bytes used _ retake loss h) done in
     (none_listed retake d.0, d.1)
-done_all side c new bytes fault retakes (goes_on {mid = mid} {later = later} used retake some hears once more) done =
-    let d = done_step c mid side retake (reports c mid side bytes used None retake hears once) done in
-    let l = done_all side mid new (drop used bytes) fault later more d.2 in
-    (none_joined retake later d.0 l.0, l.1 ∙ d.1)
+done_all side c new bytes fault retakes loss
+    (HearsChunk.goes_on {mid = mid} {retakes = more} {later = later} used retake first some h rest) done =
+    let d = done_step c mid side retake (reports c mid side bytes used None retake first h) done in
+    let l = done_all side mid new (drop used bytes) fault more later rest d.2 in
+    (none_joined retake more d.0 l.0, l.1 ∙ d.1)
 
 -- What all bytes of a piece report: nothing, or one retake.
 data All (c new : Controller) (side : Colour) (retakes : List Retake) : Type 0 where
@@ -378,40 +380,41 @@ verdict_before c new side retake (Reports.was_over v is_over is nothing) now =
     sym (ap (λ (x : Controller). x.verdict) is) ∙ now
 
 all_from : (side : Colour) (c new : Controller) (bytes : List ℕ) (fault : Option SideFault) (retakes : List Retake)
-    → IsSound c → HearsRetakes side c bytes fault retakes new → All c new side retakes
-all_from side c new bytes fault retakes sound used_up = All.none_at_all refl refl
-all_from side c new bytes fault retakes sound (faulty used retake some hears once) =
-    by_step (step c new side retake sound (reports c new side bytes used _ retake hears once))
+    (loss : Option Loss) → IsSound c → HearsChunk side c bytes fault retakes loss new → All c new side retakes
+all_from side c new bytes fault retakes loss sound HearsChunk.used_up = All.none_at_all refl refl
+all_from side c new bytes fault retakes loss sound (HearsChunk.faulty used retake some h) =
+    by_step (step c new side retake sound (reports c new side bytes used _ retake loss h))
   where
     by_step : Once c new side retake → All c new side (option_to_list retake)
     by_step (Once.no_retake is same left) = All.none_at_all (none_listed retake is) same
     by_step (Once.one_retake r is counts done) = All.one_of_all r (ap option_to_list is) counts
-all_from side c new bytes fault retakes sound
-    (goes_on {mid = mid} {later = later} used retake some hears once more) =
+all_from side c new bytes fault retakes loss sound
+    (HearsChunk.goes_on {mid = mid} {retakes = more} {later = later} used retake first some h rest) =
     by_step (step c mid side retake sound r)
-    (all_from side mid new (drop used bytes) fault later
-    (hears_sound c side bytes used None mid sound (wider c side bytes used None mid hears)) more)
+    (all_from side mid new (drop used bytes) fault more later
+    (hears_sound c side bytes used None mid sound
+    (wider c side bytes used None mid (once_exact c mid side bytes used None retake first h))) rest)
   where
     r : Reports c mid side retake
-    r = reports c mid side bytes used None retake hears once
+    r = reports c mid side bytes used None retake first h
 
-    by_later : mid.retakes ≡ c.retakes → retake ≡ None → mid.game ≡ c.game → All mid new side later
-        → All c new side (option_to_list retake ++ later)
+    by_later : mid.retakes ≡ c.retakes → retake ≡ None → mid.game ≡ c.game → All mid new side more
+        → All c new side (option_to_list retake ++ more)
     by_later same is game (All.none_at_all none_later same_later) =
-        All.none_at_all (none_joined retake later is none_later) (same_later ∙ same)
+        All.none_at_all (none_joined retake more is none_later) (same_later ∙ same)
     by_later same is game (All.one_of_all x is_later counts) =
-        All.one_of_all x (ap (λ (o : Option Retake). option_to_list o ++ later) is ∙ is_later)
+        All.one_of_all x (ap (λ (o : Option Retake). option_to_list o ++ more) is ∙ is_later)
         (counts_from c mid new side x counts (verdict_before c mid side retake r counts.none) game same)
 
-    by_step : Once c mid side retake → All mid new side later → All c new side (option_to_list retake ++ later)
-    by_step (Once.no_retake is same (inl game)) rest = by_later same is game rest
-    by_step (Once.no_retake is same (inr done)) rest =
-        let l = done_all side mid new (drop used bytes) fault later more done in
-        All.none_at_all (none_joined retake later is l.0) (l.1 ∙ same)
-    by_step (Once.one_retake x is counts done) rest =
-        let l = done_all side mid new (drop used bytes) fault later more done in
+    by_step : Once c mid side retake → All mid new side more → All c new side (option_to_list retake ++ more)
+    by_step (Once.no_retake is same (inl game)) all = by_later same is game all
+    by_step (Once.no_retake is same (inr done)) all =
+        let l = done_all side mid new (drop used bytes) fault more later rest done in
+        All.none_at_all (none_joined retake more is l.0) (l.1 ∙ same)
+    by_step (Once.one_retake x is counts done) all =
+        let l = done_all side mid new (drop used bytes) fault more later rest done in
         All.one_of_all x
-        (ap (λ (o : Option Retake). option_to_list o ++ later) is ∙ ap (λ (t : List Retake). x ∷ t) l.0)
+        (ap (λ (o : Option Retake). option_to_list o ++ more) is ∙ ap (λ (t : List Retake). x ∷ t) l.0)
         (counts_on c mid new side x counts l.1)
 
 -- ---- the law
@@ -444,18 +447,18 @@ reported side c new retakes sound (All.one_of_all x is counts) =
     by_place (suc place) r e = absurd (cc)
 
 pub once_reported : (c new : Controller) (side : Colour) (bytes : List ℕ) (used : ℕ) (fault : Option SideFault)
-    (retake : Option Retake) → IsSound c → HearsExactly c side bytes used fault new
-    → RetakesOnce c side bytes retake → AreReported side c new (option_to_list retake)
-once_reported c new side bytes used fault retake sound hears once =
+    (retake : Option Retake) (loss : Option Loss) → IsSound c → HearsOnce c side bytes used fault retake loss new
+    → AreReported side c new (option_to_list retake)
+once_reported c new side bytes used fault retake loss sound h =
     reported side c new (option_to_list retake) sound
-    (by_step (step c new side retake sound (reports c new side bytes used fault retake hears once)))
+    (by_step (step c new side retake sound (reports c new side bytes used fault retake loss h)))
   where
     by_step : Once c new side retake → All c new side (option_to_list retake)
     by_step (Once.no_retake is same left) = All.none_at_all (none_listed retake is) same
     by_step (Once.one_retake r is counts done) = All.one_of_all r (ap option_to_list is) counts
 
 pub all_reported : (c new : Controller) (side : Colour) (bytes : List ℕ) (fault : Option SideFault)
-    (retakes : List Retake) → IsSound c → HearsRetakes side c bytes fault retakes new
+    (retakes : List Retake) (loss : Option Loss) → IsSound c → HearsChunk side c bytes fault retakes loss new
     → AreReported side c new retakes
-all_reported c new side bytes fault retakes sound hears =
-    reported side c new retakes sound (all_from side c new bytes fault retakes sound hears)
+all_reported c new side bytes fault retakes loss sound h =
+    reported side c new retakes sound (all_from side c new bytes fault retakes loss sound h)

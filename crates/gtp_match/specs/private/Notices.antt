@@ -10,10 +10,12 @@ use Rattle.gtp_match.specs.declared.reply_table.Outcome.{Outcome}
 use Rattle.gtp_match.specs.declared.reports.Notice.{Notice}
 use Rattle.gtp_match.specs.declared.reports.Finding.{Finding}
 use Rattle.gtp_match.specs.declared.reports.Finding.TheVariants.{Retakes, Fails}
+use Rattle.gtp_match.specs.declared.reports.HeardOnce.{HeardOnce}
 use Rattle.gtp_match.specs.declared.reports.Retake.{Retake}
 use Rattle.gtp_match.specs.declared.sides.EngineRun.{EngineRun}
 use Rattle.gtp_match.specs.Losing.{owed_of, HasLossCause}
 use Rattle.gtp_wire.specs.Replies.{most_shown}
+use Rattle.gtp_match.specs.Reporting.{HearsOnce}
 use Rattle.gtp_match.specs.Retaking.{retake_by}
 use Rattle.gtp_match.specs.Sides.{side_of}
 use Rattle.gtp_match.specs.Unanswered.{oldest}
@@ -100,3 +102,9 @@ retake_in bytes text (Some notice) = option_map (retake_owing (owed_then notice 
 abbrev pub loss_in : List ℕ → List ℕ → Option Notice → Option Loss
 loss_in bytes text None = None
 loss_in bytes text (Some notice) = option_map (loss_owing (owed_then notice bytes text)) (cause_of notice.finding)
+
+-- Bytes are heard up to one reply or fault, and what is noticed is what is to be reported of them.
+abbrev pub HearsNoticing : Controller → Colour → List ℕ → HeardOnce → Controller → Type 0
+HearsNoticing c side bytes once new =
+    HearsOnce c side bytes once.used once.fault (retake_in (held c side) (take once.shown bytes) once.notice)
+    (loss_in (held c side) (take once.shown bytes) once.notice) new

@@ -1,21 +1,17 @@
 -- A match with a referee: a match of `gtp_match`, and a ruling or none. Once there is a ruling, no call changes it.
 use Rattle.std.specs.Prelude.{◌≡◌, ◌≢◌, ◌⊎◌, ℕ, List, [], Option, Some, None, IfSome, IsSome, Result, OnOk, OnErr}
 use Rattle.std.specs.Prelude.{IfErr}
-use Rattle.std.specs.Option.{option_to_list}
 use Rattle.go_base.specs.declared.colours.Colour.{Colour}
 use Rattle.gtp_match.specs.Controller as controller
-use Rattle.gtp_match.specs.Hearing.{HearsAllExactly}
-use Rattle.gtp_match.specs.Losing.{HearsAllReporting}
 use Rattle.gtp_match.specs.Losing as losing
 use Rattle.gtp_match.specs.Next as going
-use Rattle.gtp_match.specs.Retaking.{HearsAllRetakes}
+use Rattle.gtp_match.specs.Reporting.{HearsReport}
 use Rattle.gtp_match.specs.Setup.{SetupRecord}
 use Rattle.gtp_match.specs.declared.controller.Controller.{Controller}
 use Rattle.gtp_match.specs.declared.losses.Loss.{Loss}
 use Rattle.gtp_match.specs.declared.losses.Owed.{Owed}
 use Rattle.gtp_match.specs.declared.reports.Retake.{Retake}
 use Rattle.gtp_match.specs.declared.verdicts.Action.{Action}
-use Rattle.gtp_match.specs.declared.verdicts.SideFault.{SideFault}
 use Rattle.gtp_match.specs.referee.Ruling.{IsReason, IsRuling, Rules}
 use Rattle.gtp_match.specs.declared.referee.rulings.Ruled.{Ruled}
 use Rattle.gtp_match.specs.declared.referee.rulings.Ruling.{Ruling}
@@ -89,23 +85,16 @@ lost_where r side (Some given) = r
 abbrev pub lost : Refereed → Colour → Refereed
 lost r side = lost_where r side r.ruled
 
--- A match hears all that a side wrote: the first loss by it, if any, is this one, and so is the retake.
-pub record HearsInMatch (side : Colour) (c : Controller) (bytes : List ℕ) (loss : Option Loss) (retake : Option Retake)
-    (new : Controller) : Type 0 where
-  pub heard : (fault : Option SideFault) × HearsAllExactly side c bytes fault new
-  pub lost : HearsAllReporting side c bytes loss new
-  pub retaken : HearsAllRetakes side c bytes (option_to_list retake) new
-
 -- nothing is heard: the match stays as it was, and there is neither a loss nor a retake
 pub record HearsNothing (r : Refereed) (loss : Option Loss) (retake : Option Retake) (new : Refereed) : Type 0 where
   pub no_loss : loss ≡ None
   pub no_retake : retake ≡ None
   pub same : new ≡ r
 
--- without a ruling the match hears what a side wrote
+-- without a ruling the match hears all that a side wrote, and reports this of it
 pub record HearsOn (side : Colour) (r : Refereed) (bytes : List ℕ) (loss : Option Loss) (retake : Option Retake)
     (new : Refereed) : Type 0 where
-  pub in_match : HearsInMatch side r.controller bytes loss retake new.controller
+  pub in_match : HearsReport side r.controller bytes (record { retake = retake; loss = loss }) new.controller
   pub no_ruling : new.ruled ≡ None
 
 abbrev pub HearsWhere : Colour → Refereed → List ℕ → Option Loss → Option Retake → Refereed → Option Ruled → Type 0

@@ -35,7 +35,7 @@ impl Model for RefereedMatch {
 }
 
 impl RefereedMatch {
-    ghost use Rattle.std.specs.Prelude.{MatchOption, IsNone};
+    ghost use Rattle.std.specs.Prelude.{MatchOption};
     ghost use Rattle.gtp_match.specs.Controller.{next_text};
     ghost use Rattle.gtp_match.specs.Losing.{CanBeShown};
     ghost use Rattle.gtp_match.specs.Sides.{side_of};

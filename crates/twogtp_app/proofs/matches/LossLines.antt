@@ -194,10 +194,9 @@ module _ {P : Type 0} (known : Ghosts P) where
 
   hears_given : (c new : Controller) (side : Colour) (old now : P) (report : TurnReport) → c.verdict ≡ None
       → IsHeard known c side old now new report → IsSome report.loss ↔ LosesSide c new
-  hears_given c new side old now report live (IsHeard.heard bytes fault some given heard reported unbroken taken) =
-      let lost_by = reported.1 in
-      let is_given = (all_losses_reported c new side bytes lost_by.1.0 lost_by.0 lost_by.1.1).exact in
-      subst (λ (w : Option TurnLoss). IsSome w ↔ LosesSide c new) (sym lost_by.2) (wrote lost_by.0 is_given)
+  hears_given c new side old now report live (IsHeard.heard bytes some given reported unbroken taken) =
+      let is_given = (all_losses_reported _ _ _ _ _ _ _ reported.1.1).exact in
+      subst (λ (w : Option TurnLoss). IsSome w ↔ LosesSide c new) (sym reported.2) (wrote reported.0 is_given)
     where
       wrote : (loss : Option Loss) → IsSome loss ↔ LosesSide c new → IsSome (option_map Wrote loss) ↔ LosesSide c new
       wrote None is_given = is_given
@@ -291,10 +290,8 @@ module _ {P : Type 0} (known : Ghosts P) where
   heard_leaves : (c new : Controller) (side : Colour) (old now : P) (report : TurnReport)
       → IsHeard known c side old now new report → OtherStaysUp c new side
   unfolding up_in
-  heard_leaves c new side old now report (IsHeard.heard bytes fault some given heard reported unbroken taken) =
-      let lost_by = reported.1 in
-      ap (λ (s : SideState). is_some s.up)
-      (all_losses_reported c new side bytes lost_by.1.0 lost_by.0 lost_by.1.1).other_stays
+  heard_leaves c new side old now report (IsHeard.heard bytes some given reported unbroken taken) =
+      ap (λ (s : SideState). is_some s.up) (all_losses_reported _ _ _ _ _ _ _ reported.1.1).other_stays
   heard_leaves c _ side old now _ (IsHeard.ended over given taken) = cut_leaves c c side (keeps_itself c)
   heard_leaves c _ side old now _ (IsHeard.broke cut given taken) = cut_leaves c c side (keeps_itself c)
 
@@ -394,9 +391,9 @@ module _ {P : Type 0} (known : Ghosts P) where
   heard_retakes : (c new : Controller) (side : Colour) (old now : P) (report : TurnReport) → IsSound c
       → IsHeard known c side old now new report → CountsReported c new (Wait side) report.retake
   heard_retakes c new side old now report sound
-      (IsHeard.heard bytes fault some given heard reported unbroken taken) =
+      (IsHeard.heard bytes some given reported unbroken taken) =
       reported_of c new side report.retake
-      (all_reported c new side bytes reported.0.0 (option_to_list report.retake) sound reported.0.1)
+      (all_reported _ _ _ _ _ _ _ sound reported.1.1)
   heard_retakes c _ side old now _ sound (IsHeard.ended over given taken) =
       none_counted c (lost c side) (Wait side) None (lost_retakes c side) refl
   heard_retakes c _ side old now _ sound (IsHeard.broke cut given taken) =

@@ -1,7 +1,7 @@
 use Rattle.std.proofs.Common.{◌≡◌, ◌-◌, ◌++◌, ◌∙◌, ap, sym, take, length}
 use Rattle.std.proofs.lemmas.List.{take_min}
 use Rattle.gtp_match.specs.private.Notices.{bytes_in}
-use Rattle.gtp_match.proofs.reporting.LossOnce.{take_joined}
+use Rattle.gtp_match.proofs.reporting.Once.{take_joined}
 use Rattle.gtp_match.proofs.losses.joined_bytes.Goals as goal
 
 pub returns-in-Some : goal.returns-in-Some

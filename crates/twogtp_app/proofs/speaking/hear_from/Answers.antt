@@ -5,9 +5,8 @@ use Rattle.twogtp_app.proofs.speaking.hear_from.Goals as goal
 
 pub returns-in-Ok-clause-heard : goal.returns-in-Ok-clause-heard
 returns-in-Ok-clause-heard g c =
-    heard _ c.hear_bytes.ensures.heard.0 (grind (arith, common_steps, c.in-Ok.count-is, c.in-Ok.ensures.bound))
-    (search rules)
-    c.hear_bytes.ensures.heard.1 c.hear_bytes.ensures.reported
+    heard _ (grind (arith, common_steps, c.in-Ok.count-is, c.in-Ok.ensures.bound)) (search rules)
+    c.hear_bytes.ensures.reported
     (c.in-Ok.ensures.unbroken (grind (arith, c.in-Ok.count-is))) c.in-Ok.ensures.taken
 
 pub returns-in-Ok-eq0-clause-heard : goal.returns-in-Ok-eq0-clause-heard
