@@ -1,5 +1,5 @@
 -- Definitions that the contracts of private functions use, and no public clause.
 pub mod Conditions
 pub mod Feeding
-pub mod Lending
+pub mod Borrowing
 pub mod Notices

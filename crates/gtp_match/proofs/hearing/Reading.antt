@@ -48,17 +48,17 @@ pub record HasFed (c : Controller) (side : Colour) (engine : EngineRun) (bytes :
   pub read : HasRead engine.reader bytes fed
   pub new_is : new ≡ with_side side (with_engine (fed_engine engine bytes fed) (side_of c.sides side)) c.sides
 
--- so it is where the engine of a side that was lent read them
-has_fed : (c : Controller) (side : Colour) (bytes : List ℕ) (fed : ReplyFed) (lent : SideState)
+-- so it is where the engine of a side that was borrowed read them
+has_fed : (c : Controller) (side : Colour) (bytes : List ℕ) (fed : ReplyFed) (borrowed : SideState)
     (old new : EngineRun)
-    → lent ≡ side_of c.sides side → lent.up ≡ Some old → HasRead old.reader bytes fed
-    → new ≡ fed_engine old bytes fed → HasFed c side old bytes fed (with_side side (with_engine new lent) c.sides)
-has_fed c side bytes fed lent old new lent_is up read new_is =
+    → borrowed ≡ side_of c.sides side → borrowed.up ≡ Some old → HasRead old.reader bytes fed
+    → new ≡ fed_engine old bytes fed → HasFed c side old bytes fed (with_side side (with_engine new borrowed) c.sides)
+has_fed c side bytes fed borrowed old new borrowed_is up read new_is =
     record {
-      up = ap (λ (s : SideState). s.up) (sym lent_is) ∙ up;
+      up = ap (λ (s : SideState). s.up) (sym borrowed_is) ∙ up;
       read = read;
-      new_is = ap (λ (e : EngineRun). with_side side (with_engine e lent) c.sides) new_is
-          ∙ ap (λ (s : SideState). with_side side (with_engine (fed_engine old bytes fed) s) c.sides) lent_is;
+      new_is = ap (λ (e : EngineRun). with_side side (with_engine e borrowed) c.sides) new_is
+          ∙ ap (λ (s : SideState). with_side side (with_engine (fed_engine old bytes fed) s) c.sides) borrowed_is;
     }
 
 pub hears_up : (c : Controller) (side : Colour) (engine : EngineRun) (bytes : List ℕ) (used : ℕ)
@@ -131,14 +131,14 @@ pub record HasGot (c : Controller) (side : Colour) (engine : EngineRun) (bytes :
   pub has_fed : HasFed c side engine bytes fed new
   pub is : fed.got ≡ got
 
--- so it is where the engine of a side that was lent read the bytes
-pub has_got : (c : Controller) (side : Colour) (bytes : List ℕ) (fed : ReplyFed) (lent : SideState)
+-- so it is where the engine of a side that was borrowed read the bytes
+pub has_got : (c : Controller) (side : Colour) (bytes : List ℕ) (fed : ReplyFed) (borrowed : SideState)
     (old new : EngineRun) (got : Option (Result Reply ReplyFault)) → c.verdict ≡ None
-    → lent ≡ side_of c.sides side → lent.up ≡ Some old → HasRead old.reader bytes fed
+    → borrowed ≡ side_of c.sides side → borrowed.up ≡ Some old → HasRead old.reader bytes fed
     → new ≡ fed_engine old bytes fed → fed.got ≡ got
-    → HasGot c side old bytes fed (with_side side (with_engine new lent) c.sides) got
-has_got c side bytes fed lent old new got none lent_is up read new_is is =
-    record { none = none; has_fed = has_fed c side bytes fed lent old new lent_is up read new_is; is = is }
+    → HasGot c side old bytes fed (with_side side (with_engine new borrowed) c.sides) got
+has_got c side bytes fed borrowed old new got none borrowed_is up read new_is is =
+    record { none = none; has_fed = has_fed c side bytes fed borrowed old new borrowed_is up read new_is; is = is }
 
 pub first_got : (c : Controller) (side : Colour) (e : EngineRun) (bytes : List ℕ) (fed : ReplyFed) (new : Sides)
     (answer : Result Reply ReplyFault) → HasGot c side e bytes fed new (Some answer)

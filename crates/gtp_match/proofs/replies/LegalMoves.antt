@@ -52,12 +52,12 @@ applied_move c s v o game sides verdict is game_is confirms verdict_is = by_up (
         ∙ ap (made c (with_move c.game s v) (verdict_after c.setup (with_move c.game s v))) h
         ∙ ap (after_outcome c s engine) (sym is)
 
--- the engine of a side that was lent confirmed a command
-pub confirms_lent : (sides : Sides) (s : Colour) (lent : SideState) (engine : EngineRun) → lent ≡ side_of sides s
-    → lent.up ≡ Some engine
-    → IfSome (side_of sides s).up (λ old. with_side s (with_engine (confirmed engine) lent) sides
+-- the engine of a side that was borrowed confirmed a command
+pub confirms_borrowed : (sides : Sides) (s : Colour) (borrowed : SideState) (engine : EngineRun)
+    → borrowed ≡ side_of sides s → borrowed.up ≡ Some engine
+    → IfSome (side_of sides s).up (λ old. with_side s (with_engine (confirmed engine) borrowed) sides
     ≡ with_engine_of s (confirmed old) sides)
-confirms_lent sides s lent engine is up =
-    subst (λ (x : SideState). IfSome x.up (λ old. with_side s (with_engine (confirmed engine) lent) sides
+confirms_borrowed sides s borrowed engine is up =
+    subst (λ (x : SideState). IfSome x.up (λ old. with_side s (with_engine (confirmed engine) borrowed) sides
     ≡ with_side s (with_engine (confirmed old) x) sides)) is
     (rw up refl)

@@ -30,7 +30,7 @@ use Rattle.gtp_match.specs.Sound.{TakesTurns, VerdictFits, InScript, AreUndo, Ha
 use Rattle.gtp_match.specs.Sound.{LacksLast, IsTakingBack, IsUndo}
 use Rattle.gtp_match.specs.Sound.{Blames, most_commands, all_retakes, IsSoundEngine}
 use Rattle.gtp_match.specs.Sound.{IsSoundSide, IsIdle, IsSound}
-use Rattle.gtp_match.specs.private.Conditions.{MayHand}
+use Rattle.gtp_match.specs.private.Conditions.{MayBeSentMore}
 use Rattle.gtp_match.proofs.endings.AfterMove.{no_passes}
 use Rattle.gtp_match.proofs.taking_back.RetakeCounts.{none_retaken, retakes_few}
 use Rattle.gtp_match.proofs.scripts.Scripts.{script_few, below_length, past_length}
@@ -389,8 +389,8 @@ idle_plan game pending retaken s engine way idle = by_plan way.plan
     by_plan (inr (inl asks)) = omega (arith, asks.all)
     by_plan (inr (inr (is, undo))) = let clash : [] ≡ undo.entry ∷ [] = sym idle ∙ undo.alone in absurd (cc)
 
-pub may_hand : (c : Controller) (s : Colour) → IsSound c → (says : SaysSend c s) → MayHand says.engine
-may_hand c s h says =
+pub may_be_sent_more : (c : Controller) (s : Colour) → IsSound c → (says : SaysSend c s) → MayBeSentMore says.engine
+may_be_sent_more c s h says =
     let engine = my_engine c s says.engine h says.up in (omega (arith, engine.sent, h.setup.moves.1), says.room)
 
 -- the script's next command after those that are unanswered

@@ -16,8 +16,8 @@ use Rattle.gtp_match.specs.declared.reply_table.Outcome.TheVariants.{Down, Unfit
 use Rattle.gtp_match.specs.declared.reply_table.Outcome.TheVariants.{Refuses, TakesBack, Keeps}
 
 -- an engine may be sent a command more
-abbrev pub MayHand : EngineRun → Type 0
-MayHand engine = (engine.sent < most_int) × (length engine.unanswered < most_unanswered)
+abbrev pub MayBeSentMore : EngineRun → Type 0
+MayBeSentMore engine = (engine.sent < most_int) × (length engine.unanswered < most_unanswered)
 
 -- a reply to the command may be judged: where it is a handicap, the game's size allows it
 abbrev pub MayBeAnswered : GameRecord → Command → Type 0

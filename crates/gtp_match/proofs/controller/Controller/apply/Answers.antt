@@ -3,7 +3,7 @@ use Rattle.gtp_match.specs.private.Conditions.{MayBe}
 use Rattle.gtp_match.specs.declared.reply_table.Outcome.{Outcome}
 use Rattle.gtp_match.specs.declared.reply_table.Outcome.TheVariants.{Moves}
 use Rattle.gtp_match.specs.Sides.{with_side, with_engine}
-use Rattle.gtp_match.proofs.replies.LegalMoves.{is_played, applied_move, confirms_lent}
+use Rattle.gtp_match.proofs.replies.LegalMoves.{is_played, applied_move, confirms_borrowed}
 use Rattle.gtp_match.proofs.controller.Controller.apply.Goals as goal
 
 pub returns-in-Moves-clause-applied : goal.returns-in-Moves-clause-applied
@@ -15,6 +15,6 @@ returns-in-Moves-clause-applied c =
     c.verdict_after-self.result c.in-Moves.is
     (is_played c.args.self.now.game c.play.new.self c.args.side c.in-Moves.vertex c.play.result may.0 may.1
     c.play.ensures.played c.play.ensures.answer)
-    (rw c.confirm-in-Moves.ensures (confirms_lent c.args.self.now.sides c.args.side c.side_of_mut.result.now
+    (rw c.confirm-in-Moves.ensures (confirms_borrowed c.args.self.now.sides c.args.side c.side_of_mut.result.now
     c.in-Some.engine c.side_of_mut.ensures.value c.in-Some.is))
     c.verdict_after-self.ensures

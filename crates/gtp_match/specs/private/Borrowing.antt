@@ -8,5 +8,5 @@ use Rattle.gtp_match.specs.declared.sides.SideState.{SideState}
 use Rattle.gtp_match.specs.declared.sides.Sides.{Sides}
 
 -- the sides end with the last value of the reference in place of one of them
-abbrev pub LendsSide : MutBor Sides → Colour → MutBor SideState → Fml
-LendsSide sides side lent = Lends sides_row side_row sides lent (λ state. with_side side state sides.now)
+abbrev pub BorrowsSide : MutBor Sides → Colour → MutBor SideState → Fml
+BorrowsSide sides side borrowed = Lends sides_row side_row sides borrowed (λ state. with_side side state sides.now)
