@@ -6,7 +6,7 @@ ghost use Rattle.gtp_world.specs.private.Room.{ReadsInto};
 use crate::lane::{MOST_TO_CONTROLLER, MOST_TO_ENGINE};
 use arrayvec::ArrayVec;
 
-/// What the engines of one side are made of. It starts them, and lets them read.
+/// What the engines of one side are made of. It starts them, and delivers bytes to them.
 pub(crate) trait Engines: Drop {
     /// An engine that it starts.
     type Engine: Drop;
@@ -21,9 +21,9 @@ pub(crate) trait Engines: Drop {
     fn start(&self) -> Self::Engine
         ensures { (kind self.now).begins result };
 
-    /// Lets an engine read the first `count` bytes on the way to it, or all if there are fewer. What it reads is
+    /// Delivers the first `count` bytes on the way to an engine, or all if there are fewer. What it reads is
     /// removed, and what it writes is appended.
-    fn read(
+    fn deliver(
         &self,
         engine: &mut Self::Engine,
         count: usize,

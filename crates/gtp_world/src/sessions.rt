@@ -70,7 +70,7 @@ impl<M: Maker> Engines for Sessions<M> {
         Session::with_rule(self.maker.make(), self.rule)
     }
 
-    fn read(
+    fn deliver(
         &self,
         engine: &mut Session<M::Made>,
         count: usize,

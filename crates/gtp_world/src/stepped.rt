@@ -58,7 +58,7 @@ impl Engines for KoRule {
     }
 
     // The caller reads the bytes and feeds them. What the engine doesn't use stays on the way.
-    fn read(
+    fn deliver(
         &self,
         engine: &mut Steps,
         count: usize,

@@ -3,7 +3,7 @@ use Rattle.gtp_world.specs.Kinds.{Feeds, FeedsFront, written_at}
 use Rattle.gtp_world.specs.World.{most_to_controller}
 use Rattle.gtp_world.specs.private.Room.{WritesWithin}
 use Rattle.gtp_world.proofs.ruled.FeedLemmas.{reply_room, fed_into}
-use Rattle.gtp_world.proofs.stepped.KoRuleEngines.read.Goals as goal
+use Rattle.gtp_world.proofs.stepped.KoRuleEngines.deliver.Goals as goal
 
 pub push-requires : goal.push-requires
 push-requires c =

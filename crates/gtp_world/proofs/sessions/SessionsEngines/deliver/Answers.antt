@@ -1,7 +1,7 @@
 use Rattle.std.proofs.Common.{ℕ, List, take, min, ap, ◌∙◌, subst}
 use Rattle.gtp_world.specs.private.Room.{ReadsAndReplies}
 use Rattle.gtp_world.proofs.exchange.PieceLemmas.{read_some}
-use Rattle.gtp_world.proofs.sessions.SessionsEngines.read.Goals as goal
+use Rattle.gtp_world.proofs.sessions.SessionsEngines.deliver.Goals as goal
 
 pub returns : goal.returns
 returns g c =
