@@ -262,6 +262,11 @@ abbrev pub answer : GameRecord → Line → Choice → Answer
 answer game line.TooLong choice = syntax_error game
 answer game (line.Command command_line) choice = answer_to_words game command_line.words choice
 
+-- the command that a line names, where it names one; a line that is too long names none
+abbrev pub command_of : Line → Option CommandName
+command_of line.TooLong = None
+command_of (line.Command command_line) = named_command command_line.words
+
 -- the id that the reply repeats; a line that is too long has none (own)
 abbrev pub id_of : Line → Option ℕ
 id_of line.TooLong = None

@@ -1,10 +1,10 @@
 //! The answers that depend on what an author has set.
 ghost use Rattle.std.specs.Prelude.{◌≡◌, Some};
 ghost use Rattle.gtp_session.specs.declared.commands.CommandName.TheVariants as command;
+ghost use Rattle.gtp_session.specs.Commands.{command_of};
 ghost use Rattle.gtp_session.specs.Steps.{StepsState, author_text, author_text_to};
 ghost use Rattle.gtp_session.specs.private.AuthorTexts.{text_in};
 
-use crate::answers::named_command;
 use crate::commands::CommandName;
 use crate::own_commands::OwnCommands;
 use gtp_wire::{CommandLine, Line};
@@ -22,14 +22,19 @@ pub(crate) enum AuthorText {
     Commands,
 }
 
-/// Returns the answer to a line, if it is one of these.
-pub(crate) fn text_for(line: &Line, commands: &OwnCommands) -> Option<AuthorText>
+/// Returns the answer to a line, which names this command, if it is one of these.
+pub(crate) fn text_for(
+    line: &Line,
+    command: Option<CommandName>,
+    commands: &OwnCommands,
+) -> Option<AuthorText>
+    requires { command ≡ command_of line.now }
     ensures { (s : StepsState) → s.commands ≡ commands.now →
         author_text_to s line.now ≡ text_in s result }
 {
     match line {
         Line::TooLong => None,
-        Line::Command(line) => text_by_command(named_command(line), line, commands),
+        Line::Command(line) => text_by_command(command, line, commands),
     }
 }
 

@@ -6,13 +6,14 @@ ghost use Rattle.gtp_wire.specs.declared.lines.Line.TheVariants as line;
 ghost use Rattle.gtp_session.specs.declared.events.Wait.TheVariants as wait;
 ghost use Rattle.gtp_session.specs.declared.events.Event.TheVariants as event;
 ghost use Rattle.gtp_session.specs.declared.events.AnswerFault.TheVariants as answer_fault;
-ghost use Rattle.gtp_session.specs.Commands.{asked};
+ghost use Rattle.gtp_session.specs.Commands.{asked, command_of};
 ghost use Rattle.gtp_session.specs.Policy.{IsLawful};
 ghost use Rattle.gtp_session.specs.Spoken.{IsSpoken};
 ghost use Rattle.gtp_session.specs.Steps.{IsUnlawful, event_of};
 
-use crate::answers::answer;
+use crate::answers::{answer, command_of};
 use crate::author_texts::{AuthorText, text_for};
+use crate::commands::CommandName;
 pub use crate::events::{AnswerFault, ChoiceFault, CommandFault, Event, NoTitle, StepsFed, Wait};
 use crate::own_commands::OwnCommands;
 use crate::titles::{Title, copy_of, title_of};
@@ -161,27 +162,29 @@ impl Steps {
                 event: Event::More,
             };
         }
-        let wait = wait_of(&self.game, &self.line);
+        let command = command_of(&self.line);
+        let wait = wait_of(&self.game, &self.line, command);
         if let Some(event) = awaited(wait) {
             self.wait = wait;
             return StepsFed { used, event };
         }
-        self.reply_unasked();
+        self.reply_unasked(command);
         StepsFed {
             used,
             event: Event::Reply,
         }
     }
 
-    /// Answers the line that was read last, which needs nothing from the author.
-    fn reply_unasked(&mut self)
+    /// Answers the line that was read last, which names this command, and needs nothing from the author.
+    fn reply_unasked(&mut self, command: Option<CommandName>)
         requires open { IsOpen self.old }
+        requires named { command ≡ command_of self.old.line }
         requires asks { asked self.old.game self.old.line ≡ None }
         ensures { self.new ≡ replied self.old }
     {
         let reply = &mut self.reply;
         let id = id_of(&self.line);
-        match text_for(&self.line, &self.commands) {
+        match text_for(&self.line, command, &self.commands) {
             Some(AuthorText::Name) => write_reply_into(reply, true, id, &self.name),
             Some(AuthorText::Version) => write_reply_into(reply, true, id, &self.version),
             Some(AuthorText::Known(known)) => write_reply_into(reply, true, id, truth(known)),
@@ -193,7 +196,7 @@ impl Steps {
             ),
             None => {
                 // The line asks for no choice, so this one doesn't count.
-                self.ended = answer(&mut self.game, &self.line, Choice::Resign, reply);
+                self.ended = answer(&mut self.game, &self.line, command, Choice::Resign, reply);
             }
         }
     }
@@ -215,7 +218,8 @@ impl Steps {
         if let Some(fault) = refusal(&self.game, colour, &choice) {
             return Err(ChoiceFault::Illegal(fault));
         }
-        self.ended = answer(&mut self.game, &self.line, choice, &mut self.reply);
+        let command = command_of(&self.line);
+        self.ended = answer(&mut self.game, &self.line, command, choice, &mut self.reply);
         self.wait = Wait::Nothing;
         Ok(())
     }

@@ -1,32 +1,34 @@
 //! What a line needs from an author.
 ghost use Rattle.std.specs.Prelude.{◌≡◌, false, is_none};
 ghost use Rattle.gtp_session.specs.declared.commands.CommandName.TheVariants as command;
-ghost use Rattle.gtp_session.specs.Commands.{argument, asked_by_command, asked_by_words, command_named, id_of};
+ghost use Rattle.gtp_session.specs.Commands.{asked_by_command, asked_by_words, command_of, id_of, named_command};
 ghost use Rattle.gtp_session.specs.Spoken.{HasIntId};
 ghost use Rattle.gtp_session.specs.Steps.{wait_of, wait_by};
 
-use crate::answers::{colour_argument, is_full, named_command};
+use crate::answers::{colour_argument, is_full};
 use crate::commands::CommandName;
 use crate::events::Wait;
 use go_board::Game;
 use gtp_wire::{CommandLine, Line};
 
-/// Returns what the line needs from the author.
-pub(crate) fn wait_of(game: &Game, line: &Line) -> Wait
+/// Returns what the line, which names this command, needs from the author.
+pub(crate) fn wait_of(game: &Game, line: &Line, command: Option<CommandName>) -> Wait
+    requires { command ≡ command_of line.now }
     ensures { result ≡ wait_of game.now line.now }
 {
     match line {
         Line::TooLong => Wait::Nothing,
-        Line::Command(line) => wait_of_command(game, line),
+        Line::Command(line) => wait_of_command(game, line, command),
     }
 }
 
 /// Returns what a command line needs from the author.
-fn wait_of_command(game: &Game, line: &CommandLine) -> Wait
+fn wait_of_command(game: &Game, line: &CommandLine, command: Option<CommandName>) -> Wait
+    requires { command ≡ named_command line.now.words }
     ensures { result ≡ wait_by (asked_by_words game.now line.now.words)
-        (is_none (argument command_named line.now.words 0)) }
+        (is_none (named_command line.now.words)) }
 {
-    let Some(command) = named_command(line) else {
+    let Some(command) = command else {
         return Wait::Answer;
     };
     if command == CommandName::Genmove {

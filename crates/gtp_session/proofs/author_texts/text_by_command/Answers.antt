@@ -5,14 +5,14 @@ use Rattle.gtp_session.specs.Steps.{StepsState, author_text}
 use Rattle.gtp_session.proofs.author_texts.text_by_command.Goals as goal
 
 -- an author can set no text for any other command
-no_text : (s : StepsState) (named : CommandName) (words : List (List ℕ)) → named ≢ command.Name
-    → named ≢ command.Version → named ≢ command.KnownCommand → named ≢ command.ListCommands
-    → author_text s (Some named) words ≡ None
+no_text : (s : StepsState) (other : CommandName) (words : List (List ℕ)) → other ≢ command.Name
+    → other ≢ command.Version → other ≢ command.KnownCommand → other ≢ command.ListCommands
+    → author_text s (Some other) words ≡ None
 no_text s command.Name words name version known listed = absurd (name refl)
 no_text s command.Version words name version known listed = absurd (version refl)
 no_text s command.KnownCommand words name version known listed = absurd (known refl)
 no_text s command.ListCommands words name version known listed = absurd (listed refl)
-no_text s named words name version known listed = refl
+no_text s other words name version known listed = refl
 
 pub returns-in_default : goal.returns-in_default
 returns-in_default c = λ s same.

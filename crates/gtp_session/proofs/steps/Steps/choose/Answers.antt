@@ -6,8 +6,8 @@ use Rattle.gtp_session.proofs.stepping.Kept.{answered_kept}
 use Rattle.gtp_session.proofs.stepping.Waits.{by-choice, lawful_at}
 use Rattle.gtp_session.proofs.steps.Steps.choose.Goals as goal
 
-pub answer-self-inside-requires : goal.answer-self-inside-requires
-answer-self-inside-requires c =
+pub answer-self-inside-requires-clause-lawful : goal.answer-self-inside-requires-clause-lawful
+answer-self-inside-requires-clause-lawful c =
     let s = c.self.inside in
     let waits : s.wait ≢ wait.Nothing = λ n. cc in
     let lawful : IsLawful s.game c.in-Choice.colour c.args.choice = search rules in

@@ -1,7 +1,7 @@
 use Rattle.std.proofs.Common.{ap, sym, subst, ◌∙◌, ◌≡◌, ℕ, List, None, Option, true}
 use Rattle.gtp_wire.specs.Replies.{IsReplyText, written_reply}
 use Rattle.go_base.specs.declared.choices.Choice.TheVariants.{Resign}
-use Rattle.gtp_session.specs.Commands.{asked}
+use Rattle.gtp_session.specs.Commands.{asked, command_of}
 use Rattle.gtp_session.specs.declared.events.Wait.TheVariants as wait
 use Rattle.gtp_session.specs.private.StepsFields.{state_in}
 use Rattle.gtp_session.specs.Steps.{StepsState}
@@ -39,7 +39,7 @@ invariant_of-self-in-Some-Known c =
     let text = c.truth.result.now in
     let idle : c.self.inside.wait ≡ wait.Nothing =
     ap (λ (x : StepsState). x.wait) c.self.view_is ∙ c.requires.open.waits_not in
-    let fits : IsReplyText text = truth_fits text c.in-Some-Known.known c.truth.ensures in
+    let fits : IsReplyText text = truth_fits text _ c.truth.ensures in
     texted_kept (state_in c.self.inside) true text c.self.inside.wait c.write_reply_into-in-Some-Known.new.out.items
     c.self.invariant fits idle
     (c.write_reply_into-in-Some-Known.ensures.bytes fits.fits
@@ -58,8 +58,16 @@ invariant_of-self-in-Some-Commands c =
     (c.write_reply_into-in-Some-Commands.ensures.bytes fits.fits
     ∙ ap (λ (id : Option ℕ). written_reply true id text) c.id_of-id.ensures.value)
 
-pub answer-self-inside-requires : goal.answer-self-inside-requires
-answer-self-inside-requires c =
+pub text_for-requires : goal.text_for-requires
+text_for-requires c =
+    subst (λ (x : StepsState). c.args.command ≡ command_of x.line) (sym c.self.view_is) c.requires.named
+
+pub answer-self-inside-requires-clause-named : goal.answer-self-inside-requires-clause-named
+answer-self-inside-requires-clause-named c =
+    subst (λ (x : StepsState). c.args.command ≡ command_of x.line) (sym c.self.view_is) c.requires.named
+
+pub answer-self-inside-requires-clause-lawful : goal.answer-self-inside-requires-clause-lawful
+answer-self-inside-requires-clause-lawful c =
     let s = c.self.inside in
     let asks : asked s.game s.line ≡ None =
     subst (λ (x : StepsState). asked x.game x.line ≡ None) (sym c.self.view_is) c.requires.asks in
