@@ -1,7 +1,7 @@
 //! The random choices of steps. The rows were worked out by hand from the output of a generator in a few lines of
 //! Python, independent of the program.
 use crate::asserts::{assert_equal_for, some};
-use go_base::Colour::{Black, White, self};
+use go_base::Colour::{self, Black, White};
 use go_base::{Move, Size};
 use go_board::Game;
 use gtp_check_course::Lesson;
