@@ -167,7 +167,7 @@ quiet_is c side e bytes fed new g =
     ap (λ t. e.reader ++ t) (take_all fed.used bytes (omega (arith, used))) in (
       used,
       fed_is c side e bytes fed new f ∙ ap (with_side_up c side) (fed_engine_by e bytes fed None g.is)
-      ∙ ap (λ t. let h : EngineRun = record e { reader = t } in with_side_up c side h) kept,
+          ∙ ap (λ t. let h : EngineRun = record e { reader = t } in with_side_up c side h) kept,
     )
 
 -- ---- a fault was returned

@@ -286,9 +286,10 @@ reply_just c side engine reply text cause none has =
 
 pub fault_just : (c new : Controller) (side : Colour) (loss : Loss) (shown : SideFault) → loss.cause ≡ Shows shown
     → IsJust c new side (Some shown) (Some loss)
-fault_just c new side loss shown is =
-    (both (Some loss) c new (Some shown) refl (LosesBy.shows refl),
-    subst (λ (x : LossCause). CauseFits new side (Some shown) x) (sym is) refl)
+fault_just c new side loss shown is = (
+  both (Some loss) c new (Some shown) refl (LosesBy.shows refl),
+  subst (λ (x : LossCause). CauseFits new side (Some shown) x) (sym is) refl,
+)
 
 pub quiet_just : (c new : Controller) (side : Colour) → c.verdict ≡ None → new.verdict ≡ c.verdict
     → IsJust c new side None None
