@@ -1,4 +1,4 @@
--- Catching up in worlds whose engines are sans-IO: the same starts and deliveries as in the definition's worlds bring
+-- Catching up, in worlds of engines of any kinds: from a world in which nothing is going on, starts and deliveries bring
 -- both sides into step, and no author has to call.
 use Rattle.std.specs.Prelude.{◌≡◌, ◌≢◌, true, false, List, [], None, Some}
 use Rattle.go_base.specs.declared.colours.Colour.{Colour}
@@ -20,7 +20,7 @@ use Rattle.gtp_world.specs.StepsLaws.{IsThere}
 
 -- Nothing is going on: the controller isn't done, each side that is up has a running engine and has answered all that
 -- it was sent, and no move is to be taken back. And the controller's game is one under each side's ko rule.
-pub record IsQuietInSteps {B W : Type 0} (rule : Colour → KoRule) (world : WorldOf B W) : Type 0 where
+pub record IsQuiet {B W : Type 0} (rule : Colour → KoRule) (world : WorldOf B W) : Type 0 where
   pub not_done : (verdict : Verdict) → next world.controller ≢ Done verdict
   pub running : (side : Colour) (run : EngineRun) → (side_of world.controller.sides side).up ≡ Some run
       → (engine : at_side B W side) × ((lane_at world side).engine ≡ Some engine)
@@ -31,7 +31,7 @@ pub record IsQuietInSteps {B W : Type 0} (rule : Colour → KoRule) (world : Wor
 
 -- the side is in step, and its engine runs at the game that the old world's controller had, under its own ko rule, and
 -- waits for nothing; the controller has that game still
-pub record IsCaughtUpInSteps {B W : Type 0} (side : Colour) (kind : Kind (at_side B W side)) (old new : WorldOf B W)
+pub record IsCaughtUp {B W : Type 0} (side : Colour) (kind : Kind (at_side B W side)) (old new : WorldOf B W)
     : Type 0 where
   pub in_step : in_step new.controller side ≡ true
   pub engine : at_side B W side
@@ -45,17 +45,17 @@ module _ {B W : Type 0} (black : Kind B) (white : Kind W) where
   rule_at_kind side = (kind_at black white side).rule
 
   -- from a reached world in which nothing is going on, these events make both sides catch up
-  abbrev pub StepsCatchUp : Type 0
-  StepsCatchUp =
-      (setup : SetupRecord) (events : List EventOrCall) (old new : WorldOf B W) (side : Colour) → IsSetup setup
-      → RunsBy black white as_any (opening setup) events old → IsQuietInSteps rule_at_kind old
+  abbrev pub CatchUp : {A : Type 0} → (A → EventOrCall) → Type 0
+  CatchUp {A} as_event =
+      (setup : SetupRecord) (events : List A) (old new : WorldOf B W) (side : Colour) → IsSetup setup
+      → RunsBy black white as_event (opening setup) events old → IsQuiet rule_at_kind old
       → RunsBy black white as_one old (settle old.controller) new
-      → IsCaughtUpInSteps side (kind_at black white side) old new
+      → IsCaughtUp side (kind_at black white side) old new
 
   -- in the opening of every setup nothing is going on
   abbrev pub StepsOpeningsAreQuiet : Type 0
   StepsOpeningsAreQuiet = (setup : SetupRecord) → IsSetup setup
-      → IsQuietInSteps rule_at_kind (opening {B = B} {W = W} setup)
+      → IsQuiet rule_at_kind (opening {B = B} {W = W} setup)
 
   -- Where an engine waits for its author, its side is up and has a command that isn't answered. So the side isn't in
   -- step, and something is going on.
@@ -64,7 +64,7 @@ module _ {B W : Type 0} (black : Kind B) (white : Kind W) where
     pub up : (side_of world.controller.sides side).up ≡ Some run
     pub unanswered : run.unanswered ≢ []
     pub not_in_step : in_step world.controller side ≡ false
-    pub not_quiet : ¬ IsQuietInSteps rule_at_kind world
+    pub not_quiet : ¬ IsQuiet rule_at_kind world
 
   -- over every list of events from the opening of any setup
   abbrev pub StepsWaitUnanswered : Type 0
@@ -77,5 +77,5 @@ module _ {B W : Type 0} (black : Kind B) (white : Kind W) where
   -- how such worlds catch up
   pub record StepsSettle : Type 0 where
     pub openings : StepsOpeningsAreQuiet
-    pub quiet : StepsCatchUp
+    pub quiet : CatchUp as_any
     pub waits : StepsWaitUnanswered

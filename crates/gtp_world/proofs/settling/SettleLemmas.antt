@@ -156,7 +156,7 @@ drop_none [] n e = omega arith
 drop_none (x ∷ xs) zero e = absurd (cc e)
 drop_none (x ∷ xs) (suc n) e = omega (arith, drop_none xs n e)
 
-some_of : {A : Type 0} (o : Option A) → IsSome o → (x : A) × (o ≡ Some x)
+pub some_of : {A : Type 0} (o : Option A) → IsSome o → (x : A) × (o ≡ Some x)
 some_of None h = absurd (cc h)
 some_of (Some x) h = (x, refl)
 

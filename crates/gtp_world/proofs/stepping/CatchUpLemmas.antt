@@ -24,18 +24,17 @@ use Rattle.gtp_world.specs.Lane.{Lane, SidePolicies}
 use Rattle.gtp_world.specs.Laws.{rules_of}
 use Rattle.gtp_world.specs.Settle.{start_of, script_left, round, rounds, settle, RunsWhereUp, MaySettle, IsSettled}
 use Rattle.gtp_world.specs.Settle.{Settles}
-use Rattle.gtp_world.specs.World.{WorldOf, World, at_side, lane_at, lane_of, kind_at, HappensBy, RunsBy, as_one, as_any}
+use Rattle.gtp_world.specs.World.{WorldOf, World, at_side, lane_at, lane_of, EventOrCall, kind_at, HappensBy, RunsBy, as_one, as_any}
 use Rattle.gtp_world.specs.World.{Happens}
-use Rattle.gtp_world.specs.WordLaws.{IsRunning, IsQuiet, QuietWorldsCatchUp}
-use Rattle.gtp_world.specs.Worlds.{game_in}
+use Rattle.gtp_world.specs.WordLaws.{SettledIsCaughtUp, QuietWorldsCatchUp}
 use Rattle.gtp_world.specs.Kinds.{Kind}
 use Rattle.gtp_world.specs.StepsLaws.{IsThere, StepsAgree}
-use Rattle.gtp_world.specs.StepsSettle.{IsQuietInSteps, IsCaughtUpInSteps, rule_at_kind, StepsCatchUp}
+use Rattle.gtp_world.specs.StepsSettle.{IsQuiet, IsCaughtUp, rule_at_kind, CatchUp}
 use Rattle.gtp_world.specs.StepsSettle.{StepsOpeningsAreQuiet, StepsWaitUnanswered, StepsSettle}
-use Rattle.gtp_world.proofs.joined.EventLemmas.{happens_keeps, opening_under, runs_keep, reached_has}
-use Rattle.gtp_world.proofs.settling.CaughtUpLemmas.{may_settle, opening_starts, opening_down, is_caught_up}
+use Rattle.gtp_world.proofs.joined.EventLemmas.{happens_keeps}
+use Rattle.gtp_world.proofs.settling.CaughtUpLemmas.{may_settle, opening_quiet}
 use Rattle.gtp_world.proofs.settling.SettleLemmas.{MaySend, drop_head, drop_none, Settling, turned, within}
-use Rattle.gtp_world.proofs.settling.SettleLemmas.{one_line_comes}
+use Rattle.gtp_world.proofs.settling.SettleLemmas.{some_of, one_line_comes}
 use Rattle.gtp_world.proofs.settling.SettleLemmas.{round_settles, Begun, started, was_up, both_begun, settled}
 use Rattle.gtp_world.proofs.settling.SettleLemmas.{nothing_pending, black_starts, white_starts}
 use Rattle.gtp_world.proofs.stepping.LikenessLemmas.{Likeness, sessions_like}
@@ -147,31 +146,45 @@ module _ {B W P Q : Type 0} {black : Kind B} {white : Kind W} {mb : SidePolicies
   some_runs like None sh some = absurd (cc some)
   some_runs like (Some e) sh some = (e, refl)
 
-  runs_some : {E R : Type 0} {kind : Kind E} {policies : SidePolicies R} (like : Likeness kind policies) (o : Option E)
-      (sh : LikeAt like o) (e : E) → o ≡ Some e → (game : GameRecord) × (game_in (engine_at like o sh) ≡ Some game)
-  runs_some like None sh e is = absurd (cc is)
-  runs_some like (Some x) sh e is = ((like.engine x sh).game, refl)
-
   -- the ko rules are those of the definition's engines
   rule_is : (side : Colour) → rule_at_kind black white side ≡ rule_of (rules_of mb mw) side
   rule_is Black = like_b.rule
   rule_is White = like_w.rule
 
   -- nothing is going on in the world of the definition either
-  seen_quiet : (w : WorldOf B W) (x : LikeBoth w) → IsQuietInSteps (rule_at_kind black white) w
+  seen_quiet : (w : WorldOf B W) (x : LikeBoth w) → IsQuiet (rule_at_kind black white) w
       → IsQuiet (rule_of (rules_of mb mw)) (seen w x)
   seen_quiet w x quiet = record {
     not_done = quiet.not_done;
-    running = λ side up. running side (quiet.running side up.0 up.1);
+    running = λ side run up. running side (quiet.running side run up);
     answered = quiet.answered;
     none_taken_back = quiet.none_taken_back;
     games = λ side. subst (λ (r : KoRule). IsGame (ruled r w.controller.game)) (rule_is side) (quiet.games side);
   }
     where
       running : (side : Colour) → (engine : at_side B W side) × ((lane_at w side).engine ≡ Some engine)
-          → IsRunning (seen w x) side
-      running Black h = runs_some like_b w.black.engine x.0 h.0 h.1
-      running White h = runs_some like_w w.white.engine x.1 h.0 h.1
+          → (engine : at_side (Engine P) (Engine Q) side) × ((lane_at (seen w x) side).engine ≡ Some engine)
+      running Black h =
+          let z = shown like_b w.black.engine x.0 w.black.to_engine h.0 h.1 in (like_b.engine h.0 z.0, z.1)
+      running White h =
+          let z = shown like_w w.white.engine x.1 w.white.to_engine h.0 h.1 in (like_w.engine h.0 z.0, z.1)
+
+  -- where both engines run and both sides are in step, both have caught up
+  pub both_caught_up : (old new : WorldOf B W) → StepsAgree black white new
+      → ((side : Colour) → (engine : at_side B W side) × ((lane_at new side).engine ≡ Some engine))
+      → ((side : Colour) → in_step new.controller side ≡ true) → new.controller.game ≡ old.controller.game
+      → (side : Colour) → IsCaughtUp side (kind_at black white side) old new
+  both_caught_up old new agree runs in_step same side =
+      let it = runs side in
+      record {
+        in_step = in_step side;
+        engine = it.0;
+        runs = it.1;
+        there =
+            subst (λ (g : GameRecord). IsThere (kind_at black white side) g it.0) same
+            (agree.there side it.0 it.1 (in_step side));
+        controller = same;
+      }
 
   module _ (setup : SetupRecord) (old last : WorldOf B W)
       (s : IsReached like_b like_w law_b law_w setup old)
@@ -240,43 +253,26 @@ module _ {B W P Q : Type 0} {black : Kind B} {white : Kind W} {mb : SidePolicies
         (sym (runs_none four.world last four.rest))
         (four.like, settled mb mw law_b law_w v (seen four.world four.like) four.is)
 
-    caught_up : (side : Colour) → IsCaughtUpInSteps side (kind_at black white side) old last
-    caught_up side =
-        let y = seen_settled in
-        let agree : StepsAgree black white last =
-        reached_agrees like_b like_w law_b law_w setup last
-        (runs_reach like_b like_w law_b law_w as_one setup old (settle old.controller) last more s) in
-        let it = runs side in
-        let there : IsThere (kind_at black white side) last.controller.game it.0 =
-        agree.there side it.0 it.1 (y.1.in_step side) in
-        record {
-          in_step = y.1.in_step side;
-          engine = it.0;
-          runs = it.1;
-          there = subst (λ (g : GameRecord). IsThere (kind_at black white side) g it.0) y.1.record_stays there;
-          controller = y.1.record_stays;
-        }
+    caught_up : (side : Colour) → IsCaughtUp side (kind_at black white side) old last
+    caught_up =
+        both_caught_up old last (reached_agrees like_b like_w law_b law_w setup last
+        (runs_reach like_b like_w law_b law_w as_one setup old (settle old.controller) last more s)) runs
+        seen_settled.1.in_step seen_settled.1.record_stays
       where
         runs : (side : Colour) → (engine : at_side B W side) × ((lane_at last side).engine ≡ Some engine)
         runs Black = some_runs like_b last.black.engine seen_settled.0.0 seen_settled.1.black_runs
         runs White = some_runs like_w last.white.engine seen_settled.0.1 seen_settled.1.white_runs
 
-  catches_up : StepsCatchUp black white
-  catches_up setup events old new side is runs quiet more =
-      let s = all_reached like_b like_w law_b law_w as_any setup events old is runs in
+  pub catches_up : {A : Type 0} (as_event : A → EventOrCall) → CatchUp black white as_event
+  catches_up as_event setup events old new side is runs quiet more =
+      let s = all_reached like_b like_w law_b law_w as_event setup events old is runs in
       let like : LikeBoth old = (s.like_black, s.like_white) in
       caught_up setup old new s (may_settle (rules_of mb mw) (seen old like) (seen_quiet old like quiet)) more side
 
   -- ---- the opening, and engines that wait
 
   openings_quiet : StepsOpeningsAreQuiet black white
-  openings_quiet setup is = record {
-    not_done = λ verdict done. let start = opening_starts setup in cc;
-    running = λ side run up. let e = sym (opening_down setup side) ∙ up in absurd (cc e);
-    answered = λ side run up. let e = sym (opening_down setup side) ∙ up in absurd (cc e);
-    none_taken_back = refl;
-    games = λ side. opening_under (rule_at_kind black white side) setup is;
-  }
+  openings_quiet = opening_quiet (rule_at_kind black white)
 
   up_where_running : (game : GameRecord) (verdict : Option Verdict) (up : Option EngineRun) (b : EngineBody)
       (l : BareLane) → IsJoinedSide game verdict up l → l.engine ≡ Some b → (run : EngineRun) × (up ≡ Some run)
@@ -327,7 +323,7 @@ module _ {B W P Q : Type 0} {black : Kind B} {white : Kind W} {mb : SidePolicies
       up = side_up side engine engine_is
 
   pub settles_in_steps : StepsSettle black white
-  settles_in_steps = record { openings = openings_quiet; quiet = catches_up; waits = waits_unanswered }
+  settles_in_steps = record { openings = openings_quiet; quiet = catches_up as_any; waits = waits_unanswered }
 
 -- ---- worlds of sessions, which are like themselves
 
@@ -369,9 +365,17 @@ module _ {B W : Type 0} (mb : SidePolicies B) (mw : SidePolicies W) (law_b : All
       subst (λ (w : World B W). IsSettled w new) (is_itself old x)
       (subst (λ (w : World B W). IsSettled (itself old x) w) (is_itself new it.0) it.1)
 
+  pub settled_is : SettledIsCaughtUp mb mw
+  settled_is setup events old new side is runs settled =
+      both_caught_up (sessions_like mb) (sessions_like mw) law_b law_w old new
+      (reached_agrees (sessions_like mb) (sessions_like mw) law_b law_w setup new
+      (all_reached (sessions_like mb) (sessions_like mw) law_b law_w as_one setup events new is runs)) running
+      settled.in_step settled.record_stays side
+    where
+      running : (side : Colour) → (engine : at_side (Engine B) (Engine W) side)
+          × ((lane_at new side).engine ≡ Some engine)
+      running Black = some_of new.black.engine settled.black_runs
+      running White = some_of new.white.engine settled.white_runs
+
   pub quiet_catches_up : QuietWorldsCatchUp mb mw
-  quiet_catches_up setup events old new s is runs quiet more =
-      is_caught_up mb mw law_b law_w old new s
-      (runs_keep mb mw law_b law_w old (settle old.controller) new more
-      (reached_has mb mw law_b law_w setup events old is runs))
-      (settles setup events old new is runs (may_settle (rules_of mb mw) old quiet) more)
+  quiet_catches_up = catches_up (sessions_like mb) (sessions_like mw) law_b law_w as_one

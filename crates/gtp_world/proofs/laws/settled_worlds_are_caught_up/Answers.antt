@@ -1,5 +1,5 @@
-use Rattle.gtp_world.proofs.settling.CaughtUpLemmas.{openings_settle, settled_is}
-use Rattle.gtp_world.proofs.stepping.CatchUpLemmas.{quiet_catches_up}
+use Rattle.gtp_world.proofs.settling.CaughtUpLemmas.{openings_settle}
+use Rattle.gtp_world.proofs.stepping.CatchUpLemmas.{quiet_catches_up, settled_is}
 use Rattle.gtp_world.proofs.laws.settled_worlds_are_caught_up.Goals as goal
 
 pub returns-clause-openings : goal.returns-clause-openings
