@@ -15,7 +15,6 @@ use Rattle.gtp_match.specs.declared.unanswered.SentCommand.{SentCommand}
 use Rattle.gtp_match.specs.Losing.{owed_of}
 use Rattle.gtp_match.specs.Retakes.{most_retakes, retakes_of, total_of}
 use Rattle.gtp_match.specs.Taking.{may_retake}
-use Rattle.gtp_match.specs.Unanswered.{oldest}
 
 -- ---- by an outcome
 
