@@ -16,7 +16,6 @@ peers() {
     cat << 'ROWS'
 commands: copy.c, which only copies its input, and GNU Go: at most 1.3 times the time of copy.c; at most a fifth of GNU Go's
 board: limit.rs, a board written only for speed: at most 1.5 times its time
-steps: a Session, which asks a policy for its moves: at most 1.1 times its time
 match: limit.c, which checks nothing, and GNU Go's scripts: at most 15 microseconds a move in memory; at most 1.3 times the limit's time
 check: limit.c, which sends the same commands and judges nothing: at most 1.3 times its time
 playouts: by_hand.h, a board in C without the library: at least 1.2 times its speed with -O2, and 1.0 times with -O3
