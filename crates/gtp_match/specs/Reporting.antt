@@ -27,16 +27,16 @@ use Rattle.gtp_match.specs.Unanswered.{oldest}
 
 -- ---- up to one reply or fault
 
--- what the engine wrote since its last whole reply, up to the end of these bytes
+-- what the engine wrote since its last whole reply, up to the end of the first `used` of these bytes
 abbrev pub text_up_to : EngineRun → List ℕ → ℕ → List ℕ
 text_up_to engine bytes used = take (length engine.reader + used) (engine.reader ++ bytes)
 
 -- Bytes of a side are heard up to the end of one reply, or the byte that shows a fault, or else all of them: how many
 -- are used, the fault, what is reported (a retake, a loss), and the match after them.
 --
--- A reply does what the table says, and is shown alone, without what follows it. A fault puts the side down, and all
--- that was read is shown. What is no whole reply yet is kept as it came. While the side is down, and after a verdict,
--- nothing changes.
+-- A reply does what the table says, and is shown alone, without what follows it. A fault of the reader puts the side
+-- down, and all that was read is shown. What is no whole reply yet is kept as it came. While the side is down, and
+-- after a verdict, nothing changes.
 pub data HearsOnce (c : Controller) (side : Colour) (bytes : List ℕ)
     : ℕ → Option SideFault → Option Retake → Option Loss → Controller → Type 0 where
   replied : {used : ℕ} (engine : EngineRun) (reply : Reply) (cause : Option LossCause) → c.verdict ≡ None

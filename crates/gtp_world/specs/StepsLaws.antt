@@ -83,7 +83,7 @@ abbrev pub game_by : {E : Type 0} → Kind E → Option E → Option GameRecord
 game_by kind None = None
 game_by kind (Some engine) = Some (kind.game engine)
 
--- An engine is like one of the definition. It has read these bytes, which are still on their way there. Neither holds
+-- An engine is like that of a session. It has read these bytes, which are still on their way there. Neither holds
 -- back a whole line. Where the engine waits for its author, take what is held back there, then these bytes, and then
 -- whatever comes later. The first line is the one that waits, and the lines after it are those of what the engine holds
 -- back with what comes later. Where the engine waits for nothing, these bytes are none, and both hold back the same
@@ -95,7 +95,7 @@ pub record IsEngineLike {E P : Type 0} (kind : Kind E) (engine : E) (like : Engi
       → lines (like.rest ++ (read ++ later)) ≡ kind.line engine ∷ lines (kind.rest engine ++ later)
   pub waits_not : kind.wait engine ≡ wait.Nothing → (read ≡ []) × (like.rest ≡ kind.rest engine)
 
--- A side is like a lane of the definition. The games of the two engines are the same, and so are the bytes on their way
+-- A side is like a lane of sessions. The games of the two engines are the same, and so are the bytes on their way
 -- to the controller. Of the bytes on their way to the lane's engine the side's engine may have read some: those of the
 -- line that waits for its author, and none where none waits.
 pub record IsLike {E P : Type 0} (kind : Kind E) (one : LaneOf E) (lane : Lane P) : Type 0 where
@@ -108,8 +108,8 @@ pub record IsLike {E P : Type 0} (kind : Kind E) (one : LaneOf E) (lane : Lane P
   pub engines : (engine : E) (like : Engine P) → one.engine ≡ Some engine → lane.engine ≡ Some like
       → IsEngineLike kind engine like read
 
--- After every list of events from the opening of any setup, some events lead to a world of the definition that has the
--- same controller, and lanes that both sides are like.
+-- After every list of events from the opening of any setup, some events lead to a world of sessions that has the same
+-- controller, and lanes that both sides are like.
 abbrev pub GoesAlong : {B W P Q : Type 0} → Kind B → Kind W → SidePolicies P → SidePolicies Q → Type 0
 GoesAlong {B} {W} {P} {Q} black white policies_black policies_white =
     (setup : SetupRecord) (events : List EventOrCall) (world : WorldOf B W) → IsSetup setup

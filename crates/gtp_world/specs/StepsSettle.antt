@@ -44,7 +44,7 @@ module _ {B W : Type 0} (black : Kind B) (white : Kind W) where
   abbrev pub rule_at_kind : Colour → KoRule
   rule_at_kind side = (kind_at black white side).rule
 
-  -- from a reached world in which nothing is going on, these events make both sides catch up
+  -- from a reached world in which nothing is going on, the events that settle it make both sides catch up
   abbrev pub CatchUp : {A : Type 0} → (A → EventOrCall) → Type 0
   CatchUp {A} as_event =
       (setup : SetupRecord) (events : List A) (old new : WorldOf B W) (side : Colour) → IsSetup setup
