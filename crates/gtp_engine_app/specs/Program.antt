@@ -48,11 +48,12 @@ streams ends errors = record { ends = ends; errors = errors }
 
 -- An engine with this policy and this ko rule, which was given nothing before, held a conversation under the fault, of
 -- as many reads as there may be, which came out so.
-pub record FreshCameOut {P : Type 0} (may : May P) (rule : KoRule) (fault : Fault) (policy : P)
-    (served : Result Served ServeFault) (before after : Ends) : Type 0 where
-  pub engine : Engine P
-  pub came_out : CameOut may fault most_reads (fresh_under rule policy) engine before.input after.input
+pub data FreshCameOut {P : Type 0} (may : May P) (rule : KoRule) (fault : Fault) (policy : P)
+    : Result Served ServeFault → Ends → Ends → Type 0 where
+  held : {engine : Engine P} {served : Result Served ServeFault} {before after : Ends}
+      → CameOut may fault most_reads (fresh_under rule policy) engine before.input after.input
       before.output after.output served
+      → FreshCameOut may rule fault policy served before after
 
 -- what the words ask for: the options, with the book and the fault that their texts spell
 pub record Task : Type 0 where

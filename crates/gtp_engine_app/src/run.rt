@@ -1,9 +1,9 @@
 //! The program, for any counted reader and writers.
 ghost use Rattle.std.specs.Prelude.{◌≡◌, ◌≢◌, ◌⊎◌, map, string_bytes, IfOk, IfErr, IsOkAnd};
 ghost use Rattle.cli.specs.Requests.{IsRefused};
-ghost use Rattle.gtp_engine_app.specs.Options.{IsMistake, Spells};
-ghost use Rattle.gtp_engine_app.specs.Program.{PolicyCameOut, HasConversed, HasServed, HasHelped, IsOutOfMemory};
-ghost use Rattle.gtp_engine_app.specs.Program.{HasMistake, IsShown, ends, streams, task};
+ghost use Rattle.gtp_engine_app.specs.Options.{HasNoBook, HasNoFault, IsMistake, Spells};
+ghost use Rattle.gtp_engine_app.specs.Program.{FreshCameOut, PolicyCameOut, HasConversed, HasServed, HasHelped};
+ghost use Rattle.gtp_engine_app.specs.Program.{IsOutOfMemory, HasMistake, IsShown, ends, streams, task};
 ghost use Rattle.gtp_engine_app.specs.Status.{IsStatus, ReportsFailure, ReportsEnd, program_name};
 ghost use Rattle.gtp_engine_app.specs.Status.{stopped, status_after};
 ghost use Rattle.cli.specs.Status.{IsRequest, done, usage_failure};
@@ -13,11 +13,13 @@ use crate::options::{Options, PolicyName, read_options};
 use byte_streams::{Broken, WriteOnce};
 use clap::error::ErrorKind;
 use cli::requests::requested_text;
+use go_board::KoRule;
 use gtp_session::book::Book;
 use gtp_session::fault::Fault;
 use gtp_session::first::First;
+use gtp_session::policy::Policy;
 use gtp_session::random::Random;
-use gtp_session::serve::{MOST_READS, ServeFault, Served, serve_with};
+use gtp_session::serve::{MOST_READS, ServeFault, Served, serve, serve_with};
 use gtp_session::session::Session;
 use gtp_session::streams::{Incoming, Outgoing, send};
 use std::alloc::{AllocError, Global};
@@ -86,7 +88,7 @@ fn serve_options<R: Incoming, W: Outgoing, E: WriteOnce>(
         Ok(texts) => texts,
         Err(failure) => return report(failure, errors),
     };
-    let served = converse(options, book, fault, input, output);
+    let served = converse_by(options, book, fault, input, output);
     end(served, errors)
 }
 
@@ -152,7 +154,7 @@ fn show<W: Outgoing, E: WriteOnce>(text: &[u8], output: &mut W, errors: &mut E) 
 }
 
 /// Serves a new session with the policy and the ko rule of the options and this fault.
-fn converse<R: Incoming, W: Outgoing>(
+fn converse_by<R: Incoming, W: Outgoing>(
     options: Options<'_>,
     book: Book,
     fault: Fault,
@@ -164,17 +166,34 @@ fn converse<R: Incoming, W: Outgoing>(
         (ends (R.shown reader.new) (W.shown writer.new)) }
 {
     match options.policy {
-        PolicyName::First => {
-            let mut session = Session::with_rule(First, options.rule);
-            serve_with(reader, writer, &mut session, MOST_READS, fault)
-        }
-        PolicyName::Random => {
-            let mut session = Session::with_rule(Random::new(options.seed), options.rule);
-            serve_with(reader, writer, &mut session, MOST_READS, fault)
-        }
-        PolicyName::Book => {
-            let mut session = Session::with_rule(book, options.rule);
-            serve_with(reader, writer, &mut session, MOST_READS, fault)
-        }
+        PolicyName::First => converse(First, options.rule, fault, reader, writer),
+        PolicyName::Random => converse(
+            Random::new(options.seed),
+            options.rule,
+            fault,
+            reader,
+            writer,
+        ),
+        PolicyName::Book => converse(book, options.rule, fault, reader, writer),
+    }
+}
+
+/// Serves a new session with this policy, ko rule and fault.
+fn converse<P: Policy, R: Incoming, W: Outgoing>(
+    policy: P,
+    rule: KoRule,
+    fault: Fault,
+    reader: &mut R,
+    writer: &mut W,
+) -> Result<Served, ServeFault>
+    ensures { FreshCameOut P.may rule fault policy result
+        (ends (R.shown reader.old) (W.shown writer.old))
+        (ends (R.shown reader.new) (W.shown writer.new)) }
+{
+    let mut session = Session::with_rule(policy, rule);
+    match fault {
+        // `serve_with` would do the same here; without a fault, `serve` serves one read after another.
+        Fault::Off => serve(reader, writer, &mut session),
+        _ => serve_with(reader, writer, &mut session, MOST_READS, fault),
     }
 }
