@@ -84,8 +84,9 @@ TRIED_BY_CHANCE, BLAMED_BY_CHANCE = 12, 3  # with so many seeds it is tried, and
 # Of these gtp_check has to be told that suicide isn't to be asked. Without that it blames them.
 SUICIDAL = {"allows_suicide", "allows_suicide_of_chains", "has_all_freedoms", "suicide_and_no_ko", "captures_are_suicide"}
 UNASKED = ("--suicide", "unasked")
-# what is found is looked at, and not how shortly it is shown
+# What is found is looked at, and not how shortly it is shown. Of these alone it is, too: a shorter conversation may be wrong for another reason.
 UNSHORTENED = ("--restarts", "4", "--trials", "0")
+SHORTENED = {"allows_suicide": ("--restarts", "12"), "large_komi_is_cut": ("--restarts", "12")}
 # lines on what these engines lack, which depend on what is drawn
 MAY_BE_SAID = re.compile(r"check: it first refused an undo after \d+ undos? in a row|check: .*\b(?:suicide|score)s?\b.*")
 # engines that go beyond a freedom: the lessons in which this is noticed, and the command that is answered wrongly at first
@@ -172,7 +173,7 @@ def unanswered():
 def suicidal(name):
     """What is odd about the check of a right engine whose rules allow suicide, where gtp_check isn't told: what it blames is suicide alone, a
     play that has to be refused or a move that the engine chose."""
-    result = checked((*UNSHORTENED, *only(FREEDOMS[name])), FREE.format(name, 1, "simple"))
+    result = checked((*SHORTENED.get(name, UNSHORTENED), *only(FREEDOMS[name])), FREE.format(name, 1, "simple"))
     report = read(result.output)
     if isinstance(report, str) or (result.status, result.errors) != (1, "") or not report.complaints:
         return f"{report}: {result}"
@@ -183,7 +184,7 @@ def suicidal(name):
 def beyond(name):
     """What is odd about the check of an engine that goes beyond a freedom, which is noticed."""
     lessons, command = GO_BEYOND[name]
-    result = checked((*UNSHORTENED, *told(name), *only(lessons)), BEYOND.format(name))
+    result = checked((*SHORTENED.get(name, UNSHORTENED), *told(name), *only(lessons)), BEYOND.format(name))
     report = read(result.output)
     if isinstance(report, str) or (result.status, result.errors) != (1, "") or not report.complaints:
         return f"{report}: {result}"

@@ -170,6 +170,9 @@ class Stopped(Case):
             if row == "twogtp is killed":
                 here.until(lambda: not here.named("between black"))
                 here.until(lambda: notes_of(here, "1_one_two")[-1].startswith("no result: "), 15)
+            else:
+                # the run has seen that its process is gone, and goes on with the next game
+                here.until(lambda: here.named("game 1_two_one"), 15)
             process.terminate()
 
 
