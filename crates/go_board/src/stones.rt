@@ -282,12 +282,12 @@ impl Stones {
         }
     }
 
-    /// If a place holds a stone with id 0, makes that place the id of its chain.
-    fn set_fragment_id(&mut self, place: usize, chain: &mut Places)
+    /// If a place holds a stone with this id, makes that place the id of its chain.
+    fn set_fragment_id(&mut self, place: usize, id: usize, chain: &mut Places)
         requires { place < place_count }
-        ensures { SetsFragmentId self.old self.new place }
+        ensures { SetsFragmentId self.old self.new place id }
     {
-        if self.at(place).is_stone() && self.id(place) == 0 {
+        if self.at(place).is_stone() && self.id(place) == id {
             self.board.chain_into(place, chain);
             self.change_ids(chain, place);
         }
@@ -296,17 +296,15 @@ impl Stones {
     /// Gives an id to each chain into which the chain with this id broke up when its stone on a place was removed.
     pub fn split(&mut self, place: usize, id: usize)
         requires point { IsOn most_size place }
-        requires id { id < place_count }
         requires cut { IsCut self.old.board self.old.ids place id }
         ensures board { self.new.board ≡ self.old.board }
         ensures ids { AreChainIds self.new.board self.new.ids }
     {
-        self.join(0, id, id, id);
         let mut chain = Places::new();
-        self.set_fragment_id(place + 1, &mut chain);
-        self.set_fragment_id(place - 1, &mut chain);
-        self.set_fragment_id(place + ROW, &mut chain);
-        self.set_fragment_id(place - ROW, &mut chain);
+        self.set_fragment_id(place + 1, id, &mut chain);
+        self.set_fragment_id(place - 1, id, &mut chain);
+        self.set_fragment_id(place + ROW, id, &mut chain);
+        self.set_fragment_id(place - ROW, id, &mut chain);
     }
 
     /// Whether a place holds a stone of this colour whose chain has no liberty.

@@ -1,27 +1,25 @@
 -- Chain ids when a stone is removed: its chain may fall apart.
 use Rattle.std.proofs.Common.{◌≡◌, ℕ, ◌+◌, ◌-◌, ◌<◌, ◌≤◌, List, length, refl, sym, ◌∙◌, ap, subst, arith, inl, inr}
 use Rattle.std.proofs.Common.{Bool, cond, get_or-set_other, get_or-set_same}
-use Rattle.std.specs.Prelude.{◌⊎◌, ◌≢◌, ◌==◌, ◌&&◌, map}
-use Rattle.std.proofs.lemmas.List.{get_or-map}
+use Rattle.std.specs.Prelude.{◌⊎◌, ◌≢◌, ◌==◌, ◌&&◌}
 use Rattle.std.proofs.Math.ListN.{set}
 use Rattle.go_base.specs.Point.{Neighbours}
 use Rattle.go_board.specs.Board.{at, IsStone}
 use Rattle.go_board.specs.private.Frame.{IsFramed}
 use Rattle.go_board.specs.Chain.{Joined, itself, by_way_of}
+use Rattle.go_board.specs.decisions.Chain.{joined?}
 use Rattle.go_board.specs.private.ChainId.{id_of, ids_at, ids_beside, AreChainIds}
-use Rattle.go_board.specs.private.Steps.{rename, rename_three, IsFragmentSet, IsCut}
+use Rattle.go_board.specs.private.Steps.{IsFragmentSet, IsCut}
 use Rattle.go_board.specs.declared.board.Cell.{Cell}
 use Rattle.go_board.specs.declared.board.Cell.TheVariants.{Edge, Empty}
 use Rattle.go_board.proofs.boards.Cells.{IsFramed-set}
 use Rattle.go_board.proofs.captures.CapturedStones.{in_list}
 use Rattle.go_board.proofs.ids.Paths.{Joined-then, Joined-same, Joined-back, Joined-kept, IsStone-point}
 use Rattle.go_board.proofs.ids.Paths.{IsStone-filled, IsStone-joined, AreChainIds-steps, along-path}
-use Rattle.go_board.proofs.ids.FindingIds.{IsPart, IsPart-named, named-has, AreChainIds-part}
-use Rattle.go_board.proofs.ids.JoiningChains.{rename_three-a}
 use Rattle.go_board.proofs.liberties.PseudoLiberties.{stone-test}
-use Rattle.go_board.proofs.liberties.MergingIds.{rename-other}
 use Rattle.std.proofs.lemmas.Bool.{eq-eqb, cases_eq}
-use Rattle.go_board.proofs.boards.Neighbours.{IsOn-inside, all_beside}
+use Rattle.go_board.proofs.boards.Neighbours.{all_beside}
+use Rattle.go_board.proofs.General.{by_dec}
 
 -- ---- paths without a place
 
@@ -200,98 +198,82 @@ IsCut-removed board ids p id s framed a is = record {
       (way.side, way.neighbours, Joined-back way.rest);
 }
 
--- part of the chain may be without ids, and is joined to neighbours of the place
-pub record IsSplitting (board : List Cell) (ids : List ℕ) (place : ℕ) : Type 0 where
-  pub part : IsPart board ids
-  pub cut : (p : ℕ) → IsStone (at board p) → id_of ids p ≡ 0 → (q : ℕ) × Neighbours place q × Joined board p q
+-- Stones beside each other have one id. A stone's own chain has its id, or the id is that of the chain that broke up, and
+-- the stone is joined to one of these places.
+pub record IsSplitting (board : List Cell) (ids : List ℕ) (id : ℕ) (Left : ℕ → Type 0) : Type 0 where
+  pub alike : (p q : ℕ) → IsStone (at board p) → Neighbours p q → at board q ≡ at board p → id_of ids p ≡ id_of ids q
+  pub own : (p : ℕ) → IsStone (at board p)
+      → Joined board p (id_of ids p) ⊎ ((id_of ids p ≡ id) × ((q : ℕ) × Left q × Joined board p q))
 
--- the chain's id was cleared
-pub IsSplitting-start : (board : List Cell) (ids new : List ℕ) (place id : ℕ) → IsFramed board
-    → IsCut board ids place id → new ≡ map (rename_three 0 id id id) ids
-    → IsSplitting board new place
-IsSplitting-start board ids new place id framed c made = record {
-  part = record {
-    own = λ q s some. elim (cases_eq (id_of ids q) id) [
-      | inl e ↦ absurd (some (off q s e))
-      | inr o ↦ subst (λ (k : ℕ). Joined board q k) (sym (kept q s o)) (c.own q s o)
-    ];
-    closed =
-        λ q r s path. at_stone q s ∙ ap (rename_three 0 id id id) (along-path board ids c.alike path s)
-        ∙ sym (at_stone r (IsStone-joined board q r path s));
-  };
-  cut = λ q s none. elim (cases_eq (id_of ids q) id) [
-    | inl e ↦ c.cut q s e
-    | inr o ↦ absurd (not_zero q s o (sym (kept q s o) ∙ none))
-  ];
-}
-  where
-    at_stone : (q : ℕ) → IsStone (at board q) → id_of new q ≡ rename_three 0 id id id (id_of ids q)
-    at_stone q s =
-        let below = in_list board q (IsStone-point (at board q) s) in
-        ap (λ (ls : List ℕ). id_of ls q) made
-        ∙ get_or-map (rename_three 0 id id id) ids q 0 0
-        (omega (arith, below, framed.length_is, c.length_is))
-
-    off : (q : ℕ) → IsStone (at board q) → id_of ids q ≡ id → id_of new q ≡ 0
-    off q s e = at_stone q s ∙ rename_three-a 0 id id id (id_of ids q) e
-
-    kept : (q : ℕ) → IsStone (at board q) → id_of ids q ≢ id → id_of new q ≡ id_of ids q
-    kept q s o =
-        let one = rename-other 0 id (id_of ids q) o in
-        at_stone q s ∙ ap (λ (k : ℕ). rename 0 id (rename 0 id k)) one ∙ ap (rename 0 id) one ∙ one
-
-    not_zero : (q : ℕ) → IsStone (at board q) → id_of ids q ≢ id → id_of ids q ≢ 0
-    not_zero q s o e =
-        let point : at board (id_of ids q) ≢ Edge =
-        λ h. IsStone-point (at board q) s (sym (Joined-same (c.own q s o)) ∙ h) in
-        let low = (IsOn-inside (id_of ids q) (framed.inside (id_of ids q) point)).low in
-        absurd (omega (arith, low, e))
-
--- the chain of one place got the place as its id: ids stay, and a stone there has one
-pub record IsFurther (board : List Cell) (old new : List ℕ) (place n : ℕ) : Type 0 where
-  pub splitting : IsSplitting board new place
-  pub kept : (p : ℕ) → IsStone (at board p) → id_of old p ≢ 0 → id_of new p ≢ 0
-  pub here : IsStone (at board n) → id_of new n ≢ 0
-
-pub IsFurther-named : (board : List Cell) (old new : List ℕ) (place n : ℕ) → IsFramed board
-    → IsFragmentSet board old new n
-    → IsSplitting board old place → IsFurther board old new place n
-IsFurther-named board old new place n framed (inl named) l = record {
-  splitting = record {
-    part = IsPart-named board n old new framed named.0 named.1 l.part;
-    cut = λ p s none. elim (cases_eq (id_of old p) 0) [
-      | inl e ↦ l.cut p s e
-      | inr o ↦ absurd (named-has board n p old new framed named.0 named.1 (inl o) none)
-    ];
-  };
-  kept = λ p s some. named-has board n p old new framed named.0 named.1 (inl some);
-  here = λ s. named-has board n n old new framed named.0 named.1 (inr (itself (IsStone-point (at board n) s)));
-}
-IsFurther-named board old new place n framed (inr same) l = record {
-  splitting = subst (λ (ls : List ℕ). IsSplitting board ls place) (sym same.1) l;
-  kept = λ p s some. subst (λ (ls : List ℕ). id_of ls p ≢ 0) (sym same.1) some;
-  here = λ s. subst (λ (ls : List ℕ). id_of ls n ≢ 0) (sym same.1) (same.0 s);
+IsSplitting-start : (board : List Cell) (ids : List ℕ) (place id : ℕ) → IsCut board ids place id
+    → IsSplitting board ids id (Neighbours place)
+IsSplitting-start board ids place id c = record {
+  alike = c.alike;
+  own = λ p s. elim (cases_eq (id_of ids p) id) [ inl e ↦ inr (e, c.cut p s e) | inr o ↦ inl (c.own p s o) ];
 }
 
--- once the chains of all four neighbours have ids, all stones have
-pub AreChainIds-split : (board : List Cell) (ids l1 l2 l3 l4 l5 : List ℕ) (place id : ℕ) → IsFramed board
-    → IsCut board ids place id
-    → l1 ≡ map (rename_three 0 id id id) ids → IsFragmentSet board l1 l2 (place + 1)
-    → IsFragmentSet board l2 l3 (place - 1) → IsFragmentSet board l3 l4 (place + 26)
-    → IsFragmentSet board l4 l5 (place - 26)
-    → length l5 ≡ 702 → AreChainIds board l5
-AreChainIds-split board ids l1 l2 l3 l4 l5 place id framed c made n2 n3 n4 n5 long =
-    let f1 = IsSplitting-start board ids l1 place id framed c made in
-    let f2 = IsFurther-named board l1 l2 place (place + 1) framed n2 f1 in
-    let f3 = IsFurther-named board l2 l3 place (place - 1) framed n3 f2.splitting in
-    let f4 = IsFurther-named board l3 l4 place (place + 26) framed n4 f3.splitting in
-    let f5 = IsFurther-named board l4 l5 place (place - 26) framed n5 f4.splitting in
-    AreChainIds-part board l5 long f5.splitting.part (λ p s none.
-    let way = f5.splitting.cut p s none in
-    let t = IsStone-joined board p way.0 way.2 s in
-    all_beside (λ q. IsStone (at board q) → id_of l5 q ≡ 0 → ⊥) place
-    (λ u. f5.kept (place + 1) u (f4.kept (place + 1) u (f3.kept (place + 1) u (f2.here u))))
-    (λ u. f5.kept (place - 1) u (f4.kept (place - 1) u (f3.here u)))
-    (λ u. f5.kept (place + 26) u (f4.here u))
-    f5.here way.0 way.1 t
-    (sym (f5.splitting.part.closed p way.0 s way.2) ∙ none))
+-- the chain of one of the places got the place as its id
+IsSplitting-named : (board : List Cell) (old new : List ℕ) (n id : ℕ) (Left : ℕ → Type 0)
+    → IsFragmentSet board old new n id → IsSplitting board old id Left
+    → IsSplitting board new id (λ q. Left q × (q ≢ n))
+IsSplitting-named board old new n id Left (inl named) l = record {
+  alike = λ p q s next same.
+      let step : Joined board p q = by_way_of q (IsStone-point (at board p) s) next same
+      (itself (IsStone-point (at board q) (s.0, same ∙ s.1))) in
+      by_dec (joined? board n p)
+      (λ path. named.1.given p path ∙ sym (named.1.given q (Joined-then path step)))
+      (λ away. named.1.others p away ∙ l.alike p q s next same
+      ∙ sym (named.1.others q (λ path. away (Joined-then path (Joined-back step)))));
+  own = λ p s. by_dec (joined? board n p)
+      (λ path. inl (subst (λ (k : ℕ). Joined board p k) (sym (named.1.given p path)) (Joined-back path)))
+      (λ away. elim (l.own p s) [
+        | inl path ↦ inl (subst (λ (k : ℕ). Joined board p k) (sym (named.1.others p away)) path)
+        | inr way ↦ inr (
+          named.1.others p away ∙ way.0,
+          (way.1.0, (way.1.1, λ e. away (Joined-back (subst (λ (k : ℕ). Joined board p k) e way.1.2))), way.1.2),
+        )
+      ]);
+}
+IsSplitting-named board old new n id Left (inr kept) l =
+    subst (λ (ls : List ℕ). IsSplitting board ls id (λ q. Left q × (q ≢ n))) (sym kept.1) (record {
+      alike = l.alike;
+      own = λ p s. elim (l.own p s) [
+        | inl path ↦ inl path
+        | inr way ↦ inr (
+          way.0,
+          (
+            way.1.0,
+            (
+              way.1.1,
+              λ e.
+                  let path : Joined board p n = subst (λ (k : ℕ). Joined board p k) e way.1.2 in
+                  kept.0 (IsStone-joined board p n path s) (sym (along-path board old l.alike path s) ∙ way.0),
+            ),
+            way.1.2,
+          ),
+        )
+      ];
+    })
+
+-- once the chains of all four neighbours have ids, all stones have those of their chains
+pub AreChainIds-split : (board : List Cell) (ids l1 l2 l3 l4 : List ℕ) (place id : ℕ)
+    → IsCut board ids place id → IsFragmentSet board ids l1 (place + 1) id → IsFragmentSet board l1 l2 (place - 1) id
+    → IsFragmentSet board l2 l3 (place + 26) id → IsFragmentSet board l3 l4 (place - 26) id
+    → length l4 ≡ 702 → AreChainIds board l4
+AreChainIds-split board ids l1 l2 l3 l4 place id c n1 n2 n3 n4 long =
+    let f1 = IsSplitting-named board ids l1 (place + 1) id _ n1 (IsSplitting-start board ids place id c) in
+    let f2 = IsSplitting-named board l1 l2 (place - 1) id _ n2 f1 in
+    let f3 = IsSplitting-named board l2 l3 (place + 26) id _ n3 f2 in
+    let f4 = IsSplitting-named board l3 l4 (place - 26) id _ n4 f3 in
+    AreChainIds-steps board l4 long (record {
+      alike = f4.alike;
+      own = λ p s. elim (f4.own p s) [
+        | inl path ↦ path
+        | inr way ↦
+            let left = way.1.1 in
+            absurd (all_beside
+            (λ q. q ≢ place + 1 → q ≢ place - 1 → q ≢ place + 26 → q ≢ place - 26 → ⊥) place
+            (λ a b c d. a refl) (λ a b c d. b refl) (λ a b c d. c refl) (λ a b c d. d refl)
+            way.1.0 left.0.0.0.0 left.0.0.0.1 left.0.0.1 left.0.1 left.1)
+      ];
+    })

@@ -71,22 +71,22 @@ AreGiven ids places id = (p : ℕ) → Contains places p → id_of ids p ≡ id
 abbrev pub AreOthersKept : List ℕ → List ℕ → List ℕ → Type 0
 AreOthersKept old new places = (p : ℕ) → ¬ Contains places p → id_of new p ≡ id_of old p
 
--- The chain of the stone on a place, if one is there and has id 0, has the place as its id now. All other ids
--- are kept.
+-- The chain of the stone on a place has the place as its id now. All other ids are kept.
 pub record HasFragmentId (board : List Cell) (old new : List ℕ) (place : ℕ) : Type 0 where
   pub given : (p : ℕ) → Joined board place p → id_of new p ≡ place
   pub others : (p : ℕ) → ¬ Joined board place p → id_of new p ≡ id_of old p
 
-abbrev pub IsFragmentSet : List Cell → List ℕ → List ℕ → ℕ → Type 0
-IsFragmentSet board old new place =
+-- that is so where a stone with this id is on the place, and else all ids are kept
+abbrev pub IsFragmentSet : List Cell → List ℕ → List ℕ → ℕ → ℕ → Type 0
+IsFragmentSet board old new place id =
     (IsStone (at board place) × HasFragmentId board old new place)
-    ⊎ ((IsStone (at board place) → id_of old place ≢ 0) × (new ≡ old))
+    ⊎ ((IsStone (at board place) → id_of old place ≢ id) × (new ≡ old))
 
--- the board is kept and has as many ids, and the chain of a place has the place as its id
-pub record SetsFragmentId (old new : BoardWithIds) (place : ℕ) : Type 0 where
+-- the board is kept and has as many ids, and the chain of a place with this id has the place as its id
+pub record SetsFragmentId (old new : BoardWithIds) (place id : ℕ) : Type 0 where
   pub board_is : new.board ≡ old.board
   pub length_is : length new.ids ≡ length old.ids
-  pub named : IsFragmentSet old.board old.ids new.ids place
+  pub named : IsFragmentSet old.board old.ids new.ids place id
 
 -- the board is kept, and these places have this id now, and all other places the ids of before
 pub record ChangesIds (old new : BoardWithIds) (places : List ℕ) (id : ℕ) : Type 0 where

@@ -15,8 +15,8 @@ change_ids-requires-clause-stones c p h =
     c.chain_into.ensures in
     IsStone-joined board c.args.place p ((chain p).0 h) stone
 
-pub returns-then-id-eq0 : goal.returns-then-id-eq0
-returns-then-id-eq0 c =
+pub returns-then-id : goal.returns-then-id
+returns-then-id c =
     let board = c.args.self.now.board in
     let stone : IsStone (at board c.args.place) =
     subst IsStone c.at.ensures (c.is_stone.ensures.fact.0 c.if-is_stone.true) in
