@@ -88,7 +88,10 @@ impl Rollout {
             left -= 1;
             self.order.exchange(index, left);
         }
-        self.pass();
+        self.ko = None;
+        self.finished = self.passed;
+        self.passed = true;
+        self.moves += 1;
     }
 
     /// Whether an empty point is a candidate of a colour.
@@ -155,22 +158,5 @@ impl Rollout {
         } else {
             None
         }
-    }
-
-    /// Passes.
-    #[inline]
-    fn pass(&mut self)
-        requires { self.old.moves < 2000 }
-        ensures { self.new ≡ record self.old {
-          ko = None;
-          passed = true;
-          finished = self.old.passed;
-          moves = self.old.moves + 1;
-        } }
-    {
-        self.ko = None;
-        self.finished = self.passed;
-        self.passed = true;
-        self.moves += 1;
     }
 }

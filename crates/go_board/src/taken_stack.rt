@@ -74,7 +74,12 @@ impl TakenStack {
     pub fn copy_from(&mut self, other: &TakenStack)
         ensures { self.new ≡ other.now }
     {
-        copy_stones(&mut self.stones, &other.stones);
+        // Each stone is read before its place is written, and no stone that the copy has is cleared.
+        self.stones.truncate(other.stones.len());
+        let (front, rest) = other.stones.split_at(self.stones.len());
+        self.stones.as_mut_slice().copy_from_slice(front);
+        // The capacity suffices: both have the same.
+        let _ = self.stones.try_extend_from_slice(rest);
     }
 
     /// Pushes a stone.
@@ -145,19 +150,4 @@ impl TakenStack {
         }
         Some(usize::from(last.place))
     }
-}
-
-/// Makes `stones` a copy of `others`, in place. Each stone is read before its place is written, and no stone that the
-/// copy has is cleared.
-fn copy_stones(
-    stones: &mut ArrayVec<TakenStone, MOST_TAKEN>,
-    others: &ArrayVec<TakenStone, MOST_TAKEN>,
-)
-    ensures { stones.new.items ≡ others.now.items }
-{
-    stones.truncate(others.len());
-    let (front, rest) = others.split_at(stones.len());
-    stones.as_mut_slice().copy_from_slice(front);
-    // The capacity suffices: both have the same.
-    let _ = stones.try_extend_from_slice(rest);
 }

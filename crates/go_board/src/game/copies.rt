@@ -1,9 +1,8 @@
 //! Copies of a game, for a search that plays on without changing the game itself.
 ghost use Rattle.std.specs.Prelude.{◌≡◌};
 
-use super::{Game, MOST_MOVES};
+use super::Game;
 use arrayvec::ArrayVec;
-use go_base::Move;
 
 impl Game {
     /// Returns an independent copy of the game, which takes as much memory as the game.
@@ -38,7 +37,13 @@ impl Game {
         self.komi = other.komi;
         self.rule = other.rule;
         self.handicap = other.handicap;
-        copy_moves(&mut self.moves, &other.moves);
+        // Each move is read before its place is written, and no move that the copy has is cleared. So if C passes the
+        // same game for both, which no caller here can do, that game stays as it was.
+        self.moves.truncate(other.moves.len());
+        let (front, rest) = other.moves.split_at(self.moves.len());
+        self.moves.as_mut_slice().copy_from_slice(front);
+        // The capacity suffices: both have the same.
+        let _ = self.moves.try_extend_from_slice(rest);
         self.chains.copy_from(&other.chains);
         self.ko = other.ko;
         self.stack.copy_from(&other.stack);
@@ -46,16 +51,4 @@ impl Game {
         self.taken_by_white = other.taken_by_white;
         self.hashes.copy_from(&other.hashes);
     }
-}
-
-/// Makes `moves` a copy of `others`, in place. Each move is read before its place is written, and no move that the copy
-/// has is cleared. So if C passes the same game for both, which no caller here can do, that game stays as it was.
-fn copy_moves(moves: &mut ArrayVec<Move, MOST_MOVES>, others: &ArrayVec<Move, MOST_MOVES>)
-    ensures { moves.new.items ≡ others.now.items }
-{
-    moves.truncate(others.len());
-    let (front, rest) = others.split_at(moves.len());
-    moves.as_mut_slice().copy_from_slice(front);
-    // The capacity suffices: both have the same.
-    let _ = moves.try_extend_from_slice(rest);
 }

@@ -22,8 +22,16 @@ impl Game {
         ensures { IsRolledOut W.gives self.now colour limit words.old result words.new }
     {
         match self.rule {
-            KoRule::Simple => self.rollout_alone(colour, words, limit),
             KoRule::Positional => self.rollout_by_copy(colour, words, limit),
+            KoRule::Simple => {
+                // Only that part of the game is kept that a rollout under simple ko needs.
+                let mut rollout = self.begin_rollout(colour);
+                rollout.play_on(colour, words, limit);
+                let board = rollout.board.board();
+                let black_stones = board.stones_of(Colour::Black);
+                let white_stones = board.stones_of(Colour::White);
+                self.score_of(board, black_stones, white_stones)
+            }
         }
     }
 
@@ -37,19 +45,6 @@ impl Game {
         game.copy_from(self);
         game.playout(colour, words, limit);
         game.score()
-    }
-
-    /// A rollout under simple ko, with only that part of the game that it needs.
-    fn rollout_alone<W: Words>(&self, colour: Colour, words: &mut W, limit: u32) -> i32
-        requires { self.now.rule ≡ Simple }
-        ensures { IsRolledOut W.gives self.now colour limit words.old result words.new }
-    {
-        let mut rollout = self.begin_rollout(colour);
-        rollout.play_on(colour, words, limit);
-        let board = rollout.board.board();
-        let black_stones = board.stones_of(Colour::Black);
-        let white_stones = board.stones_of(Colour::White);
-        self.score_of(board, black_stones, white_stones)
     }
 
     /// The rollout state of this game, with this colour to move.

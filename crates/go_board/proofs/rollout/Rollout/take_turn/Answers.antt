@@ -5,9 +5,7 @@ use Rattle.std.proofs.lemmas.Option.{slice_get_within}
 use Rattle.std.specs.List.{swap_remove}
 use Rattle.go_base.specs.declared.vertices.Vertex.TheVariants.{Pass, At}
 use Rattle.go_board.specs.Game.{with_move}
-use Rattle.go_board.specs.declared.rollout.Rollout.{Rollout}
 use Rattle.go_board.specs.private.Playouts.{AreDrawn}
-use Rattle.go_board.specs.private.Rollouts.{IsTurnIn}
 use Rattle.go_board.proofs.drawing.Rollouts.{scratch-empty, scratch-swapped, with-taken}
 use Rattle.go_board.proofs.drawing.Scratches.{scratch-passed}
 use Rattle.go_board.proofs.drawing.Turns.{drawn-on, turn-played, turn-passed}
@@ -98,12 +96,10 @@ returns-then-is_candidate g c game kept room =
 pub returns : goal.returns
 returns g c game kept room =
     let i = c.loop-left.invariant in
-    subst (λ (r : Rollout). IsTurnIn g.W.Words.gives game c.args.colour c.args.self.now c.args.words.now r
-    c.loop-left.words) (sym c.pass.ensures)
-    (record {
+    record {
       after = with_move game c.args.colour Pass;
       turn = turn-passed g.W.Words.gives game game (with_move game c.args.colour Pass) c.args.colour
           c.args.self.now.order c.loop-left.self.order c.args.words.now c.loop-left.words c.loop-left.left
           (i.rest game kept) c.loop-left-test.false refl refl;
       kept = scratch-passed (i.kept game kept) room;
-    })
+    }
