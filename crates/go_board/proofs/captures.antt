@@ -1,5 +1,4 @@
 -- What a play takes, and which stones are free after it.
 pub mod CapturedStones
-pub mod RemovingLoop
 pub mod MakingPlays
 pub mod FreeStones

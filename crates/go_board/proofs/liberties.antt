@@ -6,6 +6,7 @@ pub mod PlacingStones
 pub mod RemovingStones
 pub mod MergingIds
 pub mod ChangingIds
+pub mod NamedIds
 pub mod StonesFields
 pub mod Shares
 pub mod StoneNumbers

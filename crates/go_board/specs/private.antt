@@ -15,7 +15,6 @@ pub mod Eye
 pub mod PointList
 pub mod Areas
 pub mod Rollouts
-pub mod PlayoutBoard
-pub mod PlayoutStones
+pub mod NamedIds
 pub mod EmptyPoints
 pub mod PastHashes

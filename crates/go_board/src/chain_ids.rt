@@ -1,5 +1,5 @@
 //! The chain id of each place of a board.
-ghost use Rattle.std.specs.Prelude.{◌≡◌, ◌<◌, ◌≤◌, ◌↔◌, IsTrue};
+ghost use Rattle.std.specs.Prelude.{◌≡◌, ◌<◌, ◌≤◌, ℕ};
 ghost use Rattle.go_base.specs.Size.{most_size};
 ghost use Rattle.go_board.specs.Board.{place_count};
 ghost use Rattle.go_board.specs.private.Steps.{rename};
@@ -30,10 +30,11 @@ impl Model for ChainIds {
 
 impl ChainIds {
     ghost use Rattle.std.specs.Prelude.{length, replicate, slice_set, map};
+    ghost use Rattle.go_board.specs.Board.{at, IsStone};
     ghost use Rattle.go_board.specs.private.ChainId.{id_of, AreChainIds};
-    ghost use Rattle.go_board.specs.private.Steps.{rename_three, HasInRow, AreGiven, AreOthersKept};
+    ghost use Rattle.go_board.specs.private.Steps.{rename_three, AreGiven, AreOthersKept};
     ghost use Rattle.go_board.specs.private.Frame.{IsFramed};
-    ghost use Rattle.go_board.specs.private.PlayoutBoard.{AreInRows, AreNamed};
+    ghost use Rattle.go_board.specs.private.NamedIds.{AreInRows, AreNamed};
 
     /// Gives each place id 0, which no stone has.
     pub fn none() -> Self
@@ -80,7 +81,8 @@ impl ChainIds {
     /// Finds the chains of a board and gives them ids from scratch: the id of a chain is its first place.
     pub fn from_board(board: &Board) -> ChainIds
         requires { IsFramed board.now }
-        ensures { AreChainIds board.now result }
+        ensures ids { AreChainIds board.now result }
+        ensures blank { (p : ℕ) → ¬ IsStone (at board.now p) → id_of result p ≡ 0 }
     {
         let mut ids = ChainIds::none();
         let mut chain = Places::new();
@@ -93,39 +95,8 @@ impl ChainIds {
         ids
     }
 
-    /// Whether a place in a row has this id.
-    #[inline]
-    pub fn has_in_row(&self, row: usize, id: usize) -> bool
-        requires row { row < 27 }
-        requires id { id < place_count }
-        ensures { IsTrue result ↔ HasInRow self.now row id }
-    {
-        let id = id as u16;
-        let mut has = false;
-        for place in ROW * row..ROW * row + ROW {
-            if self.ids[place] == id {
-                has = true;
-            }
-        }
-        has
-    }
-
-    /// Renames three ids to one, in one pass.
-    pub fn join(&mut self, to: usize, a: usize, b: usize, c: usize)
-        requires to { to < place_count }
-        requires a { a < place_count }
-        requires b { b < place_count }
-        requires c { c < place_count }
-        ensures { self.new ≡ map (rename_three to a b c) self.old }
-    {
-        let (to, a, b, c) = (to as u16, a as u16, b as u16, c as u16);
-        for id in &mut self.ids {
-            *id = rename(to, c, rename(to, b, rename(to, a, *id)));
-        }
-    }
-
     /// Renames three ids to one, in one pass over the rows of a board of `lines` lines. All other places have id 0.
-    pub fn join_rows(&mut self, to: usize, a: usize, b: usize, c: usize, lines: usize)
+    pub fn join(&mut self, to: usize, a: usize, b: usize, c: usize, lines: usize)
         requires to { to < place_count }
         requires named { AreNamed a b c }
         requires lines { lines ≤ most_size }

@@ -118,7 +118,7 @@ impl Game {
         let _ = komi.half_points();
         let board = Board::start(size, stones);
         let hashes = PastHashes::of_start(rule, size, &board);
-        let chains = Chains::from_board(board);
+        let chains = Chains::from_board(board, size.get());
         let stack = TakenStack::new();
         Game {
             size,

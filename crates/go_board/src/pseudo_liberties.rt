@@ -32,10 +32,8 @@ impl PseudoLiberties {
     ghost use Rattle.std.specs.Prelude.{replicate, slice_set};
     ghost use Rattle.go_board.specs.private.Frame.{IsFramed};
     ghost use Rattle.go_board.specs.private.ChainId.{count_at, ArePseudoLiberties};
-    ghost use Rattle.go_board.specs.private.Steps.{most_pseudo_liberties, IsBelow, IsLowered, AreLowered, IsRaised};
-    ghost use Rattle.go_board.specs.private.Steps.{AreRaised};
     ghost use Rattle.go_board.specs.private.Steps.{IsMoved};
-    ghost use Rattle.go_board.specs.private.PlayoutBoard.{AreAllLowered, AreAllRaised};
+    ghost use Rattle.go_board.specs.private.NamedIds.{AreAllLowered, AreAllRaised};
 
     /// No chain has any pseudo-liberties.
     pub fn zero() -> Self
@@ -102,56 +100,6 @@ impl PseudoLiberties {
             self.counts[to] += self.counts[from];
             self.counts[from] = 0;
         }
-    }
-
-    /// Subtracts one from the chain of the stone on a place, if there is one.
-    #[inline]
-    fn lower(&mut self, board: &Board, ids: &ChainIds, place: usize)
-        requires { place < place_count }
-        ensures { IsLowered board.now ids.now self.old self.new place }
-    {
-        if board.at(place).is_stone() {
-            self.lessen(ids.at(place), 1);
-        }
-    }
-
-    /// Subtracts one for each stone beside a point, from that stone's chain.
-    #[inline]
-    pub fn lower_beside(&mut self, board: &Board, ids: &ChainIds, place: usize)
-        requires { IsOn most_size place }
-        ensures { AreLowered board.now ids.now self.old self.new place }
-    {
-        self.lower(board, ids, place + 1);
-        self.lower(board, ids, place - 1);
-        self.lower(board, ids, place + ROW);
-        self.lower(board, ids, place - ROW);
-    }
-
-    /// Adds one to the chain of the stone on a place, if there is one. Up to three such calls may have come before.
-    #[inline]
-    fn raise(&mut self, board: &Board, ids: &ChainIds, place: usize)
-        requires place { place < place_count }
-        requires room { IsBelow (most_pseudo_liberties + 3) self.old }
-        ensures { IsRaised board.now ids.now self.old self.new place }
-    {
-        // A look: there are as many numbers as places.
-        let _ = &self.counts;
-        if board.at(place).is_stone() {
-            self.add(ids.at(place), 1);
-        }
-    }
-
-    /// Adds one for each stone beside a point, to that stone's chain.
-    #[inline]
-    pub fn raise_beside(&mut self, board: &Board, ids: &ChainIds, place: usize)
-        requires point { IsOn most_size place }
-        requires room { IsBelow most_pseudo_liberties self.old }
-        ensures { AreRaised board.now ids.now self.old self.new place }
-    {
-        self.raise(board, ids, place + 1);
-        self.raise(board, ids, place - 1);
-        self.raise(board, ids, place + ROW);
-        self.raise(board, ids, place - ROW);
     }
 
     /// Subtracts one for each place beside a point, from the id of that place, but not below 0.

@@ -4,9 +4,10 @@ ghost use Rattle.go_base.specs.Point.{IsOn};
 ghost use Rattle.go_base.specs.Size.{most_size};
 ghost use Rattle.go_base.specs.declared.colours.Colour.{Colour};
 
+use crate::chains::Chains;
 use crate::empty_points::EmptyPoints;
 use crate::game::{MOST_MOVES, draw};
-use crate::playout_board::PlayoutBoard;
+use crate::places::Places;
 use crate::words::Words;
 use go_base::Colour;
 
@@ -14,7 +15,9 @@ use go_base::Colour;
 #[derive(Drop)]
 pub struct Rollout {
     /// The board with its chains.
-    pub board: PlayoutBoard,
+    pub board: Chains,
+    /// A buffer for the stones that a play captures.
+    pub found: Places,
     /// The list of the empty points.
     pub order: EmptyPoints,
     /// The place on which a play of the colour to move would bring back the board before the last move, if there is
@@ -129,7 +132,9 @@ impl Rollout {
         ensures { IsPlayedIn self.old self.new colour index }
     {
         let place = self.order.remove(index);
-        let taken = self.board.play(colour, place, &mut self.order);
+        let taken = self
+            .board
+            .play(colour, place, &mut self.found, &mut self.order);
         self.ko = self.ko_after(colour, place, taken);
         self.passed = false;
         self.finished = false;

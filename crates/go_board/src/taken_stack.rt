@@ -3,6 +3,7 @@ ghost use Rattle.std.specs.Prelude.{◌≡◌, ◌<◌, ◌≤◌, ◌++◌, ◌
 ghost use Rattle.go_board.specs.Board.{place_count};
 ghost use Rattle.go_board.specs.private.TakenStack.{most_taken};
 
+use crate::empty_points::EmptyPoints;
 use arrayvec::ArrayVec;
 use std::marker::Model;
 
@@ -48,8 +49,8 @@ impl Model for TakenStack {
 }
 
 impl TakenStack {
-    ghost use Rattle.std.specs.Prelude.{IfSome, IfNone, ℕ};
-    ghost use Rattle.go_board.specs.private.TakenStack.{IsNotLast, IsOnlyTaken, AreLastOf};
+    ghost use Rattle.std.specs.Prelude.{IfSome, IfNone, ℕ, All, ◌+◌};
+    ghost use Rattle.go_board.specs.private.TakenStack.{taken_at, IsNotLast, IsOnlyTaken, AreLastOf};
 
     /// An empty stack.
     pub fn new() -> Self
@@ -94,6 +95,18 @@ impl TakenStack {
             place: place as u16,
             number: number as u16,
         });
+    }
+
+    /// Pushes a stone for each of these places, in their order.
+    pub fn push_all(&mut self, places: &EmptyPoints, number: usize)
+        requires places { All (λ place. place < place_count) places.now }
+        requires number { number < 65536 }
+        requires room { length self.old + length places.now ≤ most_taken }
+        ensures { self.new ≡ self.old ++ taken_at number places.now }
+    {
+        for index in 0..places.len() {
+            self.push(places.get(index), number);
+        }
     }
 
     /// Pops the last stone and returns its place, if the move with this number captured it.

@@ -1,12 +1,15 @@
--- Removing the stones without a liberty, place by place.
-use Rattle.std.proofs.Common.{◌≡◌, ℕ, ◌+◌, ◌<◌, ◌≤◌, List, length, refl, sym, ◌∙◌, ap, arith, inl, inr, Bool}
-use Rattle.std.proofs.Common.{true, false, cond, get_or-set_other, get_or-set_same}
-use Rattle.std.specs.Prelude.{◌≢◌, count_by, map}
+-- The stones without a liberty, and what removing them leaves.
+use Rattle.std.proofs.Common.{◌≡◌, ℕ, zero, suc, ◌+◌, ◌<◌, ◌≤◌, List, [], ◌∷◌, ◌++◌, length, refl, sym, ◌∙◌, ap, arith}
+use Rattle.std.proofs.Common.{inl, inr, Bool, true, false, cond, get_or-set_other, get_or-set_same, add-one}
+use Rattle.std.specs.Prelude.{◌≢◌, All, count_by, filter, map}
 use Rattle.std.specs.List.{range_with_len}
 use Rattle.std.proofs.Math.ListN.{set}
 use Rattle.std.proofs.lemmas.List.{map-id, get_or_past}
-use Rattle.std.proofs.lemmas.List.FromFn.{fill_by_all, sum_by-map-range_with_len_more, get_or-map-range_with_len}
-use Rattle.std.proofs.lemmas.List.FromFn.{length-map-range_with_len}
+use Rattle.std.proofs.lemmas.List.Elements.{All-filter, All-from_get_or}
+use Rattle.std.proofs.lemmas.List.FromFn.{sum_by-map-range_with_len_more, get_or-map-range_with_len}
+use Rattle.std.proofs.lemmas.List.FromFn.{length-map-range_with_len, filter_of_map_range_with_len_more}
+use Rattle.std.proofs.lemmas.List.FromFn.{length-range_with_len, get_or-range_with_len}
+use Rattle.std.proofs.lemmas.List.Sums.{count_by-le-length}
 use Rattle.go_base.specs.Colour.{other}
 use Rattle.go_base.specs.declared.colours.Colour.{Colour}
 use Rattle.go_board.specs.Board.{at, stone}
@@ -14,9 +17,12 @@ use Rattle.go_board.specs.private.Frame.{IsFramed, HasSize, SameEdge}
 use Rattle.go_base.specs.Decide.{holds}
 use Rattle.go_board.specs.decisions.Chain.{captured?}
 use Rattle.go_board.specs.Play.{is_captured, left_at, without_captured, captured_count, play}
+use Rattle.go_board.specs.private.TakenStack.{captured_places, taken_at}
 use Rattle.go_board.specs.declared.board.Cell.{Cell}
 use Rattle.go_board.specs.declared.board.Cell.TheVariants.{Edge, Empty}
 use Rattle.go_board.proofs.boards.Cells.{stone-point, stone-differs}
+use Rattle.go_board.specs.declared.taken_stack.TakenStone.{TakenStone}
+use Rattle.go_board.proofs.General.{earlier_or_last}
 use Rattle.std.proofs.lemmas.Bool.{cases_eq, cases_lt, false≢true}
 
 -- a decision is for a fact that holds, and not for one that doesn't
@@ -38,27 +44,52 @@ pub count_by-more : (p : ℕ → Bool) (n : ℕ)
 count_by-more p n =
     simp map-id at (sum_by-map-range_with_len_more (λ (x : ℕ). cond (p x) 1 0) (λ (x : ℕ). x) 0 n n (omega arith))
 
--- the places below n are cleared and counted, and the others are still as they were
-pub record IsClearing (board : List Cell) (c : Colour) (n : ℕ) (cells : List Cell) (stack : ℕ) : Type 0 where
-  pub length_is : length cells ≡ length board
-  pub done : (k : ℕ) → k < n → at cells k ≡ left_at board c k
-  pub rest : (k : ℕ) → n ≤ k → at cells k ≡ at board k
-  pub counted : stack ≡ count_by (is_captured board c) (range_with_len 0 n)
-  pub few : stack ≤ n
+-- the captured places below n, and one place more
+pub places-more : (p : ℕ → Bool) (n : ℕ)
+    → filter p (range_with_len 0 (n + 1)) ≡ filter p (range_with_len 0 n) ++ cond (p n) (n ∷ []) []
+places-more p n = simp map-id at (filter_of_map_range_with_len_more p (λ (x : ℕ). x) 0 n n (omega arith))
 
-pub IsClearing-done : (board : List Cell) (c : Colour) (n : ℕ) (cells : List Cell) (stack : ℕ) → n ≡ length board
-    → IsClearing board c n cells stack
-    → cells ≡ without_captured board c
-unfolding without_captured
-IsClearing-done board c n cells stack all k =
-    fill_by_all (left_at board c) cells (length board) Edge k.length_is (λ j h. k.done j (omega arith))
+pub map-push : (number : ℕ) (xs : List ℕ) (x : ℕ)
+    → taken_at number (xs ++ x ∷ []) ≡ taken_at number xs ++ record { place = x; number = number } ∷ []
+map-push number [] x = refl
+map-push number (y ∷ ys) x = ap (λ (ts : List TakenStone). record { place = y; number = number } ∷ ts)
+    (map-push number ys x)
 
-pub IsClearing-count : (board : List Cell) (c : Colour) (n : ℕ) (cells : List Cell) (stack : ℕ) → n ≡ length board
-    → IsClearing board c n cells stack
-    → stack ≡ captured_count board c
+-- a place that counts is one of the count
+pub counted-one : (p : ℕ → Bool) (n m : ℕ) → n < m → p n ≡ true
+    → count_by p (range_with_len 0 n) + 1 ≤ count_by p (range_with_len 0 m)
+counted-one p n zero h e = absurd (omega arith)
+counted-one p n (suc m) h e =
+    let more : count_by p (range_with_len 0 (suc m)) ≡ count_by p (range_with_len 0 m) + cond (p m) 1 0 =
+    rw add-one at (count_by-more p m) in
+    elim (earlier_or_last n m (omega arith)) [
+      | inl earlier ↦ let rest = counted-one p n m earlier e in omega (arith, more, rest)
+      | inr last ↦
+          let one = one_for (p m) (ap p (sym last) ∙ e) in
+          let same : count_by p (range_with_len 0 n) ≡ count_by p (range_with_len 0 m) =
+          ap (λ (k : ℕ). count_by p (range_with_len 0 k)) last in
+          omega (arith, more, one, same)
+    ]
+  where
+    one_for : (b : Bool) → b ≡ true → cond {A = ℕ} b 1 0 ≡ 1
+    one_for b e = ap (λ (b : Bool). cond b 1 0) e
+
+-- the captured places are places of the board, and as many as there are at most
+pub captured-below : (board : List Cell) (c : Colour) → All (λ p. p < length board) (captured_places board c)
+captured-below board c =
+    All-filter (is_captured board c) (λ p. p < length board) (range_with_len 0 (length board))
+    (All-from_get_or (λ p. p < length board) (range_with_len 0 (length board)) 0 (λ i h.
+    let long = length-range_with_len 0 (length board) in
+    let below : i < length board = omega (arith, h, long) in
+    let is = get_or-range_with_len 0 (length board) i 0 below in
+    omega (arith, is, below)))
+
+pub captured-few : (board : List Cell) (c : Colour) → captured_count board c ≤ length board
 unfolding captured_count
-IsClearing-count board c n cells stack all k =
-    k.counted ∙ ap (λ m. count_by (is_captured board c) (range_with_len 0 m)) all
+captured-few board c =
+    let few = count_by-le-length (is_captured board c) (range_with_len 0 (length board)) in
+    let long = length-range_with_len 0 (length board) in
+    omega (arith, few, long)
 
 -- ---- what removing stones leaves
 

@@ -255,24 +255,6 @@ pub free-beside : (board : List Cell) (c : Colour) (p : ℕ) → at board p ≡ 
     → HasBeside board p Empty → IsFree (play board c p) p
 free-beside board c p empty free h = (IsFree-play board c p empty free).1 (inl h)
 
-pub free-takes_any : (board : List Cell) (c d : Colour) (p : ℕ) → at board p ≡ Empty → AreFree board → d ≡ other c
-    → TakesAny board d p → IsFree (play board c p) p
-free-takes_any board c d p empty free is h =
-    (IsFree-play board c p empty free).1 (inr (inl (subst (λ (t : Colour). TakesAny board t p) is h)))
-
-pub free-reaches_liberty : (board : List Cell) (c d : Colour) (p : ℕ) → at board p ≡ Empty → AreFree board → d ≡ other c
-    → ¬ HasBeside board p Empty → ¬ TakesAny board d p
-    → IsFree (play board c p) p → ReachesLiberty board c p
-free-reaches_liberty board c d p empty free is no_empty no_takes h = elim ((IsFree-play board c p empty free).0 h) [
-  | inl b ↦ absurd (no_empty b)
-  | inr (inl t) ↦ absurd (no_takes (subst (λ (u : Colour). TakesAny board u p) (sym is) t))
-  | inr (inr r) ↦ r
-]
-
-pub free-own : (board : List Cell) (c : Colour) (p : ℕ) → at board p ≡ Empty → AreFree board → ReachesLiberty board c p
-    → IsFree (play board c p) p
-free-own board c p empty free h = (IsFree-play board c p empty free).1 (inr (inr h))
-
 -- the points of the board are empty
 pub empty-on : (size p : ℕ) → size ≤ 25 → IsOn size p → at (empty_board size) p ≡ Empty
 empty-on size p few on =

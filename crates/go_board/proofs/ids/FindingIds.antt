@@ -13,7 +13,7 @@ use Rattle.go_board.specs.private.Steps.{AreGiven, AreOthersKept, HasFragmentId}
 use Rattle.go_board.specs.declared.board.Cell.{Cell}
 use Rattle.go_board.proofs.captures.CapturedStones.{in_list}
 use Rattle.go_board.proofs.floods.Regions.{index_of}
-use Rattle.go_board.proofs.ids.Paths.{Joined-then, Joined-back, IsStone-point, AreChainIds-steps}
+use Rattle.go_board.proofs.ids.Paths.{Joined-then, Joined-back, IsStone-point, IsStone-joined, AreChainIds-steps}
 use Rattle.std.proofs.lemmas.Bool.{cases_eq}
 use Rattle.go_board.proofs.General.{earlier_or_last, by_dec}
 use Rattle.go_board.proofs.boards.Neighbours.{IsOn-inside}
@@ -34,6 +34,7 @@ pub record AreIdsSoFar (board : List Cell) (n : ℕ) (ids : List ℕ) : Type 0 w
   pub length_is : length ids ≡ 702
   pub part : IsPart board ids
   pub done : (p : ℕ) → p < n → IsStone (at board p) → id_of ids p ≢ 0
+  pub blank : (p : ℕ) → ¬ IsStone (at board p) → id_of ids p ≡ 0
 
 zero-id : (n p : ℕ) → id_of (replicate n 0) p ≡ 0
 zero-id zero p = refl
@@ -48,6 +49,7 @@ AreIdsSoFar-none board ids none long =
       length_is = long;
       part = record { own = λ p s some. absurd (some (all p)); closed = λ p q s path. all p ∙ sym (all q) };
       done = λ p none. absurd (omega arith);
+      blank = λ p _. all p;
     }
 
 -- a chain gets a place of its own as its id
@@ -98,6 +100,7 @@ AreIdsSoFar-chain board n chain old new framed stone is_chain given others long 
         | inr last ↦ named-has board n p old new framed stone named
             (inr (subst (λ (k : ℕ). Joined board n k) (sym last) (itself (IsStone-point (at board n) stone))))
       ];
+      blank = λ p bare. named.others p (λ path. bare (IsStone-joined board n p path stone)) ∙ l.blank p bare;
     }
 
 -- a place without a stone, or with an id, is passed over
@@ -111,6 +114,7 @@ AreIdsSoFar-past board n ids has l = record {
     | inr last ↦ subst (λ (k : ℕ). id_of ids k ≢ 0) (sym last)
         (has (subst (λ (k : ℕ). IsStone (at board k)) last s))
   ];
+  blank = l.blank;
 }
 
 -- where no stone is without an id, these are the ids

@@ -80,6 +80,18 @@ AreChainIds-steps board ids long l = record {
   );
 }
 
+-- only the ids of stones count
+pub AreChainIds-same : (board : List Cell) (old new : List ℕ) → length new ≡ 702
+    → ((p : ℕ) → IsStone (at board p) → id_of new p ≡ id_of old p) → AreChainIds board old → AreChainIds board new
+AreChainIds-same board old new long same a = record {
+  length_is = long;
+  own = λ p s. subst (λ (k : ℕ). Joined board p k) (sym (same p s)) (a.own p s);
+  same = λ p q s t. (
+    (λ e. (a.same p q s t).0 (sym (same p s) ∙ e ∙ same q t)),
+    (λ path. same p s ∙ (a.same p q s t).1 path ∙ sym (same q t)),
+  );
+}
+
 pub AreLocalIds-of : (board : List Cell) (ids : List ℕ) → AreChainIds board ids → AreLocalIds board ids
 AreLocalIds-of board ids a = record {
   own = a.own;

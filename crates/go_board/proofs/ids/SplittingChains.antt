@@ -2,7 +2,7 @@
 use Rattle.std.proofs.Common.{◌≡◌, ℕ, ◌+◌, ◌-◌, ◌<◌, ◌≤◌, List, length, refl, sym, ◌∙◌, ap, subst, arith, inl, inr}
 use Rattle.std.proofs.Common.{Bool, cond, get_or-set_other, get_or-set_same}
 use Rattle.std.specs.Prelude.{◌⊎◌, ◌≢◌, ◌==◌, ◌&&◌}
-use Rattle.std.proofs.Math.ListN.{set}
+use Rattle.std.proofs.Math.ListN.{set, length-set}
 use Rattle.go_base.specs.Point.{Neighbours}
 use Rattle.go_board.specs.Board.{at, IsStone}
 use Rattle.go_board.specs.private.Frame.{IsFramed}
@@ -14,8 +14,8 @@ use Rattle.go_board.specs.declared.board.Cell.{Cell}
 use Rattle.go_board.specs.declared.board.Cell.TheVariants.{Edge, Empty}
 use Rattle.go_board.proofs.boards.Cells.{IsFramed-set}
 use Rattle.go_board.proofs.captures.CapturedStones.{in_list}
-use Rattle.go_board.proofs.ids.Paths.{Joined-then, Joined-same, Joined-back, Joined-kept, IsStone-point}
-use Rattle.go_board.proofs.ids.Paths.{IsStone-filled, IsStone-joined, AreChainIds-steps, along-path}
+use Rattle.go_board.proofs.ids.Paths.{Joined-then, Joined-back, Joined-kept, IsStone-point}
+use Rattle.go_board.proofs.ids.Paths.{IsStone-filled, IsStone-joined, AreChainIds-steps, AreChainIds-same, along-path}
 use Rattle.go_board.proofs.liberties.PseudoLiberties.{stone-test}
 use Rattle.std.proofs.lemmas.Bool.{eq-eqb, cases_eq}
 use Rattle.go_board.proofs.boards.Neighbours.{all_beside}
@@ -118,6 +118,11 @@ left-stone board p q s t =
     λ e. IsStone-filled (at (set board p Empty) q) t (ap (at (set board p Empty)) e ∙ gone board p s) in
     (off, (t.0, sym (still board p q off) ∙ t.1))
 
+-- and its id stays
+removed-id : (board : List Cell) (ids : List ℕ) (p : ℕ) → IsStone (at board p) → (q : ℕ)
+    → IsStone (at (set board p Empty) q) → id_of (set ids p 0) q ≡ id_of ids q
+removed-id board ids p s q t = get_or-set_other ids p q 0 0 (left-stone board p q s t).0
+
 -- neighbours that are left have the ids of before
 left-alike : (board : List Cell) (ids : List ℕ) (p : ℕ) → IsStone (at board p) → AreChainIds board ids → (q r : ℕ)
     → IsStone (at (set board p Empty) q) → Neighbours q r
@@ -143,15 +148,17 @@ side-id board ids p q s a next same =
 pub AreChainIds-whole : (board : List Cell) (ids : List ℕ) (p id beside : ℕ) → IsStone (at board p)
     → AreChainIds board ids → id ≡ id_of ids p
     → beside ≡ ids_beside board ids id p → (beside ≡ 0) ⊎ ((beside ≡ 1) × (id ≢ p))
-    → AreChainIds (set board p Empty) ids
+    → AreChainIds (set board p Empty) (set ids p 0)
 AreChainIds-whole board ids p id beside s a is b few =
-    AreChainIds-steps (set board p Empty) ids a.length_is (record {
+    AreChainIds-same (set board p Empty) ids (set ids p 0) (length-set ids p 0 ∙ a.length_is)
+    (removed-id board ids p s)
+    (AreChainIds-steps (set board p Empty) ids a.length_is (record {
       own = λ q t.
           let known = left-stone board p q s t in
           Joined-without board p q (id_of ids q) one known.0 (away q known.0 known.1)
           (a.own q known.1);
       alike = left-alike board ids p s a;
-    })
+    }))
   where
     counted : beside ≡ ids_beside board ids (id_of ids p) p
     counted = b ∙ ap (λ (l : ℕ). ids_beside board ids l p) is
@@ -182,21 +189,26 @@ AreChainIds-whole board ids p id beside s a is b few =
 -- ---- the chain falls apart
 
 pub IsCut-removed : (board : List Cell) (ids : List ℕ) (p id : ℕ) → IsStone (at board p) → IsFramed board
-    → AreChainIds board ids → id ≡ id_of ids p → IsCut (set board p Empty) ids p id
+    → AreChainIds board ids → id ≡ id_of ids p → IsCut (set board p Empty) (set ids p 0) p id
 IsCut-removed board ids p id s framed a is = record {
   framed = IsFramed-set board p Empty (IsStone-point (at board p) s) framed;
-  length_is = a.length_is;
-  alike = left-alike board ids p s a;
+  length_is = length-set ids p 0 ∙ a.length_is;
+  alike = λ q r t next same. kept q t ∙ left-alike board ids p s a q r t next same ∙ sym (kept r (t.0, same ∙ t.1));
   own = λ q t o.
       let known = left-stone board p q s t in
-      Joined-kept board (set board p Empty)
+      subst (λ (k : ℕ). Joined (set board p Empty) q k) (sym (kept q t))
+      (Joined-kept board (set board p Empty)
       (λ r path. still board p r
-      (λ e. o ((a.same q p known.1 s).1 (subst (λ (k : ℕ). Joined board q k) e path) ∙ sym is))) (a.own q known.1);
+      (λ e. o (kept q t ∙ (a.same q p known.1 s).1 (subst (λ (k : ℕ). Joined board q k) e path) ∙ sym is)))
+      (a.own q known.1));
   cut = λ q t e.
       let known = left-stone board p q s t in
-      let way = side-of board p q known.0 ((a.same q p known.1 s).0 (e ∙ is)) in
+      let way = side-of board p q known.0 ((a.same q p known.1 s).0 (sym (kept q t) ∙ e ∙ is)) in
       (way.side, way.neighbours, Joined-back way.rest);
 }
+  where
+    kept : (q : ℕ) → IsStone (at (set board p Empty) q) → id_of (set ids p 0) q ≡ id_of ids q
+    kept = removed-id board ids p s
 
 -- Stones beside each other have one id. A stone's own chain has its id, or the id is that of the chain that broke up, and
 -- the stone is joined to one of these places.

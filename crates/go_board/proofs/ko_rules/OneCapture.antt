@@ -17,7 +17,7 @@ use Rattle.go_board.specs.private.TakenStack.{captured_places}
 use Rattle.go_board.specs.declared.board.Cell.{Cell}
 use Rattle.go_board.proofs.boards.Cells.{stone-point}
 use Rattle.go_board.proofs.captures.CapturedStones.{holds-yes, holds-no, in_list, holds-true}
-use Rattle.go_board.proofs.captures.RemovingLoop.{counted-one}
+use Rattle.go_board.proofs.captures.CapturedStones.{counted-one}
 use Rattle.go_board.proofs.Sums.{total, total-only}
 use Rattle.std.proofs.lemmas.Bool.{cases_order}
 

@@ -1,6 +1,6 @@
 -- The pseudo-liberties when a stone is placed, as the code changes them.
 use Rattle.std.proofs.Common.{◌≡◌, ℕ, ◌+◌, ◌-◌, ◌<◌, ◌≤◌, List, length, refl, sym, ◌∙◌, ap, arith}
-use Rattle.std.proofs.Common.{Bool, true, false, cond, get_or-set_other, get_or-set_same}
+use Rattle.std.proofs.Common.{false, cond, get_or-set_other, get_or-set_same}
 use Rattle.std.specs.Prelude.{◌==◌, ◌&&◌, ◌↔◌, IsTrue, nat_lt}
 use Rattle.std.proofs.lemmas.Bool.Decides.{nat_tests}
 use Rattle.std.proofs.Math.ListN.{set, length-set}
@@ -9,10 +9,10 @@ use Rattle.go_base.specs.Size.{most_size}
 use Rattle.go_base.specs.declared.colours.Colour.{Colour}
 use Rattle.go_base.specs.declared.colours.Colour.TheVariants as colour
 use Rattle.go_board.specs.Board.{at, stone, IsStone}
-use Rattle.go_board.specs.private.ChainId.{id_of, ids_at, ids_beside, is_empty, is_stone, empty_beside, share}
+use Rattle.go_board.specs.private.ChainId.{id_of, ids_beside, is_empty, is_stone, empty_beside, share}
 use Rattle.go_board.specs.private.ChainId.{pseudo_liberties, ArePseudoLiberties, count_at, HasOtherLiberty, AreChains}
 use Rattle.go_board.specs.private.Frame.{IsFramed}
-use Rattle.go_board.specs.private.Steps.{IsRaised, AreLowered}
+use Rattle.go_board.specs.private.Steps.{AreLowered}
 use Rattle.go_board.specs.declared.board.Cell.{Cell}
 use Rattle.go_board.specs.declared.board.Cell.TheVariants.{Edge, Empty}
 use Rattle.go_board.proofs.captures.CapturedStones.{in_list}
@@ -20,7 +20,7 @@ use Rattle.go_board.proofs.ids.Paths.{set-same, IsStone-point}
 use Rattle.go_board.proofs.liberties.FillingPoints.{pseudo_liberties-filled}
 use Rattle.go_board.proofs.liberties.PseudoLiberties.{other-count}
 use Rattle.go_board.proofs.boards.Neighbours.{IsOn-inside}
-use Rattle.go_board.proofs.liberties.Shares.{gains-share, count_at-changed}
+use Rattle.go_board.proofs.liberties.Shares.{gains-share}
 
 pub stone_in : (board : List Cell) (p : ℕ) → IsFramed board → IsStone (at board p) → p < 702
 stone_in board p framed s = let below = in_list board p (IsStone-point (at board p) s) in
@@ -46,22 +46,6 @@ has_other_liberty-test board ids p q id beside counted chains empty s is b e =
     (e ∙ ap (pseudo_liberties board ids) is) in
     let known = other-count board ids p q chains.framed chains.ids empty s in
     (λ h. known.0 (test.0 h), λ h. test.1 (known.1 h))
-
--- whether the stone on a place has an id
-ids_at-stone : (board : List Cell) (ids : List ℕ) (k p : ℕ) → is_stone (at board p) ≡ true
-    → ids_at board ids k p ≡ cond (id_of ids p == k) 1 0
-ids_at-stone board ids k p s = ap (λ (b : Bool). cond (b && (id_of ids p == k)) 1 0) s
-
-pub IsRaised-stone : (board : List Cell) (ids old new : List ℕ) (p id : ℕ) → is_stone (at board p) ≡ true
-    → id ≡ id_of ids p → id < length old
-    → new ≡ set old id (count_at old id + 1) → IsRaised board ids old new p
-IsRaised-stone board ids old new p id s is below made = record {
-  length_is = ap length made ∙ length-set old id (count_at old id + 1);
-  each = λ k _. ap (λ (cs : List ℕ). count_at cs k) made
-      ∙ count_at-changed (λ n m. n + m) (λ n. omega arith) old id 1 k below
-      ∙ ap (λ (i : ℕ). count_at old k + cond (i == k) 1 0) is
-      ∙ ap (λ (n : ℕ). count_at old k + n) (sym (ids_at-stone board ids k p s));
-}
 
 -- an id has a pseudo-liberty for each of its stones beside an empty point
 pub ids_beside-few : (board : List Cell) (ids : List ℕ) (k p : ℕ) → IsOn most_size p → at board p ≡ Empty

@@ -1,15 +1,15 @@
 -- The pseudo-liberties when a stone is removed.
 use Rattle.std.proofs.Common.{◌≡◌, ℕ, ◌+◌, ◌-◌, ◌<◌, ◌≤◌, List, length, refl, sym, ◌∙◌, ap, subst, arith, inl, inr}
-use Rattle.std.proofs.Common.{Bool, true, false, cond, get_or-set_other, get_or-set_same}
+use Rattle.std.proofs.Common.{true, false, cond, get_or-set_other, get_or-set_same}
 use Rattle.std.specs.Prelude.{◌==◌}
 use Rattle.std.proofs.lemmas.List.{ext_get_or}
 use Rattle.std.proofs.Math.ListN.{set, length-set}
 use Rattle.go_base.specs.Point.{IsOn}
 use Rattle.go_base.specs.Size.{most_size}
 use Rattle.go_board.specs.Board.{at, IsStone}
-use Rattle.go_board.specs.private.ChainId.{id_of, ids_beside, is_empty, is_stone, empty_beside, has_id, share}
+use Rattle.go_board.specs.private.ChainId.{id_of, ids_beside, is_empty, is_stone, empty_beside, share}
 use Rattle.go_board.specs.private.ChainId.{pseudo_liberties, ArePseudoLiberties, count_at}
-use Rattle.go_board.specs.private.Steps.{IsRaised, AreRaised, IsBelow}
+use Rattle.go_board.specs.private.Steps.{AreRaised, IsBelow}
 use Rattle.go_board.specs.declared.board.Cell.{Cell}
 use Rattle.go_board.specs.declared.board.Cell.TheVariants.{Edge, Empty, Black, White}
 use Rattle.go_board.proofs.captures.CapturedStones.{in_list}
@@ -54,18 +54,6 @@ pseudo_liberties-removed board ids k p on s =
         by_cell White e = refl
         by_cell Edge e = refl
         by_cell Empty e = cc
-
-pub IsBelow-raised : (board : List Cell) (ids old new : List ℕ) (p m n : ℕ) → m + 1 ≤ n → IsBelow m old
-    → IsRaised board ids old new p → IsBelow n new
-IsBelow-raised board ids old new p m n h few r k below =
-    let is = r.each k below in
-    let a = few k below in
-    let b = one (has_id board ids k p) in
-    omega (arith, h, is, a, b)
-  where
-    one : (b : Bool) → cond b 1 0 ≤ 1
-    one true = omega arith
-    one false = omega arith
 
 -- after the id's count went down
 pub IsBelow-lessened : (board : List Cell) (ids counts new : List ℕ) (id less : ℕ) → ArePseudoLiberties board ids counts

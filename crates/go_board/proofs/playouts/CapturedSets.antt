@@ -18,7 +18,7 @@ use Rattle.go_board.specs.decisions.Chain.{captured?}
 use Rattle.go_board.specs.private.Frame.{IsFramed}
 use Rattle.go_board.specs.private.Flood.{AreSpread}
 use Rattle.go_board.specs.private.ChainId.{BoardWithIds, id_of, AreChains}
-use Rattle.go_board.specs.private.PlayoutBoard.{IsSeed, AreCapturedBeside, AreCapturedStones, AreRemoved}
+use Rattle.go_board.specs.private.NamedIds.{IsSeed, AreCapturedBeside, AreCapturedStones, AreRemoved}
 use Rattle.go_board.specs.declared.board.Cell.{Cell}
 use Rattle.go_board.specs.declared.board.Cell.TheVariants.{Edge, Empty}
 use Rattle.go_board.proofs.General.{by_dec, earlier_or_last}
@@ -30,7 +30,7 @@ use Rattle.go_board.proofs.captures.MakingPlays.{captured-joined}
 use Rattle.go_board.proofs.floods.Regions.{AreSpread-grows, AreSpread-sound, spread_more, index_of}
 use Rattle.go_board.proofs.ids.Paths.{Joined-back, IsStone-point, AreLocalIds-of, AreLocalIds-less, IsLess}
 use Rattle.go_board.proofs.ids.Paths.{AreChainIds-steps}
-use Rattle.go_board.proofs.playouts.PlayoutFields.{AreChainIds-same}
+use Rattle.go_board.proofs.ids.Paths.{AreChainIds-same}
 
 -- ---- the flood
 

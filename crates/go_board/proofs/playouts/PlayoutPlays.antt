@@ -14,28 +14,28 @@ use Rattle.go_board.specs.Chain.{IsFree, IsCaptured, HasBeside}
 use Rattle.go_board.specs.private.ChainId.{id_of, count_at, AreChains, AreFree, HasOtherLiberty, pseudo_liberties}
 use Rattle.go_board.specs.private.ChainId.{is_empty, empty_at, empty_beside}
 use Rattle.go_board.specs.private.Legal.{IsInAtari, TakesAny, ReachesLiberty}
-use Rattle.go_board.specs.private.PlayoutBoard.{named_beside, AreCapturedBeside, FreesPlay, FreesAny}
-use Rattle.go_board.specs.private.PlayoutStones.{ArePlayoutStones}
+use Rattle.go_board.specs.private.NamedIds.{named_beside, AreCapturedBeside, FreesPlay, FreesAny}
+use Rattle.go_board.specs.private.Stones.{AreCounted}
 use Rattle.go_board.specs.declared.board.Cell.{Cell}
 use Rattle.go_board.specs.declared.board.Cell.TheVariants.{Edge, Empty, Black, White}
-use Rattle.go_board.specs.declared.playout_stones.PlayoutStones.TheInside.{Inside}
+use Rattle.go_board.specs.declared.stones.Stones.TheInside.{Inside}
 use Rattle.go_board.proofs.boards.Neighbours.{IsOn-inside, all_beside, left_of, under_of}
 use Rattle.go_board.proofs.captures.FreeStones.{IsFree-play}
 use Rattle.go_board.proofs.captures.MakingPlays.{to_code, is_captured-code}
 use Rattle.go_board.proofs.ids.Paths.{Joined-set}
 use Rattle.go_board.proofs.liberties.PlacingStones.{has_other_liberty-test}
 use Rattle.go_board.proofs.liberties.PseudoLiberties.{captured-other, captured-beside}
-use Rattle.go_board.proofs.playouts.NamedIds.{named-beside, count-other}
+use Rattle.go_board.proofs.liberties.NamedIds.{named-beside, count-other}
 
 -- ---- the code's tests
 
 -- the number of a stone's id
-pub stone-count : (f : Inside) (q id counted : ℕ) → ArePlayoutStones f → IsStone (at f.board q) → id ≡ id_of f.ids q
+pub stone-count : (f : Inside) (q id counted : ℕ) → AreCounted f → IsStone (at f.board q) → id ≡ id_of f.ids q
     → id < 702 → counted ≡ count_at f.counts id → counted ≡ pseudo_liberties f.board f.ids id
 stone-count f q id counted kept s is below e =
     e ∙ sym (count-other f.counts id (λ zero. kept.named q s (sym is ∙ zero))) ∙ kept.counts.each id below
 
-pub other_liberty-test : (f : Inside) (p q id beside counted : ℕ) → ArePlayoutStones f → AreChains f.board f.ids
+pub other_liberty-test : (f : Inside) (p q id beside counted : ℕ) → AreCounted f → AreChains f.board f.ids
     → at f.board p ≡ Empty → IsStone (at f.board q) → id ≡ id_of f.ids q → id < 702
     → beside ≡ named_beside f.ids id p → counted ≡ count_at f.counts id
     → IsTrue (nat_lt beside counted) ↔ HasOtherLiberty f.board q p
@@ -44,7 +44,7 @@ other_liberty-test f p q id beside counted kept chains empty s is below b e =
     (b ∙ named-beside f.board f.ids kept.blank id p (λ zero. kept.named q s (sym is ∙ zero)))
     (stone-count f q id counted kept s is below e)
 
-pub captured-test : (f : Inside) (c : Colour) (q id counted : ℕ) → ArePlayoutStones f → AreChains f.board f.ids
+pub captured-test : (f : Inside) (c : Colour) (q id counted : ℕ) → AreCounted f → AreChains f.board f.ids
     → at f.board q ≡ stone c → id ≡ id_of f.ids q → id < 702 → counted ≡ count_at f.counts id
     → IsTrue (nat_eq counted 0) ↔ IsCaptured f.board c q
 captured-test f c q id counted kept chains held is below e =

@@ -14,7 +14,7 @@ use Rattle.go_board.specs.decisions.Chain.{captured?}
 use Rattle.go_board.specs.Play.{is_captured, captured_count}
 use Rattle.go_board.specs.private.TakenStack.{captured_places}
 use Rattle.go_board.specs.private.EmptyPoints.{AreRising, IsInserted, InsertsFrom, AreInserted}
-use Rattle.go_board.specs.private.PlayoutBoard.{AreCapturedStones}
+use Rattle.go_board.specs.private.NamedIds.{AreCapturedStones}
 use Rattle.go_board.specs.declared.board.Cell.{Cell}
 use Rattle.go_board.proofs.General.{earlier_or_last}
 use Rattle.go_board.proofs.boards.Cells.{stone-point}

@@ -56,7 +56,7 @@ HasSize-with_black size b (p ∷ ps) all has =
     HasSize-with_black size (set b p Black) ps all.1
     (HasSize-same_edge size b (set b p Black) (SameEdge-set b p Black ((has p).1 all.0) (λ e. cc)) has)
 
-HasSize-start : (size stones : ℕ) → IsSize size → (stones ≡ 0) ⊎ AllowsHandicap size stones
+pub HasSize-start : (size stones : ℕ) → IsSize size → (stones ≡ 0) ⊎ AllowsHandicap size stones
     → HasSize size (start size stones)
 unfolding start
 HasSize-start size stones is (inl none) =

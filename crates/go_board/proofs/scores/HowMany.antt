@@ -9,7 +9,7 @@ use Rattle.std.proofs.lemmas.List.Elements.{Contains-push, Contains-push_cases, 
 use Rattle.std.proofs.lemmas.List.Quantifiers.{all_pairs_push}
 use Rattle.std.proofs.lemmas.List.Sums.{length-filter}
 use Rattle.go_board.specs.Laws.{IsOfSoMany}
-use Rattle.go_board.proofs.captures.RemovingLoop.{places-more}
+use Rattle.go_board.proofs.captures.CapturedStones.{places-more}
 use Rattle.go_board.proofs.General.{earlier_or_last}
 
 -- the list has the numbers below n that pass, each less than those after it

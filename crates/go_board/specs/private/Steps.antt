@@ -1,12 +1,12 @@
 -- Steps of the upkeep of ids and pseudo-liberties.
-use Rattle.std.specs.Prelude.{◌⊎◌, ◌≡◌, ◌≢◌, ℕ, ◌+◌, ◌*◌, ◌-◌, ◌<◌, ◌≤◌, ◌==◌, if◌then◌else◌, Contains, List, length}
+use Rattle.std.specs.Prelude.{◌⊎◌, ◌≡◌, ◌≢◌, ℕ, ◌+◌, ◌-◌, ◌<◌, ◌≤◌, ◌==◌, if◌then◌else◌, Contains, List, length}
 use Rattle.std.specs.Prelude.{slice_set}
 use Rattle.go_base.specs.Point.{Neighbours}
 use Rattle.go_board.specs.declared.board.Cell.{Cell}
 use Rattle.go_board.specs.Board.{place_count, at, IsStone}
 use Rattle.go_board.specs.Chain.{Joined}
 use Rattle.go_board.specs.private.Frame.{IsFramed}
-use Rattle.go_board.specs.private.ChainId.{BoardWithIds, id_of, ids_at, ids_beside, count_at}
+use Rattle.go_board.specs.private.ChainId.{BoardWithIds, id_of, ids_beside, count_at}
 
 -- what an id becomes where one id turns into another
 abbrev pub rename : ℕ → ℕ → ℕ → ℕ
@@ -15,16 +15,6 @@ rename to from id = if id == from then to else id
 -- what it becomes where three ids do
 abbrev pub rename_three : ℕ → ℕ → ℕ → ℕ → ℕ → ℕ
 rename_three to a b c id = rename to c (rename to b (rename to a id))
-
--- the id of a place's stone, if one is there, has one pseudo-liberty less
-pub record IsLowered (board : List Cell) (ids old new : List ℕ) (p : ℕ) : Type 0 where
-  pub length_is : length new ≡ length old
-  pub each : (id : ℕ) → id < place_count → count_at new id ≡ count_at old id - ids_at board ids id p
-
--- it has one more
-pub record IsRaised (board : List Cell) (ids old new : List ℕ) (p : ℕ) : Type 0 where
-  pub length_is : length new ≡ length old
-  pub each : (id : ℕ) → id < place_count → count_at new id ≡ count_at old id + ids_at board ids id p
 
 -- the ids of the stones beside a point have one less for each of these stones
 pub record AreLowered (board : List Cell) (ids old new : List ℕ) (p : ℕ) : Type 0 where
@@ -55,13 +45,6 @@ pub record IsIdOr (board : List Cell) (ls : List ℕ) (stone : Cell) (p other id
 pub record IsMoved (old new : List ℕ) (to from : ℕ) : Type 0 where
   pub one : to ≡ from → new ≡ old
   pub two : to ≢ from → new ≡ slice_set (slice_set old to (count_at old to + count_at old from)) from 0
-
--- a place of a row has this id
-pub record HasInRow (ids : List ℕ) (row id : ℕ) : Type 0 where
-  pub place : ℕ
-  pub from : 26 * row ≤ place
-  pub to : place < 26 * row + 26
-  pub has : id_of ids place ≡ id
 
 -- each of the places has this id
 abbrev pub AreGiven : List ℕ → List ℕ → ℕ → Type 0

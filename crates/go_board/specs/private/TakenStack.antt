@@ -1,5 +1,5 @@
 -- The stones that moves have taken.
-use Rattle.std.specs.Prelude.{◌≡◌, ◌≢◌, ◌==◌, ℕ, ◌+◌, ◌<◌, ◌⊎◌, ◌↔◌, List, [], ◌∷◌, ◌++◌, slice_set, map, filter}
+use Rattle.std.specs.Prelude.{◌≡◌, ◌≢◌, ◌==◌, ℕ, ◌+◌, ◌<◌, List, [], ◌∷◌, ◌++◌, slice_set, map, filter}
 use Rattle.std.specs.Prelude.{length, if◌then◌else◌}
 use Rattle.std.specs.List.{range_with_len, AllByRecursion}
 use Rattle.go_base.specs.Colour.{other}
@@ -17,7 +17,6 @@ use Rattle.go_board.specs.private.Frame.{IsFramed}
 use Rattle.go_board.specs.Chain.{IsCaptured}
 use Rattle.go_board.specs.Play.{is_captured}
 use Rattle.go_board.specs.Taken.{captures_of_vertex}
-use Rattle.go_board.specs.private.ChainId.{id_of}
 
 -- how many taken stones there is room for
 abbrev pub most_taken : ℕ
@@ -35,22 +34,7 @@ places_of stones = map (λ (t : TakenStone). t.place) stones
 abbrev pub taken_at : ℕ → List ℕ → List TakenStone
 taken_at number places = map (λ place. record { place = place; number = number }) places
 
--- the stones of this colour without a liberty are just those with this id
-abbrev pub HaveCapturedId : List Cell → List ℕ → Colour → ℕ → Type 0
-HaveCapturedId board ids c id = (p : ℕ) → IsCaptured board c p ↔ ((at board p ≡ stone c) × (id_of ids p ≡ id))
-
--- the id of a stone of this colour without a liberty on a place, or another where there is none
-pub record IsCapturedIdOr (board : List Cell) (ids : List ℕ) (c : Colour) (p other id : ℕ) : Type 0 where
-  pub there : IsCaptured board c p → id ≡ id_of ids p
-  pub absent : ¬ IsCaptured board c p → id ≡ other
-
--- a neighbour with such a stone, the right one where it has one
-pub record IsCapturedBeside (board : List Cell) (c : Colour) (p q : ℕ) : Type 0 where
-  pub neighbours : Neighbours p q
-  pub captured : IsCaptured board c q
-  pub first : (q ≡ p + 1) ⊎ ¬ IsCaptured board c (p + 1)
-
--- no neighbour has such a stone
+-- no neighbour has a stone of this colour without a liberty
 abbrev pub AreNoneCaptured : List Cell → Colour → ℕ → Type 0
 AreNoneCaptured board c p = (q : ℕ) → Neighbours p q → ¬ IsCaptured board c q
 

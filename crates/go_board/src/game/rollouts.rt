@@ -3,7 +3,7 @@ ghost use Rattle.std.specs.Prelude.{◌≡◌, ◌↔◌, IsTrue};
 
 use super::Game;
 use crate::board::{Board, place_of};
-use crate::playout_board::PlayoutBoard;
+use crate::places::Places;
 use crate::rollout::Rollout;
 use crate::rules::KoRule;
 use crate::words::Words;
@@ -27,10 +27,10 @@ impl Game {
                 // Only that part of the game is kept that a rollout under simple ko needs.
                 let mut rollout = self.begin_rollout(colour);
                 rollout.play_on(colour, words, limit);
-                let board = rollout.board.board();
-                let black_stones = board.stones_of(Colour::Black);
-                let white_stones = board.stones_of(Colour::White);
-                self.score_of(board, black_stones, white_stones)
+                let chains = &rollout.board;
+                let black_stones = chains.stones_of(Colour::Black);
+                let white_stones = chains.stones_of(Colour::White);
+                self.score_of(chains.board(), black_stones, white_stones)
             }
         }
     }
@@ -53,8 +53,7 @@ impl Game {
         ensures kept { IsRolloutOf self.now colour result }
         ensures empty { AreEmptyPoints self.now result.order }
     {
-        let size = self.size.get();
-        let board = PlayoutBoard::from_chains(&self.chains, size as usize);
+        let board = self.chains.copy();
         let order = self.empty_points();
         let ko = self.ko_place(colour);
         let passed = self.last_is_pass();
@@ -62,6 +61,7 @@ impl Game {
         let moves = self.moves.len();
         Rollout {
             board,
+            found: Places::new(),
             order,
             ko,
             passed,

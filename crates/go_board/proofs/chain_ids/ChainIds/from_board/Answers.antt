@@ -36,7 +36,10 @@ loop-place-preserved c =
           (AreIdsSoFar-past board n c.loop-place.ids has c.loop-place.invariant)
     ]
 
-pub returns : goal.returns
-returns c =
+pub returns-clause-ids : goal.returns-clause-ids
+returns-clause-ids c =
     AreIdsSoFar-done c.args.board.now c.loop-place.place c.loop-place.ids c.requires c.loop-place-test.false
     c.loop-place.invariant
+
+pub returns-clause-blank : goal.returns-clause-blank
+returns-clause-blank c = c.loop-place.invariant.blank

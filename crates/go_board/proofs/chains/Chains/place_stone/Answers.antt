@@ -7,6 +7,16 @@ use Rattle.go_board.specs.declared.board.Cell.{Cell}
 use Rattle.go_board.proofs.ids.JoiningChains.{AreOwn-code, AreChains-set}
 use Rattle.go_board.proofs.chains.Chains.place_stone.Goals as goal
 
+pub join-requires-clause-three : goal.join-requires-clause-three
+join-requires-clause-three c = record {
+  first = c.id_or-a.ensures.named;
+  second = c.id_or-b.ensures.named;
+  third = c.id_or-c.ensures.named;
+  first_below = c.id_or-a.ensures.below;
+  second_below = c.id_or-b.ensures.below;
+  third_below = c.id_or-c.ensures.below;
+}
+
 pub invariant_of-self : goal.invariant_of-self
 invariant_of-self c =
     let s = c.self.inside.stones in

@@ -19,8 +19,9 @@ invariant_of-self c =
     subst (λ (t : BoardWithIds). AreChains t.board t.ids) (sym c.remove_stone.ensures) (record {
       framed = IsFramed-set s.board p Empty (IsStone-point (at s.board p) stone) c.self.invariant.framed;
       ids =
-          AreChainIds-whole s.board s.ids p c.id-id.result c.ids_beside-beside.result stone
-          c.self.invariant.ids c.id-id.ensures.value c.ids_beside-beside.ensures
+          AreChainIds-whole s.board s.ids p c.id-id.result c.named_beside-beside.result stone
+          c.self.invariant.ids c.id-id.ensures.value (c.named_beside-beside.ensures.stones
+          (c.id-id.ensures.named stone))
           (c.stays_whole.ensures.0 c.if-stays_whole.true);
     })
 

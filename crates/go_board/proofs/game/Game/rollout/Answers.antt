@@ -26,5 +26,5 @@ returns-in-Simple g c =
         playout = p.playout.playout;
       };
       result_is = to_z-of_z w32 c.score_of.result fits
-          ∙ c.score_of.ensures p.after (c.board-board.ensures ∙ p.board_is) (sym (playout-komi p.playout.playout));
+          ∙ c.score_of.ensures p.after (c.board.ensures ∙ p.board_is) (sym (playout-komi p.playout.playout));
     }

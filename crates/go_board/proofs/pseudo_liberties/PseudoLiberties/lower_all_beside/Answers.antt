@@ -1,5 +1,5 @@
 use Rattle.std.proofs.Common.{◌≡◌, ◌∙◌, ap, sym, length}
-use Rattle.go_board.proofs.playouts.NamedIds.{AreAllLowered-four}
+use Rattle.go_board.proofs.liberties.NamedIds.{AreAllLowered-four}
 use Rattle.go_board.proofs.pseudo_liberties.PseudoLiberties.lower_all_beside.Goals as goal
 
 pub returns : goal.returns

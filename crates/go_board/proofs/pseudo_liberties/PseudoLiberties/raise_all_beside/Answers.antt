@@ -1,5 +1,5 @@
 use Rattle.std.proofs.Common.{◌≡◌, ◌∙◌, ap, sym, length}
-use Rattle.go_board.proofs.playouts.NamedIds.{AreAllRaised-four}
+use Rattle.go_board.proofs.liberties.NamedIds.{AreAllRaised-four}
 use Rattle.go_board.proofs.pseudo_liberties.PseudoLiberties.raise_all_beside.Goals as goal
 
 pub returns : goal.returns

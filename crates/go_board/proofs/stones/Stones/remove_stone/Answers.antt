@@ -4,7 +4,7 @@ use Rattle.go_board.specs.Board.{at, IsStone}
 use Rattle.go_board.specs.private.Areas.{one_of}
 use Rattle.go_board.specs.private.ChainId.{BoardWithIds}
 use Rattle.go_board.proofs.liberties.StoneNumbers.{enough-stones}
-use Rattle.go_board.proofs.liberties.StonesFields.{room-for_removed, AreCounted-removed, place-of_stone}
+use Rattle.go_board.proofs.liberties.StonesFields.{AreCounted-removed, place-of_stone}
 use Rattle.go_board.proofs.stones.Stones.remove_stone.Goals as goal
 
 pub overflow_sub-self : goal.overflow_sub-self
@@ -23,18 +23,13 @@ overflow_sub-self-2 c =
     c.self.invariant.white_is in
     omega (arith, enough, c.one_of-2.ensures.value ∙ ap (one_of White) c.at-stone.ensures)
 
-pub raise_beside-requires-clause-room : goal.raise_beside-requires-clause-room
-raise_beside-requires-clause-room c =
-    room-for_removed c.self.inside c.lessen.new.self c.at.result c.empty_beside-less.result c.self.invariant
-    c.at.ensures.below c.lessen.ensures
-
 pub invariant_of-self : goal.invariant_of-self
 invariant_of-self c =
-    AreCounted-removed c.self.inside c.set.new.self c.lessen.new.self c.raise_beside.new.self c.args.place c.at.result
-    c.empty_beside-less.result (c.self.inside.black - c.one_of.result) (c.self.inside.white - c.one_of-2.result)
-    c.self.invariant
+    AreCounted-removed c.self.inside c.set.new.self c.set-2.new.self c.lessen.new.self
+    c.raise_all_beside.new.self c.args.place c.at.result c.empty_beside-less.result
+    (c.self.inside.black - c.one_of.result) (c.self.inside.white - c.one_of-2.result) c.self.invariant
     (subst (λ (s : BoardWithIds). IsStone (at s.board c.args.place)) (sym c.self.view_is) c.requires)
     c.at.ensures.value c.at.ensures.below c.empty_beside-less.ensures.value c.lessen.ensures c.set.ensures
-    c.raise_beside.ensures
+    c.set-2.ensures.value c.raise_all_beside.ensures
     (ap (λ (n : ℕ). c.self.inside.black - n) (c.one_of.ensures.value ∙ ap (one_of Black) c.at-stone.ensures))
     (ap (λ (n : ℕ). c.self.inside.white - n) (c.one_of-2.ensures.value ∙ ap (one_of White) c.at-stone.ensures))

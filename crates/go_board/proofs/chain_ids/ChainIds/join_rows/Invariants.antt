@@ -1,5 +1,0 @@
-use Rattle.go_board.proofs.playouts.PlayoutFields.{IsJoiningRows}
-use Rattle.go_board.proofs.chain_ids.ChainIds.join_rows.Given as goal
-
-abbrev pub invariant-loop-place : goal.invariant-loop-place
-invariant-loop-place l = IsJoiningRows l.fn.self l.to l.a l.b l.c l.place l.self-inside.ids

@@ -1,5 +1,0 @@
-use Rattle.go_board.proofs.playouts.CapturedSets.{IsRemovingAll}
-use Rattle.go_board.proofs.playout_stones.PlayoutStones.remove_all.Given as goal
-
-abbrev pub invariant-loop-index : goal.invariant-loop-index
-invariant-loop-index l = IsRemovingAll l.fn.self l.places l.index l.self
