@@ -1,19 +1,17 @@
 //! A sans-IO engine: its caller supplies its choices, and answers the commands that the table doesn't have.
-ghost use Rattle.std.specs.Prelude.{◌≡◌, ◌≢◌, ◌≤◌, length, true, false, [], None, IfSome, IfNone, IfErr};
+ghost use Rattle.std.specs.Prelude.{◌≡◌, ◌≢◌, ◌≤◌, length, true, false, [], Some, IfSome, IfNone, IfErr};
 ghost use Rattle.std.specs.Prelude.{OnOk, OnErr, if◌then◌else◌, codes};
 ghost use Rattle.gtp_wire.specs.Replies.{IsReplyText, most_written_bytes};
 ghost use Rattle.gtp_wire.specs.declared.lines.Line.TheVariants as line;
 ghost use Rattle.gtp_session.specs.declared.events.Wait.TheVariants as wait;
 ghost use Rattle.gtp_session.specs.declared.events.Event.TheVariants as event;
 ghost use Rattle.gtp_session.specs.declared.events.AnswerFault.TheVariants as answer_fault;
-ghost use Rattle.gtp_session.specs.Commands.{asked, command_of};
 ghost use Rattle.gtp_session.specs.Policy.{IsLawful};
 ghost use Rattle.gtp_session.specs.Spoken.{IsSpoken};
 ghost use Rattle.gtp_session.specs.Steps.{IsUnlawful, event_of};
 
 use crate::answers::{answer, command_of};
 use crate::author_texts::{AuthorText, text_for};
-use crate::commands::CommandName;
 pub use crate::events::{AnswerFault, ChoiceFault, CommandFault, Event, NoTitle, StepsFed, Wait};
 use crate::own_commands::OwnCommands;
 use crate::titles::{Title, copy_of, title_of};
@@ -58,7 +56,8 @@ impl Model for Steps {
 
 impl Steps {
     ghost use Rattle.gtp_session.specs.Steps.{IsStepsState, IsOpen, IsTitle, fresh_steps};
-    ghost use Rattle.gtp_session.specs.Steps.{replied, texted};
+    ghost use Rattle.gtp_session.specs.Steps.{replied_by, texted};
+    ghost use Rattle.gtp_session.specs.private.AuthorTexts.{text_in};
     ghost use Rattle.gtp_session.specs.Steps.{ReadsOn, Chooses, RefusesChoice, AnswersOther, RefusesAnswer};
     ghost use Rattle.gtp_session.specs.Steps.{SetsName, SetsVersion, AddsCommand, declined_text};
     ghost use Rattle.gtp_session.specs.OwnCommands.{RefusesName};
@@ -168,36 +167,32 @@ impl Steps {
             self.wait = wait;
             return StepsFed { used, event };
         }
-        self.reply_unasked(command);
+        match text_for(&self.line, command, &self.commands) {
+            Some(text) => self.reply_set(text),
+            None => {
+                let reply = &mut self.reply;
+                // The line asks for no choice, so this one doesn't count.
+                self.ended = answer(&mut self.game, &self.line, command, Choice::Resign, reply);
+            }
+        }
         StepsFed {
             used,
             event: Event::Reply,
         }
     }
 
-    /// Answers the line that was read last, which names this command, and needs nothing from the author.
-    fn reply_unasked(&mut self, command: Option<CommandName>)
-        requires open { IsOpen self.old }
-        requires named { command ≡ command_of self.old.line }
-        requires asks { asked self.old.game self.old.line ≡ None }
-        ensures { self.new ≡ replied self.old }
+    /// Answers the line that was read last by this text, which its author has set.
+    fn reply_set(&mut self, text: AuthorText)
+        requires { IsOpen self.old }
+        ensures { self.new ≡ replied_by self.old (text_in self.old (Some text)) }
     {
         let reply = &mut self.reply;
         let id = id_of(&self.line);
-        match text_for(&self.line, command, &self.commands) {
-            Some(AuthorText::Name) => write_reply_into(reply, true, id, &self.name),
-            Some(AuthorText::Version) => write_reply_into(reply, true, id, &self.version),
-            Some(AuthorText::Known(known)) => write_reply_into(reply, true, id, truth(known)),
-            Some(AuthorText::Commands) => write_reply_into(
-                reply,
-                true,
-                id,
-                &self.commands.listed(),
-            ),
-            None => {
-                // The line asks for no choice, so this one doesn't count.
-                self.ended = answer(&mut self.game, &self.line, command, Choice::Resign, reply);
-            }
+        match text {
+            AuthorText::Name => write_reply_into(reply, true, id, &self.name),
+            AuthorText::Version => write_reply_into(reply, true, id, &self.version),
+            AuthorText::Known(known) => write_reply_into(reply, true, id, truth(known)),
+            AuthorText::Commands => write_reply_into(reply, true, id, &self.commands.listed()),
         }
     }
 
