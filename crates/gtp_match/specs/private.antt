@@ -2,4 +2,4 @@
 pub mod Conditions
 pub mod Feeding
 pub mod Borrowing
-pub mod Notices
+pub mod Adding

@@ -1,8 +1,8 @@
 //! Why a side fails by what it writes: it goes down, is unfit, or forfeits.
-ghost use Rattle.std.specs.Prelude.{◌≡◌, ◌++◌, take};
+ghost use Rattle.std.specs.Prelude.{◌≡◌, take};
 ghost use Rattle.gtp_match.specs.Losing.{owed_of, BreaksRule};
 ghost use Rattle.gtp_wire.specs.Replies.{most_shown};
-ghost use Rattle.gtp_match.specs.private.Notices.{bytes_in};
+ghost use Rattle.gtp_match.specs.private.Adding.{owing_also};
 
 use crate::sides::EngineRun;
 use crate::unanswered::SentCommand;
@@ -46,6 +46,16 @@ pub struct Owed {
     pub bytes: ShownBytes,
 }
 
+impl Owed {
+    /// Adds bytes that the side wrote after these, as far as they are shown.
+    pub(crate) fn add_bytes(&mut self, text: &[u8])
+        ensures { self.new ≡ owing_also self.old text.now }
+    {
+        let room = MOST_SHOWN - self.bytes.len();
+        push(&mut self.bytes, &text[..room.min(text.len())]);
+    }
+}
+
 /// A side failed by what it wrote.
 #[derive(Drop)]
 pub struct Loss {
@@ -69,27 +79,12 @@ pub(crate) fn owed_by(engine: &EngineRun) -> Owed
 }
 
 /// Returns the first bytes of a text, as many as are shown.
-pub(crate) fn first_bytes(text: &[u8]) -> ShownBytes
+fn first_bytes(text: &[u8]) -> ShownBytes
     ensures { result.items ≡ take most_shown text.now }
 {
     let mut bytes = ArrayVec::new();
     push(&mut bytes, &text[..MOST_SHOWN.min(text.len())]);
     bytes
-}
-
-/// Returns the first bytes of two texts, joined. The first has no more than are shown.
-pub(crate) fn joined_bytes(held: &Option<ShownBytes>, text: &[u8]) -> ShownBytes
-    ensures { result.items ≡ take most_shown (bytes_in held.now ++ text.now) }
-{
-    match held {
-        None => first_bytes(text),
-        Some(held) => {
-            let mut bytes = first_bytes(held);
-            let room = MOST_SHOWN - bytes.len();
-            push(&mut bytes, &text[..room.min(text.len())]);
-            bytes
-        }
-    }
 }
 
 /// Returns the rule that a chosen vertex breaks, if any.

@@ -1,13 +1,16 @@
 //! What a match reports of the bytes of a side: a refused `play` that is retaken, and a loss.
-ghost use Rattle.std.specs.Prelude.{◌≡◌, None, Some};
+ghost use Rattle.std.specs.Prelude.{◌≡◌, None, Some, IfSome, IsSome};
 ghost use Rattle.std.specs.Option.{option_or};
-ghost use Rattle.gtp_match.specs.Losing.{first_of};
-ghost use Rattle.gtp_match.specs.private.Notices.{bytes_in, noticed, retake_in, loss_in};
+ghost use Rattle.gtp_match.specs.Losing.{HasLossCause, first_of, owed};
+ghost use Rattle.gtp_match.specs.Sides.{side_of};
+ghost use Rattle.gtp_match.specs.private.Adding.{AddsReply, IsRetakeCount};
 
-use crate::losses::{Loss, LossCause, Owed, ShownBytes, joined_bytes};
-use crate::sides::EngineRun;
-use crate::unanswered::SentCommand;
-use crate::verdicts::SideFault;
+use crate::controller::Controller;
+use crate::losses::{Loss, LossCause, Owed, broken_rule, owed_by};
+use crate::reply_table::Outcome;
+use crate::verdicts::ForfeitCause;
+use go_base::Side;
+use gtp_wire::{Reply, read_choice};
 
 /// Reports that a refused `play` is retaken: the refused move leaves the record, and its maker is asked for another,
 /// unless the match ends before that. This is not a loss.
@@ -40,28 +43,6 @@ impl Report {
         }
     }
 
-    /// Adds what is to be reported of bytes: the side wrote `text` now, and the reader held `held` before. The first
-    /// retake and the first loss stay.
-    pub(crate) fn add(&mut self, held: &Option<ShownBytes>, text: &[u8], notice: Option<Notice>)
-        ensures retake { self.new.retake
-            ≡ option_or self.old.retake (retake_in (bytes_in held.now) text.now notice) }
-        ensures loss { self.new.loss
-            ≡ first_of self.old.loss (loss_in (bytes_in held.now) text.now notice) }
-    {
-        let Some(notice) = notice else {
-            return;
-        };
-        let owed = Owed {
-            unanswered: notice.unanswered,
-            oldest: notice.oldest,
-            bytes: joined_bytes(held, text),
-        };
-        match notice.finding {
-            Finding::Retakes(count) => self.add_retake(Retake { count, owed }),
-            Finding::Fails(cause) => self.add_loss(Loss { cause, owed }),
-        }
-    }
-
     /// Adds a retake, unless the report has one.
     fn add_retake(&mut self, retake: Retake)
         ensures retake { self.new.retake ≡ option_or self.old.retake (Some retake) }
@@ -73,7 +54,7 @@ impl Report {
     }
 
     /// Adds a loss, unless the report has one.
-    fn add_loss(&mut self, loss: Loss)
+    pub(crate) fn add_loss(&mut self, loss: Loss)
         ensures loss { self.new.loss ≡ first_of self.old.loss (Some loss) }
         ensures retake { self.new.retake ≡ self.old.retake }
     {
@@ -83,64 +64,92 @@ impl Report {
     }
 }
 
-/// What bytes of a side show, when they are processed up to one reply or fault.
-#[derive(Clone, Copy, Debug)]
-pub enum Finding {
-    /// They complete the refusal of a `play` that is retaken. The move of its number was retaken this often, this time
-    /// included.
-    Retakes(u32),
-    /// They make the side fail, for this cause.
-    Fails(LossCause),
-}
-
-/// What to report of bytes of a side that were processed up to one reply or fault, and what the side hadn't answered
-/// then.
-#[derive(Clone, Copy, Debug)]
-pub struct Notice {
-    /// What they show.
-    pub finding: Finding,
-    /// How many commands it hadn't answered.
-    pub unanswered: u32,
-    /// The oldest of them, if any.
-    pub oldest: Option<SentCommand>,
-}
-
-impl Notice {
-    /// Reports this finding about what an engine wrote.
-    pub fn new(engine: &EngineRun, finding: Finding) -> Notice
-        ensures { result ≡ noticed engine.now finding }
+impl Controller {
+    /// Returns what a side owes, or `None` if it is down or a verdict was given.
+    pub fn owed(&self, side: Side) -> Option<Owed>
+        ensures { result ≡ owed self.now side }
     {
-        Notice {
-            finding,
-            unanswered: engine.unanswered.len() as u32,
-            oldest: engine.unanswered.oldest(),
+        if self.verdict.is_some() {
+            return None;
+        }
+        match &self.sides.side_of(side).up {
+            None => None,
+            Some(engine) => Some(owed_by(engine)),
         }
     }
-}
 
-/// What came of bytes of a side, up to the end of one reply or a fault, or else of all of them.
-#[derive(Clone, Copy, Debug)]
-pub struct HeardOnce {
-    /// How many of the bytes were used.
-    pub used: usize,
-    /// The fault that put the side down, if any.
-    pub fault: Option<SideFault>,
-    /// What is reported of them, if anything.
-    pub notice: Option<Notice>,
-    /// How many of the bytes are shown with it: those of the reply, or all if they are no reply.
-    pub shown: usize,
-}
-
-impl HeardOnce {
-    /// Returns that this many bytes were used, with nothing to report.
-    pub fn nothing(used: usize) -> HeardOnce
-        ensures { result ≡ record { used = used; fault = None; notice = None; shown = used } }
+    /// Adds what a reply with this outcome shows to a report: that a refused `play` is retaken, or why the side fails.
+    /// The side owed this at the end of the reply.
+    pub fn report(
+        &self,
+        side: Side,
+        outcome: Outcome,
+        reply: &Reply,
+        owed: Owed,
+        report: &mut Report,
+    )
+        requires { IsSome (side_of self.now.sides side).up }
+        ensures { IfSome (side_of self.now.sides side).up (λ engine.
+            AddsReply self.now side engine reply.now outcome owed report.old report.new) }
     {
-        HeardOnce {
-            used,
-            fault: None,
-            notice: None,
-            shown: used,
+        let judged = outcome;
+        if let Some(count) = self.retake_count(side, judged) {
+            report.add_retake(Retake { count, owed });
+        } else if let Some(cause) = self.loss_cause(side, outcome, reply) {
+            report.add_loss(Loss { cause, owed });
+        }
+    }
+
+    /// Returns how often the last move's number was retaken, this time included, if a reply with this outcome is a
+    /// refusal that is retaken.
+    fn retake_count(&self, side: Side, outcome: Outcome) -> Option<u32>
+        requires { IsSome (side_of self.now.sides side).up }
+        ensures { IfSome (side_of self.now.sides side).up (λ engine.
+            IsRetakeCount self.now side engine outcome result) }
+    {
+        match outcome {
+            Outcome::Refuses => {
+                if self.may_retake(side) {
+                    Some(self.retakes.of(self.number()) + 1)
+                } else {
+                    None
+                }
+            }
+            Outcome::Down(_)
+            | Outcome::Unfit
+            | Outcome::Forfeits(_)
+            | Outcome::Confirms
+            | Outcome::Resigns
+            | Outcome::Moves(_)
+            | Outcome::TakesBack
+            | Outcome::Keeps => None,
+        }
+    }
+
+    /// Returns why a side fails by a reply with this outcome, if one does.
+    fn loss_cause(&self, side: Side, outcome: Outcome, reply: &Reply) -> Option<LossCause>
+        requires { IsSome (side_of self.now.sides side).up }
+        ensures { IfSome (side_of self.now.sides side).up (λ engine.
+            HasLossCause self.now side engine reply.now outcome result) }
+    {
+        match outcome {
+            Outcome::Down(fault) => Some(LossCause::Shows(fault)),
+            Outcome::Unfit => Some(LossCause::Unfit),
+            Outcome::Forfeits(ForfeitCause::RefusedPlay) => Some(LossCause::RefusesPlay),
+            Outcome::Forfeits(ForfeitCause::NoMove) => Some(LossCause::NoMove),
+            Outcome::Forfeits(ForfeitCause::NoVertex) => Some(LossCause::NoVertex),
+            Outcome::Forfeits(ForfeitCause::IllegalMove) => {
+                broken_rule(&self.game, side, read_choice(&reply.text))
+            }
+            Outcome::Refuses => {
+                if self.may_retake(side) {
+                    None
+                } else {
+                    Some(LossCause::RefusesPlay)
+                }
+            }
+            Outcome::Keeps => Some(LossCause::KeepsMove),
+            Outcome::Confirms | Outcome::Resigns | Outcome::Moves(_) | Outcome::TakesBack => None,
         }
     }
 }

@@ -1,6 +1,6 @@
 -- What is heard exactly is heard, and of a piece that isn't empty a byte is used.
 use Rattle.std.proofs.Common.{◌≡◌, ℕ, ◌+◌, ◌<◌, List, ◌++◌, length, take, Option, Some, None, Result, Ok, Err, sym, ◌∙◌}
-use Rattle.std.proofs.Common.{ap, subst, arith, inl, inr, drop, eqb, true, false, [], is_some}
+use Rattle.std.proofs.Common.{ap, subst, arith, inl, inr, drop, eqb, true, false, []}
 use Rattle.std.specs.Prelude.{◌⊎◌, IfSome}
 use Rattle.std.proofs.lemmas.Bool.Decides.{nat_tests}
 use Rattle.std.proofs.lemmas.List.{nil_from_length, take-append-le, take_all}
@@ -102,20 +102,3 @@ none_left left e = nil_from_length left (grind (arith, nat_tests))
 
 pub some_left : (left : List ℕ) → eqb (length left) 0 ≡ false → 0 < length left
 some_left left e = grind (arith, nat_tests)
-
-pub all_faulty : (side : Colour) (c new : Controller) (bytes : List ℕ) (used : ℕ) (fault : Option SideFault)
-    → is_some fault ≡ true → 0 < length bytes → HearsExactly c side bytes used fault new
-    → HearsAllExactly side c bytes fault new
-all_faulty side c new bytes used None e some h = absurd (cc)
-all_faulty side c new bytes used (Some shown) e some h = HearsAllBy.faulty used some h
-
-pub all_more : (side : Colour) (c mid new : Controller) (bytes left : List ℕ) (used : ℕ)
-    (fault shown : Option SideFault) → is_some fault ≡ false → 0 < length bytes
-    → HearsExactly c side bytes used fault mid → left ≡ drop used bytes
-    → HearsAllExactly side mid left shown new → HearsAllExactly side c bytes shown new
-all_more side c mid new bytes left used (Some f) shown e some h is more = absurd (cc)
-all_more side c mid new bytes left used None shown e some h is more =
-    HearsAllBy.goes_on used some h (subst (λ (t : List ℕ). HearsAllExactly side mid t shown new) is more)
-
-pub all_end : (side : Colour) (c : Controller) (left : List ℕ) → left ≡ [] → HearsAllExactly side c left None c
-all_end side c left none = subst (λ (t : List ℕ). HearsAllExactly side c t None c) (sym none) HearsAllBy.used_up

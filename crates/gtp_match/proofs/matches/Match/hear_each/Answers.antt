@@ -13,51 +13,51 @@ use Rattle.gtp_match.proofs.matches.Match.hear_each.Goals as goal
 
 pub returns-then-is_some-clause-heard : goal.returns-then-is_some-clause-heard
 returns-then-is_some-clause-heard c =
-    let r = reports _ _ _ _ _ _ _ _ c.hear_once-once.ensures.heard in
-    rw (c.add.ensures.retake, c.add.ensures.loss, c.held-held.ensures)
+    let r = reports _ _ _ _ _ _ _ _ c.hear_once-used.ensures.heard.hears in
+    rw (c.hear_once-used.ensures.heard.retakes, c.hear_once-used.ensures.heard.losses)
     (chunk_is (sym (listed_end c.loop-rest.report.retake _
     (none_again _ _ c.args.side c.loop-rest.report.retake _ r c.loop-rest.invariant.idle)))
-    (c.loop-rest.invariant.heard c.hear_once-once.result.fault _ _ c.hear_once-once.new.self
-    (chunk_faulty c.args.side c.loop-rest.self c.hear_once-once.new.self c.loop-rest.rest.now
-    c.hear_once-once.result.used c.hear_once-once.result.fault _ _ (sym c.is_some.ensures ∙ c.if-is_some.true)
+    (c.loop-rest.invariant.heard c.hear_once-used.result.fault _ _ c.hear_once-used.new.self
+    (chunk_faulty c.args.side c.loop-rest.self c.hear_once-used.new.self c.loop-rest.rest.now
+    c.hear_once-used.result.used c.hear_once-used.result.fault _ _ (sym c.is_some.ensures ∙ c.if-is_some.true)
     (some_left c.loop-rest.rest.now (sym c.is_empty.ensures ∙ c.loop-rest-test.true))
-    c.hear_once-once.ensures.heard)))
+    c.hear_once-used.ensures.heard.hears)))
 
 pub returns-then-is_some-clause-loss_shown : goal.returns-then-is_some-clause-loss_shown
 returns-then-is_some-clause-loss_shown c =
-    rw (c.add.ensures.loss, c.held-held.ensures)
+    rw c.hear_once-used.ensures.heard.losses
     (shows_first c.loop-rest.report.loss _ c.loop-rest.invariant.loss_shown
-    (loss_shown _ _ _ _ _ _ _ _ c.hear_once-once.ensures.sound c.hear_once-once.ensures.heard))
+    (loss_shown _ _ _ _ _ _ _ _ c.hear_once-used.ensures.sound c.hear_once-used.ensures.heard.hears))
 
 pub returns-then-is_some-clause-retake_shown : goal.returns-then-is_some-clause-retake_shown
 returns-then-is_some-clause-retake_shown c =
-    rw (c.add.ensures.retake, c.held-held.ensures)
+    rw c.hear_once-used.ensures.heard.retakes
     (shows_either c.loop-rest.report.retake _ c.loop-rest.invariant.retake_shown
-    (retake_shown _ _ _ _ _ _ _ _ c.hear_once-once.ensures.sound c.hear_once-once.ensures.heard))
+    (retake_shown _ _ _ _ _ _ _ _ c.hear_once-used.ensures.sound c.hear_once-used.ensures.heard.hears))
 
 pub loop-rest-preserved : goal.loop-rest-preserved
 loop-rest-preserved c =
-    let r = reports _ _ _ _ _ _ _ _ c.hear_once-once.ensures.heard in
+    let r = reports _ _ _ _ _ _ _ _ c.hear_once-used.ensures.heard.hears in
     let more = some_left c.loop-rest.rest.now (sym c.is_empty.ensures ∙ c.loop-rest-test.true) in
     let no_fault = sym c.is_some.ensures ∙ c.if-is_some.false in
-    rw (c.add.ensures.loss, c.add.ensures.retake, c.held-held.ensures) (record {
+    rw (c.hear_once-used.ensures.heard.losses, c.hear_once-used.ensures.heard.retakes) (record {
       heard = λ shown retakes later new is_given.
           rw (first_of_all c.loop-rest.report.loss _ later)
           (chunk_is (sym (listed c.loop-rest.report.retake _ retakes
           (none_again _ _ c.args.side c.loop-rest.report.retake _ r c.loop-rest.invariant.idle)))
           (c.loop-rest.invariant.heard shown _ _ new
-          (chunk_more c.args.side c.loop-rest.self c.hear_once-once.new.self new c.loop-rest.rest.now _
-          c.hear_once-once.result.used c.hear_once-once.result.fault shown _ _ retakes later no_fault more
-          c.hear_once-once.ensures.heard (take_rest c.loop-rest.rest.now c.hear_once-once.result.used) is_given)));
+          (chunk_more c.args.side c.loop-rest.self c.hear_once-used.new.self new c.loop-rest.rest.now _
+          c.hear_once-used.result.used c.hear_once-used.result.fault shown _ _ retakes later no_fault more
+          c.hear_once-used.ensures.heard.hears (take_rest c.loop-rest.rest.now c.hear_once-used.result.used) is_given)));
       idle = λ some.
-          idle_after _ _ c.args.side c.loop-rest.report.retake _ c.hear_once-once.ensures.sound r
+          idle_after _ _ c.args.side c.loop-rest.report.retake _ c.hear_once-used.ensures.sound r
           c.loop-rest.invariant.idle some;
       loss_shown =
           shows_first c.loop-rest.report.loss _ c.loop-rest.invariant.loss_shown
-          (loss_shown _ _ _ _ _ _ _ _ c.hear_once-once.ensures.sound c.hear_once-once.ensures.heard);
+          (loss_shown _ _ _ _ _ _ _ _ c.hear_once-used.ensures.sound c.hear_once-used.ensures.heard.hears);
       retake_shown =
           shows_either c.loop-rest.report.retake _ c.loop-rest.invariant.retake_shown
-          (retake_shown _ _ _ _ _ _ _ _ c.hear_once-once.ensures.sound c.hear_once-once.ensures.heard);
+          (retake_shown _ _ _ _ _ _ _ _ c.hear_once-used.ensures.sound c.hear_once-used.ensures.heard.hears);
     })
 
 pub returns-clause-heard : goal.returns-clause-heard
