@@ -2,7 +2,7 @@
 ghost use Rattle.std.specs.Prelude.{◌≡◌, ◌≢◌, ◌↔◌, ◌%◌, ◌≤◌, ℕ, IsTrue, IsSome, IfSome, All, AllPairs, take};
 ghost use Rattle.go_base.specs.Size.{IsSize};
 ghost use Rattle.go_base.specs.Point.{point, IsOn};
-ghost use Rattle.go_base.specs.Handicap.{AllowsHandicap, handicap_points, low_line, middle_line, high_line};
+ghost use Rattle.go_base.specs.Handicap.{AllowsHandicap, handicap_points, low_line, middle_line};
 
 use crate::points::Point;
 use crate::sizes::Size;
@@ -90,7 +90,7 @@ fn outer_points(size: Size) -> [Point; 8]
 {
     let low = low_line(size);
     let middle = middle_line(size);
-    let high = high_line(size);
+    let high = size.get() + 1 - low;
     [
         Point::crossing(low, low),
         Point::crossing(high, high),
@@ -123,11 +123,4 @@ fn middle_line(size: Size) -> u32
     ensures some { 1 ≤ result }
 {
     (size.get() + 1) / 2
-}
-
-fn high_line(size: Size) -> u32
-    requires { 7 ≤ size }
-    ensures { result ≡ high_line size }
-{
-    size.get() + 1 - low_line(size)
 }
