@@ -63,12 +63,12 @@ module _ {W : Type 0} (known : Ghosts W) where
         failed = failed;
       }
 
-  -- a text that was taken whole went out, where the flush went through
-  pub goes_out : (text : List ℕ) (done : ℕ) (before mid after : W) → length text ≤ done
+  -- a text that was taken whole is flushed, where the flush succeeded
+  pub is_flushed : (text : List ℕ) (done : ℕ) (before mid after : W) → length text ≤ done
       → Appends (known.holds before) (known.holds mid) (take done text) → Keeps (known.holds mid) (known.holds after)
       → WritesLeave known text before (drop done text) mid → known.calls mid (Flushes (Ok tt)) after
       → GoesOut known text before after
-  goes_out text done before mid after over taken kept leave flushed =
+  is_flushed text done before mid after over taken kept leave flushed =
       let P : List ℕ → Type 0 = λ t. Appends (known.holds before) (known.holds after) t in
       let Q : List ℕ → Type 0 = λ left. WritesLeave known text before left mid in
       record {
@@ -90,14 +90,14 @@ Appends-none (Some xs) (Some ys) text count is taken =
 -- ---- lines, one after another
 
 module _ {W : Type 0} (known : Ghosts W) where
-  -- lines that went out, and then more of them
+  -- lines that were flushed, and then more of them
   pub lines_then : (first more : List (List ℕ)) (before mid after : W) → LinesGoOut known first before mid
       → LinesGoOut known more mid after → LinesGoOut known (first ++ more) before after
   lines_then _ more before _ after no_line rest = rest
   lines_then _ more before mid after (line_out {lines = lines} {mid = between} out lines_out) rest =
       line_out out (lines_then lines more between mid after lines_out rest)
 
-  -- lines that went out, and then some at which the writer broke
+  -- lines that were flushed, and then some at which the writer broke
   pub breaks_later : (first more : List (List ℕ)) (before mid after : W) → LinesGoOut known first before mid
       → LinesBreak known more mid after → LinesBreak known (first ++ more) before after
   breaks_later _ more before _ after no_line breaks = breaks
@@ -122,7 +122,7 @@ module _ {W : Type 0} (known : Ghosts W) where
   one_breaks (Ok x) line before after breaks = tt
   one_breaks (Err e) line before after breaks = at_line breaks
 
-  -- and lines after those that went out
+  -- and lines after those that were flushed
   pub more_out : {T F : Type 0} (result : Result T F) (first more : List (List ℕ)) (before mid after : W)
       → LinesGoOut known first before mid → OnOk result (LinesGoOut known more mid after)
       → OnOk result (LinesGoOut known (first ++ more) before after)

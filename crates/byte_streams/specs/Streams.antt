@@ -1,4 +1,4 @@
--- What a reader and a writer show to what speaks with them, and how a text went out. (Own.)
+-- What a reader and a writer show to what speaks with them, and how a text was written. (Own.)
 use Rattle.std.specs.Prelude.{◌≡◌, ℕ, Bool, false, List, Option, None}
 use Rattle.std.specs.Io.KnownBytes.{Appends}
 use Rattle.byte_streams.specs.Counts.{raised}

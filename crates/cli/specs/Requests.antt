@@ -30,7 +30,7 @@ writers output errors = record { output = output; errors = errors }
 
 -- ---- what is written
 
--- A text that was asked for went out, with status 0. Or the output broke at it, which is reported, with status 3.
+-- A text that was asked for was flushed, with status 0. Or the output broke at it, which is reported, with status 3.
 pub data Shows {O E : Type 0} (known : Writers O E) (name text : List ℕ) (before : Outputs O E)
     : ℕ → Outputs O E → Type 0 where
   went_out : {written : O} → GoesOut known.output text before.output written

@@ -14,8 +14,8 @@ use Rattle.gtp_check_judge.specs.declared.skills.Skills.{Skills}
 use Rattle.gtp_check_judge.specs.declared.unanswered.Asked.{Asked}
 use Rattle.gtp_check_talk.specs.Counts.{with_more}
 use Rattle.gtp_check_talk.specs.declared.notes.Notes.{Notes}
-use Rattle.gtp_check_talk.specs.Notes.{is_refused, is_taken, noted, noted_of, taken_by, undos_after, with_answer}
-use Rattle.gtp_check_talk.specs.Notes.{with_match, with_most_undos, with_refusal, with_size, with_taken}
+use Rattle.gtp_check_talk.specs.Notes.{is_refused, is_accepted, noted, noted_of, accepted_by, undos_after, with_answer}
+use Rattle.gtp_check_talk.specs.Notes.{with_match, with_most_undos, with_refusal, with_size, with_accepted}
 
 -- the starts without a right answer stay, and the lessons in which a move was answered
 pub record Keeps (before after : Notes) : Type 0 where
@@ -31,12 +31,12 @@ both before mid after one other = record {
   answered = other.answered ∙ one.answered;
 }
 
-taken_keeps : (notes : Notes) (taken : Option ℕ) → Keeps notes (with_taken notes taken)
-taken_keeps notes None = same notes
-taken_keeps notes (Some size) = by (is_taken notes size)
+accepted_keeps : (notes : Notes) (size : Option ℕ) → Keeps notes (with_accepted notes size)
+accepted_keeps notes None = same notes
+accepted_keeps notes (Some size) = by (is_accepted notes size)
   where
     by : (b : Bool) → Keeps notes (if b then notes else record notes {
-      taken = record { items = with_more 25 notes.taken.items size };
+      accepted = record { items = with_more 25 notes.accepted.items size };
     })
     by true = same notes
     by false = record { fruitless = refl; answered = refl }
@@ -45,7 +45,7 @@ match_keeps : (command : Command) (reply : Reply) (notes : Notes) → Keeps note
 match_keeps command reply notes =
     let mid = record notes { in_a_row = undos_after notes.in_a_row command reply.ok } in
     both notes mid (with_match notes command reply.ok) (record { fruitless = refl; answered = refl })
-    (taken_keeps mid (taken_by command reply.ok))
+    (accepted_keeps mid (accepted_by command reply.ok))
 
 of_keeps : (command : CheckCommand) (reply : Reply) (skills : Skills) (notes : Notes)
     → Keeps notes (noted_of command reply skills notes)
@@ -59,7 +59,7 @@ of_keeps (PlayInFull move) reply skills notes = match_keeps (Play move) reply no
 of_keeps (GenmoveInFull colour) reply skills notes = match_keeps (Genmove colour) reply notes
 
 size_keeps : (notes : Notes) (size : ℕ) → Keeps notes (with_size notes size)
-size_keeps notes size = by (is_refused notes size || is_taken notes size)
+size_keeps notes size = by (is_refused notes size || is_accepted notes size)
   where
     by : (b : Bool) → Keeps notes (if b then notes else record notes {
       refused = record { items = with_more 25 notes.refused.items size };

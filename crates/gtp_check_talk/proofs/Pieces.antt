@@ -7,7 +7,8 @@ use Rattle.gtp_check_talk.specs.Dialogues.{two_pieces, whole}
 
 -- one piece, which the process took whole or in part
 pub one_piece : {P : Type 0} (known : Ghosts P) (piece : List ℕ) (before after : P) (is_whole : Bool)
-    → (is_whole ≡ true → IsTaken known piece before after) → (is_whole ≡ false → IsTakenInPart known piece before after)
+    → (is_whole ≡ true → IsTaken known piece before after)
+    → (is_whole ≡ false → IsTakenInPart known piece before after)
     → AreTaken known (piece ∷ []) before after
 one_piece known piece before after true taken cut = whole piece (taken refl) no_piece
 one_piece known piece before after false taken cut = part piece (cut refl)

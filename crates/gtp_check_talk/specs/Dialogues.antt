@@ -217,14 +217,14 @@ AreHeard bytes before (Some fault) after = IsFoundIn bytes before fault after
 
 -- ---- an exchange
 
--- a process took this chunk whole, and nothing waits to go out
+-- this chunk was written to a process whole, and nothing waits to be flushed
 pub record IsTaken {P : Type 0} (known : Ghosts P) (piece : List ℕ) (before after : P) : Type 0 where
   pub taken : Appends (known.taken before) (known.taken after) piece
   pub unbroken : IsUnbroken known.fails known.succeeds before after
   pub flushed : known.flushed after
   pub given : Keeps (known.given before) (known.given after)
 
--- it was cut off, and took a beginning of the chunk
+-- a process was cut off, and took a beginning of the chunk
 pub record IsTakenInPart {P : Type 0} (known : Ghosts P) (piece : List ℕ) (before after : P) : Type 0 where
   pub taken : TakesPart piece (known.taken before) (known.taken after)
   pub cut_off : IsCutOff known.fails known.succeeds before after

@@ -33,7 +33,7 @@ nothing_noted = record {
   lacks_handicap = false;
   lacks_undo = false;
   lacks_score = false;
-  taken = record { items = [] };
+  accepted = record { items = [] };
   in_a_row = 0;
   most_undos = None;
   has_answered = false;
@@ -44,7 +44,11 @@ nothing_noted = record {
 
 -- the engine was started
 abbrev pub started : Notes → Notes
-started notes = record notes { has_answered = false; fruitless = one_more notes.fruitless; in_a_row = 0 }
+started notes = record notes {
+  has_answered = false;
+  fruitless = one_more notes.fruitless;
+  in_a_row = 0;
+}
 
 -- a command of a match asks for a move: a `play` or a `genmove`
 abbrev pub is_move : Command → Bool
@@ -118,33 +122,33 @@ undos_after count (Play move) ok = if ok then 0 else count
 undos_after count (Genmove colour) ok = if ok then 0 else count
 undos_after count Quit ok = if ok then 0 else count
 
--- the size that was taken by a success to this command, if any
-abbrev pub taken_by : Command → Bool → Option ℕ
-taken_by (Boardsize size) true = Some size
-taken_by (Boardsize size) false = None
-taken_by (Komi komi) ok = None
-taken_by ClearBoard ok = None
-taken_by (FixedHandicap stones) ok = None
-taken_by (Play move) ok = None
-taken_by (Genmove colour) ok = None
-taken_by Undo ok = None
-taken_by Quit ok = None
+-- the size that was accepted by a success to this command, if any
+abbrev pub accepted_by : Command → Bool → Option ℕ
+accepted_by (Boardsize size) true = Some size
+accepted_by (Boardsize size) false = None
+accepted_by (Komi komi) ok = None
+accepted_by ClearBoard ok = None
+accepted_by (FixedHandicap stones) ok = None
+accepted_by (Play move) ok = None
+accepted_by (Genmove colour) ok = None
+accepted_by Undo ok = None
+accepted_by Quit ok = None
 
--- the size was taken before
-abbrev pub is_taken : Notes → ℕ → Bool
-is_taken notes size = list_any (λ known. known == size) notes.taken.items
+-- the size was accepted before
+abbrev pub is_accepted : Notes → ℕ → Bool
+is_accepted notes size = list_any (λ known. known == size) notes.accepted.items
 
--- a size that was taken is noted, once
-abbrev pub with_taken : Notes → Option ℕ → Notes
-with_taken notes None = notes
-with_taken notes (Some size) =
-    if is_taken notes size then notes
-    else record notes { taken = record { items = with_more 25 notes.taken.items size } }
+-- a size that was accepted is noted, once
+abbrev pub with_accepted : Notes → Option ℕ → Notes
+with_accepted notes None = notes
+with_accepted notes (Some size) =
+    if is_accepted notes size then notes
+    else record notes { accepted = record { items = with_more 25 notes.accepted.items size } }
 
 -- what is noted of the reply to a command of a match
 abbrev pub with_match : Notes → Command → Bool → Notes
 with_match notes command ok =
-    with_taken (record notes { in_a_row = undos_after notes.in_a_row command ok }) (taken_by command ok)
+    with_accepted (record notes { in_a_row = undos_after notes.in_a_row command ok }) (accepted_by command ok)
 
 -- what is noted of the reply to a command
 abbrev pub noted_of : CheckCommand → Reply → Skills → Notes → Notes
@@ -161,11 +165,11 @@ noted_of (GenmoveInFull colour) reply skills notes = with_match notes (Genmove c
 abbrev pub is_refused : Notes → ℕ → Bool
 is_refused notes size = list_any (λ known. known == size) notes.refused.items
 
--- A size that was refused is noted, once. One that was taken before isn't: some engines refuse a size while a game is
--- on.
+-- A size that was refused is noted, once. One that was accepted before isn't: some engines refuse a size while a game
+-- is on.
 abbrev pub with_size : Notes → ℕ → Notes
 with_size notes size =
-    if is_refused notes size || is_taken notes size then notes
+    if is_refused notes size || is_accepted notes size then notes
     else record notes { refused = record { items = with_more 25 notes.refused.items size } }
 
 -- how many moves in a row were taken back where the next `undo` was first refused

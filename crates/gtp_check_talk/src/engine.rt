@@ -395,7 +395,7 @@ fn send_in_two<P: Process>(process: &mut P, lines: &[u8])
     ensures { AreTaken P.Process (two_pieces lines.now) process.old process.new }
 {
     let (first, second) = lines.split_at(lines.len().saturating_sub(LATER_BYTES));
-    if !is_taken(process, first) {
+    if !is_written_whole(process, first) {
         return;
     }
     process.let_read();
@@ -406,11 +406,11 @@ fn send_in_two<P: Process>(process: &mut P, lines: &[u8])
 fn send_at_once<P: Process>(process: &mut P, piece: &[u8])
     ensures { AreTaken P.Process (piece.now ∷ []) process.old process.new }
 {
-    let _ = is_taken(process, piece);
+    let _ = is_written_whole(process, piece);
 }
 
 /// Sends a chunk. Returns whether the process took all of it.
-fn is_taken<P: Process>(process: &mut P, piece: &[u8]) -> bool
+fn is_written_whole<P: Process>(process: &mut P, piece: &[u8]) -> bool
     ensures whole { result ≡ true → IsTaken P.Process piece.now process.old process.new }
     ensures part { result ≡ false → IsTakenInPart P.Process piece.now process.old process.new }
 {

@@ -3,9 +3,9 @@ ghost use Rattle.std.specs.Prelude.{◌≡◌};
 ghost use Rattle.gtp_check_talk.specs.Notes.{asks_for_move, beginning_of, counted, is_move, is_refused, lacks};
 ghost use Rattle.gtp_check_talk.specs.Notes.{noted, noted_in, noted_of, nothing_noted, started, with_answer};
 ghost use Rattle.gtp_check_talk.specs.Notes.{with_lacks};
-ghost use Rattle.gtp_check_talk.specs.Notes.{is_taken, taken_by, undos_after, with_lesson, with_match};
+ghost use Rattle.gtp_check_talk.specs.Notes.{is_accepted, accepted_by, undos_after, with_lesson, with_match};
 ghost use Rattle.gtp_check_talk.specs.Notes.{with_most_undos};
-ghost use Rattle.gtp_check_talk.specs.Notes.{with_refusal, with_size, with_taken};
+ghost use Rattle.gtp_check_talk.specs.Notes.{with_refusal, with_size, with_accepted};
 
 use crate::among::is_among;
 use arrayvec::ArrayVec;
@@ -27,7 +27,7 @@ pub struct Notes {
     /// The sizes that it refused before it accepted any board of them, each once.
     pub refused: ArrayVec<u32, 25>,
     /// The sizes that it accepted, each once.
-    pub taken: ArrayVec<u32, 25>,
+    pub accepted: ArrayVec<u32, 25>,
     /// How many moves in a row it has undone up to now.
     pub in_a_row: u32,
     /// How many moves in a row it had undone when it first refused to undo the next.
@@ -57,7 +57,7 @@ impl Notes {
             name: None,
             version: None,
             refused: ArrayVec::new(),
-            taken: ArrayVec::new(),
+            accepted: ArrayVec::new(),
             in_a_row: 0,
             most_undos: None,
             lacks_handicap: false,
@@ -147,18 +147,18 @@ impl Notes {
         ensures { self.new ≡ with_match self.old command.now ok }
     {
         self.in_a_row = undos_after(self.in_a_row, command, ok);
-        self.take_size(taken_by(command, ok));
+        self.take_size(accepted_by(command, ok));
     }
 
     /// Notes that it accepted a board of this size, if there is one.
     fn take_size(&mut self, size: Option<Size>)
-        ensures { self.new ≡ with_taken self.old size }
+        ensures { self.new ≡ with_accepted self.old size }
     {
         if let Some(size) = size {
             let lines = size.get();
-            if !self.is_taken(lines) {
+            if !self.is_accepted(lines) {
                 // There are 25 sizes.
-                let _ = self.taken.try_push(lines);
+                let _ = self.accepted.try_push(lines);
             }
         }
     }
@@ -177,7 +177,7 @@ impl Notes {
         ensures { self.new ≡ with_size self.old size }
     {
         let lines = size.get();
-        if !(self.is_refused(lines) || self.is_taken(lines)) {
+        if !(self.is_refused(lines) || self.is_accepted(lines)) {
             // There are 25 sizes.
             let _ = self.refused.try_push(lines);
         }
@@ -193,10 +193,10 @@ impl Notes {
     }
 
     /// Returns whether it accepted a size before.
-    fn is_taken(&self, lines: u32) -> bool
-        ensures { result ≡ is_taken self.now lines }
+    fn is_accepted(&self, lines: u32) -> bool
+        ensures { result ≡ is_accepted self.now lines }
     {
-        self.taken.iter().any(|known| *known == lines)
+        self.accepted.iter().any(|known| *known == lines)
     }
 
     /// Returns whether it refused a size before.
@@ -225,8 +225,8 @@ fn undos_after(count: u32, command: &Command, ok: bool) -> u32
 }
 
 /// Returns the board size that was accepted with this reply, if one was.
-fn taken_by(command: &Command, ok: bool) -> Option<Size>
-    ensures { result ≡ taken_by command.now ok }
+fn accepted_by(command: &Command, ok: bool) -> Option<Size>
+    ensures { result ≡ accepted_by command.now ok }
 {
     match command {
         Command::Boardsize(size) if ok => Some(*size),

@@ -29,7 +29,7 @@ pub data IsAwaited {P : Type 0} (known : Ghosts P) (before after : P) : Type 0 w
       → IsCutOff known.fails known.succeeds before after → Keeps (known.taken before) (known.taken after)
       → IsAwaited known before after
 
--- A process was sent `quit`: it took the line, nothing waits to go out, and its reply was waited for. Or it took a
+-- A process was sent `quit`: it took the line, nothing waits to be flushed, and its reply was waited for. Or it took a
 -- beginning of the line and was cut off.
 pub data IsSentQuit {P : Type 0} (known : Ghosts P) (before after : P) : Type 0 where
   taken : {mid : P} → Appends (known.taken before) (known.taken mid) quit_line

@@ -37,11 +37,11 @@ pub(crate) fn told_ending(status: Option<i32>, signal: Option<i32>) -> Ending
 
 /// Returns how a process ended that was still running when it was killed, by what the system reports then. It may have
 /// exited by itself just before.
-pub(crate) fn after_kill(told: Ending) -> Ending
-    ensures { result ≡ after_kill told }
+pub(crate) fn after_kill(reported: Ending) -> Ending
+    ensures { result ≡ after_kill reported }
 {
-    match told {
+    match reported {
         Ending::Signal(SIGKILL) => Ending::Running,
-        told => told,
+        reported => reported,
     }
 }

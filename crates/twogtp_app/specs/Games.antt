@@ -92,8 +92,8 @@ abbrev pub next_game : {P O E : Type 0} → Run P O E → RunState P O E → Sta
 next_game run before = stage (opening run.plan.task.setup before.asked) before.errors
 
 module _ {P O E : Type 0} (run : Run P O E) where
-  -- A game was played to its end, from its beginning without processes, and its text under this number went out. After
-  -- that its processes were closed.
+  -- A game was played to its end, from its beginning without processes, and its text under this number was flushed.
+  -- After that its processes were closed.
   pub record GameIsWritten (number : ℕ) (before after : RunState P O E) (verdict : Verdict) : Type 0 where
     pub last : GameState P
     pub played : IsPlayed (run_engines run) (run_reporting run number) (next_game run before) (stage last after.errors)
@@ -121,7 +121,7 @@ module _ {P O E : Type 0} (run : Run P O E) where
   GameEnds number before after (Ok verdict) = GameIsWritten number before after verdict
   GameEnds number before after (Err failure) = GameIsNotWritten number before after failure
 
-  -- This number of games was played with this status, one after another. The text of each went out in its turn.
+  -- This number of games was played with this status, one after another. The text of each was flushed in its turn.
   pub data GamesAreWritten (first : RunState P O E) : ℕ → ℕ → RunState P O E → Type 0 where
     no_game : GamesAreWritten first 0 done first
     game : {number status : ℕ} {before after : RunState P O E} {verdict : Verdict}
@@ -171,12 +171,12 @@ module _ {P O E : Type 0} (known : Known P O E) (words : List Text) where
 
 -- ---- texts that were asked for, and mistakes
 
--- a text that was asked for went out with status 0, or the output broke at it with status 3
+-- a text that was asked for was flushed with status 0, or the output broke at it with status 3
 abbrev pub IsShown : {O : Type 0} → WriterGhosts O → List ℕ → ℕ → O → O → Type 0
 IsShown outs text status before after =
     ((status ≡ done) × GoesOut outs text before after) ⊎ ((status ≡ own_failure) × BreaksAt outs text before after)
 
--- the words ask for the help or the version, and a text went out with status 0, or the output broke at it with 3
+-- the words ask for the help or the version, and a text was flushed with status 0, or the output broke at it with 3
 pub record HasShown {O : Type 0} (outs : WriterGhosts O) (words : List Text) (status : ℕ) (before after : O)
     : Type 0 where
   pub asked : AsksForText words

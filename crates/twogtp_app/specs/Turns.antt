@@ -140,7 +140,7 @@ abbrev pub reporting : {E : Type 0} → WriterGhosts E → Bool → ℕ → Repo
 reporting known why number = record { known = known; why = why; number = number }
 
 module _ {P E : Type 0} (engines : Engines P) (reports : Reporting E) where
-  -- Turns were taken, this many, from a first stage on. What is written of each went out after it.
+  -- Turns were taken, this many, from a first stage on. What is written of each was flushed after it.
   pub data Plays (first : Stage P E) : ℕ → Stage P E → Type 0 where
     not_yet : Plays first 0 first
     turns : {count : ℕ} {before after : Stage P E} (turn : SideTurn)

@@ -195,7 +195,7 @@ def going_down():
         yield from both_sides(Other(name), FIRST, "abandoned black moves 0 restarts 1 0", "abandoned white moves 0 restarts 0 1")
     yield game("abandoned white moves 0 restarts 0 2", FIRST, Other("no_such_program"), restarts=2)
     # Their first reply, or the second, is none. They are started again, and then given up.
-    fruitless = [
+    given_up = [
         # It ends, or closes its output: at its start, when it is sent something, in the middle of its reply, or after it.
         "0//ends", "0//closes", "c1//ends", "c1//closes", "c1/<reply:2>/ends", "c1/<reply:3>/ends", "c1/<reply>/ends",
         # Another id, or none; a second reply, or replies without end.
@@ -203,7 +203,7 @@ def going_down():
         # What is no reply, or has no end.
         "c1/hello/on", r"0/Welcome_to_Go\n/on", r"c1/<8193*\n>/on", "c1/<fill:8193:_><reply>/on", r"0/<1000*\n>/floods", "0/=1_/floods",
     ]  # fmt: skip
-    for plan in fruitless:
+    for plan in given_up:
         engine = passing(f"*/{plan}")
         yield from both_sides(engine, FIRST, "abandoned black moves 0 restarts 1 0", "abandoned white moves 0 restarts 0 1")
     yield game(PASSED, passing("1/c1/<fill:8192:_><reply>/on"), passing())

@@ -84,7 +84,7 @@ STYLES = {
 }
 
 # Nothing that they write is a right answer, so there are three starts: the first command is answered wrongly each time.
-FRUITLESS = {
+NEVER_RIGHT = {
     "exits": ENDED + "exit status 1",
     "reads_and_exits": ENDED + "exit status 0",
     "closes_its_output": ENDED + "but it ran on",
@@ -135,7 +135,7 @@ def command(kind, folder):
 
 def rows():
     """The checks: of each its name, its options, the kind, and what is wanted: the first complaint, how many starts, how many commands."""
-    for kind, fault in FRUITLESS.items():
+    for kind, fault in NEVER_RIGHT.items():
         yield kind, KOMI, kind, (NAME, fault, 3, 3)
     for kind, fault in SECOND.items():
         yield kind, KOMI, kind, ("2 version", fault, 4, 8)

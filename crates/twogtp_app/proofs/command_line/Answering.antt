@@ -81,7 +81,7 @@ module _ {A O E : Type 0} (known : Writers O E) (kind : ErrorKind) (text : Resul
     answered_usage status after (Answers.shown asks is (Shows.broke broke reports)) two =
         absurd (omega (arith, two))
 
-    -- with a status of games a text that was asked for went out
+    -- with a status of games a text that was asked for was flushed
     pub answered_played : (status : ℕ) (after : Outputs O E)
         → Answers known program_name kind text before status after
         → (status ≡ done) ⊎ (status ≡ some_given_up) → HasShown known.output words status before.output after.output

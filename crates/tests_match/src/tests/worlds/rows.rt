@@ -130,7 +130,7 @@ static BROKEN: [Step; 4] = [
     Step::See(Shows::Moves(1)),
 ];
 
-/// The world in which `sent` bytes of Black's move went out to White before the write broke.
+/// The world in which `sent` bytes of Black's move were written to White before the write broke.
 fn broken_after(rt: &impl Abort, sent: usize) -> Recorded {
     let mut recorded = black_moved(rt);
     for event in [Event::ToController(Black, 7), Event::BrokenWrite(sent)] {

@@ -23,10 +23,12 @@ returns-in-Some-loss g c =
     let mid = c.match-turn.errors in
     let last = c.write_text-in-Some-loss in
     let line = c.as_slice-in-Some-loss.ensures.value ∙ c.loss_line.ensures in
-    let first : LinesGoOut g.E.WriteOnce (retake_lines c.args.number turn.side turn.report.retake) c.args.errors.now mid =
+    let first
+        : LinesGoOut g.E.WriteOnce (retake_lines c.args.number turn.side turn.report.retake) c.args.errors.now mid =
     elim c.match-turn.branch [
       | in-Some+in_ok-write_text w ↦ rw (w.in-Some.is, w.errors-is)
-          (line_out (subst (λ (line : List ℕ). GoesOut g.E.WriteOnce line c.args.errors.now w.write_text.new.writer)
+          (line_out (subst
+          (λ (line : List ℕ). GoesOut g.E.WriteOnce line c.args.errors.now w.write_text.new.writer)
           (w.as_slice.ensures.value ∙ w.retake_line.ensures) w.in_ok-write_text.ensures.whole) no_line)
       | in_default w ↦ rw (w.in_default.is, w.errors-is) no_line
     ] in
@@ -43,7 +45,8 @@ pub returns-in-None-clause-whole : goal.returns-in-None-clause-whole
 returns-in-None-clause-whole g c =
     rw (c.if-not-why.false, c.in-None.is) (elim c.match-turn.branch [
       | in-Some+in_ok-write_text w ↦ rw (w.in-Some.is, w.errors-is)
-          (line_out (subst (λ (line : List ℕ). GoesOut g.E.WriteOnce line c.args.errors.now w.write_text.new.writer)
+          (line_out (subst
+          (λ (line : List ℕ). GoesOut g.E.WriteOnce line c.args.errors.now w.write_text.new.writer)
           (w.as_slice.ensures.value ∙ w.retake_line.ensures) w.in_ok-write_text.ensures.whole) no_line)
       | in_default w ↦ rw (w.in_default.is, w.errors-is) no_line
     ])
