@@ -5,7 +5,7 @@ use Rattle.byte_streams.specs.Writing.{IsWritten}
 use Rattle.cli.specs.declared.failure.Failure.{Failure}
 use Rattle.cli.specs.declared.failure.Failure.TheVariants as failure
 use Rattle.cli.specs.declared.failure.PlanError.{PlanError}
-use Rattle.cli.specs.declared.failure.PlanError.TheVariants.{BadArgument, BadWords, OutOfMemory}
+use Rattle.cli.specs.declared.failure.PlanError.TheVariants.{BadWords, OutOfMemory}
 use Rattle.cli.specs.Status.{error_line, no_null_device, own_failure, usage_failure}
 
 -- what a failure of a program is called
@@ -27,12 +27,10 @@ ReportsFailure errs name what before after = IsReported errs name (failure_text 
 
 -- the status with which that is reported: 2 for a mistake, and 3 for want of memory
 abbrev pub plan_error_status : {M : Type 0} → PlanError M → ℕ
-plan_error_status BadArgument = usage_failure
 plan_error_status (BadWords what) = usage_failure
 plan_error_status OutOfMemory = own_failure
 
 -- what the error is called, of a program whose mistakes are called so
 abbrev pub plan_error_text : {M : Type 0} → (M → List ℕ) → PlanError M → List ℕ
-plan_error_text called BadArgument = codes "bad argument"
 plan_error_text called (BadWords what) = called what
 plan_error_text called OutOfMemory = failure_text failure.OutOfMemory

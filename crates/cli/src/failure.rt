@@ -1,5 +1,5 @@
 //! The lines in which a program reports usage errors and failures.
-ghost use Rattle.std.specs.Prelude.{◌≡◌, ◌≢◌, ◌≤◌, ℕ, List, length};
+ghost use Rattle.std.specs.Prelude.{◌≡◌, ◌≢◌, ◌≤◌, ℕ, List, codes, length};
 ghost use Rattle.cli.specs.declared.failure.Failure.TheVariants as the_failure;
 ghost use Rattle.cli.specs.declared.failure.PlanError.TheVariants as plan_error;
 ghost use Rattle.cli.specs.Failures.{IsReported, ReportsFailure, failure_text, plan_error_status, plan_error_text};
@@ -79,8 +79,6 @@ pub trait MistakeText {
 /// Why a program can't make a plan of its arguments.
 #[derive(Clone, Copy, Debug, PartialEq, Eq, Drop)]
 pub enum PlanError<M> {
-    /// An argument isn't UTF-8.
-    BadArgument,
     /// The arguments have this usage error.
     BadWords(M),
     /// The system gave no memory.
@@ -88,17 +86,6 @@ pub enum PlanError<M> {
 }
 
 impl<M: MistakeText> PlanError<M> {
-    /// Why the arguments could not be collected, by the kind of the error.
-    pub fn of_arguments(kind: ErrorKind) -> Self
-        ensures memory { kind ≡ ErrorKind.OutOfMemory → result ≡ plan_error.OutOfMemory }
-        ensures other { kind ≢ ErrorKind.OutOfMemory → result ≡ plan_error.BadArgument }
-    {
-        match kind {
-            ErrorKind::OutOfMemory => PlanError::OutOfMemory,
-            _ => PlanError::BadArgument,
-        }
-    }
-
     /// Writes the error to `errors`, as one line that begins with the program's name, and returns the status: 2 for a
     /// usage error, 3 if there was no memory. The status is the same if that line can't be written.
     pub fn report<E: WriteOnce>(&self, name: &[u8], errors: &mut E) -> u8
@@ -108,10 +95,24 @@ impl<M: MistakeText> PlanError<M> {
             (plan_error_text M.MistakeText.called self.now) errors.old errors.new }
     {
         match self {
-            PlanError::BadArgument => report_mistake(name, b"bad argument", errors),
             PlanError::BadWords(mistake) => report_mistake(name, mistake.text(), errors),
             PlanError::OutOfMemory => Failure::OutOfMemory.report(name, errors),
         }
+    }
+}
+
+/// Reports that the arguments can't be collected, by the kind of the error, and returns the status: 3 if there was no
+/// memory, else 2, since an argument isn't UTF-8.
+pub fn report_arguments<E: WriteOnce>(name: &[u8], kind: ErrorKind, errors: &mut E) -> u8
+    requires name { length name.now ≤ 20 }
+    ensures memory { kind ≡ ErrorKind.OutOfMemory → (result ≡ own_failure)
+        × ReportsFailure E.WriteOnce name.now the_failure.OutOfMemory errors.old errors.new }
+    ensures other { kind ≢ ErrorKind.OutOfMemory → (result ≡ usage_failure)
+        × IsReported E.WriteOnce name.now (codes "bad argument") errors.old errors.new }
+{
+    match kind {
+        ErrorKind::OutOfMemory => Failure::OutOfMemory.report(name, errors),
+        _ => report_mistake(name, b"bad argument", errors),
     }
 }
 

@@ -1,10 +1,10 @@
 //! Checks one engine that speaks the Go Text Protocol, version 2.
 #![tactic(auto)]
 
-use cli::failure::{Failure, PlanError};
+use cli::failure::{Failure, report_arguments};
 use cli::standard::hold_closed;
 use cli::words::arguments;
-use gtp_check_app::failure::{Mistake, NAME};
+use gtp_check_app::failure::NAME;
 use gtp_check_app::run::run;
 use gtp_check_app::streams::Streams;
 use gtp_process::SystemStarter;
@@ -38,8 +38,6 @@ fn check_by(rt: &HostRuntime) -> u8 {
                 errors: rt.stderr(),
             },
         ),
-        Err(error) => {
-            PlanError::<Mistake>::of_arguments(error.kind()).report(NAME, &mut rt.stderr())
-        }
+        Err(error) => report_arguments(NAME, error.kind(), &mut rt.stderr()),
     }
 }

@@ -10,7 +10,7 @@ use Rattle.cli.specs.Failures.{IsReported, plan_error_status, plan_error_text}
 use Rattle.cli.specs.Requests.{Answers, IsRefused, Outputs, Shows, Writers, writers}
 use Rattle.cli.specs.Status.{IsRequest, done, usage_failure}
 use Rattle.cli.specs.declared.failure.PlanError.{PlanError}
-use Rattle.cli.specs.declared.failure.PlanError.TheVariants.{BadArgument, BadWords, OutOfMemory}
+use Rattle.cli.specs.declared.failure.PlanError.TheVariants.{BadWords, OutOfMemory}
 use Rattle.gtp_check_app.specs.declared.failure.Mistake.{Mistake}
 use Rattle.gtp_check_app.specs.declared.options.Options.{Options}
 use Rattle.gtp_check_app.specs.declared.streams.Streams.{Streams}
@@ -86,7 +86,6 @@ module _ {P O E : Type 0} (known : Known P O E) (words : List Text) (shows_progr
       → (status : ℕ) (reported : E) → status ≡ plan_error_status error
       → IsReported known.errs program_name (plan_error_text mistake_text error) streams.errors reported
       → HasRun known words shows_progress asked streams status asked (record streams { errors = reported })
-  no_plan_ran options asks BadArgument none status reported is reports = absurd none
   no_plan_ran options asks (BadWords what) none status reported is reports =
       rw is
       (HasRun.mistaken (inr (record {

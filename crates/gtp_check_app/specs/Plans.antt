@@ -15,7 +15,7 @@ use Rattle.gtp_wire.specs.Words.{words}
 use Rattle.gtp_check_app.specs.declared.failure.Mistake.{Mistake}
 use Rattle.gtp_check_app.specs.declared.failure.Mistake.TheVariants.{NoCommand, NoLesson}
 use Rattle.cli.specs.declared.failure.PlanError.{PlanError}
-use Rattle.cli.specs.declared.failure.PlanError.TheVariants.{BadArgument, BadWords, OutOfMemory}
+use Rattle.cli.specs.declared.failure.PlanError.TheVariants.{BadWords, OutOfMemory}
 use Rattle.gtp_check_talk.specs.Among.{is_among}
 use Rattle.gtp_check_app.specs.declared.options.Options.{Options}
 use Rattle.gtp_check_course.specs.declared.plan.Plan.{Plan}
@@ -73,9 +73,7 @@ pub record IsPlanOf (options : Options) (shows_progress : Bool) (plan : Plan) : 
   pub progress : plan.shows_progress ≡ shows_progress
 
 -- Why the options come to no plan: the command has no word; or it has, and no lesson is left; or memory was refused.
--- That an argument isn't UTF-8 is none of theirs.
 abbrev pub HasNoPlan : Options → PlanError Mistake → Type 0
-HasNoPlan options BadArgument = ⊥
 HasNoPlan options (BadWords NoCommand) = words options.command.now ≡ []
 HasNoPlan options (BadWords NoLesson) =
     (words options.command.now ≢ []) × (filter (is_chosen options) all_lessons ≡ [])

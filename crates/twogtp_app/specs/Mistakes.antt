@@ -9,7 +9,7 @@ use Rattle.byte_streams.specs.Writing.{IsWritten}
 use Rattle.cli.specs.Failures.{IsReported, plan_error_text}
 use Rattle.cli.specs.Status.{error_line}
 use Rattle.cli.specs.declared.failure.PlanError.{PlanError}
-use Rattle.cli.specs.declared.failure.PlanError.TheVariants.{BadArgument, BadWords, OutOfMemory}
+use Rattle.cli.specs.declared.failure.PlanError.TheVariants.{BadWords, OutOfMemory}
 use Rattle.twogtp_app.specs.declared.failure.Mistake.{Mistake}
 use Rattle.twogtp_app.specs.declared.failure.Mistake.TheVariants.{NoBlackCommand, NoWhiteCommand, BadKomi, BadHandicap}
 use Rattle.twogtp_app.specs.declared.options.Options.{Options}
@@ -63,8 +63,6 @@ ReportsMistake errs options what before after = IsWritten errs (mistake_lines op
 
 -- it was written why these options come to no plan, whole unless the stream broke at it
 abbrev pub ReportsNoPlan : {E : Type 0} → Ghosts E → Options → PlanError Mistake → E → E → Type 0
-ReportsNoPlan errs options BadArgument before after =
-    IsReported errs program_name (plan_error_text mistake_text BadArgument) before after
 ReportsNoPlan errs options (BadWords what) before after = ReportsMistake errs options what before after
 ReportsNoPlan errs options OutOfMemory before after =
     IsReported errs program_name (plan_error_text mistake_text OutOfMemory) before after

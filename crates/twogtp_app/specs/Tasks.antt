@@ -8,7 +8,7 @@ use Rattle.gtp_match.specs.Setup.{setup_of, IsSetup}
 use Rattle.twogtp_app.specs.declared.failure.Mistake.{Mistake}
 use Rattle.twogtp_app.specs.declared.failure.Mistake.TheVariants.{NoBlackCommand, NoWhiteCommand, BadKomi, BadHandicap}
 use Rattle.cli.specs.declared.failure.PlanError.{PlanError}
-use Rattle.cli.specs.declared.failure.PlanError.TheVariants.{BadArgument, BadWords, OutOfMemory}
+use Rattle.cli.specs.declared.failure.PlanError.TheVariants.{BadWords, OutOfMemory}
 use Rattle.twogtp_app.specs.declared.options.Options.{Options}
 use Rattle.twogtp_app.specs.declared.plan.Plan.{Plan}
 use Rattle.twogtp_app.specs.declared.task.Commands.{Commands}
@@ -60,9 +60,7 @@ IsMistake options NoWhiteCommand = (words options.black.now ≢ []) × (words op
 IsMistake options BadKomi = HaveWords options × (komi_of options.komi.now ≡ None)
 IsMistake options BadHandicap = HaveWords options × IsNoSetup options
 
--- Why the options come to no plan: their first mistake, or memory was refused. That an argument isn't UTF-8 is none of
--- theirs.
+-- why the options come to no plan: their first mistake, or memory was refused
 abbrev pub HasNoPlan : Options → PlanError Mistake → Type 0
-HasNoPlan options BadArgument = ⊥
 HasNoPlan options (BadWords mistake) = IsMistake options mistake
 HasNoPlan options OutOfMemory = Unit {0}

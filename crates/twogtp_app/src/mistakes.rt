@@ -8,7 +8,7 @@ use crate::failure::{Mistake, NAME};
 use crate::options::Options;
 use arrayvec::ArrayVec;
 use byte_streams::{WriteOnce, write_or_break};
-use cli::failure::{MistakeText, PlanError};
+use cli::failure::{Failure, MistakeText, PlanError};
 use cli::line::error_line;
 use go_base::{push, write_int};
 
@@ -30,7 +30,6 @@ pub fn report_no_plan<E: WriteOnce>(
     ensures written { ReportsNoPlan E.WriteOnce options.now error.now errors.old errors.new }
 {
     match error {
-        PlanError::BadArgument => error.report(NAME, errors),
         PlanError::BadWords(mistake) => {
             let mut lines = MistakeLines::new();
             push(&mut lines, &error_line(NAME, mistake.text()));
@@ -38,7 +37,7 @@ pub fn report_no_plan<E: WriteOnce>(
             write_or_break(errors, lines.as_slice());
             2
         }
-        PlanError::OutOfMemory => error.report(NAME, errors),
+        PlanError::OutOfMemory => Failure::OutOfMemory.report(NAME, errors),
     }
 }
 

@@ -7,7 +7,7 @@ use Rattle.clap.specs.declared.error.kind.ErrorKind.{ErrorKind}
 use Rattle.clap.specs.declared.error.kind.ErrorKind.TheVariants as kinds
 use Rattle.cli.specs.declared.failure.Failure.TheVariants.{OutOfMemory, Write}
 use Rattle.cli.specs.declared.failure.PlanError.{PlanError}
-use Rattle.cli.specs.declared.failure.PlanError.TheVariants.{BadArgument, BadWords, OutOfMemory as PlanOutOfMemory}
+use Rattle.cli.specs.declared.failure.PlanError.TheVariants.{BadWords, OutOfMemory as PlanOutOfMemory}
 use Rattle.cli.specs.Failures.{plan_error_status}
 use Rattle.cli.specs.Requests.{Answers, IsRefused, Outputs, Shows, Writers}
 use Rattle.cli.specs.Status.{IsRequest, done, own_failure, usage_failure}
@@ -33,7 +33,6 @@ pub plan_error_stopped : {E : Type 0} (errs : Ghosts E) (options : Options) (err
     (before after : E)
     → status ≡ plan_error_status error → ReportsNoPlan errs options error before after → status ≡ own_failure
     → ReportsFailure errs OutOfMemory before after
-plan_error_stopped errs options BadArgument status before after is reports three = absurd (omega (arith, is, three))
 plan_error_stopped errs options (BadWords what) status before after is reports three =
     absurd (omega (arith, is, three))
 plan_error_stopped errs options PlanOutOfMemory status before after is reports three = reports

@@ -24,7 +24,7 @@ returns-in-Some-loss g c =
     let last = c.write_text-in-Some-loss in
     let line = c.as_slice-in-Some-loss.ensures.value ∙ c.loss_line.ensures in
     let first
-        : LinesGoOut g.E.WriteOnce (retake_lines c.args.number turn.side turn.report.retake) c.args.errors.now mid =
+    : LinesGoOut g.E.WriteOnce (retake_lines c.args.number turn.side turn.report.retake) c.args.errors.now mid =
     elim c.match-turn.branch [
       | in-Some+in_ok-write_text w ↦ rw (w.in-Some.is, w.errors-is)
           (line_out (subst
