@@ -15,7 +15,11 @@ use crate::asserts::{assert_true, some};
 use crate::tests::commands::command;
 use go_base::Size;
 use gtp_check_course::Lesson;
-use gtp_check_talk::{Purpose, Said};
+use gtp_check_judge::Kind;
+use gtp_check_talk::{Fault, Purpose, Said};
+use gtp_check_texts::complaint::Complaint;
+use gtp_check_texts::last_game::Shown;
+use gtp_process::Ending;
 use std::process::Abort;
 
 /// A conversation of these commands on a board of this size, each with the end of its line. A right engine refuses none
@@ -49,4 +53,22 @@ fn talk_for<R: Abort + AllocGlobal>(
         assert_true(rt, talk.push(said).is_ok());
     }
     talk
+}
+
+/// The complaint about the second command of a conversation, whose reply has no id or another.
+fn without_id<'t>(sent: &'t [u8], talk: &'t [Said], wrote: &'t [u8]) -> Complaint<'t> {
+    Complaint {
+        number: 1,
+        lesson: Lesson::Start,
+        fault: Fault::Wrote(Kind::WrongId),
+        sent,
+        went_out: sent.len(),
+        talk,
+        answered: 1,
+        wrote,
+        ending: Ending::Running,
+        is_positional: false,
+        game: None,
+        shown: Shown::Whole,
+    }
 }

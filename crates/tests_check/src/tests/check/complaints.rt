@@ -1,5 +1,5 @@
 //! The texts of complaints.
-use super::{talk_for, talk_of};
+use super::{talk_for, talk_of, without_id};
 use crate::asserts::{assert_equal_for, assert_true, text_of};
 use go_board::{Game, KoRule};
 use gtp_check_course::Lesson;
@@ -458,20 +458,11 @@ fn a_complaint_says_that_a_line_came_in_two_pieces(rt: HostRuntime) -> Result<()
         part: 1,
     };
     let talk = talk_for(&rt, purpose, 9, &[("name", 7), ("version", 17)]);
-    let complaint = Complaint {
-        number: 1,
-        lesson: Lesson::Start,
-        fault: Fault::Wrote(Kind::WrongId),
-        sent: b"1 name\n2 version\n",
-        went_out: 17,
-        talk: talk.as_slice(),
-        answered: 1,
-        wrote: b"? unknown command\n\n",
-        ending: Ending::Running,
-        is_positional: false,
-        game: None,
-        shown: Shown::Whole,
-    };
+    let complaint = without_id(
+        b"1 name\n2 version\n",
+        talk.as_slice(),
+        b"? unknown command\n\n",
+    );
     let text = complaint_text(rt.alloc(), &complaint)?;
     assert_equal_for(
         &rt,

@@ -1,13 +1,10 @@
 //! The hint that an answer may have run on into the next one.
-use super::talk_of;
+use super::{talk_of, without_id};
 use crate::asserts::{assert_equal_for, text_of};
-use gtp_check_course::Lesson;
 use gtp_check_judge::Kind;
 use gtp_check_talk::Fault;
-use gtp_check_texts::complaint::{Complaint, complaint_text};
-use gtp_check_texts::last_game::Shown;
+use gtp_check_texts::complaint::complaint_text;
 use gtp_check_texts::reasons::runs_on;
-use gtp_process::Ending;
 use std::test::Fail;
 
 /// What was wrong after the first of three commands was answered, what the engine wrote then, and whether an answer may
@@ -43,20 +40,11 @@ fn an_answer_may_have_run_on(rt: HostRuntime) -> Result<(), Fail> {
 #[test]
 fn a_complaint_says_that_an_answer_may_have_run_on(rt: HostRuntime) -> Result<(), Fail> {
     let talk = talk_of(&rt, 9, &[("name", 7), ("version", 17), ("name", 24)]);
-    let complaint = Complaint {
-        number: 1,
-        lesson: Lesson::Start,
-        fault: Fault::Wrote(Kind::WrongId),
-        sent: b"1 name\n2 version\n3 name\n",
-        went_out: 24,
-        talk: talk.as_slice(),
-        answered: 1,
-        wrote: b"=3 one\n\n",
-        ending: Ending::Running,
-        is_positional: false,
-        game: None,
-        shown: Shown::Whole,
-    };
+    let complaint = without_id(
+        b"1 name\n2 version\n3 name\n",
+        talk.as_slice(),
+        b"=3 one\n\n",
+    );
     let text = complaint_text(rt.alloc(), &complaint)?;
     assert_equal_for(
         &rt,
