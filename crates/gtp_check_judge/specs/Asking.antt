@@ -51,23 +51,12 @@ line_of_check id command = line.Command (record { id = Some id; words = words_of
 -- what may be written, and values in their limits, as of a command of a match
 abbrev pub IsCheckWritable : CheckCommand → Type 0
 IsCheckWritable (Match command) = IsWritable command
-IsCheckWritable FinalScore = Unit {0}
-IsCheckWritable Name = Unit {0}
-IsCheckWritable Version = Unit {0}
-IsCheckWritable (KnownCommand known) = Unit {0}
-IsCheckWritable ListCommands = Unit {0}
-IsCheckWritable (PlayInFull move) = Unit {0}
-IsCheckWritable (GenmoveInFull colour) = Unit {0}
+IsCheckWritable _ = Unit {0}
 
 abbrev pub IsCheckInLimits : CheckCommand → Type 0
 IsCheckInLimits (Match command) = IsInLimits command
-IsCheckInLimits FinalScore = Unit {0}
-IsCheckInLimits Name = Unit {0}
-IsCheckInLimits Version = Unit {0}
-IsCheckInLimits (KnownCommand known) = Unit {0}
-IsCheckInLimits ListCommands = Unit {0}
 IsCheckInLimits (PlayInFull move) = IsVertex move.vertex
-IsCheckInLimits (GenmoveInFull colour) = Unit {0}
+IsCheckInLimits _ = Unit {0}
 
 -- it is a `play` of this move, its colour written in one letter or in full
 abbrev pub IsPlayOf : Move → CheckCommand → Type 0

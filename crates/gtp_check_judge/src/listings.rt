@@ -1,38 +1,36 @@
 //! The reply to `list_commands`.
 ghost use Rattle.std.specs.Prelude.{◌≡◌};
-ghost use Rattle.gtp_check_judge.specs.Listings.{administrative_commands, are_listed, is_listed, is_row_of};
-ghost use Rattle.gtp_check_judge.specs.Listings.{lists_required, play_commands, rows};
+ghost use Rattle.gtp_check_judge.specs.Listings.{are_listed, is_listed, is_row_of, lists_required, rows};
 
 use gtp_wire::first_word;
 
-/// Returns whether a text has a row for each command that the standard requires of every engine.
+/// The commands that the standard requires of every engine: the administrative ones, and those of setup and of play.
+static REQUIRED: [&[u8]; 11] = [
+    b"protocol_version",
+    b"name",
+    b"version",
+    b"known_command",
+    b"list_commands",
+    b"quit",
+    b"boardsize",
+    b"clear_board",
+    b"komi",
+    b"play",
+    b"genmove",
+];
+
+/// Returns whether a text has a row for each of these.
 pub(crate) fn lists_required(text: &[u8]) -> bool
     ensures { result ≡ lists_required (rows text.now) }
 {
-    lists_administrative(text) && lists_play(text)
+    are_listed(text, &REQUIRED)
 }
 
-/// The same for the administrative commands.
-fn lists_administrative(text: &[u8]) -> bool
-    ensures { result ≡ are_listed (rows text.now) administrative_commands }
+/// Returns whether a text has a row for each of these names.
+fn are_listed(text: &[u8], names: &[&[u8]]) -> bool
+    ensures { result ≡ are_listed (rows text.now) names.now }
 {
-    is_listed(text, b"protocol_version")
-        && is_listed(text, b"name")
-        && is_listed(text, b"version")
-        && is_listed(text, b"known_command")
-        && is_listed(text, b"list_commands")
-        && is_listed(text, b"quit")
-}
-
-/// The same for the commands of setup and of play.
-fn lists_play(text: &[u8]) -> bool
-    ensures { result ≡ are_listed (rows text.now) play_commands }
-{
-    is_listed(text, b"boardsize")
-        && is_listed(text, b"clear_board")
-        && is_listed(text, b"komi")
-        && is_listed(text, b"play")
-        && is_listed(text, b"genmove")
+    names.iter().all(|name| is_listed(text, name))
 }
 
 /// Returns whether one of the rows of a text is a name.

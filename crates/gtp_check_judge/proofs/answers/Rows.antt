@@ -1,8 +1,8 @@
 -- A row is looked for, row after row.
 use Rattle.std.proofs.Common.{◌≡◌, ℕ, Bool, true, false, List, [], ◌∷◌, Option, Some, None, Bor, refl, sym, ◌∙◌, ap}
-use Rattle.std.specs.Prelude.{◌||◌, ◌&&◌, ◌++◌}
+use Rattle.std.specs.Prelude.{◌||◌}
 use Rattle.std.specs.Iterator.{AlwaysYields}
-use Rattle.gtp_check_judge.specs.Listings.{are_listed, is_listed, is_row_of}
+use Rattle.gtp_check_judge.specs.Listings.{is_listed, is_row_of}
 
 -- an iterator has these rows left, and the name has a row among them where it has one among all
 pub record HasLeft {S : Type 0} (steps : S → Option (Bor (List ℕ)) → S → Type 0) (s : S) (all : List (List ℕ))
@@ -61,15 +61,3 @@ pub HasLeft-none : {S : Type 0} (steps : S → Option (Bor (List ℕ)) → S →
     (name : List ℕ)
     → HasLeft steps s all name → steps s None t → is_listed all name ≡ false
 HasLeft-none steps s t all name h step = h.same ∙ none_left steps s t name h.left h.yields step
-
--- all of two lists
-pub all_of_both : (list first second : List (List ℕ))
-    → are_listed list (first ++ second) ≡ (are_listed list first && are_listed list second)
-all_of_both list [] second = refl
-all_of_both list (name ∷ first) second =
-    ap (λ (b : Bool). is_listed list name && b) (all_of_both list first second)
-    ∙ between (is_listed list name) (are_listed list first) (are_listed list second)
-  where
-    between : (a b c : Bool) → (a && (b && c)) ≡ ((a && b) && c)
-    between true b c = refl
-    between false b c = refl
