@@ -11,7 +11,8 @@ use Rattle.gtp_check_course.specs.declared.boards.Board.{Board}
 use Rattle.gtp_check_course.specs.declared.stretches.Stretch.TheVariants as stretch
 use Rattle.gtp_check_course.specs.Laws.{AsksAt, AsksInTurn, EachKoIsAnswered, Fills, Seals, StaysEmpty, fills}
 use Rattle.gtp_check_course.specs.Questions.{act_asked, answer_asked, is_left_empty, last_of, sealed_asked}
-use Rattle.gtp_check_course.specs.Scenes.{ko_scenes}
+use Rattle.gtp_check_course.specs.declared.lessons.Lesson.TheVariants as lesson
+use Rattle.gtp_check_course.specs.Scenes.{scenes_of}
 use Rattle.gtp_check_course.proofs.ClearedBoard.{ko_short, plays, short_board}
 
 -- ---- what stays empty
@@ -144,7 +145,7 @@ each_ko part board act scene least most is = record {
       AsksInTurn.none;
   moves = stretch.Moves;
   has_moves = refl;
-  plays_each = plays board (short_board ko_scenes part board ko_short scene);
+  plays_each = plays board (short_board (scenes_of lesson.Ko) part board ko_short scene);
   takes_back = AsksInTurn.next stretch.Undo refl (record { within = omega arith; is = λ draws game. refl })
       AsksInTurn.none;
   seal = stretch.Sealed;

@@ -6,9 +6,7 @@ use Rattle.go_board.specs.Refusals.{RefusesVertex}
 use Rattle.go_board.specs.declared.faults.PlayFault.TheVariants.{Suicide as SuicideFault}
 use Rattle.gtp_wire.specs.declared.commands.Command.TheVariants as command
 use Rattle.gtp_check_judge.specs.declared.asking.CheckCommand.{CheckCommand}
-use Rattle.gtp_check_judge.specs.declared.asking.CheckCommand.TheVariants.{Match, FinalScore, Name, Version}
-use Rattle.gtp_check_judge.specs.declared.asking.CheckCommand.TheVariants.{KnownCommand, PlayInFull, GenmoveInFull}
-use Rattle.gtp_check_judge.specs.declared.asking.CheckCommand.TheVariants.{ListCommands}
+use Rattle.gtp_check_judge.specs.declared.asking.CheckCommand.TheVariants.{Match, PlayInFull}
 use Rattle.gtp_check_judge.specs.declared.exam.Exam.{Exam}
 use Rattle.gtp_check_judge.specs.Exam.{HasRoomFor}
 use Rattle.gtp_check_course.specs.declared.lessons.Lesson.{Lesson}
@@ -121,20 +119,8 @@ pub record GoesOn (old new : Course) : Type 0 where
 -- a `play` that the rules refuse as suicide in this game: its stone's chain would have no liberty
 abbrev pub IsSuicide : GameRecord → CheckCommand → Type 0
 IsSuicide game (Match (command.Play move)) = RefusesVertex game move.colour move.vertex SuicideFault
-IsSuicide game (Match (command.Boardsize size)) = ⊥
-IsSuicide game (Match (command.Komi komi)) = ⊥
-IsSuicide game (Match command.ClearBoard) = ⊥
-IsSuicide game (Match (command.FixedHandicap stones)) = ⊥
-IsSuicide game (Match (command.Genmove colour)) = ⊥
-IsSuicide game (Match command.Undo) = ⊥
-IsSuicide game (Match command.Quit) = ⊥
-IsSuicide game FinalScore = ⊥
-IsSuicide game Name = ⊥
-IsSuicide game Version = ⊥
-IsSuicide game (KnownCommand known) = ⊥
-IsSuicide game ListCommands = ⊥
 IsSuicide game (PlayInFull move) = RefusesVertex game move.colour move.vertex SuicideFault
-IsSuicide game (GenmoveInFull colour) = ⊥
+IsSuicide game _ = ⊥
 
 -- A command is left out in this game: it is suicide, and that isn't asked. (Rule sets differ in whether it is legal.)
 pub record IsLeftOut (suicide : Suicide) (game : GameRecord) (command : CheckCommand) : Type 0 where

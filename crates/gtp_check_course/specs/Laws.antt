@@ -42,12 +42,7 @@ counted Done = 0
 
 abbrev pub starts : Action → ℕ
 starts Start = 1
-starts (Ask command) = 0
-starts Restart = 0
-starts Kill = 0
-starts Wait = 0
-starts Skip = 0
-starts Done = 0
+starts _ = 0
 
 -- The calls on a course of these lessons: how many of them asked a command, asked nothing or ended an engine, how many
 -- starts there were, and the course after them. Whatever the engine has answered, each call of `next` goes on. A part

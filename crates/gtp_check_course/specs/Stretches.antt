@@ -7,28 +7,12 @@ use Rattle.gtp_check_course.specs.Places.{most_steps}
 -- how many steps it has
 abbrev pub steps_of : Stretch → ℕ
 steps_of stretch.Seek = 42
-steps_of stretch.Size = 1
-steps_of stretch.Taken = 1
-steps_of stretch.OtherSize = 1
-steps_of stretch.OtherTaken = 1
-steps_of stretch.Komi = 1
-steps_of stretch.OtherKomi = 1
-steps_of stretch.Inexact = 1
-steps_of stretch.Clear = 1
 steps_of stretch.Moves = 12
 steps_of stretch.MovesInFull = 12
 steps_of stretch.Own = 24
 steps_of stretch.Corner = 72
-steps_of stretch.Pass = 1
-steps_of stretch.ActorPass = 1
-steps_of stretch.Act = 1
-steps_of stretch.Elsewhere = 1
-steps_of stretch.Undo = 1
 steps_of stretch.Edges = 6
-steps_of stretch.Handicap = 1
-steps_of (stretch.Stones stones) = 1
 steps_of stretch.Stars = 18
-steps_of stretch.Score = 1
 steps_of stretch.Surround = 4
 steps_of stretch.Points = 1875
 steps_of (stretch.Passes steps) = min steps most_steps
@@ -41,14 +25,9 @@ steps_of (stretch.AllBack steps) = min steps most_steps
 steps_of (stretch.Genmoves steps) = min steps most_steps
 steps_of stretch.Filled = 625
 steps_of stretch.Sealed = 625
-steps_of stretch.Answer = 1
 steps_of stretch.Swept = 4
 steps_of stretch.Gaps = 3
-steps_of (stretch.Chosen colour) = 1
-steps_of (stretch.ChosenInFull colour) = 1
-steps_of stretch.List = 1
-steps_of stretch.Restart = 1
-steps_of stretch.Kill = 1
+steps_of _ = 1
 
 -- where there is a stretch
 abbrev pub steps_if : Option Stretch → ℕ

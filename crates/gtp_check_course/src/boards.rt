@@ -1,6 +1,5 @@
 //! The boards, komis and scenes on which each part of a lesson is asked.
 ghost use Rattle.std.specs.Prelude.{◌≡◌, ◌+◌, ◌<◌, slice_index_or};
-ghost use Rattle.go_base.specs.Komi.{IsKomi};
 ghost use Rattle.gtp_check_course.specs.Places.{most_parts};
 ghost use Rattle.gtp_check_course.specs.Boards.{IsBoard, lines_of, size_or, komi_of, stones_of};
 ghost use Rattle.gtp_check_course.specs.Boards.{inexact_komi_of, scene_size_or_least, turning_of};
@@ -19,6 +18,16 @@ const GENMOVES: [u32; 8] = [5, 9, 1, 2, 3, 7, 13, 19];
 const RECORD: [u32; 2] = [9, 19];
 
 const GAMES: [u32; 4] = [9, 5, 13, 19];
+
+/// Komis in half points. A float of 32 bits represents each of them. The first ten are from -1000 to 1000 points:
+/// scores are compared with these. The others test that the engine accepts them, and that its scores can be read.
+const KOMIS: [i32; 16] = [
+    13, 0, -7, 15, 1, -1, 1999, -14, 201, -1471, -16777216, 2000000, 16777215, -16777215, 200001,
+    -65537,
+];
+
+/// Komis in half points that no float of 32 bits represents.
+const INEXACT_KOMIS: [i32; 4] = [16777217, -1999999999, -16777217, 1999999999];
 
 /// What a part of a lesson is asked on.
 #[derive(Clone, Copy, Debug, PartialEq, Eq)]
@@ -73,18 +82,7 @@ fn turning_of(lesson: Lesson, part: u32) -> u32
 {
     match lesson {
         Lesson::Start => 0,
-        Lesson::Sizes
-        | Lesson::Ko
-        | Lesson::Captures
-        | Lesson::Suicide
-        | Lesson::Joining
-        | Lesson::Handicaps
-        | Lesson::Komi
-        | Lesson::Drawn
-        | Lesson::Record
-        | Lesson::Genmoves
-        | Lesson::Games
-        | Lesson::Restarts => part % WAYS,
+        _ => part % WAYS,
     }
 }
 
@@ -153,36 +151,9 @@ fn size_or(lines: u32, other: Size) -> Size
 fn komi_of(number: u32) -> Komi
     ensures { result ≡ komi_of number }
 {
-    match Komi::from_half_points(half_points_of(number)) {
+    match Komi::from_half_points(KOMIS[(number % 16) as usize]) {
         Some(komi) => komi,
         None => unreachable!(),
-    }
-}
-
-/// Returns the half points of the komi of this number. A float of 32 bits represents each of these komis. The first ten
-/// are from -1000 to 1000 points: scores are compared with these. The others test that the engine accepts them, and
-/// that its scores can be read.
-fn half_points_of(number: u32) -> i32
-    ensures exact { result ≡ komi_of number }
-    ensures komi { IsKomi result }
-{
-    match number % 16 {
-        0 => 13,
-        1 => 0,
-        2 => -7,
-        3 => 15,
-        4 => 1,
-        5 => -1,
-        6 => 1999,
-        7 => -14,
-        8 => 201,
-        9 => -1471,
-        10 => -16_777_216,
-        11 => 2_000_000,
-        12 => 16_777_215,
-        13 => -16_777_215,
-        14 => 200_001,
-        _ => -65_537,
     }
 }
 
@@ -190,13 +161,7 @@ fn half_points_of(number: u32) -> i32
 fn inexact_komi_of(part: u32) -> Komi
     ensures { result ≡ inexact_komi_of part }
 {
-    let half_points = match part % 4 {
-        0 => 16_777_217,
-        1 => -1_999_999_999,
-        2 => -16_777_217,
-        _ => 1_999_999_999,
-    };
-    match Komi::from_half_points(half_points) {
+    match Komi::from_half_points(INEXACT_KOMIS[(part % 4) as usize]) {
         Some(komi) => komi,
         None => unreachable!(),
     }

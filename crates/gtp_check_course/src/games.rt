@@ -46,7 +46,8 @@ pub(crate) static RECORD: [Stretch; 38] = [
 ];
 
 /// Moves of the engine's own: in a game of them, on boards where hardly one is legal, and after a handicap. Then random
-/// points are probed, which shows whether its board has the moves that it chose.
+/// points are probed, which shows whether its board has the moves that it chose. During the first game another size is
+/// asked for, which an engine may refuse.
 pub(crate) static GENMOVES: [Stretch; 33] = [
     Stretch::Seek,
     Stretch::Size,

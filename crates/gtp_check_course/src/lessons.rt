@@ -81,26 +81,29 @@ pub const LESSONS: [Lesson; ALL] = [
     Lesson::Restarts,
 ];
 
+/// Their names, as a user writes them.
+pub const LESSON_NAMES: [&str; ALL] = [
+    "start",
+    "sizes",
+    "ko",
+    "captures",
+    "suicide",
+    "joining",
+    "handicaps",
+    "komi",
+    "drawn",
+    "record",
+    "genmoves",
+    "games",
+    "restarts",
+];
+
 impl Lesson {
-    /// Returns the name, as a user writes it.
+    /// Returns the name.
     pub fn name(self) -> &'static str
         ensures { result.now ≡ name_of self }
     {
-        match self {
-            Lesson::Start => "start",
-            Lesson::Sizes => "sizes",
-            Lesson::Ko => "ko",
-            Lesson::Captures => "captures",
-            Lesson::Suicide => "suicide",
-            Lesson::Joining => "joining",
-            Lesson::Handicaps => "handicaps",
-            Lesson::Komi => "komi",
-            Lesson::Drawn => "drawn",
-            Lesson::Record => "record",
-            Lesson::Genmoves => "genmoves",
-            Lesson::Games => "games",
-            Lesson::Restarts => "restarts",
-        }
+        LESSON_NAMES[self as usize]
     }
 
     /// Returns its number among all lessons, counted from 0.
@@ -108,21 +111,7 @@ impl Lesson {
         ensures number { result ≡ number_of self }
         ensures few { result ≤ 12 }
     {
-        match self {
-            Lesson::Start => 0,
-            Lesson::Sizes => 1,
-            Lesson::Ko => 2,
-            Lesson::Captures => 3,
-            Lesson::Suicide => 4,
-            Lesson::Joining => 5,
-            Lesson::Handicaps => 6,
-            Lesson::Komi => 7,
-            Lesson::Drawn => 8,
-            Lesson::Record => 9,
-            Lesson::Genmoves => 10,
-            Lesson::Games => 11,
-            Lesson::Restarts => 12,
-        }
+        self as usize
     }
 
     /// Returns how many parts it has.

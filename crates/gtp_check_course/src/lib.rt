@@ -25,7 +25,7 @@ mod tables;
 
 pub use actions::Action;
 pub use course::Course;
-pub use lessons::{LESSONS, Lesson, Lessons};
+pub use lessons::{LESSON_NAMES, LESSONS, Lesson, Lessons};
 pub use openings::Opening;
 pub use places::Place;
 pub use plan::Plan;
