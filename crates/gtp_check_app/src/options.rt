@@ -15,7 +15,7 @@ use clap::{Arg, ArgMatches, Command, Error};
 use cli::VERSION;
 use cli::options::{OptionRow, Takes, flag_at, number_at, text_at, texts_at, with_options};
 use go_board::KoRule;
-use gtp_check_course::{LESSONS, Lesson, Lessons, Suicide};
+use gtp_check_course::{LESSON_NAMES, LESSONS, Lesson, Lessons, Suicide};
 use std::alloc::{AllocError, Global};
 use std::convert::AsStr;
 
@@ -69,23 +69,6 @@ pub struct Options<'a> {
     pub trials: u32,
 }
 
-/// The names of the lessons, in the order of a course.
-const LESSON_NAMES: &[&str] = &[
-    "start",
-    "sizes",
-    "ko",
-    "captures",
-    "suicide",
-    "joining",
-    "handicaps",
-    "komi",
-    "drawn",
-    "record",
-    "genmoves",
-    "games",
-    "restarts",
-];
-
 /// The options, in the order of the help.
 static OPTIONS: [OptionRow<'static>; 11] = [
     OptionRow {
@@ -117,12 +100,12 @@ static OPTIONS: [OptionRow<'static>; 11] = [
     },
     OptionRow {
         name: "only",
-        takes: Takes::Names("LESSON", LESSON_NAMES),
+        takes: Takes::Names("LESSON", &LESSON_NAMES),
         help: "Run only this lesson (repeatable)",
     },
     OptionRow {
         name: "skip",
-        takes: Takes::Names("LESSON", LESSON_NAMES),
+        takes: Takes::Names("LESSON", &LESSON_NAMES),
         help: "Skip this lesson (repeatable)",
     },
     OptionRow {
