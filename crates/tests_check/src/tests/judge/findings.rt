@@ -168,6 +168,22 @@ fn each_kind_of_wrong_answer_is_found_and_no_right_answer(rt: HostRuntime) {
     assert_equal(&rt, found, Some(Kind::Overlong));
 }
 
+/// Where the names begin in a list of the eleven commands that the standard requires.
+const NAMES: [usize; 11] = [3, 20, 25, 33, 47, 61, 66, 76, 88, 93, 98];
+
+#[test]
+fn a_list_lacks_none_of_eleven_commands(rt: HostRuntime) {
+    for start in NAMES {
+        let mut list = *b"=6 protocol_version\nname\nversion\nknown_command\nlist_commands\nquit\n\
+            boardsize\nclear_board\nkomi\nplay\ngenmove\n\n";
+        *some(&rt, list.get_mut(start)) = b'x';
+        let mut examiner = begun(&rt, "1 boardsize 5\n");
+        ask(&rt, &mut examiner, "6 list_commands\n");
+        let found = hear(&rt, &mut examiner, &list);
+        assert_equal_for(&rt, start, found, Some(Kind::Unlisted));
+    }
+}
+
 #[test]
 fn a_size_may_be_refused(rt: HostRuntime) {
     let mut examiner = begun(&rt, "1 boardsize 5\n");
