@@ -1,10 +1,27 @@
 //! The list of lessons.
 ghost use Rattle.std.specs.Prelude.{◌≡◌, ◌++◌, length, IfOk, OnOk};
-ghost use Rattle.gtp_check_texts.specs.Listing.{asked_text, lesson_line, list_lines, spaces_after};
+ghost use Rattle.gtp_check_texts.specs.Listing.{lesson_line, list_lines, spaces_after};
 
 use crate::texts::add_all;
 use gtp_check_course::{LESSONS, Lesson};
 use std::alloc::{AllocError, Global};
+
+/// What each lesson asks, in the order of a course.
+static ASKED: [&[u8]; 13] = [
+    b"the first moves, on the smallest board from 5x5 on",
+    b"each size, its corners, and points that it doesn't have",
+    b"kos, and what looks like one",
+    b"captures of one stone, of several, and of several chains",
+    b"moves that leave their own chain without a liberty",
+    b"chains that are joined, and their capture",
+    b"each number of handicap stones on each size",
+    b"komis, by the score of an empty board",
+    b"drawn games on several sizes, and points of them",
+    b"records of nearly 2000 moves",
+    b"moves of the engine's own, up to a full board",
+    b"several games in one process",
+    b"games after a new start",
+];
 
 /// Returns the lessons, one a line: the name, and what is asked.
 ///
@@ -26,7 +43,10 @@ fn add_line(text: &mut Vec<u8>, lesson: Lesson) -> Result<(), AllocError>
     ensures { OnOk result (text.new.items ≡ text.old.items ++ lesson_line lesson) }
 {
     let name = lesson.name().as_bytes();
-    add_all(text, &[name, spaces_after(name), asked_text(lesson), b"\n"])
+    add_all(
+        text,
+        &[name, spaces_after(name), ASKED[lesson.number()], b"\n"],
+    )
 }
 
 /// Returns the spaces after a name: up to thirteen bytes together.
@@ -34,25 +54,4 @@ fn spaces_after(name: &[u8]) -> &'static [u8]
     ensures { result.now ≡ spaces_after (length name.now) }
 {
     &b"             "[name.len().min(12)..]
-}
-
-/// Returns what a lesson asks.
-fn asked_text(lesson: Lesson) -> &'static [u8]
-    ensures { result.now ≡ asked_text lesson }
-{
-    match lesson {
-        Lesson::Start => b"the first moves, on the smallest board from 5x5 on",
-        Lesson::Sizes => b"each size, its corners, and points that it doesn't have",
-        Lesson::Ko => b"kos, and what looks like one",
-        Lesson::Captures => b"captures of one stone, of several, and of several chains",
-        Lesson::Suicide => b"moves that leave their own chain without a liberty",
-        Lesson::Joining => b"chains that are joined, and their capture",
-        Lesson::Handicaps => b"each number of handicap stones on each size",
-        Lesson::Komi => b"komis, by the score of an empty board",
-        Lesson::Drawn => b"drawn games on several sizes, and points of them",
-        Lesson::Record => b"records of nearly 2000 moves",
-        Lesson::Genmoves => b"moves of the engine's own, up to a full board",
-        Lesson::Games => b"several games in one process",
-        Lesson::Restarts => b"games after a new start",
-    }
 }
