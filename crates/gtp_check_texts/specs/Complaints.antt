@@ -1,5 +1,5 @@
 -- The text of a complaint. (Own.)
-use Rattle.std.specs.Prelude.{ℕ, Bool, true, false, List, [], ◌∷◌, codes, length, take}
+use Rattle.std.specs.Prelude.{ℕ, Bool, true, false, not, List, [], ◌∷◌, codes, length, take}
 use Rattle.std.specs.Prelude.{◌++◌, ◌==◌, nat_lt, slice_get, unwrap_or, Option, None, Some}
 use Rattle.std.specs.Borrow.{Bor}
 use Rattle.std.specs.Fmt.{decimal}
@@ -16,6 +16,7 @@ use Rattle.gtp_check_texts.specs.reasons.Answers.{before_rule, right_answer}
 use Rattle.gtp_check_texts.specs.reasons.Colours.{told_after}
 use Rattle.gtp_check_texts.specs.reasons.Rules.{rule_text}
 use Rattle.gtp_check_texts.specs.Board.{drawn_board}
+use Rattle.gtp_check_texts.specs.Texts.{text_if}
 use Rattle.gtp_check_texts.specs.reasons.RunOn.{run_on_line, runs_on}
 use Rattle.gtp_check_texts.specs.reasons.Reasons.{reason}
 use Rattle.go_board.specs.Game.{GameRecord}
@@ -102,23 +103,16 @@ abbrev pub board_lines : Option (Bor GameRecord) → List ℕ
 board_lines None = []
 board_lines (Some game) = drawn_board game.now
 
--- that they were asked before the answer was read, where there are any
-abbrev pub ahead_text : Bool → List ℕ
-ahead_text true = []
-ahead_text false = codes "# asked before this answer was read:\n"
-
 -- what was sent after the faulty command, before that was answered
 abbrev pub ahead_lines : List ℕ → List ℕ
-ahead_lines lines = ahead_text (length lines == 0) ++ lines
+ahead_lines lines = text_if (not (length lines == 0)) (codes "# asked before this answer was read:\n") ++ lines
 
 -- that the line of the command came in two chunks, which is not to be seen in the block
-abbrev pub pieces_text : Bool → List ℕ
-pieces_text true = codes "# that line came in two pieces: a right engine waits for its newline\n"
-pieces_text false = []
-
 abbrev pub pieces_line : Option Said → List ℕ
 pieces_line None = []
-pieces_line (Some said) = pieces_text (is_in_pieces said.purpose.lesson said.purpose.part)
+pieces_line (Some said) =
+    text_if (is_in_pieces said.purpose.lesson said.purpose.part)
+    (codes "# that line came in two pieces: a right engine waits for its newline\n")
 
 -- whether an answer may have run on into the next one
 abbrev pub may_run_on : Complaint → Bool
@@ -127,8 +121,7 @@ may_run_on complaint =
 
 -- that the refusal is right under the other ko rule
 abbrev pub ko_line : Bool → List ℕ
-ko_line true = codes "# under positional ko the refusal is right: try --ko positional\n"
-ko_line false = []
+ko_line is_so = text_if is_so (codes "# under positional ko the refusal is right: try --ko positional\n")
 
 -- the lines before the command, or of these the last game alone
 abbrev pub shown_before : Complaint → Shown → List ℕ

@@ -7,10 +7,10 @@ ghost use Rattle.gtp_process.specs.Shown.{quoted};
 ghost use Rattle.gtp_wire.specs.Replies.{most_shown};
 ghost use Rattle.gtp_check_texts.specs.Complaints.{in_a_row};
 ghost use Rattle.gtp_check_texts.specs.reasons.Answers.{before_rule};
-ghost use Rattle.gtp_check_texts.specs.Complaints.{ahead_lines, ahead_text, answer_of, asked_lines, board_lines};
+ghost use Rattle.gtp_check_texts.specs.Complaints.{ahead_lines, answer_of, asked_lines, board_lines};
 ghost use Rattle.gtp_check_texts.specs.Complaints.{complaint_lines, ended_text, faulty_said, head_line, is_within};
-ghost use Rattle.gtp_check_texts.specs.Complaints.{ko_line, may_run_on, pieces_line, pieces_text, rule_line, rule_of, shown_before, told};
-ghost use Rattle.gtp_check_texts.specs.Complaints.{within_text, wrote_line};
+ghost use Rattle.gtp_check_texts.specs.Complaints.{ko_line, may_run_on, pieces_line, rule_line, rule_of};
+ghost use Rattle.gtp_check_texts.specs.Complaints.{shown_before, told, within_text, wrote_line};
 ghost use Rattle.gtp_check_texts.specs.Conversation.{after_lines, asked_line, before_lines, faulty_line, line_end};
 ghost use Rattle.gtp_check_texts.specs.Conversation.{line_of, line_start, lines_to};
 ghost use Rattle.gtp_check_texts.specs.reasons.Rules.{rule_text};
@@ -19,10 +19,10 @@ ghost use Rattle.gtp_check_texts.specs.reasons.RunOn.{run_on_line};
 use crate::board::add_board;
 use crate::last_game::{Shown, add_last_game};
 use crate::reasons::{
-    ANSWER_ROOM, add_reason, fault_text, in_a_row_line, right_answer, rule_text, run_on_line,
-    runs_on, told_after,
+    ANSWER_ROOM, add_reason, fault_text, in_a_row_line, right_answer, rule_text, runs_on,
+    told_after,
 };
-use crate::texts::add_all;
+use crate::texts::{add_all, text_if};
 use arrayvec::ArrayVec;
 use go_base::write_int;
 use go_board::Game;
@@ -163,7 +163,10 @@ impl<'t> Complaint<'t> {
         ensures { result.now ≡ pieces_line (faulty_said self.now) }
     {
         match self.talk.get(self.answered) {
-            Some(said) => pieces_text(said.purpose.lesson.is_in_pieces(said.purpose.part)),
+            Some(said) => text_if(
+                said.purpose.lesson.is_in_pieces(said.purpose.part),
+                b"# that line came in two pieces: a right engine waits for its newline\n",
+            ),
             None => b"",
         }
     }
@@ -261,17 +264,6 @@ fn add_head(text: &mut Vec<u8>, complaint: &Complaint<'_>) -> Result<(), AllocEr
             b"\n",
         ],
     )
-}
-
-/// Returns the note that a line came in two chunks, if it did.
-fn pieces_text(in_pieces: bool) -> &'static [u8]
-    ensures { result.now ≡ pieces_text in_pieces }
-{
-    if in_pieces {
-        b"# that line came in two pieces: a right engine waits for its newline\n"
-    } else {
-        b""
-    }
 }
 
 /// Returns whether something is written that isn't blank.
@@ -402,36 +394,26 @@ fn add_run_on(text: &mut Vec<u8>, complaint: &Complaint<'_>) -> Result<(), Alloc
     ensures { OnOk result (text.new.items
         ≡ text.old.items ++ run_on_line (may_run_on complaint.now)) }
 {
-    text.extend_from_slice(run_on_line(complaint.may_run_on()))
+    text.extend_from_slice(text_if(
+        complaint.may_run_on(),
+        b"# an answer may have run on into the next: does each end with an empty line, a failure too?\n",
+    ))
 }
 
 /// Appends what was asked after the faulty command and before the reply to it, if anything was.
 fn add_ahead(text: &mut Vec<u8>, lines: &[u8]) -> Result<(), AllocError>
     ensures { OnOk result (text.new.items ≡ text.old.items ++ ahead_lines lines.now) }
 {
-    text.extend_from_slice(ahead_text(lines.is_empty()))?;
+    text.extend_from_slice(text_if(!lines.is_empty(), b"# asked before this answer was read:\n"))?;
     text.extend_from_slice(lines)
-}
-
-/// Returns the head of these lines, if there are any.
-fn ahead_text(are_none: bool) -> &'static [u8]
-    ensures { result.now ≡ ahead_text are_none }
-{
-    if are_none {
-        b""
-    } else {
-        b"# asked before this answer was read:\n"
-    }
 }
 
 /// Appends the line about the other ko rule, if that explains the refusal.
 fn add_ko(text: &mut Vec<u8>, is_positional: bool) -> Result<(), AllocError>
     ensures { OnOk result (text.new.items ≡ text.old.items ++ ko_line is_positional) }
 {
-    if is_positional {
-        text.extend_from_slice(
-            b"# under positional ko the refusal is right: try --ko positional\n",
-        )?;
-    }
-    Ok(())
+    text.extend_from_slice(text_if(
+        is_positional,
+        b"# under positional ko the refusal is right: try --ko positional\n",
+    ))
 }

@@ -2,7 +2,7 @@
 ghost use Rattle.std.specs.Prelude.{◌≡◌, ◌∷◌, [], ◌++◌, OnOk};
 ghost use Rattle.gtp_check_texts.specs.reasons.Reasons.{chosen_by, colour_letter, move_of, reason, refused_match};
 ghost use Rattle.gtp_check_texts.specs.reasons.Reasons.{refused_text, undo_text};
-ghost use Rattle.gtp_check_texts.specs.reasons.Reasons.{are_of_one_colour, in_a_row_line, in_a_row_text};
+ghost use Rattle.gtp_check_texts.specs.reasons.Reasons.{are_of_one_colour, in_a_row_line};
 
 mod answers;
 mod colours;
@@ -13,7 +13,7 @@ mod rules;
 mod run_on;
 mod sentences;
 
-use crate::texts::add_all;
+use crate::texts::{add_all, text_if};
 pub use answers::{ANSWER_ROOM, right_answer};
 use colours::is_same;
 pub use colours::told_after;
@@ -25,7 +25,7 @@ use illegal::{add_illegal, last_move};
 pub use kinds::fault_text;
 use plays::add_legal;
 pub use rules::rule_text;
-pub use run_on::{run_on_line, runs_on};
+pub use run_on::runs_on;
 use sentences::{command_sentence, kind_sentence, no_move_sentence, other_sentence};
 use std::alloc::AllocError;
 
@@ -134,7 +134,10 @@ pub fn in_a_row_line(game: &Game, command: &CheckCommand, kind: Kind) -> &'stati
     ensures { result.now ≡ in_a_row_line game.now command.now kind }
 {
     match kind {
-        Kind::Refused => in_a_row_text(are_of_one_colour(last_move(game), move_of(command, None))),
+        Kind::Refused => text_if(
+            are_of_one_colour(last_move(game), move_of(command, None)),
+            b"# the last move was of the same colour: moves of one colour in a row are legal\n",
+        ),
         _ => b"",
     }
 }
@@ -146,16 +149,5 @@ fn are_of_one_colour(last: Option<Move>, made: Option<Move>) -> bool
     match (last, made) {
         (Some(last), Some(made)) => is_same(last.colour, made.colour),
         _ => false,
-    }
-}
-
-/// Returns that line if they are.
-fn in_a_row_text(are_of_one_colour: bool) -> &'static [u8]
-    ensures { result.now ≡ in_a_row_text are_of_one_colour }
-{
-    if are_of_one_colour {
-        b"# the last move was of the same colour: moves of one colour in a row are legal\n"
-    } else {
-        b""
     }
 }

@@ -1,5 +1,5 @@
 -- What decides that an answer is wrong, in one line without a newline. (Own.)
-use Rattle.std.specs.Prelude.{ℕ, Bool, true, false, List, [], ◌∷◌, codes, Option, Some, None}
+use Rattle.std.specs.Prelude.{ℕ, Bool, false, List, [], ◌∷◌, codes, Option, Some, None}
 use Rattle.std.specs.List.{concat}
 use Rattle.go_base.specs.Vertex.{written_vertex}
 use Rattle.go_base.specs.declared.colours.Colour.{Colour}
@@ -9,15 +9,13 @@ use Rattle.go_base.specs.declared.vertices.Vertex.{Vertex}
 use Rattle.go_board.specs.Game.{GameRecord}
 use Rattle.go_board.specs.Taken.{same_colour}
 use Rattle.gtp_check_judge.specs.declared.asking.CheckCommand.{CheckCommand}
-use Rattle.gtp_check_judge.specs.declared.asking.CheckCommand.TheVariants.{Match, FinalScore, Name, Version}
-use Rattle.gtp_check_judge.specs.declared.asking.CheckCommand.TheVariants.{KnownCommand, PlayInFull, GenmoveInFull}
-use Rattle.gtp_check_judge.specs.declared.asking.CheckCommand.TheVariants.{ListCommands}
+use Rattle.gtp_check_judge.specs.declared.asking.CheckCommand.TheVariants.{Match, PlayInFull, GenmoveInFull}
 use Rattle.gtp_check_judge.specs.declared.dues.Cause.TheVariants.{BadMove}
 use Rattle.gtp_check_judge.specs.declared.judging.Kind.{Kind}
 use Rattle.gtp_check_judge.specs.declared.judging.Kind.TheVariants as kind
 use Rattle.gtp_wire.specs.declared.commands.Command.{Command}
-use Rattle.gtp_wire.specs.declared.commands.Command.TheVariants.{Boardsize, Komi, ClearBoard, FixedHandicap, Play}
-use Rattle.gtp_wire.specs.declared.commands.Command.TheVariants.{Genmove, Undo, Quit}
+use Rattle.gtp_wire.specs.declared.commands.Command.TheVariants.{Genmove, Play, Undo}
+use Rattle.gtp_check_texts.specs.Texts.{text_if}
 use Rattle.gtp_check_texts.specs.reasons.Illegal.{illegal_text, last_move}
 use Rattle.gtp_check_texts.specs.reasons.Plays.{legal_text}
 use Rattle.gtp_check_texts.specs.reasons.Sentences.{command_sentence, kind_sentence, no_move_sentence, other_sentence}
@@ -39,12 +37,7 @@ undo_text (Some move) = concat (
 abbrev pub refused_match : GameRecord → Command → List ℕ
 refused_match game (Play move) = legal_text game move
 refused_match game Undo = undo_text (last_move game)
-refused_match game (Boardsize size) = command_sentence (Boardsize size)
-refused_match game (Komi komi) = command_sentence (Komi komi)
-refused_match game ClearBoard = command_sentence ClearBoard
-refused_match game (FixedHandicap stones) = command_sentence (FixedHandicap stones)
-refused_match game (Genmove colour) = command_sentence (Genmove colour)
-refused_match game Quit = command_sentence Quit
+refused_match game command = command_sentence command
 
 -- why a right engine takes a command
 abbrev pub refused_text : GameRecord → CheckCommand → List ℕ
@@ -62,19 +55,9 @@ chosen_by c (Some v) = Some (record { colour = c; vertex = v })
 abbrev pub move_of : CheckCommand → Option Vertex → Option Move
 move_of (Match (Play move)) chosen = Some move
 move_of (Match (Genmove c)) chosen = chosen_by c chosen
-move_of (Match (Boardsize size)) chosen = None
-move_of (Match (Komi komi)) chosen = None
-move_of (Match ClearBoard) chosen = None
-move_of (Match (FixedHandicap stones)) chosen = None
-move_of (Match Undo) chosen = None
-move_of (Match Quit) chosen = None
-move_of FinalScore chosen = None
-move_of Name chosen = None
-move_of Version chosen = None
-move_of (KnownCommand asked) chosen = None
-move_of ListCommands chosen = None
 move_of (PlayInFull move) chosen = Some move
 move_of (GenmoveInFull c) chosen = chosen_by c chosen
+move_of _ chosen = None
 
 -- ---- all kinds
 
@@ -95,14 +78,11 @@ are_of_one_colour (Some last) (Some move) = same_colour last.colour move.colour
 are_of_one_colour (Some last) None = false
 are_of_one_colour None move = false
 
--- That the colour of a move is no reason to refuse it, where the last one had the same. (The standard's topic play: by
--- the protocol, moves of one colour in a row are legal.)
-abbrev pub in_a_row_text : Bool → List ℕ
-in_a_row_text true = codes "# the last move was of the same colour: moves of one colour in a row are legal\n"
-in_a_row_text false = []
-
--- The line for a command in this game, by what was wrong: there is one where a move was refused, be its colour a letter
--- or in full, and the last move of the game had its colour.
+-- That the colour of a move is no reason to refuse it, by what was wrong with a command in this game: there is such a
+-- line where a move was refused, be its colour a letter or in full, and the last move of the game had its colour. (The
+-- standard's topic play: by the protocol, moves of one colour in a row are legal.)
 abbrev pub in_a_row_line : GameRecord → CheckCommand → Kind → List ℕ
-in_a_row_line game command kind.Refused = in_a_row_text (are_of_one_colour (last_move game) (move_of command None))
+in_a_row_line game command kind.Refused =
+    text_if (are_of_one_colour (last_move game) (move_of command None))
+    (codes "# the last move was of the same colour: moves of one colour in a row are legal\n")
 in_a_row_line game command other = []

@@ -1,5 +1,5 @@
 -- An answer that runs on into the next one, where it doesn't end with an empty line. (Own.)
-use Rattle.std.specs.Prelude.{ℕ, ◌+◌, ◌-◌, ◌==◌, ◌&&◌, ◌||◌, nat_le, nat_lt, Bool, true, false, List, [], ◌∷◌, codes}
+use Rattle.std.specs.Prelude.{ℕ, ◌+◌, ◌-◌, ◌==◌, ◌&&◌, ◌||◌, nat_le, nat_lt, Bool, false, List, [], ◌∷◌, codes}
 use Rattle.std.specs.Prelude.{drop}
 use Rattle.std.specs.Prelude.{Option, None, Some}
 use Rattle.std.specs.Char.{is_ascii_digit}
@@ -10,6 +10,7 @@ use Rattle.gtp_check_judge.specs.declared.judging.Kind.TheVariants.{WrongId}
 use Rattle.gtp_check_talk.specs.declared.fault.Fault.{Fault}
 use Rattle.gtp_check_talk.specs.declared.fault.Fault.TheVariants.{Wrote}
 use Rattle.gtp_check_talk.specs.Lines.{is_newline}
+use Rattle.gtp_check_texts.specs.Texts.{text_if}
 
 -- whether a byte begins a reply
 abbrev pub is_mark : ℕ → Bool
@@ -50,6 +51,6 @@ runs_on fault answered asked wrote = has_later_id fault answered asked wrote || 
 
 -- that it may be so
 abbrev pub run_on_line : Bool → List ℕ
-run_on_line true =
-    codes "# an answer may have run on into the next: does each end with an empty line, a failure too?\n"
-run_on_line false = []
+run_on_line is_so =
+    text_if is_so
+    (codes "# an answer may have run on into the next: does each end with an empty line, a failure too?\n")

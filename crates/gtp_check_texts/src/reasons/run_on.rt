@@ -1,7 +1,7 @@
 //! A reply that runs on into the next one, because it doesn't end with an empty line.
 ghost use Rattle.std.specs.Prelude.{◌≡◌};
 ghost use Rattle.gtp_check_texts.specs.reasons.RunOn.{begins_id, begins_reply, has_later_id, has_later_reply};
-ghost use Rattle.gtp_check_texts.specs.reasons.RunOn.{id_that_came, is_later, is_mark, run_on_line, runs_on};
+ghost use Rattle.gtp_check_texts.specs.reasons.RunOn.{id_that_came, is_later, is_mark, runs_on};
 
 use go_base::{read_int, split_digits};
 use gtp_check_judge::Kind;
@@ -78,15 +78,4 @@ fn is_mark(byte: u8) -> bool
     ensures { result ≡ is_mark byte }
 {
     byte == b'=' || byte == b'?'
-}
-
-/// Returns the line that a reply may have run on, if one may.
-pub fn run_on_line(may_be: bool) -> &'static [u8]
-    ensures { result.now ≡ run_on_line may_be }
-{
-    if may_be {
-        b"# an answer may have run on into the next: does each end with an empty line, a failure too?\n"
-    } else {
-        b""
-    }
 }
