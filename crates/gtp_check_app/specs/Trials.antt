@@ -15,7 +15,7 @@ use Rattle.gtp_check_shortening.specs.declared.limits.Limits.{Limits}
 use Rattle.gtp_check_talk.specs.declared.said.Said.{Said}
 use Rattle.gtp_check_talk.specs.Said.{is_same_lesson}
 use Rattle.gtp_check_shortening.specs.Reduction.{ended_after}
-use Rattle.gtp_check_shortening.specs.Shortening.{games_in, has_cut, shortened, shortenings}
+use Rattle.gtp_check_shortening.specs.Shortening.{shortened, shortenings}
 use Rattle.gtp_check_talk.specs.Dialogues.{Wrong, wrong_purpose, wrong_talk}
 
 -- a conversation of so many commands isn't shortened
@@ -40,13 +40,9 @@ limits_of plan found longer tried = record {
   commands = max least_tried (lesson_commands found);
 }
 
--- A conversation is shortened so where it has more commands than are few, more games than this is for, and some in the
--- last games before those that are kept; and what is left of it has fewer commands than it.
+-- A conversation is shortened so where it has more commands than are few, and what is left of it has fewer than it.
 abbrev pub is_for : List Said → Shortening → Bool
-is_for talk how =
-    nat_lt few_commands (length talk)
-    && (nat_lt how.more_than (games_in talk)
-    && (has_cut how talk && nat_lt (length (shortened how talk)) (length talk)))
+is_for talk how = nat_lt few_commands (length talk) && nat_lt (length (shortened how talk)) (length talk)
 
 -- those of the shortenings that are for it
 unfoldable pub those_for : List Said → List Shortening → List Shortening

@@ -31,9 +31,7 @@ use cli::failure::Failure;
 use go_board::{Game, KoRule};
 use gtp_check_course::{Course, Lesson, Plan};
 use gtp_check_judge::{CheckCommand, Kind};
-use gtp_check_shortening::flat::{
-    Shortening, commands_of, games_in, has_cut, shortened, shortenings,
-};
+use gtp_check_shortening::flat::{Shortening, commands_of, shortened, shortenings};
 use gtp_check_shortening::played::played;
 use gtp_check_shortening::superko::{game_before, is_positional};
 use gtp_check_shortening::{Limits, Reduction};
@@ -352,15 +350,12 @@ fn shortenings_of(alloc: Global, talk: &[Said], trials: u32) -> Result<Vec<Short
     Ok(tried)
 }
 
-/// Returns whether a conversation is shortened so: it has more commands than a short one, more games than the
-/// shortening is for, and in the last games some before those that are kept; and the shortening leaves fewer commands.
+/// Returns whether a conversation is shortened so: it has more commands than a short one, and the shortening leaves
+/// fewer.
 fn is_for(alloc: Global, talk: &[Said], shortening: Shortening) -> Result<bool, AllocError>
     ensures { IfOk result (λ may. may ≡ is_for talk.now shortening) }
 {
-    if talk.len() <= FEW_COMMANDS || games_in(talk) <= shortening.more_than {
-        return Ok(false);
-    }
-    if !has_cut(shortening, talk) {
+    if talk.len() <= FEW_COMMANDS {
         return Ok(false);
     }
     let commands = shortened(alloc, talk, shortening)?;

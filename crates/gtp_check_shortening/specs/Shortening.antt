@@ -210,14 +210,6 @@ abbrev pub cut_of : Option ℕ → ℕ → List Said → ℕ
 cut_of None start talk = start
 cut_of (Some kept) start talk = max start (length talk - kept)
 
--- whether there are commands in the last games before those that are kept
-abbrev pub is_cut : Option ℕ → ℕ → List Said → Bool
-is_cut None start talk = true
-is_cut (Some kept) start talk = nat_lt start (length talk - kept)
-
-abbrev pub has_cut : Shortening → List Said → Bool
-has_cut how talk = is_cut how.kept (start_of how.games talk) talk
-
 -- the conversation as it was asked, or as what was done
 abbrev pub played_if : Bool → List Said → List Said
 played_if true talk = played talk
@@ -228,32 +220,22 @@ abbrev pub games_of : Shortening → List Said → List CheckCommand
 games_of how talk =
     let start = start_of how.games talk in from_game start (cut_of how.kept start talk) how.is_whole talk
 
--- the shorter conversation
+-- the shorter conversation: where only the last commands are kept it is what was done
 abbrev pub shortened : Shortening → List Said → List CheckCommand
-shortened how talk = games_of how (played_if how.is_played talk)
+shortened how talk = games_of how (played_if (is_some how.kept) talk)
 
 -- ---- those that are tried
 
-abbrev pub last_games : ℕ → ℕ → Bool → Shortening
-last_games games more_than whole =
-    record { games = games; more_than = more_than; is_whole = whole; is_played = false; kept = None }
+abbrev pub last_games : ℕ → Bool → Shortening
+last_games games whole = record { games = games; is_whole = whole; kept = None }
 
 -- the last so many commands, flat or whole, on the board as it stood before them
 abbrev pub standing_before : ℕ → Bool → Shortening
-standing_before kept whole =
-    record { games = 1; more_than = 0; is_whole = whole; is_played = true; kept = Some kept }
+standing_before kept whole = record { games = 1; is_whole = whole; kept = Some kept }
 
--- with the moves that the engine chose in place of the questions for them
-abbrev pub with_plays : Shortening → Shortening
-with_plays how = record how { is_played = true }
-
--- They are tried in this order: at first ever more of the last commands, on the board as it stood before them. Then
--- ever more games, flat or whole, and first with the moves that the engine chose in place of the questions for them.
--- Each of these is for conversations with more games than those before could have.
+-- They are tried in this order. At first come the last commands, on the board as it stood before them: a few whole, and
+-- more of them flat. Then come ever more of the last games: whole, and the most of them flat.
 abbrev pub shortenings : List Shortening
 shortenings =
-    standing_before 1 false ∷ standing_before 8 true ∷ standing_before 64 false ∷ standing_before 256 false ∷
-    with_plays (last_games 1 0 false) ∷ last_games 1 0 false ∷ with_plays (last_games 1 0 true) ∷
-    last_games 1 0 true ∷ with_plays (last_games 2 1 false) ∷ last_games 2 1 true ∷
-    with_plays (last_games 4 2 false) ∷ last_games 4 2 true ∷ last_games 16 4 false ∷ last_games 16 4 true ∷
-    last_games 64 16 false ∷ last_games 256 64 false ∷ []
+    standing_before 8 true ∷ standing_before 128 false ∷ last_games 1 true ∷ last_games 16 true ∷
+    last_games 256 false ∷ []

@@ -3,10 +3,9 @@ ghost use Rattle.std.specs.Prelude.{◌≡◌, ◌≤◌, ◌+◌, ◌∷◌, �
 ghost use Rattle.std.specs.List.{list_any};
 ghost use Rattle.gtp_check_talk.specs.Said.{commands_of};
 ghost use Rattle.gtp_check_shortening.specs.Shortening.{command_role, flat, games_as, games_in, last_such};
-ghost use Rattle.gtp_check_shortening.specs.Shortening.{games_of, last_games, listed, with_plays};
+ghost use Rattle.gtp_check_shortening.specs.Shortening.{cut_of, games_of, last_games, listed};
 ghost use Rattle.gtp_check_shortening.specs.Shortening.{match_role, needed_for, needs, role_of, settings, shortened};
 ghost use Rattle.gtp_check_shortening.specs.Shortening.{set_up_if, shortenings, standing_before};
-ghost use Rattle.gtp_check_shortening.specs.Shortening.{cut_of, has_cut};
 ghost use Rattle.gtp_check_shortening.specs.Shortening.{start_of, stays, taken_by, with_needed, is_clear, is_size, is_komi};
 
 use crate::played::played;
@@ -24,15 +23,11 @@ pub type Commands = Vec<CheckCommand>;
 pub struct Shortening {
     /// How many games are kept.
     pub games: usize,
-    /// It is for conversations of more games than this.
-    pub more_than: usize,
     /// Whether these games are kept whole. Else they are flat: without what was refused or undone, and without
     /// questions.
     pub is_whole: bool,
-    /// Whether each `genmove` becomes the `play` of what the engine chose.
-    pub is_played: bool,
     /// How many of the last commands are kept, if not all. Of the moves before them those are kept whose stones are
-    /// still on the board.
+    /// still on the board, and each `genmove` becomes the `play` of what the engine chose.
     pub kept: Option<usize>,
 }
 
@@ -56,63 +51,38 @@ pub enum Role {
 }
 
 /// Returns the shortenings to try, in this order.
-pub fn shortenings() -> [Shortening; 16]
+pub fn shortenings() -> [Shortening; 5]
     ensures { result ≡ shortenings }
 {
     [
-        standing_before(1, false),
         standing_before(8, true),
-        standing_before(64, false),
-        standing_before(256, false),
-        with_plays(last_games(1, 0, false)),
-        last_games(1, 0, false),
-        with_plays(last_games(1, 0, true)),
-        last_games(1, 0, true),
-        with_plays(last_games(2, 1, false)),
-        last_games(2, 1, true),
-        with_plays(last_games(4, 2, false)),
-        last_games(4, 2, true),
-        last_games(16, 4, false),
-        last_games(16, 4, true),
-        last_games(64, 16, false),
-        last_games(256, 64, false),
+        standing_before(128, false),
+        last_games(1, true),
+        last_games(16, true),
+        last_games(256, false),
     ]
 }
 
 /// Returns the shortening to the last games, with the moves as they were asked.
-pub fn last_games(games: usize, more_than: usize, is_whole: bool) -> Shortening
-    ensures { result ≡ last_games games more_than is_whole }
+pub fn last_games(games: usize, is_whole: bool) -> Shortening
+    ensures { result ≡ last_games games is_whole }
 {
     Shortening {
         games,
-        more_than,
         is_whole,
-        is_played: false,
         kept: None,
     }
 }
 
 /// Returns the shortening to the last `kept` commands, flat or whole, on the board as it stood before them: with the
-/// moves of the last game whose stones were still on the board then.
+/// moves of the last game whose stones were still on the board then. A shorter last game is kept whole or flat.
 pub fn standing_before(kept: usize, is_whole: bool) -> Shortening
     ensures { result ≡ standing_before kept is_whole }
 {
     Shortening {
         games: 1,
-        more_than: 0,
         is_whole,
-        is_played: true,
         kept: Some(kept),
-    }
-}
-
-/// Returns the same shortening with each `genmove` replaced by the move that the engine chose.
-pub fn with_plays(shortening: Shortening) -> Shortening
-    ensures { result ≡ with_plays shortening }
-{
-    Shortening {
-        is_played: true,
-        ..shortening
     }
 }
 
@@ -130,7 +100,7 @@ pub fn shortened(
 ) -> Result<Commands, AllocError>
     ensures { IfOk result (λ commands. commands.items ≡ shortened shortening talk.now) }
 {
-    if shortening.is_played {
+    if shortening.kept.is_some() {
         let done = played(alloc, talk)?;
         return last_of(alloc, done.as_slice(), shortening);
     }
@@ -166,16 +136,6 @@ fn cut_of(kept: Option<usize>, start: usize, talk: &[Said]) -> usize
     }
 }
 
-/// Returns whether there are commands in the last games before those that are kept.
-pub fn has_cut(shortening: Shortening, talk: &[Said]) -> bool
-    ensures { result ≡ has_cut shortening talk.now }
-{
-    match shortening.kept {
-        None => true,
-        Some(kept) => start_of(talk, shortening.games) < talk.len().saturating_sub(kept),
-    }
-}
-
 /// Returns the commands that set up the board as it stands after those from `start` on, if there are any.
 fn set_up_if(alloc: Global, start: usize, talk: &[Said]) -> Result<Commands, AllocError>
     requires { start ≤ length talk.now }
@@ -188,7 +148,7 @@ fn set_up_if(alloc: Global, start: usize, talk: &[Said]) -> Result<Commands, All
 }
 
 /// Returns how many games begin in a conversation.
-pub fn games_in(talk: &[Said]) -> usize
+fn games_in(talk: &[Said]) -> usize
     ensures { result ≡ games_in talk.now }
 {
     talk.iter().filter(|said| is_clear(role_of(said))).count()

@@ -17,7 +17,7 @@ loop-shortening-init c = c.new-tried.ensures.items ∙ sym (take_all c.args.tria
 
 pub loop-shortening-preserved : goal.loop-shortening-preserved
 loop-shortening-preserved c =
-    let other : Shortening = record { games = 0; more_than = 0; is_whole = false; is_played = false; kept = None } in
+    let other : Shortening = record { games = 0; is_whole = false; kept = None } in
     let talk = c.args.talk.now in
     let index = c.loop-shortening.shortening-index in
     let tried = c.loop-shortening.tried.items in

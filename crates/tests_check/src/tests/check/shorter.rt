@@ -2,9 +2,7 @@
 use super::talk_of;
 use crate::asserts::{assert_equal, assert_equal_for, assert_true, some};
 use crate::tests::commands::command;
-use gtp_check_shortening::flat::{
-    games_in, has_cut, last_games, shortened, shortenings, standing_before,
-};
+use gtp_check_shortening::flat::{last_games, shortened, shortenings, standing_before};
 use gtp_check_shortening::superko::is_positional;
 use std::test::Fail;
 
@@ -76,20 +74,18 @@ static SHORTER: [(usize, bool, &[&str]); 3] = [
 fn the_last_games_are_flat_or_whole_and_ever_more_are_tried(rt: HostRuntime) -> Result<(), Fail> {
     let mut talk = talk_of(&rt, 5, &TWO_GAMES);
     some(&rt, talk.get_mut(8)).is_illegal = true;
-    assert_equal(&rt, games_in(talk.as_slice()), 2);
     for (games, is_whole, texts) in &SHORTER {
         let mut wanted = Vec::new(rt.alloc());
         for text in *texts {
             wanted.push(command(&rt, text))?;
         }
-        let shortening = last_games(*games, 0, *is_whole);
+        let shortening = last_games(*games, *is_whole);
         let commands = shortened(rt.alloc(), talk.as_slice(), shortening)?;
         assert_equal_for(&rt, *texts, commands.as_slice(), wanted.as_slice());
     }
     let mut last: usize = 0;
     for one in shortenings() {
         assert_true(&rt, one.games >= last);
-        assert_true(&rt, one.more_than < one.games);
         last = one.games;
     }
     assert_equal(&rt, last, 256);
@@ -178,18 +174,17 @@ fn the_last_commands_stay_on_the_board_as_it_stood(rt: HostRuntime) -> Result<()
         let commands = shortened(rt.alloc(), talk.as_slice(), shortening)?;
         assert_equal_for(&rt, *texts, commands.as_slice(), wanted.as_slice());
     }
-    // The game has 16 commands.
-    for (kept, is_so) in [
-        (1, true),
-        (15, true),
-        (16, false),
-        (17, false),
-        (256, false),
-    ] {
-        let shortening = standing_before(kept, false);
-        assert_equal_for(&rt, kept, has_cut(shortening, talk.as_slice()), is_so);
+    // The game has 16 commands, and no others are kept.
+    let mut wanted = Vec::new(rt.alloc());
+    wanted.push(command(&rt, "known_command undo"))?;
+    for (text, _) in &CAPTURES {
+        wanted.push(command(&rt, text))?;
     }
-    assert_true(&rt, has_cut(last_games(1, 0, true), talk.as_slice()));
+    for kept in [16, 17, 256] {
+        let shortening = standing_before(kept, true);
+        let commands = shortened(rt.alloc(), talk.as_slice(), shortening)?;
+        assert_equal_for(&rt, kept, commands.as_slice(), wanted.as_slice());
+    }
     Ok(())
 }
 

@@ -79,7 +79,7 @@ returns-in-Some-clause-shortens g c =
     (c.deref-shortening-items.ensures.value ∙ c.in_ok-all.ensures.those
     ∙ ap (λ (talk : List Said). shortenings_of c.args.plan.now.trials talk) c.conversation-talk.ensures)
     c.conversation-talk.ensures c.loop-shortening.invariant.tried c.loop-shortening.invariant.missed
-    (record { games = 0; more_than = 0; is_whole = false; is_played = false; kept = None }) c.as_slice.result.now
+    (record { games = 0; is_whole = false; kept = None }) c.as_slice.result.now
     c.in_ok-left.left.items (c.as_slice.ensures.value ∙ c.in_ok-commands.ensures) c.loop-shortening-test.true
     (c.in_ok-left.ensures
     ∙ ap (λ (these : List CheckCommand). left_by (wrong_of c.args.found.now) these (wrong_of c.in-Some.ended))
@@ -97,7 +97,7 @@ loop-shortening-preserved g c = record {
       (c.deref-shortening-items.ensures.value ∙ c.in_ok-all.ensures.those
       ∙ ap (λ (talk : List Said). shortenings_of c.args.plan.now.trials talk) c.conversation-talk.ensures)
       c.conversation-talk.ensures c.loop-shortening.invariant.tried c.loop-shortening.invariant.missed
-      (record { games = 0; more_than = 0; is_whole = false; is_played = false; kept = None }) c.as_slice.result.now
+      (record { games = 0; is_whole = false; kept = None }) c.as_slice.result.now
       (c.as_slice.ensures.value ∙ c.in_ok-commands.ensures) c.loop-shortening-test.true
       (rw c.in_default.is at c.in_ok-ended.ensures.tries);
   tried = omega (arith, c.loop-shortening.invariant.tried);
