@@ -8,8 +8,8 @@ use Rattle.std.specs.Io.KnownBytes.{Appends, Keeps}
 use Rattle.byte_streams.specs.declared.calls.CallFault.{CallFault}
 use Rattle.byte_streams.specs.declared.calls.WriteOnce.{Ghosts}
 use Rattle.byte_streams.specs.Calls.{Writes, Flushes, FlushBreaks}
-use Rattle.byte_streams.specs.Writing.{BreaksAt, GoesOut, LinesBreak, LinesGoOut, WritesLeave, CallBreaks}
-use Rattle.byte_streams.specs.Writing.{at_line, later, line_out, no_line, one_more, at_write, at_flush}
+use Rattle.byte_streams.specs.Writing.{BreaksAt, IsFlushed, LinesBreak, AreFlushed, WritesLeave, CallBreaks}
+use Rattle.byte_streams.specs.Writing.{at_line, later, line_flushed, no_line, one_more, at_write, at_flush}
 use Rattle.byte_streams.proofs.Parts.{tail, tail-drop}
 
 module _ {W : Type 0} (known : Ghosts W) where
@@ -67,7 +67,7 @@ module _ {W : Type 0} (known : Ghosts W) where
   pub is_flushed : (text : List ℕ) (done : ℕ) (before mid after : W) → length text ≤ done
       → Appends (known.holds before) (known.holds mid) (take done text) → Keeps (known.holds mid) (known.holds after)
       → WritesLeave known text before (drop done text) mid → known.calls mid (Flushes (Ok tt)) after
-      → GoesOut known text before after
+      → IsFlushed known text before after
   is_flushed text done before mid after over taken kept leave flushed =
       let P : List ℕ → Type 0 = λ t. Appends (known.holds before) (known.holds after) t in
       let Q : List ℕ → Type 0 = λ left. WritesLeave known text before left mid in
@@ -91,18 +91,18 @@ Appends-none (Some xs) (Some ys) text count is taken =
 
 module _ {W : Type 0} (known : Ghosts W) where
   -- lines that were flushed, and then more of them
-  pub lines_then : (first more : List (List ℕ)) (before mid after : W) → LinesGoOut known first before mid
-      → LinesGoOut known more mid after → LinesGoOut known (first ++ more) before after
+  pub lines_then : (first more : List (List ℕ)) (before mid after : W) → AreFlushed known first before mid
+      → AreFlushed known more mid after → AreFlushed known (first ++ more) before after
   lines_then _ more before _ after no_line rest = rest
-  lines_then _ more before mid after (line_out {lines = lines} {mid = between} out lines_out) rest =
-      line_out out (lines_then lines more between mid after lines_out rest)
+  lines_then _ more before mid after (line_flushed {lines = lines} {mid = between} out lines_flushed) rest =
+      line_flushed out (lines_then lines more between mid after lines_flushed rest)
 
   -- lines that were flushed, and then some at which the writer broke
-  pub breaks_later : (first more : List (List ℕ)) (before mid after : W) → LinesGoOut known first before mid
+  pub breaks_later : (first more : List (List ℕ)) (before mid after : W) → AreFlushed known first before mid
       → LinesBreak known more mid after → LinesBreak known (first ++ more) before after
   breaks_later _ more before _ after no_line breaks = breaks
-  breaks_later _ more before mid after (line_out {lines = lines} {mid = between} out lines_out) breaks =
-      later out (breaks_later lines more between mid after lines_out breaks)
+  breaks_later _ more before mid after (line_flushed {lines = lines} {mid = between} out lines_flushed) breaks =
+      later out (breaks_later lines more between mid after lines_flushed breaks)
 
   -- the writer broke at the first of them
   pub breaks_first : (first more : List (List ℕ)) (before after : W) → LinesBreak known first before after
@@ -113,8 +113,8 @@ module _ {W : Type 0} (known : Ghosts W) where
 
   -- the same of a last call, whatever it returns: one line by itself
   pub one_out : {T F : Type 0} (result : Result T F) (line : List ℕ) (before after : W)
-      → OnOk result (GoesOut known line before after) → OnOk result (LinesGoOut known (line ∷ []) before after)
-  one_out (Ok x) line before after out = line_out out no_line
+      → OnOk result (IsFlushed known line before after) → OnOk result (AreFlushed known (line ∷ []) before after)
+  one_out (Ok x) line before after out = line_flushed out no_line
   one_out (Err e) line before after out = tt
 
   pub one_breaks : {T F : Type 0} (result : Result T F) (line : List ℕ) (before after : W)
@@ -124,13 +124,13 @@ module _ {W : Type 0} (known : Ghosts W) where
 
   -- and lines after those that were flushed
   pub more_out : {T F : Type 0} (result : Result T F) (first more : List (List ℕ)) (before mid after : W)
-      → LinesGoOut known first before mid → OnOk result (LinesGoOut known more mid after)
-      → OnOk result (LinesGoOut known (first ++ more) before after)
+      → AreFlushed known first before mid → OnOk result (AreFlushed known more mid after)
+      → OnOk result (AreFlushed known (first ++ more) before after)
   more_out (Ok x) first more before mid after out rest = lines_then first more before mid after out rest
   more_out (Err e) first more before mid after out rest = tt
 
   pub more_breaks : {T F : Type 0} (result : Result T F) (first more : List (List ℕ)) (before mid after : W)
-      → LinesGoOut known first before mid → OnErr result (LinesBreak known more mid after)
+      → AreFlushed known first before mid → OnErr result (LinesBreak known more mid after)
       → OnErr result (LinesBreak known (first ++ more) before after)
   more_breaks (Ok x) first more before mid after out breaks = tt
   more_breaks (Err e) first more before mid after out breaks = breaks_later first more before mid after out breaks

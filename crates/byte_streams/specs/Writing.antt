@@ -13,7 +13,7 @@ pub data WritesLeave {W : Type 0} (known : Ghosts W) (text : List ℕ) (before :
       → WritesLeave known text before (drop count left) after
 
 -- A text was written whole and flushed: writes in a row took all of it, and then one flush succeeded.
-pub record GoesOut {W : Type 0} (known : Ghosts W) (text : List ℕ) (before after : W) : Type 0 where
+pub record IsFlushed {W : Type 0} (known : Ghosts W) (text : List ℕ) (before after : W) : Type 0 where
   pub whole : Appends (known.holds before) (known.holds after) text
   pub mid : W
   pub writes : WritesLeave known text before [] mid
@@ -32,19 +32,19 @@ pub record BreaksAt {W : Type 0} (known : Ghosts W) (text : List ℕ) (before af
   pub failed : CallBreaks known part.left mid after
 
 -- a text was written whole and flushed, or the writer broke at it
-abbrev pub IsWritten : {W : Type 0} → Ghosts W → List ℕ → W → W → Type 0
-IsWritten known text before after = GoesOut known text before after ⊎ BreaksAt known text before after
+abbrev pub WritesOrBreaks : {W : Type 0} → Ghosts W → List ℕ → W → W → Type 0
+WritesOrBreaks known text before after = IsFlushed known text before after ⊎ BreaksAt known text before after
 
 -- Lines were written whole and flushed, each before the next was begun. Where there is none nothing was written.
-pub data LinesGoOut {W : Type 0} (known : Ghosts W) : List (List ℕ) → W → W → Type 0 where
-  no_line : {before : W} → LinesGoOut known [] before before
-  line_out : {line : List ℕ} {lines : List (List ℕ)} {before mid after : W} → GoesOut known line before mid
-      → LinesGoOut known lines mid after → LinesGoOut known (line ∷ lines) before after
+pub data AreFlushed {W : Type 0} (known : Ghosts W) : List (List ℕ) → W → W → Type 0 where
+  no_line : {before : W} → AreFlushed known [] before before
+  line_flushed : {line : List ℕ} {lines : List (List ℕ)} {before mid after : W} → IsFlushed known line before mid
+      → AreFlushed known lines mid after → AreFlushed known (line ∷ lines) before after
 
 -- A writer broke at lines: the first ones were flushed, and it broke at the next. Of any line after that it took
 -- nothing.
 pub data LinesBreak {W : Type 0} (known : Ghosts W) : List (List ℕ) → W → W → Type 0 where
   at_line : {line : List ℕ} {lines : List (List ℕ)} {before after : W} → BreaksAt known line before after
       → LinesBreak known (line ∷ lines) before after
-  later : {line : List ℕ} {lines : List (List ℕ)} {before mid after : W} → GoesOut known line before mid
+  later : {line : List ℕ} {lines : List (List ℕ)} {before mid after : W} → IsFlushed known line before mid
       → LinesBreak known lines mid after → LinesBreak known (line ∷ lines) before after

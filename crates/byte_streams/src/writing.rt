@@ -1,6 +1,6 @@
 //! Writing whole texts.
 ghost use Rattle.std.specs.Prelude.{OnOk, OnErr};
-ghost use Rattle.byte_streams.specs.Writing.{BreaksAt, GoesOut, IsWritten};
+ghost use Rattle.byte_streams.specs.Writing.{BreaksAt, IsFlushed, WritesOrBreaks};
 
 use crate::calls::WriteOnce;
 use crate::streams::Broken;
@@ -11,7 +11,7 @@ use crate::streams::Broken;
 ///
 /// `Broken` if a write fails or writes nothing, or the flush fails. Then no further call is made.
 pub fn write_text<W: WriteOnce>(writer: &mut W, text: &[u8]) -> Result<(), Broken>
-    ensures whole { OnOk result (GoesOut W.WriteOnce text.now writer.old writer.new) }
+    ensures whole { OnOk result (IsFlushed W.WriteOnce text.now writer.old writer.new) }
     ensures broke { OnErr result (BreaksAt W.WriteOnce text.now writer.old writer.new) }
 {
     let mut done = 0;
@@ -30,7 +30,7 @@ pub fn write_text<W: WriteOnce>(writer: &mut W, text: &[u8]) -> Result<(), Broke
 
 /// Writes the whole text and flushes it. A failure of the writer is ignored.
 pub fn write_or_break<W: WriteOnce>(writer: &mut W, text: &[u8])
-    ensures { IsWritten W.WriteOnce text.now writer.old writer.new }
+    ensures { WritesOrBreaks W.WriteOnce text.now writer.old writer.new }
 {
     match write_text(writer, text) {
         Ok(()) | Err(Broken) => {}

@@ -1,7 +1,7 @@
 -- What a program reports in a line of its own: why it can't go on, and what is wrong with its words. (Own.)
 use Rattle.std.specs.Prelude.{ℕ, List, codes}
 use Rattle.byte_streams.specs.declared.calls.WriteOnce.{Ghosts}
-use Rattle.byte_streams.specs.Writing.{IsWritten}
+use Rattle.byte_streams.specs.Writing.{WritesOrBreaks}
 use Rattle.cli.specs.declared.failure.Failure.{Failure}
 use Rattle.cli.specs.declared.failure.Failure.TheVariants as failure
 use Rattle.cli.specs.declared.failure.PlanError.{PlanError}
@@ -17,7 +17,7 @@ failure_text failure.NoNullDevice = no_null_device
 
 -- the line `NAME: TEXT` was written, whole unless the stream broke at it
 abbrev pub IsReported : {E : Type 0} → Ghosts E → List ℕ → List ℕ → E → E → Type 0
-IsReported errs name text before after = IsWritten errs (error_line name text) before after
+IsReported errs name text before after = WritesOrBreaks errs (error_line name text) before after
 
 -- the program of this name reported a failure
 abbrev pub ReportsFailure : {E : Type 0} → Ghosts E → List ℕ → Failure → E → E → Type 0

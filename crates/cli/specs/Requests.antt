@@ -5,7 +5,7 @@ use Rattle.std.specs.declared.alloc.AllocError.{AllocError}
 use Rattle.clap.specs.declared.error.kind.ErrorKind.{ErrorKind}
 use Rattle.clap.specs.declared.error.kind.ErrorKind.TheVariants as kinds
 use Rattle.byte_streams.specs.declared.calls.WriteOnce.{Ghosts}
-use Rattle.byte_streams.specs.Writing.{BreaksAt, GoesOut, IsWritten}
+use Rattle.byte_streams.specs.Writing.{BreaksAt, IsFlushed, WritesOrBreaks}
 use Rattle.cli.specs.declared.failure.Failure.TheVariants.{OutOfMemory, Write}
 use Rattle.cli.specs.Failures.{ReportsFailure}
 use Rattle.cli.specs.Status.{IsRequest, done, own_failure, usage_failure}
@@ -33,7 +33,7 @@ writers output errors = record { output = output; errors = errors }
 -- A text that was asked for was flushed, with status 0. Or the output broke at it, which is reported, with status 3.
 pub data Shows {O E : Type 0} (known : Writers O E) (name text : List ℕ) (before : Outputs O E)
     : ℕ → Outputs O E → Type 0 where
-  went_out : {written : O} → GoesOut known.output text before.output written
+  flushed : {written : O} → IsFlushed known.output text before.output written
       → Shows known name text before done (outputs written before.errors)
   broke : {written : O} {reported : E} → BreaksAt known.output text before.output written
       → ReportsFailure known.errors name Write before.errors reported
@@ -45,7 +45,7 @@ pub data IsRefused {A E : Type 0} (errs : Ghosts E) (name : List ℕ) (kind : Er
     (text : Result (String A) AllocError) (errors : E)
     : ℕ → E → Type 0 where
   mistake : {said : String A} {reported : E} → ¬ IsRequest kind → (kind ≡ kinds.OutOfMemory → ⊥)
-      → text ≡ Ok said → IsWritten errs (string_bytes said) errors reported
+      → text ≡ Ok said → WritesOrBreaks errs (string_bytes said) errors reported
       → IsRefused errs name kind text errors usage_failure reported
   no_memory : {reported : E} → (kind ≡ kinds.OutOfMemory) ⊎ IsErr text
       → ReportsFailure errs name OutOfMemory errors reported

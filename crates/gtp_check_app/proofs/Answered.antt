@@ -177,7 +177,7 @@ module _ {P O E : Type 0} (known : Known P O E) (laws : Laws known.processes)
   turns_hold : (first : Point P O E) {count : ℕ} {last : Point P O E} → Turns known plan first count last
       → last.now.state.tally.complaints ≡ 0 → Holds first.now.state.notes → Holds last.now.state.notes
   turns_hold first Turns.not_yet none holds = holds
-  turns_hold first (Turns.turns {before = before} more turn goes_out shown) none holds =
+  turns_hold first (Turns.turns {before = before} more turn flushed shown) none holds =
       turn_holds known.processes laws noted plan Holds same heard_so before.now turn none
       (turns_hold first more (turn_none known.processes laws plan before.now turn none).0 holds)
 
@@ -188,7 +188,7 @@ module _ {P O E : Type 0} (known : Known P O E) (laws : Laws known.processes)
       → HasAnswered known begins last lesson
   has_answered Turns.not_yet none among = absurd (cc among)
   has_answered
-      (Turns.turns {count = count} {before = before} {after = after} {texts = texts} {shows = shows} more turn goes_out
+      (Turns.turns {count = count} {before = before} {after = after} {texts = texts} {shows = shows} more turn flushed
       shown) none among =
       elim (turn_noted known.processes laws noted begins.plan before.now lesson
       (all_sound known laws begins more) turn none among) [
@@ -198,7 +198,7 @@ module _ {P O E : Type 0} (known : Known P O E) (laws : Laws known.processes)
             before = before;
             after = after;
             comes = record { count = count; turns = more };
-            is = record { texts = texts; shows = shows; turn = turn; goes_out = goes_out; shown = shown };
+            is = record { texts = texts; shows = shows; turn = turn; flushed = flushed; shown = shown };
             more = 0;
             goes_on = Turns.not_yet;
           };
@@ -214,7 +214,7 @@ module _ {P O E : Type 0} (known : Known P O E) (laws : Laws known.processes)
           comes = one.turn.comes;
           is = one.turn.is;
           more = one.turn.more + 1;
-          goes_on = Turns.turns one.turn.goes_on turn goes_out shown;
+          goes_on = Turns.turns one.turn.goes_on turn flushed shown;
         };
         answered = one.answered;
       }

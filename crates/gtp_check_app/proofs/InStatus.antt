@@ -152,7 +152,7 @@ module _ {P O E : Type 0} (known : Known P O E) (laws : Laws known.processes) (b
   unknown_at : {count : ℕ} {last : Point P O E} → Turns known begins.plan (first_point begins) count last
       → last.now.state.tally.complaints ≡ 0 → last.now.state.tally.faults.items ≡ []
   unknown_at Turns.not_yet is = refl
-  unknown_at (Turns.turns {before = before} more turn goes_out shown) is =
+  unknown_at (Turns.turns {before = before} more turn flushed shown) is =
       turn_unknown known.processes laws begins.plan before.now turn
       (unknown_at more (turn_none known.processes laws begins.plan before.now turn is).0) is
 
@@ -165,7 +165,7 @@ module _ {P O E : Type 0} (known : Known P O E) (laws : Laws known.processes) (b
       → 0 < last.now.state.tally.complaints → WroteOne last
   wrote_one Turns.not_yet some = absurd (omega (arith, some))
   wrote_one (Turns.turns {count = count} {before = before} {after = after} {texts = texts} {shows = shows} more turn
-      goes_out shown) some =
+      flushed shown) some =
       by before.now.state.tally.complaints refl (wrote_one more)
     where
       by : (n : ℕ) → before.now.state.tally.complaints ≡ n
@@ -175,7 +175,7 @@ module _ {P O E : Type 0} (known : Known P O E) (laws : Laws known.processes) (b
           before = before;
           after = after;
           comes = record { count = count; turns = more };
-          is = record { texts = texts; shows = shows; turn = turn; goes_out = goes_out; shown = shown };
+          is = record { texts = texts; shows = shows; turn = turn; flushed = flushed; shown = shown };
           more = 0;
           goes_on = Turns.not_yet;
         };
@@ -190,7 +190,7 @@ module _ {P O E : Type 0} (known : Known P O E) (laws : Laws known.processes) (b
               comes = one.turn.comes;
               is = one.turn.is;
               more = one.turn.more + 1;
-              goes_on = Turns.turns one.turn.goes_on turn goes_out shown;
+              goes_on = Turns.turns one.turn.goes_on turn flushed shown;
             };
             written = one.written;
           }
@@ -200,7 +200,7 @@ module _ {P O E : Type 0} (known : Known P O E) (laws : Laws known.processes) (b
 -- a text that is shown has one of two statuses
 shown_status : {O E : Type 0} (streams : Writers O E) (name text : List ℕ) (before : Outputs O E) {status : ℕ}
     {after : Outputs O E} → Shows streams name text before status after → (status ≡ 0) ⊎ (status ≡ 3)
-shown_status streams name text before (Shows.went_out out) = inl refl
+shown_status streams name text before (Shows.flushed out) = inl refl
 shown_status streams name text before (Shows.broke breaks reports) = inr refl
 
 module _ {P O E : Type 0} (known : Known P O E) (laws : Laws known.processes) (earned : APassIsEarned known.processes)
@@ -265,7 +265,7 @@ module _ {P O E : Type 0} (known : Known P O E) (laws : Laws known.processes) (e
 
       held_found : {status : ℕ} {has : Attempts P} {after : Streams O E}
           → IsHeld known begins status has after → status ≡ something_found → HasComplained known begins
-      held_found (IsHeld.is_over {why = why} {last = last} over shown not_first closed lines goes_out) is =
+      held_found (IsHeld.is_over {why = why} {last = last} over shown not_first closed lines flushed) is =
           let some : 0 < last.now.state.tally.complaints = (earned.found begins.plan last.now.state).0 is in
           let same = over_tally over.before why last.now over.over in
           let one = wrote_one known laws begins over.turns (omega (arith, some, same)) in
@@ -280,7 +280,7 @@ module _ {P O E : Type 0} (known : Known P O E) (laws : Laws known.processes) (e
 
       held_passed : {status : ℕ} {has : Attempts P} {after : Streams O E}
           → IsHeld known begins status has after → status ≡ done → HasPassed known begins
-      held_passed (IsHeld.is_over {last = last} over shown not_first closed lines goes_out) is =
+      held_passed (IsHeld.is_over {last = last} over shown not_first closed lines flushed) is =
           let pass : IsPass begins.plan last.now.state = (earned.passed begins.plan last.now.state).0 is in
           record {
             last = last.now.state;
@@ -293,7 +293,7 @@ module _ {P O E : Type 0} (known : Known P O E) (laws : Laws known.processes) (e
 
       held_not_passed : {status : ℕ} {has : Attempts P} {after : Streams O E}
           → IsHeld known begins status has after → status ≡ not_earned → HasNotPassed known begins
-      held_not_passed (IsHeld.is_over {last = last} over shown not_first closed lines goes_out) is =
+      held_not_passed (IsHeld.is_over {last = last} over shown not_first closed lines flushed) is =
           let neither = (earned.neither begins.plan last.now.state).0 is in
           record {
             last = last.now.state;

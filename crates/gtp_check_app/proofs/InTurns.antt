@@ -310,7 +310,7 @@ module _ {P O E : Type 0} {since : Attempts P} (known : Known P O E) (laws : Law
       → IsSound known.processes laws plan since None first.now → Turns known plan first count last
       → IsSound known.processes laws plan since None last.now
   turns_sound first sound Turns.not_yet = sound
-  turns_sound first sound (Turns.turns {before = before} more turn goes_out shown) =
+  turns_sound first sound (Turns.turns {before = before} more turn flushed shown) =
       turn_sound known.processes laws plan before.now (turns_sound first sound more) turn
 
 -- a check begins soundly
@@ -395,5 +395,5 @@ module _ {P O E : Type 0} (known : Known P O E) (laws : Laws known.processes) (p
   pub turns_none : (first : Point P O E) {count : ℕ} {last : Point P O E} → Turns known plan first count last
       → last.now.state.tally.complaints ≡ 0 → first.now.state.tally.complaints ≡ 0
   turns_none first Turns.not_yet is = is
-  turns_none first (Turns.turns {before = before} more turn goes_out shown) is =
+  turns_none first (Turns.turns {before = before} more turn flushed shown) is =
       turns_none first more (turn_none known.processes laws plan before.now turn is).0

@@ -6,14 +6,14 @@ use Rattle.byte_streams.specs.declared.calls.WriteOnce.{Ghosts as WriterGhosts}
 use Rattle.gtp_check_course.specs.declared.lessons.Lesson.{Lesson}
 use Rattle.gtp_check_talk.specs.declared.said.Said.{Said}
 use Rattle.gtp_check_talk.specs.Dialogues.{Dialogue}
-use Rattle.gtp_check_app.specs.Progress.{AreWritten, IsShown, before_read, in_place, is_read_next, most_columns}
+use Rattle.gtp_check_app.specs.Progress.{EachWritesOrBreaks, IsShown, before_read, in_place, is_read_next, most_columns}
 use Rattle.gtp_check_app.specs.Progress.{no_text}
 use Rattle.gtp_check_app.specs.Progress.{text_written, waiting_for}
 
 module _ {W : Type 0} (known : WriterGhosts W) where
   both_written : (one other : List (List ℕ)) (before between after : W)
-      → AreWritten known one before between → AreWritten known other between after
-      → AreWritten known (one ++ other) before after
+      → EachWritesOrBreaks known one before between → EachWritesOrBreaks known other between after
+      → EachWritesOrBreaks known (one ++ other) before after
   both_written one other before between after no_text later = later
   both_written one other before between after (text_written {texts = texts} {mid = mid} first rest) later =
       text_written first (both_written texts other mid between after rest later)

@@ -52,11 +52,11 @@ module _ {P O E : Type 0} (known : Known P O E) (words : List Text) (shows_progr
   clap_said kind text fault status between reported (Answers.refused (IsRefused.no_memory why reports))
       hinted no_hint =
       rw (no_hint (λ is. absurd (omega (arith, is)))) (HasRun.no_memory reports)
-  clap_said kind text fault status between reported (Answers.shown asks is (Shows.went_out goes)) hinted no_hint =
+  clap_said kind text fault status between reported (Answers.shown asks is (Shows.flushed goes)) hinted no_hint =
       rw (no_hint (λ e. absurd (omega (arith, e))))
       (HasRun.shown _
       (kind, asks, elim fault [ inl refused ↦ absurd (never_both kind refused asks) | inr has ↦ has ])
-      (Shows.went_out goes))
+      (Shows.flushed goes))
   clap_said kind text fault status between reported (Answers.shown asks is (Shows.broke breaks reports))
       hinted no_hint =
       rw (no_hint (λ e. absurd (omega (arith, e))))
@@ -101,7 +101,7 @@ module _ {P O E : Type 0} (known : Known P O E) (words : List Text) (shows_progr
 
 shown_status : {O E : Type 0} {known : Writers O E} {name text : List ℕ} {before : Outputs O E} (status : ℕ)
     (after : Outputs O E) → Shows known name text before status after → IsStatus status
-shown_status status after (Shows.went_out goes) = inl refl
+shown_status status after (Shows.flushed goes) = inl refl
 shown_status status after (Shows.broke breaks reports) = inr (inr (inr (inl refl)))
 
 pub listed_status : {O E : Type 0} {known : Writers O E} {before : Outputs O E} (status : ℕ) (after : Outputs O E)

@@ -2,7 +2,7 @@
 use Rattle.std.proofs.Common.{◌≡◌, ◌∙◌, ap, refl, sym, subst, Bool, true, false, List, [], ◌∷◌, ◌++◌, ℕ, Option, Some}
 use Rattle.std.specs.Prelude.{not, unwrap_or}
 use Rattle.byte_streams.specs.declared.calls.WriteOnce.{Ghosts as WriterGhosts}
-use Rattle.byte_streams.specs.Writing.{LinesGoOut, line_out, no_line}
+use Rattle.byte_streams.specs.Writing.{AreFlushed, line_flushed, no_line}
 use Rattle.gtp_process.specs.declared.starter.Process.{Ghosts}
 use Rattle.gtp_process.specs.Starts.{Attempts}
 use Rattle.gtp_check_texts.specs.declared.complaint.Complaint.{Complaint}
@@ -29,9 +29,9 @@ use Rattle.gtp_check_app.specs.Turns.{Moment, Reduces, Shortens, State, TriesOne
 use Rattle.gtp_check_app.specs.Turns.{hidden, missed, moment, none_left, process_of, shortened_so, shown, shown_of}
 use Rattle.gtp_check_app.specs.Turns.{waiting}
 use Rattle.gtp_check_shortening.specs.Reduction.{Reduction}
-use Rattle.gtp_check_app.specs.private.Steps.{ComplaintGoesOut, ComplaintStops, FirstGoesOut, FirstStops, Settles}
+use Rattle.gtp_check_app.specs.private.Steps.{ComplaintIsFlushed, ComplaintStops, FirstIsFlushed, FirstStops, Settles}
 use Rattle.gtp_check_app.specs.private.Steps.{StopsAfter, complaint_broke, complaint_refused, first_broke}
-use Rattle.gtp_check_app.specs.private.Steps.{first_goes_out, first_refused, stops_after}
+use Rattle.gtp_check_app.specs.private.Steps.{first_flushed, first_refused, stops_after}
 use Rattle.gtp_check_app.specs.Unjudged.{is_blamed}
 use Rattle.gtp_check_app.proofs.Progressing.{both_shown, none_shown}
 
@@ -44,13 +44,13 @@ pub not-false : (so : Bool) → not so ≡ false → so ≡ true
 not-false true is = refl
 not-false false is = absurd (cc is)
 
--- lines went out, and then others
+-- lines were flushed, and then others
 both_out : {W : Type 0} (known : WriterGhosts W) (one other : List (List ℕ)) (before between after : W)
-    → LinesGoOut known one before between → LinesGoOut known other between after
-    → LinesGoOut known (one ++ other) before after
+    → AreFlushed known one before between → AreFlushed known other between after
+    → AreFlushed known (one ++ other) before after
 both_out known one other before between after no_line later = later
-both_out known one other before between after (line_out {lines = lines} {mid = mid} first rest) later =
-    line_out first (both_out known lines other mid between after rest later)
+both_out known one other before between after (line_flushed {lines = lines} {mid = mid} first rest) later =
+    line_flushed first (both_out known lines other mid between after rest later)
 
 module _ {P O E : Type 0} (known : Known P O E) (plan : Plan) (before : Moment P) (mid : State P) (fault : Fault)
     (wrong : Wrong) (purpose : Purpose) (tally : Tally) (closes : Closes known.processes fault before.state wrong mid)
@@ -63,18 +63,19 @@ module _ {P O E : Type 0} (known : Known P O E) (plan : Plan) (before : Moment P
 
   pub is_hidden : (answer : Bool) → answer ≡ is_shown mid.tally purpose.lesson fault → answer ≡ false
       → (streams : Streams O E)
-      → ComplaintGoesOut known plan (record { now = before; streams = streams }) fault
+      → ComplaintIsFlushed known plan (record { now = before; streams = streams }) fault
       (point (record mid { tally = tally }) before.asked streams)
   is_hidden answer is so streams =
       subst
       (λ (last : State P).
-      ComplaintGoesOut known plan (record { now = before; streams = streams }) fault (point last before.asked streams))
+      ComplaintIsFlushed known plan (record { now = before; streams = streams }) fault
+      (point last before.asked streams))
       (sym found_now)
       (record {
         said = [];
         complains = hidden wrong (not-true _ judged) closes
             (sym (ap (λ (p : Purpose). is_shown mid.tally p.lesson fault) same) ∙ sym is ∙ so);
-        goes_out = no_line;
+        flushed = no_line;
         shown = none_shown known.errs plan.shows_progress streams.errors;
       })
 
@@ -123,22 +124,22 @@ module _ {P O E : Type 0} (known : Known P O E) (plan : Plan) where
   -- the complaint wasn't written, and so the turn stopped
   pub complaint_stops : (mid : Point P O E) (fault : Fault) (next : State P) (between : Streams O E)
       (after : Point P O E) (why : Failure) → is_blamed plan.suicide (Some fault) ≡ true
-      → FirstGoesOut known plan mid.now.state (is_blamed plan.suicide (Some fault)) mid.streams next between
+      → FirstIsFlushed known plan mid.now.state (is_blamed plan.suicide (Some fault)) mid.streams next between
       → ComplaintStops known plan (point next mid.now.asked between) fault after why
       → StopsAfter known plan mid (Some fault) (process_of after.now.state.engine) after.now.asked after.streams why
-  complaint_stops mid fault next between after why judged (first_goes_out line first goes_out cleared_so)
+  complaint_stops mid fault next between after why judged (first_flushed line first flushed cleared_so)
       (complaint_broke {text = text} complains breaks wrote gone) =
       stops_after (λ before errors heard waited.
       rw gone
-      (turn_complaint_broke heard first goes_out complains breaks
+      (turn_complaint_broke heard first flushed complains breaks
       (all_shown heard.mid line (looking (text ∷ [])) errors mid.streams.errors between.errors after.streams.errors
       waited cleared_so wrote)))
-  complaint_stops mid fault next between after why judged (first_goes_out line first goes_out cleared_so)
+  complaint_stops mid fault next between after why judged (first_flushed line first flushed cleared_so)
       (complaint_refused closes asks is wrote gone) =
       stops_after (λ before errors heard waited.
       rw gone
       (no_memory_to_complain heard (rw judged at first)
-      (subst (λ (out : O). LinesGoOut known.outs line mid.streams.output out) (sym is) goes_out) closes asks
+      (subst (λ (out : O). AreFlushed known.outs line mid.streams.output out) (sym is) flushed) closes asks
       (all_shown heard.mid line (looking_line ∷ []) errors mid.streams.errors between.errors after.streams.errors
       waited cleared_so wrote)))
 
@@ -152,33 +153,34 @@ module _ {P O E : Type 0} (known : Known P O E) (plan : Plan) where
 
   -- the first line was written where it is due, and nothing is complained of
   pub settles_quietly : (mid : Point P O E) (fault : Option Fault) (next : State P) (between : Streams O E)
-      (after : State P) → FirstGoesOut known plan mid.now.state (is_blamed plan.suicide fault) mid.streams next between
+      (after : State P)
+      → FirstIsFlushed known plan mid.now.state (is_blamed plan.suicide fault) mid.streams next between
       → Complains known.processes plan (moment next mid.now.asked) fault (moment after mid.now.asked) []
       → Settles known plan mid fault (point after mid.now.asked between)
-  settles_quietly mid fault next between after (first_goes_out line first goes_out cleared_so) complains = record {
+  settles_quietly mid fault next between after (first_flushed line first flushed cleared_so) complains = record {
     next = next;
     line = line;
     said = [];
     first = first;
     complains = complains;
-    goes_out = both_out known.outs line [] mid.streams.output between.output between.output goes_out no_line;
+    flushed = both_out known.outs line [] mid.streams.output between.output between.output flushed no_line;
     shown = both_shown known.errs plan.shows_progress (clearing line) [] mid.streams.errors between.errors
         between.errors cleared_so (none_shown known.errs plan.shows_progress between.errors);
   }
 
   -- the first line was written where it is due, and then what is due of a complaint
   pub settles_so : (mid : Point P O E) (fault : Fault) (next : State P) (between : Streams O E) (after : Point P O E)
-      → FirstGoesOut known plan mid.now.state (is_blamed plan.suicide (Some fault)) mid.streams next between
-      → ComplaintGoesOut known plan (point next mid.now.asked between) fault after
+      → FirstIsFlushed known plan mid.now.state (is_blamed plan.suicide (Some fault)) mid.streams next between
+      → ComplaintIsFlushed known plan (point next mid.now.asked between) fault after
       → Settles known plan mid (Some fault) after
-  settles_so mid fault next between after (first_goes_out line first goes_out cleared_so) out = record {
+  settles_so mid fault next between after (first_flushed line first flushed cleared_so) out = record {
     next = next;
     line = line;
     said = out.said;
     first = first;
     complains = out.complains;
-    goes_out = both_out known.outs line out.said mid.streams.output between.output after.streams.output goes_out
-        out.goes_out;
+    flushed = both_out known.outs line out.said mid.streams.output between.output after.streams.output flushed
+        out.flushed;
     shown = both_shown known.errs plan.shows_progress (clearing line) (looking out.said) mid.streams.errors
         between.errors after.streams.errors cleared_so out.shown;
   }

@@ -6,7 +6,7 @@ use Rattle.clap.specs.Words.{Text}
 use Rattle.clap.specs.declared.error.kind.ErrorKind.{ErrorKind}
 use Rattle.clap.specs.declared.error.kind.ErrorKind.TheVariants.{UnknownArgument}
 use Rattle.byte_streams.specs.declared.calls.WriteOnce.{Ghosts as WriterGhosts}
-use Rattle.byte_streams.specs.Writing.{BreaksAt, GoesOut, IsWritten}
+use Rattle.byte_streams.specs.Writing.{BreaksAt, IsFlushed, WritesOrBreaks}
 use Rattle.gtp_process.specs.declared.causes.Unstarted.{Unstarted}
 use Rattle.gtp_process.specs.declared.starter.Process.{Ghosts}
 use Rattle.gtp_process.specs.Endings.{IsEnded}
@@ -80,22 +80,22 @@ pub record IsFirstFailure (why : Over) (starts : ℕ) (start : Unstarted) : Type
   pub first : starts ≡ 0
 
 module _ {P O E : Type 0} (known : Known P O E) (begins : Beginning P O E) where
-  -- A check was held to its end, and the line of its progress is cleared. The last lines went out, and the status says
-  -- whether something was found, and whether a pass is earned. Or the engine wasn't started at the first try: that is
-  -- reported on standard error, and the status is that of a mistake.
+  -- A check was held to its end, and the line of its progress is cleared. The last lines were flushed, and the status
+  -- says whether something was found, and whether a pass is earned. Or the engine wasn't started at the first try:
+  -- that is reported on standard error, and the status is that of a mistake.
   pub data IsHeld : ℕ → Attempts P → Streams O E → Type 0 where
     is_over : {why : Over} {last : Point P O E} {after : Streams O E} {text : List ℕ}
         → TurnsAreOver known begins.plan (first_point begins) why last
         → IsShown known.errs begins.plan.shows_progress (cleared ∷ []) last.streams.errors after.errors
         → ((start : Unstarted) → IsFirstFailure why last.now.state.check.starts start → ⊥)
         → IsClosed known.processes last.now.state → AreLastLines begins.plan last.now.state why text
-        → GoesOut known.outs text last.streams.output after.output
+        → IsFlushed known.outs text last.streams.output after.output
         → IsHeld (status_in begins.plan last.now.state) last.now.asked after
     not_started : {why : Over} {start : Unstarted} {last : Point P O E} {sees reported : E}
         → TurnsAreOver known begins.plan (first_point begins) why last
         → IsShown known.errs begins.plan.shows_progress (cleared ∷ []) last.streams.errors sees
         → IsFirstFailure why last.now.state.check.starts start → IsClosed known.processes last.now.state
-        → IsWritten known.errs (error_line (codes "gtp_check") (unstarted_text start)) sees reported
+        → WritesOrBreaks known.errs (error_line (codes "gtp_check") (unstarted_text start)) sees reported
         → IsHeld usage_failure last.now.asked (record last.streams { errors = reported })
 
   -- A check stopped: in its turns; or at its last lines, for which memory was refused, or at which the output broke.
@@ -146,7 +146,7 @@ pub record AsksWrongly {E : Type 0} (errs : WriterGhosts E) (words : List Text) 
 
 -- A hint is written on a word or an option that there isn't, as most of these belong to the engine's command.
 pub record IsHinted {E : Type 0} (errs : WriterGhosts E) (kind : ErrorKind) (before after : E) : Type 0 where
-  pub hint : kind ≡ UnknownArgument → IsWritten errs hint_line before after
+  pub hint : kind ≡ UnknownArgument → WritesOrBreaks errs hint_line before after
   pub no_hint : (kind ≡ UnknownArgument → ⊥) → after ≡ before
 
 -- The words have a mistake. One text is written, and where it is due the hint.
@@ -156,7 +156,7 @@ pub record IsRefusedByClap {E : Type 0} (errs : WriterGhosts E) (words : List Te
   pub has : HasFault words kind
   pub text : List ℕ
   pub between : E
-  pub written : IsWritten errs text before between
+  pub written : WritesOrBreaks errs text before between
   pub hinted : IsHinted errs kind between after
 
 -- the words have a mistake, or what they ask for has one

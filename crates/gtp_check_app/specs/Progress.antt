@@ -6,7 +6,7 @@ use Rattle.std.specs.Io.BufRead.{strip_last}
 use Rattle.std.specs.List.{concat}
 use Rattle.std.specs.Option.{option_map_or}
 use Rattle.byte_streams.specs.declared.calls.WriteOnce.{Ghosts as WriterGhosts}
-use Rattle.byte_streams.specs.Writing.{IsWritten}
+use Rattle.byte_streams.specs.Writing.{WritesOrBreaks}
 use Rattle.go_base.specs.Bytes.{newline}
 use Rattle.gtp_check_course.specs.Lessons.{name_of, number_of}
 use Rattle.gtp_check_course.specs.declared.lessons.Lesson.{Lesson}
@@ -74,12 +74,12 @@ before_read lessons starts engine =
 
 -- ---- before something else is written
 
--- the line is cleared before these texts go out
+-- the line is cleared before these texts are written
 abbrev pub clearing : List (List ℕ) → List (List ℕ)
 clearing [] = []
 clearing (text ∷ texts) = cleared ∷ []
 
--- before a complaint goes out it is looked for a shorter one
+-- before a complaint is written it is looked for a shorter one
 abbrev pub looking : List (List ℕ) → List (List ℕ)
 looking [] = []
 looking (text ∷ texts) = looking_line ∷ cleared ∷ []
@@ -87,10 +87,10 @@ looking (text ∷ texts) = looking_line ∷ cleared ∷ []
 -- ---- what is written
 
 -- Texts were written, one after another. One at which the writer breaks changes nothing else.
-pub data AreWritten {W : Type 0} (known : WriterGhosts W) : List (List ℕ) → W → W → Type 0 where
-  no_text : {before : W} → AreWritten known [] before before
-  text_written : {text : List ℕ} {texts : List (List ℕ)} {before mid after : W} → IsWritten known text before mid
-      → AreWritten known texts mid after → AreWritten known (text ∷ texts) before after
+pub data EachWritesOrBreaks {W : Type 0} (known : WriterGhosts W) : List (List ℕ) → W → W → Type 0 where
+  no_text : {before : W} → EachWritesOrBreaks known [] before before
+  text_written : {text : List ℕ} {texts : List (List ℕ)} {before mid after : W} → WritesOrBreaks known text before mid
+      → EachWritesOrBreaks known texts mid after → EachWritesOrBreaks known (text ∷ texts) before after
 
 -- these, where that is asked for, and else none
 abbrev pub shown_if : Bool → List (List ℕ) → List (List ℕ)
@@ -99,4 +99,4 @@ shown_if true texts = texts
 
 -- texts of the progress were written, where it is
 abbrev pub IsShown : {W : Type 0} → WriterGhosts W → Bool → List (List ℕ) → W → W → Type 0
-IsShown known progress texts before after = AreWritten known (shown_if progress texts) before after
+IsShown known progress texts before after = EachWritesOrBreaks known (shown_if progress texts) before after

@@ -1,7 +1,7 @@
 -- Laws of a whole check: what holds of each turn of it, and of its end. (Own.)
 use Rattle.std.specs.Prelude.{◌≡◌, ◌⊎◌, ⊤, ℕ, ◌<◌, ◌≤◌, Bool, true, false, All, List, [], ◌∷◌, ◌++◌, length, slice_get}
 use Rattle.std.specs.Prelude.{Option, None, Some, option_map, Ok}
-use Rattle.byte_streams.specs.Writing.{LinesGoOut}
+use Rattle.byte_streams.specs.Writing.{AreFlushed}
 use Rattle.go_board.specs.declared.rules.KoRule.{KoRule}
 use Rattle.gtp_process.specs.declared.causes.PipeCause.{PipeCause}
 use Rattle.gtp_process.specs.declared.starter.Ending.{Ending}
@@ -53,7 +53,7 @@ pub record TurnOf {P O E : Type 0} (known : Known P O E) (begins : Beginning P O
   pub texts : List (List ℕ)
   pub shows : List (List ℕ)
   pub turn : Turn known.processes begins.plan before.now after.now texts shows
-  pub goes_out : LinesGoOut known.outs texts before.streams.output after.streams.output
+  pub flushed : AreFlushed known.outs texts before.streams.output after.streams.output
   pub shown : IsShown known.errs begins.plan.shows_progress shows before.streams.errors after.streams.errors
 
 -- A turn of a check that comes to this point: the turns before it, and those after it.

@@ -1,7 +1,7 @@
 -- The turns of a check, one after another, and what it writes to. (Own.)
 use Rattle.std.specs.Prelude.{ℕ, ◌+◌, true, List, [], ◌∷◌, ◌++◌, Option, None, Some, Err}
 use Rattle.byte_streams.specs.declared.calls.WriteOnce.{Ghosts as WriterGhosts}
-use Rattle.byte_streams.specs.Writing.{BreaksAt, LinesGoOut}
+use Rattle.byte_streams.specs.Writing.{BreaksAt, AreFlushed}
 use Rattle.gtp_process.specs.declared.starter.Process.{Ghosts}
 use Rattle.gtp_process.specs.declared.starter.StartFault.TheVariants as start_fault
 use Rattle.gtp_process.specs.Starts.{Attempts, Tries, program_line}
@@ -56,7 +56,7 @@ module _ {P O E : Type 0} (known : Known P O E) (plan : Plan) where
     not_yet : Turns first 0 first
     turns : {count : ℕ} {before after : Point P O E} {texts shows : List (List ℕ)} → Turns first count before
         → Turn known.processes plan before.now after.now texts shows
-        → LinesGoOut known.outs texts before.streams.output after.streams.output
+        → AreFlushed known.outs texts before.streams.output after.streams.output
         → IsShown known.errs plan.shows_progress shows before.streams.errors after.streams.errors
         → Turns first (count + 1) after
 
@@ -78,13 +78,13 @@ module _ {P O E : Type 0} (known : Known P O E) (plan : Plan) where
         → IsShown known.errs plan.shows_progress (waiting plan heard.mid ++ cleared ∷ [])
         before.streams.errors after.errors
         → StopsIn before (process_of mid.engine) before.now.asked after Write
-    complaint_broke : {mid next : State P} {closed : Moment P} {line_out : O} {after : Streams O E}
+    complaint_broke : {mid next : State P} {closed : Moment P} {line_flushed : O} {after : Streams O E}
         {fault : Option Fault} {line : List (List ℕ)} {text : List ℕ}
         → (heard : Exchanges known.processes plan before.now.state fault mid)
         → WritesFirst known.processes plan mid (is_blamed plan.suicide fault) next line
-        → LinesGoOut known.outs line before.streams.output line_out
+        → AreFlushed known.outs line before.streams.output line_flushed
         → Complains known.processes plan (moment next before.now.asked) fault closed (text ∷ [])
-        → BreaksAt known.outs text line_out after.output
+        → BreaksAt known.outs text line_flushed after.output
         → IsShown known.errs plan.shows_progress
         (waiting plan heard.mid ++ (clearing line ++ looking (text ∷ []))) before.streams.errors after.errors
         → StopsIn before None closed.asked after Write
@@ -103,7 +103,7 @@ module _ {P O E : Type 0} (known : Known P O E) (plan : Plan) where
         {line : List (List ℕ)} {wrong : Wrong}
         → (heard : Exchanges known.processes plan before.now.state (Some fault) mid)
         → WritesFirst known.processes plan mid true next line
-        → LinesGoOut known.outs line before.streams.output after.output
+        → AreFlushed known.outs line before.streams.output after.output
         → Closes known.processes fault next wrong closed
         → AsksForMore (program_line plan.words.items) before.now.asked has
         → IsShown known.errs plan.shows_progress

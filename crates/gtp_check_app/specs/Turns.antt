@@ -64,8 +64,8 @@ abbrev pub most_turns : ℕ
 most_turns = 1000000000000
 
 -- after so many starts in a row without a right answer the check is over
-abbrev pub most_fruitless : ℕ
-most_fruitless = 3
+abbrev pub most_unanswered_starts : ℕ
+most_unanswered_starts = 3
 
 -- a conversation of at most so many commands is shown whole, also where nothing shorter was found
 abbrev pub most_whole : ℕ
@@ -233,7 +233,7 @@ pub record IsComplaint (rule : KoRule) (caption : Caption) (wrong : Wrong) (comp
   pub shown_is : complaint.shown ≡ caption.shown
   pub fault : complaint.fault ≡ wrong.fault
   pub sent : complaint.sent.now ≡ wrong.sent
-  pub went_out : complaint.went_out ≡ wrong.went_out
+  pub delivered : complaint.delivered ≡ wrong.delivered
   pub talk : complaint.talk.now ≡ wrong.talk
   pub answered : complaint.answered ≡ wrong.answered
   pub wrote : complaint.wrote.now ≡ wrong.wrote
@@ -401,7 +401,7 @@ module _ {P : Type 0} (known : Ghosts P) (plan : Plan) where
   pub data Turn (before : Moment P) : Moment P → List (List ℕ) → List (List ℕ) → Type 0 where
     starts : {mid : State P} {course : Course} {has : Attempts P} {engine : Engine P} (process : P)
         → Asks plan.singly before.state mid → IsNext mid.course mid.check.exam Start course
-        → mid.notes.fruitless < most_fruitless → MayStart mid.check mid.tally
+        → mid.notes.unanswered_starts < most_unanswered_starts → MayStart mid.check mid.tally
         → Tries before.asked has (program_line plan.words.items) (Ok process)
         → QuitsIfAny known (process_of mid.engine)
         → ((exam : Exam) (notes : Notes) → dialogue engine exam notes ≡ begun_with exam process notes)
@@ -430,10 +430,12 @@ module _ {P : Type 0} (known : Ghosts P) (plan : Plan) where
   pub data IsOverBy (now : Moment P) : Action → Over → Attempts P → Type 0 where
     done : (now.state.check.exam.up ≡ false) ⊎ (length now.state.check.exam.unanswered ≡ 0)
         → IsOverBy now Done over.Done now.asked
-    no_right_answer : most_fruitless ≤ now.state.notes.fruitless → IsOverBy now Start over.NoRightAnswer now.asked
-    no_more_starts : now.state.notes.fruitless < most_fruitless → (MayStart now.state.check now.state.tally → ⊥)
+    no_right_answer : most_unanswered_starts ≤ now.state.notes.unanswered_starts
+        → IsOverBy now Start over.NoRightAnswer now.asked
+    no_more_starts : now.state.notes.unanswered_starts < most_unanswered_starts
+        → (MayStart now.state.check now.state.tally → ⊥)
         → IsOverBy now Start over.NoMoreStarts now.asked
-    not_started : {has : Attempts P} (reason : StartReason) → now.state.notes.fruitless < most_fruitless
+    not_started : {has : Attempts P} (reason : StartReason) → now.state.notes.unanswered_starts < most_unanswered_starts
         → MayStart now.state.check now.state.tally
         → Tries now.asked has (program_line plan.words.items) (Err (start_fault.NotStarted reason))
         → IsOverBy now Start (over.NotStarted (unstarted (program_line plan.words.items) reason)) has

@@ -10,7 +10,7 @@ ghost use Rattle.gtp_check_app.specs.Checks.{AreLastLines, IsClosed, IsEnding, m
 ghost use Rattle.gtp_check_app.specs.Sequence.{HasStopped, StopsIn, TurnsAreOver, known_of, point};
 ghost use Rattle.gtp_check_app.specs.Turns.{AsksEngine, IsHeardOut, MayStart, before_all, is_first_due, moment};
 ghost use Rattle.gtp_check_app.specs.Turns.{process_of, purpose_in, state_of, without_engine};
-ghost use Rattle.gtp_check_app.specs.private.Steps.{Begins, EndsTurn, FirstGoesOut, FirstStops, Gathers};
+ghost use Rattle.gtp_check_app.specs.private.Steps.{Begins, EndsTurn, FirstIsFlushed, FirstStops, Gathers};
 ghost use Rattle.gtp_check_app.specs.private.Steps.{IsPaired, IsRefused, Settles, StopsAfter};
 ghost use Rattle.gtp_check_talk.specs.Dialogues.{MayFollow, ends_in_pieces};
 ghost use Rattle.gtp_check_talk.specs.declared.engine.TheConstants.{LINES_ROOM};
@@ -43,7 +43,7 @@ const MOST_STEPS: u32 = 64;
 const MOST_STARTS: u32 = 2_000_000;
 
 /// The check is over after this many starts in a row without a correct reply.
-const MOST_FRUITLESS: u32 = 3;
+const MOST_UNANSWERED_STARTS: u32 = 3;
 
 /// A running check. It is not `Drop`: its process has to be ended.
 pub struct Check<S: Starter> {
@@ -285,7 +285,7 @@ impl<S: Starter> Check<S> {
         starter: &mut S,
     ) -> Result<(), Failure>
         requires { IsSome self.old.engine }
-        ensures goes_out { OnOk result
+        ensures flushed { OnOk result
             (Settles (known_of S.Process.Process O.WriteOnce E.WriteOnce) plan.now
             (point (state_of self.old) (S.asked starter.old) streams.old) fault
             (point (state_of self.new) (S.asked starter.new) streams.new)) }
@@ -317,7 +317,7 @@ impl<S: Starter> Check<S> {
             (moment (state_of self.old) (S.asked starter.old)) why
             (moment (state_of self.new) (S.asked starter.new))) }
     {
-        if self.notes.fruitless >= MOST_FRUITLESS {
+        if self.notes.unanswered_starts >= MOST_UNANSWERED_STARTS {
             return Ok(Some(Over::NoRightAnswer));
         }
         if !self.may_start() {
@@ -375,8 +375,8 @@ impl<S: Starter> Check<S> {
         plan: &Plan<'_>,
         streams: &mut Streams<O, E>,
     ) -> Result<(), Failure>
-        ensures goes_out { OnOk result
-            (FirstGoesOut (known_of S.Process.Process O.WriteOnce E.WriteOnce) plan.now
+        ensures flushed { OnOk result
+            (FirstIsFlushed (known_of S.Process.Process O.WriteOnce E.WriteOnce) plan.now
             (state_of self.old) is_wrong streams.old (state_of self.new) streams.new) }
         ensures stops { IfErr result (λ why.
             FirstStops (known_of S.Process.Process O.WriteOnce E.WriteOnce) plan.now

@@ -1,7 +1,7 @@
 //! What happens once something is wrong with the engine: it is ended, and a complaint is written.
 ghost use Rattle.std.specs.Prelude.{◌≡◌, ◌⊎◌, [], ◌∷◌, true, None, Some, IfErr, IfOk, IfSome, IsSome, OnOk};
 ghost use Rattle.std.specs.Prelude.{◌<◌, ◌^◌, count_by, length, option_map, unwrap_or};
-ghost use Rattle.byte_streams.specs.Writing.{BreaksAt, GoesOut};
+ghost use Rattle.byte_streams.specs.Writing.{BreaksAt, IsFlushed};
 ghost use Rattle.gtp_process.specs.Starts.{program_line};
 ghost use Rattle.gtp_check_texts.specs.Complaints.{complaint_lines};
 ghost use Rattle.gtp_check_talk.specs.Dialogues.{AsksForMore, wrong_of, wrong_talk};
@@ -18,7 +18,7 @@ ghost use Rattle.gtp_check_app.specs.Sequence.{known_of, point};
 ghost use Rattle.gtp_check_app.specs.Turns.{caption_of, moment, shown_of, state_of};
 ghost use Rattle.gtp_check_app.specs.Unjudged.{is_blamed};
 ghost use Rattle.gtp_check_app.specs.private.LastGames.{games_of};
-ghost use Rattle.gtp_check_app.specs.private.Steps.{ComplaintGoesOut, ComplaintStops};
+ghost use Rattle.gtp_check_app.specs.private.Steps.{ComplaintIsFlushed, ComplaintStops};
 ghost use Rattle.gtp_check_texts.specs.declared.complaint.Complaint.{Complaint};
 ghost use Rattle.cli.specs.declared.failure.Failure.TheVariants as failure;
 
@@ -75,8 +75,8 @@ impl<S: Starter> Check<S> {
     ) -> Result<(), Failure>
         requires there { IsSome self.old.engine }
         requires judged { is_blamed plan.now.suicide (Some fault) ≡ true }
-        ensures goes_out { OnOk result
-            (ComplaintGoesOut (known_of S.Process.Process O.WriteOnce E.WriteOnce) plan.now
+        ensures flushed { OnOk result
+            (ComplaintIsFlushed (known_of S.Process.Process O.WriteOnce E.WriteOnce) plan.now
             (point (state_of self.old) (S.asked starter.old) streams.old) fault
             (point (state_of self.new) (S.asked starter.new) streams.new)) }
         ensures stops { IfErr result (λ why.
@@ -144,9 +144,9 @@ impl<S: Starter> Check<S> {
         plan: &Plan<'_>,
         streams: &mut Streams<O, E>,
     ) -> Result<(), Failure>
-        ensures goes_out { OnOk result ((complaint : Complaint)
+        ensures flushed { OnOk result ((complaint : Complaint)
             × IsComplaint plan.now.rule caption (wrong_of found.now) complaint
-            × GoesOut O.WriteOnce (complaint_lines complaint) streams.old.output streams.new.output
+            × IsFlushed O.WriteOnce (complaint_lines complaint) streams.old.output streams.new.output
             × IsShown E.WriteOnce plan.now.shows_progress (cleared ∷ [])
             streams.old.errors streams.new.errors) }
         ensures broke { IfErr result (λ why. why ≡ failure.Write
@@ -423,7 +423,7 @@ fn complaint_of<'t>(
         lesson: caption.lesson,
         fault: found.fault,
         sent: found.said.sent.as_slice(),
-        went_out: found.said.went_out,
+        delivered: found.said.delivered,
         talk: found.said.talk.as_slice(),
         answered: found.answered,
         wrote: found.said.wrote.as_slice(),

@@ -2,7 +2,7 @@
 ghost use Rattle.std.specs.Prelude.{◌≡◌, IfNone, IfSome, codes, map};
 ghost use Rattle.gtp_process.specs.declared.causes.Unstarted.{Unstarted};
 ghost use Rattle.clap.specs.declared.error.kind.ErrorKind.TheVariants.{UnknownArgument};
-ghost use Rattle.byte_streams.specs.Writing.{IsWritten};
+ghost use Rattle.byte_streams.specs.Writing.{WritesOrBreaks};
 ghost use Rattle.gtp_process.specs.Shown.{unstarted_text};
 ghost use Rattle.cli.specs.Requests.{writers};
 ghost use Rattle.cli.specs.Status.{error_line};
@@ -95,7 +95,7 @@ fn answer<O: WriteOnce, E: WriteOnce>(
 
 /// Writes the hint, if there was such an argument.
 fn hint<E: WriteOnce>(kind: ErrorKind, errors: &mut E)
-    ensures hint { kind ≡ UnknownArgument → IsWritten E.WriteOnce hint_line errors.old errors.new }
+    ensures hint { kind ≡ UnknownArgument → WritesOrBreaks E.WriteOnce hint_line errors.old errors.new }
     ensures no_hint { (kind ≡ UnknownArgument → ⊥) → errors.new ≡ errors.old }
 {
     if kind == ErrorKind::UnknownArgument {
@@ -165,7 +165,7 @@ fn first_failure(over: &Over, starts: u32) -> Option<&Unstarted>
 
 /// Reports that the engine couldn't be started at the first try.
 fn report_unstarted<E: WriteOnce>(unstarted: &Unstarted, errors: &mut E)
-    ensures { IsWritten E.WriteOnce
+    ensures { WritesOrBreaks E.WriteOnce
         (error_line (codes "gtp_check") (unstarted_text unstarted.now)) errors.old errors.new }
 {
     let mut line: ArrayVec<u8, 420> = ArrayVec::new();

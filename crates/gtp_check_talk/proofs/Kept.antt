@@ -19,15 +19,15 @@ use Rattle.gtp_check_talk.specs.Notes.{with_match, with_most_undos, with_refusal
 
 -- the starts without a right answer stay, and the lessons in which a move was answered
 pub record Keeps (before after : Notes) : Type 0 where
-  pub fruitless : after.fruitless ≡ before.fruitless
+  pub unanswered_starts : after.unanswered_starts ≡ before.unanswered_starts
   pub answered : after.answered.items ≡ before.answered.items
 
 same : (notes : Notes) → Keeps notes notes
-same notes = record { fruitless = refl; answered = refl }
+same notes = record { unanswered_starts = refl; answered = refl }
 
 both : (before mid after : Notes) → Keeps before mid → Keeps mid after → Keeps before after
 both before mid after one other = record {
-  fruitless = other.fruitless ∙ one.fruitless;
+  unanswered_starts = other.unanswered_starts ∙ one.unanswered_starts;
   answered = other.answered ∙ one.answered;
 }
 
@@ -39,19 +39,19 @@ accepted_keeps notes (Some size) = by (is_accepted notes size)
       accepted = record { items = with_more 25 notes.accepted.items size };
     })
     by true = same notes
-    by false = record { fruitless = refl; answered = refl }
+    by false = record { unanswered_starts = refl; answered = refl }
 
 match_keeps : (command : Command) (reply : Reply) (notes : Notes) → Keeps notes (with_match notes command reply.ok)
 match_keeps command reply notes =
     let mid = record notes { in_a_row = undos_after notes.in_a_row command reply.ok } in
-    both notes mid (with_match notes command reply.ok) (record { fruitless = refl; answered = refl })
+    both notes mid (with_match notes command reply.ok) (record { unanswered_starts = refl; answered = refl })
     (accepted_keeps mid (accepted_by command reply.ok))
 
 of_keeps : (command : CheckCommand) (reply : Reply) (skills : Skills) (notes : Notes)
     → Keeps notes (noted_of command reply skills notes)
-of_keeps Name reply skills notes = record { fruitless = refl; answered = refl }
-of_keeps Version reply skills notes = record { fruitless = refl; answered = refl }
-of_keeps (KnownCommand known) reply skills notes = record { fruitless = refl; answered = refl }
+of_keeps Name reply skills notes = record { unanswered_starts = refl; answered = refl }
+of_keeps Version reply skills notes = record { unanswered_starts = refl; answered = refl }
+of_keeps (KnownCommand known) reply skills notes = record { unanswered_starts = refl; answered = refl }
 of_keeps (Match command) reply skills notes = match_keeps command reply notes
 of_keeps FinalScore reply skills notes = same notes
 of_keeps ListCommands reply skills notes = same notes
@@ -65,14 +65,14 @@ size_keeps notes size = by (is_refused notes size || is_accepted notes size)
       refused = record { items = with_more 25 notes.refused.items size };
     })
     by true = same notes
-    by false = record { fruitless = refl; answered = refl }
+    by false = record { unanswered_starts = refl; answered = refl }
 
 undos_keep : (notes : Notes) → Keeps notes (with_most_undos notes)
 undos_keep notes = by (is_some notes.most_undos)
   where
     by : (b : Bool) → Keeps notes (if b then notes else record notes { most_undos = Some notes.in_a_row })
     by true = same notes
-    by false = record { fruitless = refl; answered = refl }
+    by false = record { unanswered_starts = refl; answered = refl }
 
 refusal_keeps : (notes : Notes) (refused : Option Refusal) → Keeps notes (with_refusal notes refused)
 refusal_keeps notes None = same notes

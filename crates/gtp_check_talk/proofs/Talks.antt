@@ -20,7 +20,7 @@ use Rattle.gtp_check_judge.specs.Laws.{Exchange, FindingsAreJustified, Talks, ex
 use Rattle.gtp_check_talk.specs.declared.fault.Fault.{Fault}
 use Rattle.gtp_check_talk.specs.declared.fault.Fault.TheVariants.{Wrote}
 use Rattle.gtp_check_talk.specs.declared.notes.Notes.{Notes}
-use Rattle.gtp_check_talk.specs.Dialogues.{AreHeard, AreTaken, Converses, Dialogue, EndsWrong, IsExchanged, IsHeard}
+use Rattle.gtp_check_talk.specs.Dialogues.{AreHeard, PiecesAreSent, Converses, Dialogue, EndsWrong, IsExchanged, IsHeard}
 use Rattle.gtp_check_talk.specs.Dialogues.{IsRead, IsSent, begun_with, ends_in_pieces}
 use Rattle.gtp_check_talk.specs.Laws.{IsWronglyWritten}
 
@@ -91,12 +91,12 @@ pub record IsTalk {P : Type 0} (known : Ghosts P) (rule : KoRule) (process : P) 
 
 module _ {P : Type 0} (known : Ghosts P) (rule : KoRule) (process : P) (first : Notes) where
   -- it was sent what waits, and gave nothing
-  sent_gave : {pieces : List (List ℕ)} {before after : P} → AreTaken known pieces before after
+  sent_gave : {pieces : List (List ℕ)} {before after : P} → PiecesAreSent known pieces before after
       → Keeps (known.given before) (known.given after)
-  sent_gave (AreTaken.no_piece {before = before}) = Keeps-refl (known.given before)
-  sent_gave (AreTaken.whole {before = before} {mid = mid} {after = after} piece taken more) =
+  sent_gave (PiecesAreSent.no_piece {before = before}) = Keeps-refl (known.given before)
+  sent_gave (PiecesAreSent.whole {before = before} {mid = mid} {after = after} piece taken more) =
       Keeps-trans (known.given before) (known.given mid) (known.given after) taken.given (sent_gave more)
-  sent_gave (AreTaken.part piece cut) = cut.given
+  sent_gave (PiecesAreSent.part piece cut) = cut.given
 
   -- bytes were heard without a finding
   quiet_talk : (bytes : List ℕ) (before : Dialogue P) (after : Dialogue P) (came : List ℕ)

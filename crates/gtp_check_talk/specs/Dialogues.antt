@@ -89,8 +89,8 @@ begun_with exam process notes = record {
 }
 
 -- how many bytes of the lines that it was asked were sent: all but those that wait
-abbrev pub went_out : {P : Type 0} → Dialogue P → ℕ
-went_out engine = length engine.sent - length engine.waiting
+abbrev pub delivered : {P : Type 0} → Dialogue P → ℕ
+delivered engine = length engine.sent - length engine.waiting
 
 -- ---- a command
 
@@ -218,26 +218,26 @@ AreHeard bytes before (Some fault) after = IsFoundIn bytes before fault after
 -- ---- an exchange
 
 -- this chunk was written to a process whole, and nothing waits to be flushed
-pub record IsTaken {P : Type 0} (known : Ghosts P) (piece : List ℕ) (before after : P) : Type 0 where
+pub record IsWrittenWhole {P : Type 0} (known : Ghosts P) (piece : List ℕ) (before after : P) : Type 0 where
   pub taken : Appends (known.taken before) (known.taken after) piece
   pub unbroken : IsUnbroken known.fails known.succeeds before after
   pub flushed : known.flushed after
   pub given : Keeps (known.given before) (known.given after)
 
 -- a process was cut off, and took a beginning of the chunk
-pub record IsTakenInPart {P : Type 0} (known : Ghosts P) (piece : List ℕ) (before after : P) : Type 0 where
+pub record IsWrittenInPart {P : Type 0} (known : Ghosts P) (piece : List ℕ) (before after : P) : Type 0 where
   pub taken : TakesPart piece (known.taken before) (known.taken after)
   pub cut_off : IsCutOff known.fails known.succeeds before after
   pub given : Keeps (known.given before) (known.given after)
 
 -- A process was sent chunks, one after the other. It took each of them whole. Or it was cut off in one, and was sent
 -- none after that.
-pub data AreTaken {P : Type 0} (known : Ghosts P) : List (List ℕ) → P → P → Type 0 where
-  no_piece : {before : P} → AreTaken known [] before before
-  whole : {pieces : List (List ℕ)} {before mid after : P} (piece : List ℕ) → IsTaken known piece before mid
-      → AreTaken known pieces mid after → AreTaken known (piece ∷ pieces) before after
-  part : {pieces : List (List ℕ)} {before after : P} (piece : List ℕ) → IsTakenInPart known piece before after
-      → AreTaken known (piece ∷ pieces) before after
+pub data PiecesAreSent {P : Type 0} (known : Ghosts P) : List (List ℕ) → P → P → Type 0 where
+  no_piece : {before : P} → PiecesAreSent known [] before before
+  whole : {pieces : List (List ℕ)} {before mid after : P} (piece : List ℕ) → IsWrittenWhole known piece before mid
+      → PiecesAreSent known pieces mid after → PiecesAreSent known (piece ∷ pieces) before after
+  part : {pieces : List (List ℕ)} {before after : P} (piece : List ℕ) → IsWrittenInPart known piece before after
+      → PiecesAreSent known (piece ∷ pieces) before after
 
 -- how many bytes are sent later, where the last line is sent in two chunks: its newline, and the byte before that
 abbrev pub later_bytes : ℕ
@@ -255,7 +255,7 @@ pieces_of in_pieces (byte ∷ more) =
 -- A process was sent lines, if there were any: at once, or the last of them in two chunks. Before the second chunk it
 -- had time to read the first.
 abbrev pub IsSent : {P : Type 0} → Ghosts P → Bool → List ℕ → P → P → Type 0
-IsSent known in_pieces lines before after = AreTaken known (pieces_of in_pieces lines) before after
+IsSent known in_pieces lines before after = PiecesAreSent known (pieces_of in_pieces lines) before after
 
 -- An engine was read. What its process gives, a byte at least, is heard. Or its output ended, or it was cut off, and it
 -- gave nothing. It was sent nothing.
@@ -346,7 +346,7 @@ pub record Wrong : Type 0 where
   pub fault : Fault
   pub answered : ℕ
   pub sent : List ℕ
-  pub went_out : ℕ
+  pub delivered : ℕ
   pub talk : List Said
   pub wrote : List ℕ
   pub ending : Ending
@@ -356,7 +356,7 @@ wrong_of tried = record {
   fault = tried.fault;
   answered = tried.answered;
   sent = tried.said.sent.items;
-  went_out = tried.said.went_out;
+  delivered = tried.said.delivered;
   talk = tried.said.talk.items;
   wrote = tried.said.wrote.items;
   ending = tried.said.ending;
@@ -368,7 +368,7 @@ wrong_with fault engine ending = record {
   fault = fault;
   answered = length engine.talk - length engine.exam.unanswered;
   sent = engine.sent;
-  went_out = went_out engine;
+  delivered = delivered engine;
   talk = engine.talk;
   wrote = engine.wrote;
   ending = ending;

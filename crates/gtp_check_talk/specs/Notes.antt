@@ -37,7 +37,7 @@ nothing_noted = record {
   in_a_row = 0;
   most_undos = None;
   has_answered = false;
-  fruitless = 0;
+  unanswered_starts = 0;
   commands = 0;
   answered = record { items = [] };
 }
@@ -46,7 +46,7 @@ nothing_noted = record {
 abbrev pub started : Notes → Notes
 started notes = record notes {
   has_answered = false;
-  fruitless = one_more notes.fruitless;
+  unanswered_starts = one_more notes.unanswered_starts;
   in_a_row = 0;
 }
 
@@ -89,7 +89,7 @@ noted_in lesson (Some asked) notes = if asks_for_move asked.command then with_le
 
 -- a right answer came
 abbrev pub with_answer : Notes → Notes
-with_answer notes = record notes { has_answered = true; fruitless = 0 }
+with_answer notes = record notes { has_answered = true; unanswered_starts = 0 }
 
 -- the engine said that it lacks the command
 abbrev pub lacks : Skill → Bool

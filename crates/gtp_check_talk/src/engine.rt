@@ -9,9 +9,9 @@ ghost use Rattle.gtp_check_judge.specs.declared.exam.Exam.{Exam};
 ghost use Rattle.gtp_check_judge.specs.Exam.{Asks, HasRoomFor, hearing};
 ghost use Rattle.gtp_check_judge.specs.Judging.{oldest};
 ghost use Rattle.gtp_check_talk.specs.declared.notes.Notes.{Notes};
-ghost use Rattle.gtp_check_talk.specs.Dialogues.{AreHeard, AreTaken, IsAsked, IsHeard, IsRead, IsExchanged, IsSent};
+ghost use Rattle.gtp_check_talk.specs.Dialogues.{AreHeard, PiecesAreSent, IsAsked, IsHeard, IsRead, IsExchanged, IsSent};
 ghost use Rattle.gtp_check_talk.specs.Dialogues.{begun_with, dialogue, two_pieces};
-ghost use Rattle.gtp_check_talk.specs.Dialogues.{IsFull, IsIllegal, IsTaken, IsTakenInPart, MayFollow, ends_in_pieces};
+ghost use Rattle.gtp_check_talk.specs.Dialogues.{IsFull, IsIllegal, IsWrittenWhole, IsWrittenInPart, MayFollow, ends_in_pieces};
 ghost use Rattle.gtp_check_talk.specs.Dialogues.{kept_after, last_move, owed_purpose, purpose_of, through_line};
 ghost use Rattle.gtp_check_talk.specs.private.Hearing.{AreNotesOf};
 ghost use Rattle.gtp_check_talk.specs.private.Illegal.{is_bad_move};
@@ -275,10 +275,10 @@ impl<P: Process> Engine<P> {
     pub fn end(self) -> Ended
         ensures said { (result.sent.items ≡ self.sent.items)
             × (result.talk.items ≡ self.talk.items) × (result.wrote.items ≡ self.wrote.items) }
-        ensures out { result.went_out ≡ length self.sent.items - length self.waiting.items }
+        ensures out { result.delivered ≡ length self.sent.items - length self.waiting.items }
         ensures ended { P.leaves self.process result.ending }
     {
-        let went_out = self.sent.len().saturating_sub(self.waiting.len());
+        let delivered = self.sent.len().saturating_sub(self.waiting.len());
         let Engine {
             process,
             sent,
@@ -290,7 +290,7 @@ impl<P: Process> Engine<P> {
         let ending = process.end();
         Ended {
             sent,
-            went_out,
+            delivered,
             talk,
             wrote,
             ending,
@@ -392,7 +392,7 @@ fn send<P: Process>(process: &mut P, lines: &[u8], in_pieces: bool)
 
 /// Sends all but the last bytes, and these a moment later.
 fn send_in_two<P: Process>(process: &mut P, lines: &[u8])
-    ensures { AreTaken P.Process (two_pieces lines.now) process.old process.new }
+    ensures { PiecesAreSent P.Process (two_pieces lines.now) process.old process.new }
 {
     let (first, second) = lines.split_at(lines.len().saturating_sub(LATER_BYTES));
     if !is_written_whole(process, first) {
@@ -404,15 +404,15 @@ fn send_in_two<P: Process>(process: &mut P, lines: &[u8])
 
 /// Sends a chunk.
 fn send_at_once<P: Process>(process: &mut P, piece: &[u8])
-    ensures { AreTaken P.Process (piece.now ∷ []) process.old process.new }
+    ensures { PiecesAreSent P.Process (piece.now ∷ []) process.old process.new }
 {
     let _ = is_written_whole(process, piece);
 }
 
 /// Sends a chunk. Returns whether the process took all of it.
 fn is_written_whole<P: Process>(process: &mut P, piece: &[u8]) -> bool
-    ensures whole { result ≡ true → IsTaken P.Process piece.now process.old process.new }
-    ensures part { result ≡ false → IsTakenInPart P.Process piece.now process.old process.new }
+    ensures whole { result ≡ true → IsWrittenWhole P.Process piece.now process.old process.new }
+    ensures part { result ≡ false → IsWrittenInPart P.Process piece.now process.old process.new }
 {
     match write_whole(process, piece) {
         Ok(()) => true,
@@ -471,7 +471,7 @@ pub struct Ended {
     /// The lines of all that it was asked.
     pub sent: Vec<u8>,
     /// How many bytes of these lines were sent to it. The rest was still waiting.
-    pub went_out: usize,
+    pub delivered: usize,
     /// The commands.
     pub talk: Vec<Said>,
     /// The beginning of what it wrote since its last complete reply.

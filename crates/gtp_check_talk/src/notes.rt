@@ -41,7 +41,7 @@ pub struct Notes {
     /// Whether it gave a correct reply since it was started.
     pub has_answered: bool,
     /// How often in a row it was started and gave no correct reply.
-    pub fruitless: u32,
+    pub unanswered_starts: u32,
     /// How many commands were asked.
     pub commands: u32,
     /// The lessons in which a `play` or a `genmove` was answered correctly, each once.
@@ -64,7 +64,7 @@ impl Notes {
             lacks_undo: false,
             lacks_score: false,
             has_answered: false,
-            fruitless: 0,
+            unanswered_starts: 0,
             commands: 0,
             answered: Lessons::new(),
         }
@@ -75,7 +75,7 @@ impl Notes {
         ensures { self.new ≡ started self.old }
     {
         self.has_answered = false;
-        self.fruitless = self.fruitless.saturating_add(1);
+        self.unanswered_starts = self.unanswered_starts.saturating_add(1);
         self.in_a_row = 0;
     }
 
@@ -128,7 +128,7 @@ impl Notes {
         ensures { self.new ≡ noted_of command.now reply.now skills (with_answer self.old) }
     {
         self.has_answered = true;
-        self.fruitless = 0;
+        self.unanswered_starts = 0;
         match command {
             CheckCommand::Name => self.name = Some(beginning_of(reply)),
             CheckCommand::Version => self.version = Some(beginning_of(reply)),

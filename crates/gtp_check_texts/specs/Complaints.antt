@@ -13,7 +13,7 @@ use Rattle.gtp_wire.specs.Replies.{most_shown}
 use Rattle.gtp_check_texts.specs.reasons.Kinds.{fault_text}
 use Rattle.gtp_check_judge.specs.declared.asking.CheckCommand.{CheckCommand}
 use Rattle.gtp_check_texts.specs.reasons.Answers.{before_rule, right_answer}
-use Rattle.gtp_check_texts.specs.reasons.Colours.{told_after}
+use Rattle.gtp_check_texts.specs.reasons.Colours.{explained_after}
 use Rattle.gtp_check_texts.specs.reasons.Rules.{rule_text}
 use Rattle.gtp_check_texts.specs.Board.{drawn_board}
 use Rattle.gtp_check_texts.specs.Texts.{text_if}
@@ -66,9 +66,10 @@ faulty_said complaint = slice_get complaint.talk.now complaint.answered
 
 -- The command for which it is said what is right, if there is one: the faulty one, or the same with the colour's letter
 -- where the engine took the colour in full before.
-abbrev pub told : Complaint → Option CheckCommand
-told complaint =
-    option_map (λ said. told_after (take complaint.answered complaint.talk.now) said.command) (faulty_said complaint)
+abbrev pub explained : Complaint → Option CheckCommand
+explained complaint =
+    option_map (λ said. explained_after (take complaint.answered complaint.talk.now) said.command)
+    (faulty_said complaint)
 
 -- What is right: of a reply without an end how it ends, and else what decides on the board before the command, where
 -- that is known and something was written, or the rule.
@@ -79,8 +80,8 @@ decided _ _ _ = None
 abbrev pub rule_of : Complaint → Bool → List ℕ
 rule_of complaint true = codes "an answer ends with an empty line: two newlines"
 rule_of complaint false =
-    unwrap_or (decided complaint.game complaint.fault (told complaint))
-    (rule_text complaint.fault complaint.ending (told complaint))
+    unwrap_or (decided complaint.game complaint.fault (explained complaint))
+    (rule_text complaint.fault complaint.ending (explained complaint))
 
 -- what a right engine answers, where that is shown
 abbrev pub answer_of : Complaint → List ℕ
@@ -96,7 +97,7 @@ abbrev pub rule_line : Complaint → List ℕ
 rule_line complaint =
     codes "# right: " ++ (before_rule (answer_of complaint)
     ++ (rule_of complaint (is_within complaint.fault complaint.wrote.now)
-    ++ (codes "\n" ++ in_a_row complaint.game complaint.fault (told complaint))))
+    ++ (codes "\n" ++ in_a_row complaint.game complaint.fault (explained complaint))))
 
 -- the board before the command, where it is known
 abbrev pub board_lines : Option (Bor GameRecord) → List ℕ

@@ -39,4 +39,4 @@ faulty_line complaint = strip_last newline (asked_line complaint)
 
 -- the lines that were sent after it: those that still waited aren't among them
 abbrev pub after_lines : Complaint → List ℕ
-after_lines complaint = drop (line_end complaint complaint.answered) (take complaint.went_out complaint.sent.now)
+after_lines complaint = drop (line_end complaint complaint.answered) (take complaint.delivered complaint.sent.now)

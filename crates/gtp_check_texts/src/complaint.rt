@@ -10,7 +10,7 @@ ghost use Rattle.gtp_check_texts.specs.reasons.Answers.{before_rule};
 ghost use Rattle.gtp_check_texts.specs.Complaints.{ahead_lines, answer_of, asked_lines, board_lines};
 ghost use Rattle.gtp_check_texts.specs.Complaints.{complaint_lines, ended_text, faulty_said, head_line, is_within};
 ghost use Rattle.gtp_check_texts.specs.Complaints.{ko_line, may_run_on, pieces_line, rule_line, rule_of};
-ghost use Rattle.gtp_check_texts.specs.Complaints.{shown_before, told, within_text, wrote_line};
+ghost use Rattle.gtp_check_texts.specs.Complaints.{shown_before, explained, within_text, wrote_line};
 ghost use Rattle.gtp_check_texts.specs.Conversation.{after_lines, asked_line, before_lines, faulty_line, line_end};
 ghost use Rattle.gtp_check_texts.specs.Conversation.{line_of, line_start, lines_to};
 ghost use Rattle.gtp_check_texts.specs.reasons.Rules.{rule_text};
@@ -19,8 +19,8 @@ ghost use Rattle.gtp_check_texts.specs.reasons.RunOn.{run_on_line};
 use crate::board::add_board;
 use crate::last_game::{Shown, add_last_game};
 use crate::reasons::{
-    ANSWER_ROOM, add_reason, fault_text, in_a_row_line, right_answer, rule_text, runs_on,
-    told_after,
+    ANSWER_ROOM, add_reason, explained_after, fault_text, in_a_row_line, right_answer, rule_text,
+    runs_on,
 };
 use crate::texts::{add_all, text_if};
 use arrayvec::ArrayVec;
@@ -45,7 +45,7 @@ pub struct Complaint<'t> {
     /// The lines of all that the engine was asked since it was started.
     pub sent: &'t [u8],
     /// How many bytes of these lines were sent to it.
-    pub went_out: usize,
+    pub delivered: usize,
     /// The commands.
     pub talk: &'t [Said],
     /// How many of them it answered before the fault.
@@ -153,7 +153,7 @@ impl<'t> Complaint<'t> {
     fn after_lines(&self) -> &'t [u8]
         ensures { result.now ≡ after_lines self.now }
     {
-        let lines = front(self.sent, self.went_out);
+        let lines = front(self.sent, self.delivered);
         let end = self.line_end(self.answered);
         &lines[end.min(lines.len())..]
     }
@@ -190,28 +190,28 @@ impl<'t> Complaint<'t> {
 
     /// Returns the rule that says what is right, in any game.
     fn rule(&self) -> &'static [u8]
-        ensures { result.now ≡ rule_text self.now.fault self.now.ending (told self.now) }
+        ensures { result.now ≡ rule_text self.now.fault self.now.ending (explained self.now) }
     {
-        rule_text(self.fault, self.ending, self.told())
+        rule_text(self.fault, self.ending, self.explained())
     }
 
     /// Returns the note that moves of one colour in a row are legal, if such a move was refused in a known game.
     fn in_a_row(&self) -> &'static [u8]
-        ensures { result.now ≡ in_a_row self.now.game self.now.fault (told self.now) }
+        ensures { result.now ≡ in_a_row self.now.game self.now.fault (explained self.now) }
     {
-        match (self.game, self.fault, self.told()) {
+        match (self.game, self.fault, self.explained()) {
             (Some(game), Fault::Wrote(kind), Some(command)) => in_a_row_line(game, &command, kind),
             _ => b"",
         }
     }
 
     /// Returns the command to explain, if there is one.
-    fn told(&self) -> Option<CheckCommand>
-        ensures { result ≡ told self.now }
+    fn explained(&self) -> Option<CheckCommand>
+        ensures { result ≡ explained self.now }
     {
         let said = self.talk.get(self.answered)?;
         let before = &self.talk[..self.answered.min(self.talk.len())];
-        Some(told_after(before, said.command))
+        Some(explained_after(before, said.command))
     }
 
     /// Returns what a correct engine answers, if that is shown.
@@ -371,7 +371,7 @@ fn add_decided(text: &mut Vec<u8>, complaint: &Complaint<'_>) -> Result<(), Allo
     if complaint.is_within() {
         return text.extend_from_slice(b"an answer ends with an empty line: two newlines");
     }
-    match (complaint.game, complaint.fault, complaint.told()) {
+    match (complaint.game, complaint.fault, complaint.explained()) {
         (Some(game), Fault::Wrote(kind), Some(command)) => {
             add_reason(text, game, &command, kind, None)
         }

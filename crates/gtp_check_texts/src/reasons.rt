@@ -15,8 +15,8 @@ mod sentences;
 
 use crate::texts::{add_all, text_if};
 pub use answers::{ANSWER_ROOM, right_answer};
+pub use colours::explained_after;
 use colours::is_same;
-pub use colours::told_after;
 use go_base::{Colour, Move, Vertex};
 use go_board::Game;
 use gtp_check_judge::{Cause, CheckCommand, Kind};

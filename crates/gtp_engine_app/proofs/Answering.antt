@@ -55,17 +55,17 @@ module _ {E : Type 0} (errs : Ghosts E) (text : List ℕ) (output : Sink) (befor
   -- a text that was asked for is no mistake
   pub shown_no_mistake : (status : ℕ) (written : Sink) (after : E)
       → IsShown errs text output before status written after → status ≡ usage_failure → ⊥
-  shown_no_mistake status written after (IsShown.went_out took) two = omega (arith, two)
+  shown_no_mistake status written after (IsShown.flushed took) two = omega (arith, two)
   shown_no_mistake status written after (IsShown.broke took reports) two = omega (arith, two)
 
   pub shown_status : (status : ℕ) (written : Sink) (after : E)
       → IsShown errs text output before status written after → IsStatus status
-  shown_status status written after (IsShown.went_out took) = inl refl
+  shown_status status written after (IsShown.flushed took) = inl refl
   shown_status status written after (IsShown.broke took reports) = inr (inr (inl refl))
 
   -- where it was written nothing is reported
   pub shown_quiet : (status : ℕ) (written : Sink) (after : E)
       → IsShown errs text output before status written after → (status ≡ done) ⊎ (status ≡ stopped) → after ≡ before
-  shown_quiet status written after (IsShown.went_out took) quiet = refl
+  shown_quiet status written after (IsShown.flushed took) quiet = refl
   shown_quiet status written after (IsShown.broke took reports) (inl zero) = absurd (omega (arith, zero))
   shown_quiet status written after (IsShown.broke took reports) (inr four) = absurd (omega (arith, four))

@@ -17,7 +17,7 @@ use Rattle.gtp_session.specs.Counts.{most_reads}
 use Rattle.gtp_session.specs.Engine.{Engine, fresh_under}
 use Rattle.byte_streams.specs.declared.calls.WriteOnce.{Ghosts}
 use Rattle.byte_streams.specs.Streams.{Source, Sink, TookWhole, TookPart}
-use Rattle.byte_streams.specs.Writing.{IsWritten}
+use Rattle.byte_streams.specs.Writing.{WritesOrBreaks}
 use Rattle.gtp_session.specs.Serving.{CameOut}
 use Rattle.gtp_engine_app.specs.declared.failure.Failure.{Failure}
 use Rattle.gtp_engine_app.specs.declared.failure.Failure.TheVariants.{OutOfMemory, Serve}
@@ -97,7 +97,7 @@ pub record HasServed {E : Type 0} (errs : Ghosts E) (words : List Text) (status 
 -- With status 0 the output took the text, and nothing is reported. With 3 the output failed in it, which is reported.
 pub data IsShown {E : Type 0} (errs : Ghosts E) (text : List ℕ) (output : Sink) (errors : E)
     : ℕ → Sink → E → Type 0 where
-  went_out : {written : Sink} → TookWhole text output written → IsShown errs text output errors done written errors
+  flushed : {written : Sink} → TookWhole text output written → IsShown errs text output errors done written errors
   broke : {written : Sink} {reported : E} → TookPart text output written
       → ReportsFailure errs (Serve Write) errors reported
       → IsShown errs text output errors own_failure written reported
@@ -130,7 +130,7 @@ pub record IsRefusedByClap {E : Type 0} (errs : Ghosts E) (words : List Text) (b
   pub mistake : ¬ IsRequest kind
   pub has : HasFault words kind
   pub text : List ℕ
-  pub written : IsWritten errs text before after
+  pub written : WritesOrBreaks errs text before after
 
 -- the words have a mistake, or the texts that they give as a book and as a fault do
 abbrev pub HasMistake : {E : Type 0} → Ghosts E → List Text → E → E → Type 0

@@ -16,10 +16,10 @@ IsEnded known (Some process) = (ending : Ending) × known.leaves process ending
 
 -- How a process ended, as the system tells it: by itself, with this status, or else by this signal, or in no way that it
 -- tells.
-abbrev pub told_ending : Option ℤ → Option ℤ → Ending
-told_ending (Some status) signal = Status (unsigned_abs status)
-told_ending None (Some signal) = Signal (unsigned_abs signal)
-told_ending None None = Unknown
+abbrev pub reported_ending : Option ℤ → Option ℤ → Ending
+reported_ending (Some status) signal = Status (unsigned_abs status)
+reported_ending None (Some signal) = Signal (unsigned_abs signal)
+reported_ending None None = Unknown
 
 -- the number of the signal that kills a process
 abbrev pub kill_signal : ℕ

@@ -1,6 +1,6 @@
 //! How to end a process, and how it ended.
 ghost use Rattle.std.specs.Prelude.{◌≡◌};
-ghost use Rattle.gtp_process.specs.Endings.{EndsAs, IsEnded, after_kill, told_ending};
+ghost use Rattle.gtp_process.specs.Endings.{EndsAs, IsEnded, after_kill, reported_ending};
 
 use crate::starter::{Ending, Process};
 
@@ -25,8 +25,8 @@ pub fn end<P: Process>(process: Option<P>)
 }
 
 /// Returns how a process ended, by its exit status and the number of the signal that ended it.
-pub(crate) fn told_ending(status: Option<i32>, signal: Option<i32>) -> Ending
-    ensures { result ≡ told_ending status signal }
+pub(crate) fn reported_ending(status: Option<i32>, signal: Option<i32>) -> Ending
+    ensures { result ≡ reported_ending status signal }
 {
     match (status, signal) {
         (Some(number), _) => Ending::Status(number.unsigned_abs()),

@@ -3,10 +3,10 @@ ghost use Rattle.std.specs.Prelude.{◌≡◌, ◌≢◌, ⊤, length, None, IfE
 ghost use Rattle.std.specs.IoError.{error_kind, raw_os_error};
 ghost use Rattle.std.specs.Process.{exit_code, exit_signal};
 ghost use Rattle.gtp_process.specs.Starts.{kind_reason, limit_of, reason_of, start_fault_of};
-ghost use Rattle.gtp_process.specs.Endings.{told_ending};
+ghost use Rattle.gtp_process.specs.Endings.{reported_ending};
 ghost use Rattle.gtp_process.specs.Pipes.{shows_break};
 
-use crate::ending::{after_kill, told_ending};
+use crate::ending::{after_kill, reported_ending};
 use crate::precedence::Precedence;
 use crate::starter::{Ending, Process, StartFault, StartReason, Starter};
 use byte_streams::{CallFault, outcome_of};
@@ -266,7 +266,7 @@ fn kill<P: OpenProcess + Drop>(mut child: Child<P>) -> Ending {
 
 /// Returns how a process with this exit status ended.
 fn ending_of(status: ExitStatus) -> Ending
-    ensures { result ≡ told_ending (exit_code status) (exit_signal status) }
+    ensures { result ≡ reported_ending (exit_code status) (exit_signal status) }
 {
-    told_ending(status.code(), status.signal())
+    reported_ending(status.code(), status.signal())
 }

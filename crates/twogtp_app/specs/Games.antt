@@ -26,7 +26,7 @@ use Rattle.twogtp_app.specs.Status.{ReportsFailure, status_with}
 use Rattle.twogtp_app.specs.Tasks.{IsMistake, IsPlanOf}
 use Rattle.twogtp_app.specs.Turns.{Engines, GameState, HasStopped, IsPlayed, Reporting, Stage, engines_of, opening}
 use Rattle.twogtp_app.specs.Turns.{reporting, stage}
-use Rattle.byte_streams.specs.Writing.{BreaksAt, GoesOut, IsWritten}
+use Rattle.byte_streams.specs.Writing.{BreaksAt, IsFlushed, WritesOrBreaks}
 
 -- ---- the text of a game
 
@@ -99,7 +99,7 @@ module _ {P O E : Type 0} (run : Run P O E) where
     pub played : IsPlayed (run_engines run) (run_reporting run number) (next_game run before) (stage last after.errors)
         verdict
     pub asked : last.asked ≡ after.asked
-    pub out : GoesOut run.known.output (game_lines run.plan.task number last.game) before.output after.output
+    pub out : IsFlushed run.known.output (game_lines run.plan.task number last.game) before.output after.output
     pub closed : AreClosed run.known.processes last.game last.processes
 
   -- Why the text of a game isn't written whole. The game stopped before its end, and the output stayed as it was. Or it
@@ -174,7 +174,7 @@ module _ {P O E : Type 0} (known : Known P O E) (words : List Text) where
 -- a text that was asked for was flushed with status 0, or the output broke at it with status 3
 abbrev pub IsShown : {O : Type 0} → WriterGhosts O → List ℕ → ℕ → O → O → Type 0
 IsShown outs text status before after =
-    ((status ≡ done) × GoesOut outs text before after) ⊎ ((status ≡ own_failure) × BreaksAt outs text before after)
+    ((status ≡ done) × IsFlushed outs text before after) ⊎ ((status ≡ own_failure) × BreaksAt outs text before after)
 
 -- the words ask for the help or the version, and a text was flushed with status 0, or the output broke at it with 3
 pub record HasShown {O : Type 0} (outs : WriterGhosts O) (words : List Text) (status : ℕ) (before after : O)
@@ -198,7 +198,7 @@ pub record IsRefusedByClap {E : Type 0} (errs : WriterGhosts E) (words : List Te
   pub mistake : ¬ IsRequest kind
   pub has : HasFault words kind
   pub text : List ℕ
-  pub written : IsWritten errs text before after
+  pub written : WritesOrBreaks errs text before after
 
 -- the words have a mistake, or what they ask for has one
 abbrev pub HasMistake : {E : Type 0} → WriterGhosts E → List Text → E → E → Type 0

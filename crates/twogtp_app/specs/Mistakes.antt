@@ -5,7 +5,7 @@ use Rattle.std.specs.Fmt.{decimal}
 use Rattle.std.specs.List.{concat}
 use Rattle.go_base.specs.Bytes.{newline}
 use Rattle.byte_streams.specs.declared.calls.WriteOnce.{Ghosts}
-use Rattle.byte_streams.specs.Writing.{IsWritten}
+use Rattle.byte_streams.specs.Writing.{WritesOrBreaks}
 use Rattle.cli.specs.Failures.{IsReported, plan_error_text}
 use Rattle.cli.specs.Status.{error_line}
 use Rattle.cli.specs.declared.failure.PlanError.{PlanError}
@@ -59,7 +59,7 @@ mistake_lines options what =
 
 -- the lines of a mistake in these options were written, whole unless the stream broke at them
 abbrev pub ReportsMistake : {E : Type 0} → Ghosts E → Options → Mistake → E → E → Type 0
-ReportsMistake errs options what before after = IsWritten errs (mistake_lines options what) before after
+ReportsMistake errs options what before after = WritesOrBreaks errs (mistake_lines options what) before after
 
 -- it was written why these options come to no plan, whole unless the stream broke at it
 abbrev pub ReportsNoPlan : {E : Type 0} → Ghosts E → Options → PlanError Mistake → E → E → Type 0

@@ -27,7 +27,7 @@ use Rattle.twogtp_app.specs.Speaking.{HearsFromSide, SendsToSide, SideInTurn, in
 use Rattle.gtp_process.specs.Starts.{Attempts, Tries}
 use Rattle.gtp_process.specs.Shown.{unstarted}
 use Rattle.twogtp_app.specs.Why.{loss_lines, retake_lines}
-use Rattle.byte_streams.specs.Writing.{LinesBreak, LinesGoOut}
+use Rattle.byte_streams.specs.Writing.{LinesBreak, AreFlushed}
 
 -- how many turns a game has at most; no match within the limits has this number
 abbrev pub most_turns : ℕ
@@ -146,7 +146,7 @@ module _ {P E : Type 0} (engines : Engines P) (reports : Reporting E) where
     turns : {count : ℕ} {before after : Stage P E} (turn : SideTurn)
         → Plays first count before
         → IsTurn engines before.state after.state turn
-        → LinesGoOut reports.known (turn_lines reports.why reports.number turn) before.errors after.errors
+        → AreFlushed reports.known (turn_lines reports.why reports.number turn) before.errors after.errors
         → Plays first (count + 1) after
 
   -- turns were taken

@@ -4,7 +4,7 @@ ghost use Rattle.gtp_match.specs.Sides.{side_of, status_of};
 ghost use Rattle.twogtp_app.specs.Closing.{AreClosed, has_answered_all};
 ghost use Rattle.twogtp_app.specs.Games.{game_lines};
 ghost use Rattle.twogtp_app.specs.Processes.{AreEnded};
-ghost use Rattle.byte_streams.specs.Writing.{BreaksAt, GoesOut};
+ghost use Rattle.byte_streams.specs.Writing.{BreaksAt, IsFlushed};
 ghost use Rattle.twogtp_app.specs.private.Leaving.{IsLeft};
 
 use crate::game::GameInPlay;
@@ -37,7 +37,7 @@ impl<S: Starter> GameInPlay<S> {
         output: &mut O,
     ) -> Result<WrittenGame<S>, Broken>
         ensures whole { OnOk result
-            (GoesOut O.WriteOnce (game_lines task.now number self.game) output.old output.new) }
+            (IsFlushed O.WriteOnce (game_lines task.now number self.game) output.old output.new) }
         ensures played { IfOk result (λ written. written.played ≡ self) }
         ensures verdict { IfOk result (λ written. written.verdict ≡ verdict) }
         ensures broke { OnErr result

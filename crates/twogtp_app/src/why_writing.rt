@@ -2,7 +2,7 @@
 ghost use Rattle.std.specs.Prelude.{OnOk, OnErr};
 ghost use Rattle.twogtp_app.specs.Turns.{turn_lines};
 ghost use Rattle.twogtp_app.specs.Why.{ReportCanBeShown};
-ghost use Rattle.byte_streams.specs.Writing.{LinesBreak, LinesGoOut};
+ghost use Rattle.byte_streams.specs.Writing.{LinesBreak, AreFlushed};
 
 use crate::why::SideTurn;
 use crate::why_text::{loss_line, retake_line};
@@ -18,7 +18,7 @@ pub fn write_turn<E: WriteOnce>(
 ) -> Result<(), Broken>
     requires { ReportCanBeShown turn.now.report }
     ensures whole { OnOk result
-        (LinesGoOut E.WriteOnce (turn_lines why number turn.now) errors.old errors.new) }
+        (AreFlushed E.WriteOnce (turn_lines why number turn.now) errors.old errors.new) }
     ensures broke { OnErr result
         (LinesBreak E.WriteOnce (turn_lines why number turn.now) errors.old errors.new) }
 {

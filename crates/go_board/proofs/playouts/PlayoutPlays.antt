@@ -115,10 +115,10 @@ free-by_count board cells c p count on empty free e is some =
 pub free-by_test : (board cells others : List Cell) (c : Colour) (p count : ℕ) (test : Bool) → IsOn most_size p
     → at board p ≡ Empty → AreFree board → cells ≡ board → others ≡ board → count ≡ empty_beside cells p → count ≤ 0
     → IsTrue test ↔ FreesAny others c p → IsTrue test ↔ IsFree (play board c p) p
-free-by_test board cells others c p count test on empty free e o is without told =
+free-by_test board cells others c p count test on empty free e o is without decides =
     let known = free-any board c p empty free in
     let here : IsTrue test ↔ FreesAny board c p =
-    subst (λ (b : List Cell). IsTrue test ↔ FreesAny b c p) o told in (
+    subst (λ (b : List Cell). IsTrue test ↔ FreesAny b c p) o decides in (
       (λ h. known.1 (inr (here.0 h))),
       (λ h. here.1 (elim (known.0 h) [
         | inl b ↦
@@ -133,9 +133,9 @@ free-by_test board cells others c p count test on empty free e o is without told
 pub atari-test : (board cells : List Cell) (c : Colour) (p q : ℕ) (test : Bool) → cells ≡ board
     → at board q ≡ stone c → (IsStone (at cells q) → IsTrue test ↔ HasOtherLiberty cells q p)
     → IsTrue (not test) ↔ IsInAtari board c p q
-atari-test board cells c p q test e held told =
+atari-test board cells c p q test e held decides =
     let known =
-    subst (λ (b : List Cell). IsStone (at b q) → IsTrue test ↔ HasOtherLiberty b q p) e told (c, held) in (
+    subst (λ (b : List Cell). IsStone (at b q) → IsTrue test ↔ HasOtherLiberty b q p) e decides (c, held) in (
       (λ h. (held, λ has. not_both test h (known.1 has))),
       (λ a. not_so test (λ h. a.1 (known.0 h))),
     )

@@ -8,7 +8,7 @@ use Rattle.go_board.specs.Chain.{Joined, IsCaptured}
 use Rattle.go_board.specs.declared.board.Cell.{Cell}
 use Rattle.go_board.specs.declared.board.Cell.TheVariants.{Empty}
 use Rattle.go_board.specs.private.ChainId.{BoardWithIds, id_of, count_at}
-use Rattle.go_board.specs.private.Legal.{IsInAtari, LendsLiberty}
+use Rattle.go_board.specs.private.Legal.{IsInAtari, GivesLiberty}
 
 -- 1 where the place has this id
 abbrev pub named_at : List ℕ → ℕ → ℕ → ℕ
@@ -80,7 +80,7 @@ pub record AreRemoved (old new : BoardWithIds) (places : List ℕ) : Type 0 wher
 -- A stone on the place makes a play of this colour on the point legal: the other colour's in atari, or one of its own
 -- whose chain has a liberty besides.
 abbrev pub FreesPlay : List Cell → Colour → ℕ → ℕ → Type 0
-FreesPlay board c p q = IsInAtari board (other c) p q ⊎ LendsLiberty board c p q
+FreesPlay board c p q = IsInAtari board (other c) p q ⊎ GivesLiberty board c p q
 
 -- a neighbour of the point is such a stone
 pub record FreesAny (board : List Cell) (c : Colour) (p : ℕ) : Type 0 where

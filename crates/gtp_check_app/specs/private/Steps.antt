@@ -2,7 +2,7 @@
 use Rattle.std.specs.Prelude.{◌≡◌, ◌⊎◌, ℕ, ◌<◌, Bool, true, false, List, [], ◌∷◌, ◌++◌, length, Option, None, Some}
 use Rattle.std.specs.Prelude.{IsSome}
 use Rattle.std.specs.Prelude.{Ok, Err}
-use Rattle.byte_streams.specs.Writing.{BreaksAt, LinesGoOut}
+use Rattle.byte_streams.specs.Writing.{BreaksAt, AreFlushed}
 use Rattle.gtp_process.specs.declared.starter.Process.{Ghosts}
 use Rattle.gtp_process.specs.declared.starter.StartFault.TheVariants as start_fault
 use Rattle.gtp_process.specs.Quitting.{QuitsIfAny}
@@ -28,7 +28,7 @@ use Rattle.gtp_check_app.specs.Progress.{IsShown, cleared, clearing, looking, lo
 use Rattle.gtp_check_app.specs.Tally.{started_again}
 use Rattle.gtp_check_app.specs.Sequence.{Known, Point, StopsIn, point}
 use Rattle.gtp_check_app.specs.Turns.{Asks, Closes, Complains, IsNext, IsOverBy, MayStart, Moment, State, WritesFirst}
-use Rattle.gtp_check_app.specs.Turns.{moment, most_fruitless}
+use Rattle.gtp_check_app.specs.Turns.{moment, most_unanswered_starts}
 use Rattle.gtp_check_app.specs.Unjudged.{is_blamed}
 use Rattle.gtp_check_app.specs.Turns.{Exchanges, IsOver, Turn, process_of, state, waiting}
 
@@ -65,7 +65,7 @@ pub record IsRefused {P : Type 0} (plan : Plan) (before : Moment P) (failure : F
 pub data Begins {P : Type 0} (known : Ghosts P) (plan : Plan) (before : Moment P)
     : Option WhyOver → Moment P → Type 0 where
   begins : {has : Attempts P} {engine : Engine P} (process : P)
-      → before.state.notes.fruitless < most_fruitless → MayStart before.state.check before.state.tally
+      → before.state.notes.unanswered_starts < most_unanswered_starts → MayStart before.state.check before.state.tally
       → Tries before.asked has (program_line plan.words.items) (Ok process)
       → QuitsIfAny known (process_of before.state.engine)
       → ((exam : Exam) (notes : Notes) → dialogue engine exam notes ≡ begun_with exam process notes)
@@ -77,13 +77,13 @@ pub data Begins {P : Type 0} (known : Ghosts P) (plan : Plan) (before : Moment P
 
 module _ {P O E : Type 0} (known : Known P O E) (plan : Plan) where
   -- the first line was written where it is due
-  pub data FirstGoesOut (before : State P) (is_wrong : Bool) (old : Streams O E)
+  pub data FirstIsFlushed (before : State P) (is_wrong : Bool) (old : Streams O E)
       : State P → Streams O E → Type 0 where
-    first_goes_out : {after : State P} {new : Streams O E} (line : List (List ℕ))
+    first_flushed : {after : State P} {new : Streams O E} (line : List (List ℕ))
         → WritesFirst known.processes plan before is_wrong after line
-        → LinesGoOut known.outs line old.output new.output
+        → AreFlushed known.outs line old.output new.output
         → IsShown known.errs plan.shows_progress (clearing line) old.errors new.errors
-        → FirstGoesOut before is_wrong old after new
+        → FirstIsFlushed before is_wrong old after new
 
   -- it wasn't: the output broke at it, or memory was refused
   pub data FirstStops (before : State P) (is_wrong : Bool) (old : Streams O E)
@@ -99,10 +99,10 @@ module _ {P O E : Type 0} (known : Known P O E) (plan : Plan) where
         → FirstStops before is_wrong old after new OutOfMemory
 
   -- what is due of a complaint was written
-  pub record ComplaintGoesOut (before : Point P O E) (fault : Fault) (after : Point P O E) : Type 0 where
+  pub record ComplaintIsFlushed (before : Point P O E) (fault : Fault) (after : Point P O E) : Type 0 where
     pub said : List (List ℕ)
     pub complains : Complains known.processes plan before.now (Some fault) after.now said
-    pub goes_out : LinesGoOut known.outs said before.streams.output after.streams.output
+    pub flushed : AreFlushed known.outs said before.streams.output after.streams.output
     pub shown : IsShown known.errs plan.shows_progress (looking said) before.streams.errors after.streams.errors
 
   -- it wasn't: the output broke at it, or memory was refused
@@ -125,7 +125,7 @@ module _ {P O E : Type 0} (known : Known P O E) (plan : Plan) where
   abbrev pub EndsTurn : Point P O E → Option WhyOver → Point P O E → Type 0
   EndsTurn before None after =
       (texts shows : List (List ℕ)) × Turn known.processes plan before.now after.now texts shows
-      × LinesGoOut known.outs texts before.streams.output after.streams.output
+      × AreFlushed known.outs texts before.streams.output after.streams.output
       × IsShown known.errs plan.shows_progress shows before.streams.errors after.streams.errors
   EndsTurn before (Some why) after =
       IsOver known.processes plan before.now why after.now × (after.streams ≡ before.streams)
@@ -137,7 +137,7 @@ module _ {P O E : Type 0} (known : Known P O E) (plan : Plan) where
     pub said : List (List ℕ)
     pub first : WritesFirst known.processes plan before.now.state (is_blamed plan.suicide fault) next line
     pub complains : Complains known.processes plan (moment next before.now.asked) fault after.now said
-    pub goes_out : LinesGoOut known.outs (line ++ said) before.streams.output after.streams.output
+    pub flushed : AreFlushed known.outs (line ++ said) before.streams.output after.streams.output
     pub shown : IsShown known.errs plan.shows_progress (clearing line ++ looking said)
         before.streams.errors after.streams.errors
 

@@ -26,5 +26,5 @@ with_letter command = command
 
 -- The command for which it is said what is right, where these were answered rightly before: with the colour's letter,
 -- if one of them shows that the engine reads the colour in full.
-abbrev pub told_after : List Said → CheckCommand → CheckCommand
-told_after before command = if list_any (shows_spelling command) before then with_letter command else command
+abbrev pub explained_after : List Said → CheckCommand → CheckCommand
+explained_after before command = if list_any (shows_spelling command) before then with_letter command else command

@@ -2,7 +2,7 @@
 ghost use Rattle.std.specs.Prelude.{◌≡◌};
 ghost use Rattle.std.specs.List.{list_any};
 ghost use Rattle.go_board.specs.Taken.{same_colour};
-ghost use Rattle.gtp_check_texts.specs.reasons.Colours.{is_spelled_alike, shows_spelling, told_after, with_letter};
+ghost use Rattle.gtp_check_texts.specs.reasons.Colours.{is_spelled_alike, shows_spelling, explained_after, with_letter};
 
 use go_base::Colour;
 use gtp_check_judge::CheckCommand;
@@ -11,8 +11,8 @@ use gtp_wire::Command;
 
 /// Returns the command to explain, after these were answered correctly: the one that was asked, but with the colour's
 /// letter if one of these shows that the engine reads the colour in full.
-pub fn told_after(before: &[Said], command: CheckCommand) -> CheckCommand
-    ensures { result ≡ told_after before.now command }
+pub fn explained_after(before: &[Said], command: CheckCommand) -> CheckCommand
+    ensures { result ≡ explained_after before.now command }
 {
     if is_read_before(before, &command) {
         with_letter(command)

@@ -62,7 +62,7 @@ fn without_id<'t>(sent: &'t [u8], talk: &'t [Said], wrote: &'t [u8]) -> Complain
         lesson: Lesson::Start,
         fault: Fault::Wrote(Kind::WrongId),
         sent,
-        went_out: sent.len(),
+        delivered: sent.len(),
         talk,
         answered: 1,
         wrote,

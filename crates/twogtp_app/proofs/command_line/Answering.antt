@@ -44,7 +44,7 @@ module _ {A O E : Type 0} (known : Writers O E) (kind : ErrorKind) (text : Resul
   answered_status status after (Answers.refused (IsRefused.mistake none not_refused is wrote)) =
       inr (inr (inl refl))
   answered_status status after (Answers.refused (IsRefused.no_memory why reports)) = inr (inr (inr refl))
-  answered_status status after (Answers.shown asks is (Shows.went_out went)) = inl refl
+  answered_status status after (Answers.shown asks is (Shows.flushed went)) = inl refl
   answered_status status after (Answers.shown asks is (Shows.broke broke reports)) = inr (inr (inr refl))
 
   -- with a status of games nothing is written to standard error
@@ -55,7 +55,7 @@ module _ {A O E : Type 0} (known : Writers O E) (kind : ErrorKind) (text : Resul
       absurd (elim range [ inl zero ↦ omega (arith, zero) | inr one ↦ omega (arith, one) ])
   answered_quiet status after (Answers.refused (IsRefused.no_memory why reports)) range =
       absurd (elim range [ inl zero ↦ omega (arith, zero) | inr one ↦ omega (arith, one) ])
-  answered_quiet status after (Answers.shown asks is (Shows.went_out went)) range = refl
+  answered_quiet status after (Answers.shown asks is (Shows.flushed went)) range = refl
   answered_quiet status after (Answers.shown asks is (Shows.broke broke reports)) range =
       absurd (elim range [ inl zero ↦ omega (arith, zero) | inr one ↦ omega (arith, one) ])
 
@@ -76,7 +76,7 @@ module _ {A O E : Type 0} (known : Writers O E) (kind : ErrorKind) (text : Resul
     )
     answered_usage status after (Answers.refused (IsRefused.no_memory why reports)) two =
         absurd (omega (arith, two))
-    answered_usage status after (Answers.shown asks is (Shows.went_out went)) two = absurd (omega (arith, two))
+    answered_usage status after (Answers.shown asks is (Shows.flushed went)) two = absurd (omega (arith, two))
     answered_usage status after (Answers.shown asks is (Shows.broke broke reports)) two =
         absurd (omega (arith, two))
 
@@ -88,7 +88,7 @@ module _ {A O E : Type 0} (known : Writers O E) (kind : ErrorKind) (text : Resul
         absurd (elim range [ inl zero ↦ omega (arith, zero) | inr one ↦ omega (arith, one) ])
     answered_played status after (Answers.refused (IsRefused.no_memory why reports)) range =
         absurd (elim range [ inl zero ↦ omega (arith, zero) | inr one ↦ omega (arith, one) ])
-    answered_played status after (Answers.shown asks is (Shows.went_out went)) range = record {
+    answered_played status after (Answers.shown asks is (Shows.flushed went)) range = record {
       asked = (kind, asks, fault_of_words kind fault (never_both kind asks));
       text = _;
       shown = inl (refl, went);
@@ -106,7 +106,7 @@ module _ {A O E : Type 0} (known : Writers O E) (kind : ErrorKind) (text : Resul
         absurd (omega (arith, three))
     answered_stopped status after (Answers.refused (IsRefused.no_memory why reports)) three =
         inl (refl, reports)
-    answered_stopped status after (Answers.shown asks is (Shows.went_out went)) three =
+    answered_stopped status after (Answers.shown asks is (Shows.flushed went)) three =
         absurd (omega (arith, three))
     answered_stopped status after (Answers.shown asks is (Shows.broke broke reports)) three =
         inr (

@@ -3,7 +3,7 @@ use Rattle.std.proofs.Common.{◌≡◌, ◌∙◌, ◌+◌, ℕ, ◌⊎◌, inl
 use Rattle.gtp_match.specs.declared.verdicts.Verdict.{Verdict}
 use Rattle.gtp_match.specs.declared.verdicts.Verdict.TheVariants.{Score, Resign, Limit, Forfeit, Unfit, Abandoned}
 use Rattle.byte_streams.specs.declared.calls.WriteOnce.{Ghosts}
-use Rattle.byte_streams.specs.Writing.{LinesGoOut, no_line}
+use Rattle.byte_streams.specs.Writing.{AreFlushed, no_line}
 use Rattle.twogtp_app.specs.Status.{some_given_up, status_with}
 use Rattle.cli.specs.Status.{done}
 use Rattle.twogtp_app.specs.Games.{GamesAreWritten, Run, RunState, game, next_game, no_game, run_engines}
@@ -38,7 +38,7 @@ module _ {P E : Type 0} (engines : Engines P) (errs : Ghosts E) (number : ℕ) (
   turns_are_quiet false none _ _ (turns {count = n} {before = before} turn plays is out) =
       nothing_out out ∙ turns_are_quiet false none n before plays
     where
-      nothing_out : {before after : E} → LinesGoOut errs [] before after → after ≡ before
+      nothing_out : {before after : E} → AreFlushed errs [] before after → after ≡ before
       nothing_out no_line = refl
 
 module _ {P O E : Type 0} (run : Run P O E) (none : run.plan.task.details.why ≡ false) (first : RunState P O E) where

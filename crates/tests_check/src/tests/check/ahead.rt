@@ -179,7 +179,7 @@ fn what_was_never_sent_is_not_shown(rt: HostRuntime) -> Result<(), Fail> {
             lesson: Lesson::Komi,
             fault: tried.fault,
             sent: said.sent.as_slice(),
-            went_out: said.went_out,
+            delivered: said.delivered,
             talk: said.talk.as_slice(),
             answered: tried.answered,
             wrote: said.wrote.as_slice(),

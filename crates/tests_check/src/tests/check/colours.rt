@@ -116,7 +116,7 @@ fn complaint_of<'t>(
         lesson: Lesson::Ko,
         fault,
         sent: b"",
-        went_out: 0,
+        delivered: 0,
         talk,
         answered,
         wrote: b"",

@@ -429,7 +429,7 @@ fn complaint_of(head: Head, answered: usize, is_positional: bool, asked: &Asked)
         lesson,
         fault,
         sent: asked.sent.as_slice(),
-        went_out: asked.sent.len(),
+        delivered: asked.sent.len(),
         talk: asked.talk.as_slice(),
         answered,
         wrote: asked.wrote.as_slice(),

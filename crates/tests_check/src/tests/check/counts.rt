@@ -35,6 +35,6 @@ fn three_of_a_kind_are_shown_and_starts_without_a_right_answer_are_counted(rt: H
     let mut notes = Notes::new();
     notes.start();
     notes.start();
-    assert_equal(&rt, notes.fruitless, 2);
+    assert_equal(&rt, notes.unanswered_starts, 2);
     assert_equal(&rt, notes.has_answered, false);
 }

@@ -241,7 +241,7 @@ fn block_of(
             lesson: Lesson::Games,
             fault: Fault::Wrote(Kind::Refused),
             sent: asked.sent.as_slice(),
-            went_out: asked.sent.len(),
+            delivered: asked.sent.len(),
             talk: asked.talk.as_slice(),
             answered,
             wrote: b"? no\n\n",

@@ -1,6 +1,6 @@
 use Rattle.std.proofs.Common.{◌≡◌, ◌∙◌, ap, refl, inl, inr, subst, [], ◌∷◌}
 use Rattle.std.proofs.lemmas.Result.{err_from_is_err_and}
-use Rattle.byte_streams.specs.Writing.{line_out, no_line}
+use Rattle.byte_streams.specs.Writing.{line_flushed, no_line}
 use Rattle.go_board.specs.declared.rules.KoRule.{KoRule}
 use Rattle.gtp_check_texts.specs.Complaints.{complaint_lines}
 use Rattle.gtp_check_texts.specs.declared.complaint.Complaint.{Complaint}
@@ -22,8 +22,8 @@ captioned : (rule : KoRule) (one other : Caption) (wrong : Wrong) (complaint : C
 captioned rule one other wrong complaint same about =
     subst (λ (caption : Caption). IsComplaint rule caption wrong complaint) same about
 
-pub returns-then-not-find-clause-goes_out : goal.returns-then-not-find-clause-goes_out
-returns-then-not-find-clause-goes_out g c =
+pub returns-then-not-find-clause-flushed : goal.returns-then-not-find-clause-flushed
+returns-then-not-find-clause-flushed g c =
     is_hidden (known_of g.S.Process.Process g.O.WriteOnce g.E.WriteOnce) c.args.plan.now
     (moment _ (g.S.Starter.asked c.args.starter.now)) _ c.args.fault (wrong_of c.in-Some.found)
     c.purpose-lesson.result c.find.new.self c.in-Some.ensures.closes c.requires.judged c.purpose-lesson.ensures
@@ -38,10 +38,10 @@ returns-in_err-shorter-clause-stops g c =
     (complaint_refused c.in-Some.ensures.closes refused.1 refl c.show_looking.ensures
     (c.shorter.ensures.engine ∙ c.close.ensures.gone))
 
-pub returns-in-Some-2-clause-goes_out : goal.returns-in-Some-2-clause-goes_out
-returns-in-Some-2-clause-goes_out g c =
+pub returns-in-Some-2-clause-flushed : goal.returns-in-Some-2-clause-flushed
+returns-in-Some-2-clause-flushed g c =
     rw c.write.ensures.same
-    (where_ok c.write.result c.write.ensures.goes_out (λ out. record {
+    (where_ok c.write.result c.write.ensures.flushed (λ out. record {
       said = complaint_lines out.0 ∷ [];
       complains = complained (known_of g.S.Process.Process g.O.WriteOnce g.E.WriteOnce) c.args.plan.now
           (moment _ (g.S.Starter.asked c.args.starter.now)) _ c.args.fault (wrong_of c.in-Some.found)
@@ -49,7 +49,7 @@ returns-in-Some-2-clause-goes_out g c =
           c.find.ensures.found c.find.result c.find.ensures.shown c.if-not-find.false
           (rw c.in-Some-2.is at c.in_ok-shorter.ensures.shortens) out.0
           (captioned c.args.plan.now.rule _ _ (wrong_of c.in-Some-2.shorter) out.0 c.caption_of-caption.ensures out.1);
-      goes_out = line_out out.2 no_line;
+      flushed = line_flushed out.2 no_line;
       shown = both_shown g.E.WriteOnce c.args.plan.now.shows_progress (looking_line ∷ []) (cleared ∷ []) _ _ _
           c.show_looking.ensures out.3;
     }))
@@ -79,10 +79,10 @@ returns-in-Some-2-clause-stops g c =
           c.show_looking.ensures gone)
     ]))
 
-pub returns-clause-goes_out : goal.returns-clause-goes_out
-returns-clause-goes_out g c =
+pub returns-clause-flushed : goal.returns-clause-flushed
+returns-clause-flushed g c =
     rw c.write-in-None.ensures.same
-    (where_ok c.write-in-None.result c.write-in-None.ensures.goes_out (λ out. record {
+    (where_ok c.write-in-None.result c.write-in-None.ensures.flushed (λ out. record {
       said = complaint_lines out.0 ∷ [];
       complains = complained (known_of g.S.Process.Process g.O.WriteOnce g.E.WriteOnce) c.args.plan.now
           (moment _ (g.S.Starter.asked c.args.starter.now)) _ c.args.fault (wrong_of c.in-Some.found)
@@ -91,7 +91,7 @@ returns-clause-goes_out g c =
           (rw c.in-None.is at c.in_ok-shorter.ensures.shortens) out.0
           (captioned c.args.plan.now.rule _ _ (wrong_of c.in-Some.found) out.0
           (c.caption_of-caption-in-None.ensures ∙ ap (caption_of _ _) c.shown_unshortened.ensures) out.1);
-      goes_out = line_out out.2 no_line;
+      flushed = line_flushed out.2 no_line;
       shown = both_shown g.E.WriteOnce c.args.plan.now.shows_progress (looking_line ∷ []) (cleared ∷ []) _ _ _
           c.show_looking.ensures out.3;
     }))

@@ -24,9 +24,9 @@ returns-in_err-write_first-clause-stops g c =
 pub complain-requires-clause-judged : goal.complain-requires-clause-judged
 complain-requires-clause-judged g c = rw (c.is_blamed-is_wrong.ensures, c.in-Some.is) at c.if-not-is_wrong.false
 
-pub returns-then-not-is_wrong-clause-goes_out : goal.returns-then-not-is_wrong-clause-goes_out
-returns-then-not-is_wrong-clause-goes_out g c =
-    let first = rw (c.is_blamed-is_wrong.ensures, c.in-Some.is) at c.in_ok-write_first.ensures.goes_out in
+pub returns-then-not-is_wrong-clause-flushed : goal.returns-then-not-is_wrong-clause-flushed
+returns-then-not-is_wrong-clause-flushed g c =
+    let first = rw (c.is_blamed-is_wrong.ensures, c.in-Some.is) at c.in_ok-write_first.ensures.flushed in
     let so = rw (c.is_blamed-is_wrong.ensures, c.in-Some.is) at c.if-not-is_wrong.true in
     rw c.in-Some.is
     (settles_quietly (known_of g.S.Process.Process g.O.WriteOnce g.E.WriteOnce) c.args.plan.now
@@ -38,11 +38,11 @@ pub returns-then-not-is_wrong-clause-paired : goal.returns-then-not-is_wrong-cla
 returns-then-not-is_wrong-clause-paired g c =
     paired_down _ _ (ap {A = State _} (λ now. now.check.exam.up) c.pass_over.ensures.passes.leads)
 
-pub returns-clause-goes_out : goal.returns-clause-goes_out
-returns-clause-goes_out g c =
-    let first = rw (c.is_blamed-is_wrong.ensures, c.in-Some.is) at c.in_ok-write_first.ensures.goes_out in
+pub returns-clause-flushed : goal.returns-clause-flushed
+returns-clause-flushed g c =
+    let first = rw (c.is_blamed-is_wrong.ensures, c.in-Some.is) at c.in_ok-write_first.ensures.flushed in
     rw c.in-Some.is
-    (where_ok c.complain.result c.complain.ensures.goes_out
+    (where_ok c.complain.result c.complain.ensures.flushed
     (settles_so (known_of g.S.Process.Process g.O.WriteOnce g.E.WriteOnce) c.args.plan.now
     (point _ (g.S.Starter.asked c.args.starter.now) c.args.streams.now) c.in-Some.fault
     (state_of c.write_first.new.self) c.write_first.new.streams
@@ -50,7 +50,7 @@ returns-clause-goes_out g c =
 
 pub returns-clause-stops : goal.returns-clause-stops
 returns-clause-stops g c =
-    let first = rw (c.is_blamed-is_wrong.ensures, c.in-Some.is) at c.in_ok-write_first.ensures.goes_out in
+    let first = rw (c.is_blamed-is_wrong.ensures, c.in-Some.is) at c.in_ok-write_first.ensures.flushed in
     let so = rw (c.is_blamed-is_wrong.ensures, c.in-Some.is) at c.if-not-is_wrong.false in
     rw c.in-Some.is
     (where_failed c.complain.result c.complain.ensures.stops (λ why stops.
@@ -62,13 +62,13 @@ returns-clause-stops g c =
 
 pub returns-clause-paired : goal.returns-clause-paired
 returns-clause-paired g c =
-    where_ok c.complain.result c.complain.ensures.goes_out (λ out.
+    where_ok c.complain.result c.complain.ensures.flushed (λ out.
     paired_down _ _ (complains_down g.S.Process.Process c.args.plan.now
     (moment _ (g.S.Starter.asked c.args.starter.now)) c.in-Some.fault (Some c.in-Some.fault) refl out.complains))
 
-pub returns-in_default-clause-goes_out : goal.returns-in_default-clause-goes_out
-returns-in_default-clause-goes_out g c =
-    let first = rw (c.is_blamed-is_wrong.ensures, c.in_default.is) at c.in_ok-write_first.ensures.goes_out in
+pub returns-in_default-clause-flushed : goal.returns-in_default-clause-flushed
+returns-in_default-clause-flushed g c =
+    let first = rw (c.is_blamed-is_wrong.ensures, c.in_default.is) at c.in_ok-write_first.ensures.flushed in
     rw c.in_default.is
     (settles_quietly (known_of g.S.Process.Process g.O.WriteOnce g.E.WriteOnce) c.args.plan.now
     (point _ (g.S.Starter.asked c.args.starter.now) c.args.streams.now) None (state_of c.write_first.new.self)

@@ -3,8 +3,9 @@ use Rattle.gtp_check_app.specs.Turns.{no_more_starts, no_right_answer, not_start
 use Rattle.gtp_check_app.specs.private.Steps.{begins, is_over}
 use Rattle.gtp_check_app.proofs.check.Check.start.Goals as goal
 
-pub returns-then-self-ge-MOST_FRUITLESS-clause-begins : goal.returns-then-self-ge-MOST_FRUITLESS-clause-begins
-returns-then-self-ge-MOST_FRUITLESS-clause-begins g c = is_over (no_right_answer (search rules))
+pub returns-then-self-ge-MOST_UNANSWERED_STARTS-clause-begins :
+    goal.returns-then-self-ge-MOST_UNANSWERED_STARTS-clause-begins
+returns-then-self-ge-MOST_UNANSWERED_STARTS-clause-begins g c = is_over (no_right_answer (search rules))
 
 pub returns-then-not-may_start-clause-begins : goal.returns-then-not-may_start-clause-begins
 returns-then-not-may_start-clause-begins g c =

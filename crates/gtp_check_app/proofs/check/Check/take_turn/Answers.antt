@@ -72,7 +72,7 @@ returns-in_err-settle-in-Exchange-clause-stops g c =
 pub returns-in_ok-settle-in-Exchange-clause-turn : goal.returns-in_ok-settle-in-Exchange-clause-turn
 returns-in_ok-settle-in-Exchange-clause-turn g c =
     let gathers = rw c.in-Exchange.is at c.in_ok-gather.ensures.gathers in
-    let settles = c.in_ok-settle-in-Exchange.ensures.goes_out in (
+    let settles = c.in_ok-settle-in-Exchange.ensures.flushed in (
       settles.line ++ settles.said,
       waiting c.args.plan.now (state_of c.gather.new.self)
           ++ (clearing settles.line ++ looking settles.said),
@@ -83,7 +83,7 @@ returns-in_ok-settle-in-Exchange-clause-turn g c =
             heard = c.exchange-fault.ensures.heard;
           })
           settles.first settles.complains,
-      settles.goes_out,
+      settles.flushed,
       both_shown g.E.WriteOnce c.args.plan.now.shows_progress
           (waiting c.args.plan.now (state_of c.gather.new.self))
           (clearing settles.line ++ looking settles.said) _ _ _ c.show_waiting.ensures settles.shown,

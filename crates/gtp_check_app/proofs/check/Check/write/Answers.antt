@@ -12,8 +12,8 @@ returns-in_err-write_text-clause-broke g c =
       c.clear.ensures,
     ))
 
-pub returns-clause-goes_out : goal.returns-clause-goes_out
-returns-clause-goes_out g c = (
+pub returns-clause-flushed : goal.returns-clause-flushed
+returns-clause-flushed g c = (
   c.complaint_of-complaint.result,
   c.complaint_of-complaint.ensures,
   rw (c.as_slice.ensures.value, c.in_ok-text.ensures) at c.in_ok-write_text.ensures.whole,
