@@ -39,12 +39,15 @@ SBATCH = "usage: sbatch --array=1-TASKS tournament.sbatch FOLDER TASKS\n"
 # directory. What begins with `..` comes at the end, after a text of the system.
 ERRORS = {
     "build": [
-        ('"$TOP/build" --needed --is-built', 2, "give only one of --needed and --is-built, once\n{usage}"),
         ('"$TOP/build" --proved --cargo', 2, "give only one of --cargo and --proved\n{usage}"),
         ('"$TOP/build" --gate nowhere', 2, "--gate needs a file after it, and 'nowhere' is none\n{usage}"),
         ('"$TOP/build" --fast', 2, "there is no option --fast\n{usage}"),
         ('"$TOP/build" go_base', 2, "there is no program 'go_base': name one such as twogtp, gtp_engine or gtp_check, or library\n{usage}"),
         (FEW + '"$TOP/build" twogtp', 1, "there is no flock (apt-get install util-linux)\n"),
+        (KIT + 'XDG_CACHE_HOME=$TOP/no "$TOP/build" twogtp', 1,
+         "{top}/no/vintsaky is in the clone, which rt ci reads: set XDG_CACHE_HOME to a directory elsewhere\n"),
+        (KIT + 'touch a; XDG_CACHE_HOME=$PWD/a "$TOP/build" twogtp', 1,
+         "..{here}/a/vintsaky can't be written: set XDG_CACHE_HOME to a directory that can\n"),
         (FEW + '"$TOP/cargo/build" twogtp', 1, "there is no python3, which a build by cargo needs (3.9 or later)\n"),
     ],
     "twogtp": [("twogtp --black $'\\xff'", 2, "bad argument\n")],
@@ -62,16 +65,6 @@ ERRORS = {
         (STUBS + VERSIONS + "sed -i s/1.0/1.1/ bin/gtp_engine; " + COMMIT + "./release", 1,
          "the programs have two versions, 1.0 and gtp_engine 1.1\n"),
         (STUBS + VERSIONS + CHANGES + COMMIT + "./release", 1, "..the pages can't be made\n"),
-    ],
-    "packaging/cache": [
-        ('XDG_CACHE_HOME=$TOP/no "$TOP/packaging/cache"', 1,
-         "{top}/no/vintsaky is in the clone, which rt ci reads: set XDG_CACHE_HOME to a directory elsewhere\n"),
-        ('touch a; XDG_CACHE_HOME=$PWD/a "$TOP/packaging/cache"', 1,
-         "..{here}/a/vintsaky can't be written: set XDG_CACHE_HOME to a directory that can\n"),
-        ('XDG_CACHE_HOME=$PWD/a "$TOP/packaging/cache" --object nowhere', 1, "..nowhere can't be read\n"),
-        ('XDG_CACHE_HOME=$PWD/a "$TOP/packaging/cache" --object /dev/null', 3,
-         "no object file of /dev/null is kept: ./build makes and keeps one\n"),
-        ('"$TOP/packaging/cache" --shrink 1G', 2, "--shrink needs a whole number of MB, and '1G' is none\n"),
     ],
     "packaging/link": [
         (FEW + '"$TOP/packaging/link" a b c', 1, "there is no cc, which finds the C library (apt-get install gcc libc6-dev)\n"),

@@ -17,10 +17,14 @@ GATE = "12345 passed, 0 failed, at https://gate.example/7"
 DATE = "2026-11-25T00:00:00Z"
 
 
-def object_of(program):
-    """The object file of the built program, if ./build or ./test kept it."""
-    status, output, _ = run([TOP / "packaging/cache", "--object", TOP / "bin" / program])
-    return Path(output.rstrip("\n")) if status == 0 else None
+def object_of(program, folder=TOP):
+    """Where ./build or ./test leaves the object file that the program was linked from."""
+    return folder / "bin/built" / f"{program}.o"
+
+
+def is_of(program):
+    """Is it there, and of the program in bin/?"""
+    return run([TOP / "packaging/link", object_of(program), TOP / "bin" / program, room_of_all() / program]).status == 0
 
 
 def git(folder, *words, **environment):
@@ -49,10 +53,11 @@ def copy_of(folder):
     (folder / "build").write_text(f'#!/bin/bash\n[ "$*" = "--needed --proved {" ".join(PROGRAMS)} library" ]\n')
     git(folder, "init", "-q")
     commit(folder, "What is released")
-    (folder / "bin").mkdir()
+    (folder / "bin/built").mkdir(parents=True)
     for program in PROGRAMS:
         shutil.copyfile(TOP / "bin" / program, folder / "bin" / program)
         (folder / "bin" / program).chmod(0o755)
+        shutil.copyfile(object_of(program), object_of(program, folder))
     for file in LIBRARY:
         shutil.copyfile(TOP / "bin" / file, folder / "bin" / file)
     return folder
@@ -93,7 +98,7 @@ def missing_tools():
         status, _, errors = run([TOP / words[0], words[1]])
         missing += [errors.strip()] if status else []
     if not missing:
-        lost = [program for program in PROGRAMS if object_of(program) is None]
+        lost = [program for program in PROGRAMS if not is_of(program)]
         missing += [f"no object file of {it} is kept: rt ci took the program from what it kept; ./build {it} keeps one" for it in lost]
     return missing
 
@@ -103,7 +108,6 @@ class Releases:
 
     def __init__(self, room):
         self.room = room
-        self.kept = self.keep_objects()
         self.copies = [copy_of(room / name) for name in ("one", "another_folder", "deeper/third", "final")]
         self.one, self.other, self.third, self.final = self.copies
         self.version = version_of(self.one / "bin/twogtp")
@@ -114,12 +118,6 @@ class Releases:
         self.sums = [{name: sum_of(at / "dist" / name) for name in made(at)} for at in (self.one, self.other)]
         self.files = files_of(self.name)
         self.other_commit = self.release_other_commit()
-
-    def keep_objects(self):
-        """Keeps the object files, and nothing else, in a place of their own: what comes of it for each program."""
-        objects, cache = {it: object_of(it) for it in PROGRAMS}, self.room / "cache"
-        os.environ["XDG_CACHE_HOME"] = str(cache)
-        return {program: run([TOP / "packaging/cache", "--keep", at, TOP / "bin" / program]) for program, at in objects.items()}
 
     def run(self):
         """Makes all four at once: what comes of each."""
@@ -208,11 +206,6 @@ class Making(OfReleases):
     """Releases are made, which are the same wherever that is."""
 
     needs_all = False
-
-    def test_objects(self):
-        """The object files of the programs."""
-        for program, came in self.four.kept.items():
-            self.check(f"the object file of {program} is that of the built program", (0, ""), came[::2])
 
     def test_made(self):
         """Releases are made."""

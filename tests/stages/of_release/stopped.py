@@ -101,7 +101,7 @@ class Changed(OfStops):
 
     def test_object(self):
         """An object file that is not that of the program."""
-        with changed(object_of("twogtp"), object_of("gtp_engine").read_bytes()):
+        with changed(object_of("twogtp", self.folder), object_of("gtp_engine").read_bytes()):
             # the program would be built again, which the copy's ./build refuses
             self.check_stopped("another program's object file", release(self.folder), "twogtp is not built")
 
