@@ -281,6 +281,17 @@ class Missing(checks.Case):
         lines = [line.partition(",")[0] for line in output.splitlines()]
         self.same((1, [f"build: bin/{name} is missing" for name in names]), (status, lines))
 
+    def test_demo(self):
+        """The demo."""
+        clone = Clone("demo")
+        (clone.at / "cargo").mkdir()
+        for cargo, words in (("true", "--cargo --needed"), ("false", "--needed")):
+            for name, text in (("build", 'echo "$*"; false'), ("cargo/strip", cargo)):
+                (clone.at / name).write_text(f"#!/bin/bash\n{text}\n")
+                (clone.at / name).chmod(0o755)
+            what = f"the demo has what is missing built by cargo where that reaches its crates, else by the kit: {words}"
+            self.check(what, (1, f"{words} twogtp gtp_engine\n"), clone.said("./demo"))
+
 
 if __name__ == "__main__":
     checks.main(OPTIONS)
