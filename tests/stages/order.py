@@ -19,16 +19,9 @@ sys.dont_write_bytecode = True
 sys.path[0] = str(Path(__file__).resolve().parents[2])
 
 from tests.shared import checks, running  # noqa: E402
-from tests.stages.of_order import clones  # noqa: E402
-from tests.stages.of_order.clones import Clone, here, last_of, path_without_kit, room, until, what_is_new  # noqa: E402
+from tests.stages.of_order.clones import LIMIT, Clone, here, last_of, path_without_kit, room, until, what_is_new  # noqa: E402
 
-PARSER = checks.Parser(__doc__)
-PARSER.add_argument("folder", metavar="FOLDER", nargs="?", type=Path, default=running.TOP,
-                    help="the clone whose scripts are looked at; else this one")  # fmt: skip
-OPTIONS = PARSER.options(__name__)
-if not (OPTIONS.folder / "build").is_file():
-    PARSER.error(f"no ./build in {OPTIONS.folder}")
-clones.SCRIPTS = OPTIONS.folder.resolve()
+OPTIONS = checks.Parser(__doc__).options(__name__)
 ACCEPTED = ([], ["3 passed, 0 failed"], 0)
 
 
@@ -45,7 +38,7 @@ def while_proving(clone, what):
     """What comes of a build in the clone, in which `what` is done with it while its first crate is proved: its status and its output."""
     log = room() / "cache/vintsaky/work/small_base.log"
     with open(room() / "output", "w+") as output:
-        with running.started(["./build", "small"], clones.LIMIT, stdout=output, stderr=subprocess.STDOUT, **clone.how()) as build:
+        with running.started(["./build", "small"], LIMIT, stdout=output, stderr=subprocess.STDOUT, **clone.how()) as build:
             until(log.exists, 60)
             time.sleep(1)
             what(build)
@@ -71,8 +64,8 @@ def killed():
     one = Clone("one")
     _, output, left = while_proving(one, lambda build: build.kill())
     for name in ("bin", "dist"):
-        if (clones.SCRIPTS / name).is_dir():
-            shutil.copytree(clones.SCRIPTS / name, one.at / f"left_in_{name}", symlinks=True)
+        if (running.TOP / name).is_dir():
+            shutil.copytree(running.TOP / name, one.at / f"left_in_{name}", symlinks=True)
     return Killed(one, what_is_new(output), left, one.gate())
 
 
@@ -108,38 +101,23 @@ def gated():
     return Gated(clone, clone.sum_of("bin/small"), over, older, clone.gate())
 
 
-class InTheMiddle(checks.Case):
-    """A build that is killed in the middle."""
+class Builds(checks.Case):
+    """A build that is killed, and two clones that build at once after it."""
 
     def test_killed(self):
-        """a build is killed while a crate is proved."""
-        self.same([], killed().proved)
+        """A build that is killed in the middle."""
+        self.check("a build is killed while a crate is proved", [], killed().proved)
+        self.check("no process of it lives on", [], killed().left)
+        what = "the gate accepts a clone after a build that was killed, with what else the scripts left"
+        self.check(what, ACCEPTED, killed().gate)
 
-    def test_left(self):
-        """no process of it lives on."""
-        self.same([], killed().left)
-
-    def test_gate(self):
-        """the gate accepts a clone after a build that was killed, with what else the scripts left."""
-        self.same(ACCEPTED, killed().gate)
-
-
-@checks.table(("one", "two"), lambda it: f"a build after a killed one, while another clone builds the same: {it}")
-class AtOnce(checks.Case):
-    """Two clones that build at once, after one that was killed."""
-
-    def row(self, name):
-        clone, status, _ = built()[name]
-        self.check(f"a build after a killed one, while another clone builds the same: {name}", 0, status)
-        self.check(f"its program runs: {name}", (0, "7\n", ""), clone.run("bin/small"))
-
-
-class OfBoth(checks.Case):
-    """What both made."""
-
-    def test_once(self):
-        """each crate is proved once for both."""
-        self.same(["small_base", "small"], [crate for _, _, output in built().values() for crate in what_is_new(output)])
+    def test_at_once(self):
+        """Two clones that build at once."""
+        for name, (clone, status, _) in built().items():
+            self.check(f"a build after a killed one, while another clone builds the same: {name}", 0, status)
+            self.check(f"its program runs: {name}", (0, "7\n", ""), clone.run("bin/small"))
+        proved = [crate for _, _, output in built().values() for crate in what_is_new(output)]
+        self.check("each crate is proved once for both", ["small_base", "small"], proved)
 
 
 class Gate(checks.Case):

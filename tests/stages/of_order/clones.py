@@ -15,7 +15,6 @@ from pathlib import Path
 
 from tests.shared import checks, running
 
-SCRIPTS = running.TOP  # the clone whose scripts are looked at
 LIMIT = 900  # seconds that a build or the gate may take
 COPIED = ("build", "demo", "test", "release", "packaging")
 CRATES = """\
@@ -97,8 +96,8 @@ class Clone:
         self.at = room() / name
         (self.at / ".git").mkdir(parents=True)
         for name in COPIED:
-            copy = shutil.copytree if (SCRIPTS / name).is_dir() else shutil.copy
-            copy(SCRIPTS / name, self.at / name)
+            copy = shutil.copytree if (running.TOP / name).is_dir() else shutil.copy
+            copy(running.TOP / name, self.at / name)
         for name, text in FILES.items():
             (self.at / name).parent.mkdir(parents=True, exist_ok=True)
             (self.at / name).write_text(text)
