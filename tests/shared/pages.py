@@ -9,7 +9,7 @@ from pathlib import Path
 
 from .running import TOP
 
-LEFT_OUT = {".git", ".mypy_cache", "__pycache__", "bin", "dist", "out", "target", "workspace"}  # directories of what checks and builds leave
+LEFT_OUT = {".git", ".mypy_cache", ".pytest_cache", "__pycache__", "bin", "dist", "out", "target", "workspace"}  # directories of what checks and builds leave
 
 BLOCK = re.compile(r"^```(\w*)\n(.*?)^```$", re.MULTILINE | re.DOTALL)
 SPAN = re.compile(r"(`+)(?!`)(.+?)(?<!`)\1(?!`)")

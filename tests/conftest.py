@@ -1,0 +1,125 @@
+"""What all tests share: the options, the programs that are tested, and what a marked test needs."""
+from __future__ import annotations
+
+import argparse
+import os
+import shutil
+import subprocess
+import sys
+from pathlib import Path
+from typing import Callable, Optional
+
+import pytest
+
+TOP = Path(__file__).resolve().parents[1]
+
+
+def positive(text: str) -> int:
+    """Returns the number that a text spells, of which there has to be one at least."""
+    number = int(text)
+    if number < 1:
+        raise argparse.ArgumentTypeError("at least 1")
+    return number
+
+
+def pytest_addoption(parser: pytest.Parser) -> None:
+    group = parser.getgroup("vintsaky", "tests of the built programs")
+    group.addoption(
+        "--programs",
+        metavar="FOLDER",
+        default=str(TOP / "bin"),
+        help="where the built programs are; else bin/",
+    )
+    group.addoption(
+        "--count",
+        metavar="N",
+        type=positive,
+        help="how many random matches are played, or random conversations of each kind",
+    )
+    group.addoption(
+        "--seed",
+        metavar="S",
+        type=int,
+        default=1,
+        help="the seed of random matches and conversations; else 1",
+    )
+
+
+# ---- what is tested
+
+
+@pytest.fixture(scope="session")
+def programs(request: pytest.FixtureRequest) -> Path:
+    """Returns the folder of the built programs."""
+    return Path(request.config.getoption("--programs")).resolve()
+
+
+def built(folder: Path, name: str) -> Path:
+    """Returns the path of a program. A test that uses one that isn't there fails."""
+    program = folder / name
+    if not os.access(program, os.X_OK):
+        pytest.fail(f"{program} is not there: ./build --cargo makes it", pytrace=False)
+    return program
+
+
+@pytest.fixture(scope="session")
+def gtp_engine(programs: Path) -> Path:
+    """Returns the path of the engine."""
+    return built(programs, "gtp_engine")
+
+
+@pytest.fixture(scope="session")
+def twogtp(programs: Path) -> Path:
+    """Returns the path of the program that plays matches."""
+    return built(programs, "twogtp")
+
+
+@pytest.fixture(scope="session")
+def gtp_check(programs: Path) -> Path:
+    """Returns the path of the program that checks engines."""
+    return built(programs, "gtp_check")
+
+
+@pytest.fixture(scope="session")
+def environment(programs: Path) -> dict[str, str]:
+    """Returns the environment in which the built programs are found before others."""
+    return {**os.environ, "PATH": os.pathsep.join([str(programs), os.environ["PATH"]])}
+
+
+# ---- what a marked test needs
+
+
+def lacks_command(name: str) -> Callable[[], Optional[str]]:
+    """Returns a function that says that a command isn't there, or None where it is."""
+    return lambda: None if shutil.which(name) else f"there is no {name}"
+
+
+def lacks_cargo() -> Optional[str]:
+    """Returns what is missing for a build by cargo, or None."""
+    strip = [sys.executable, str(TOP / "cargo/strip"), "--look"]
+    done = subprocess.run(strip, capture_output=True, text=True)
+    return None if done.returncode == 0 else (done.stdout + done.stderr).strip()
+
+
+def lacks_root() -> Optional[str]:
+    """Returns a reason where this user isn't root, or None."""
+    return None if os.geteuid() == 0 else "this is not root"
+
+
+MISSING: dict[str, Callable[[], Optional[str]]] = {
+    "kit": lacks_command("rt"),
+    "cc": lacks_command("cc"),
+    "cargo": lacks_cargo,
+    "gnugo": lacks_command("/usr/games/gnugo"),
+    "root": lacks_root,
+}
+
+
+def pytest_collection_modifyitems(items: list[pytest.Item]) -> None:
+    """Marks each test as skipped that needs what isn't there, with the reason."""
+    wanted = {mark.name for item in items for mark in item.iter_markers()}
+    reasons = {name: missing() for name, missing in MISSING.items() if name in wanted}
+    for item in items:
+        for mark in item.iter_markers():
+            if reason := reasons.get(mark.name):
+                item.add_marker(pytest.mark.skip(reason=reason))

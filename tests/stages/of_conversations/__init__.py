@@ -1,1 +1,0 @@
-"""The parts of the stage conversations: how a program is given a conversation, and what is compared."""
