@@ -80,6 +80,26 @@ def gtp_check(programs: Path) -> Path:
     return built(programs, "gtp_check")
 
 
+def built_library(folder: Path, name: str) -> Path:
+    """Returns the path of a file of the library, or skips the test that uses it."""
+    file = folder / name
+    if not file.is_file():
+        pytest.skip(f"{file} is not there, which ./build library makes")
+    return file
+
+
+@pytest.fixture(scope="session")
+def archive(programs: Path) -> Path:
+    """Returns the path of the library that is linked into programs."""
+    return built_library(programs, "libvintsaky.a")
+
+
+@pytest.fixture(scope="session")
+def shared_library(programs: Path) -> Path:
+    """Returns the path of the library that programs load."""
+    return built_library(programs, "libvintsaky.so.1")
+
+
 @pytest.fixture(scope="session")
 def environment(programs: Path) -> dict[str, str]:
     """Returns the environment in which the built programs are found before others."""

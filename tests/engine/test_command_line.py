@@ -14,6 +14,7 @@ from typing import Sequence, Union
 import pytest
 
 from tests.shared.processes import run
+from tests.shared.usage import check_help, check_usage_error
 
 Option = Union[str, bytes]
 
@@ -130,9 +131,7 @@ def test_conversation(gtp_engine: Path, row: Conversation) -> None:
     ids=" ".join,
 )
 def test_unknown_value_is_a_usage_error(gtp_engine: Path, options: list[str]) -> None:
-    done = converse(gtp_engine, "name\n", *options)
-    assert (done.returncode, done.stdout) == (2, "")
-    assert done.stderr.startswith("error: ")
+    check_usage_error(converse(gtp_engine, "name\n", *options))
 
 
 @pytest.mark.parametrize(
@@ -151,6 +150,10 @@ def test_help_names_the_rule_of_ko(gtp_engine: Path) -> None:
     done = converse(gtp_engine, "name\n", "--help")
     assert (done.returncode, done.stderr) == (0, "")
     assert len(re.findall(r"^ +--ko(?: |$)", done.stdout, re.MULTILINE)) == 1
+
+
+def test_help_says_which_options_go_together(gtp_engine: Path) -> None:
+    check_help(converse(gtp_engine, "", "--help"), "--policy random", "--policy book")
 
 
 def test_input_that_cannot_be_read_is_status_3(gtp_engine: Path) -> None:

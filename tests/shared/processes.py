@@ -6,8 +6,9 @@ import os
 import signal
 import subprocess
 import threading
+import time
 from pathlib import Path
-from typing import Any, Iterator, Sequence, Union
+from typing import Any, Callable, Iterator, Sequence, Union
 
 TOP = Path(__file__).resolve().parents[2]
 # Seconds after which a command is taken to hang. Nothing that works takes so long, on however slow
@@ -15,12 +16,11 @@ TOP = Path(__file__).resolve().parents[2]
 TIMEOUT = 120
 
 Command = Sequence[Union[str, bytes, Path]]
+Process = subprocess.Popen[Any]
 
 
 @contextlib.contextmanager
-def process_tree(
-    command: Command, timeout: float = TIMEOUT, **options: Any
-) -> Iterator[subprocess.Popen[Any]]:
+def process_tree(command: Command, timeout: float = TIMEOUT, **options: Any) -> Iterator[Process]:
     """Starts a process, and kills it and all that it has started at the end, or when it hangs."""
     with subprocess.Popen(command, start_new_session=True, **options) as process:
         timer = threading.Timer(timeout, kill_tree, [process.pid])
@@ -45,6 +45,14 @@ def is_alive(group: int) -> bool:
     except ProcessLookupError:
         return False
     return True
+
+
+def wait_until(condition: Callable[[], bool], timeout: float = TIMEOUT) -> bool:
+    """Waits until this is so, and tells whether it is, where that may take too long."""
+    end = time.monotonic() + timeout
+    while not (is_so := condition()) and time.monotonic() < end:
+        time.sleep(0.02)
+    return is_so
 
 
 def run(

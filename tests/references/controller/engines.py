@@ -83,9 +83,13 @@ class Planned:
 class Timed(Planned):
     """The same behind `timeout`. Where it ends with status 124 by its plan, it is `timeout` that ends it, and its program is silent."""
 
+    def __init__(self, seconds, *planned):
+        super().__init__(*planned)
+        self.seconds = seconds
+
     def command(self, notes):
         """The words of its command."""
-        return ["timeout", "--foreground", "2", *(word.replace("ends:124", "on") for word in super().command(notes))]
+        return ["timeout", "--foreground", str(self.seconds), *(word.replace("ends:124", "on") for word in super().command(notes))]
 
 
 class Ours:

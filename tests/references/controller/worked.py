@@ -1,7 +1,7 @@
 """Matches worked out by hand: what the controller has to make of engines that behave, and of engines that misbehave.
 
 None of this was taken from the program or from the reference: it was worked out from docs/controller.md, docs/matches.md, docs/protocol.md
-and README.md, and much of it is there. tests/stages/matches.py plays each row by the built `twogtp` and by the reference.
+and README.md, and much of it is there. tests/match plays each row by the built `twogtp` and by the reference.
 
 An engine that misbehaves has a plan of faulty.py. The engine `passing()` always passes, and so there are but few moves to work out: on
 9x9 White wins two passes by the komi of 6.5, and with two stones of handicap Black by 81 - 6.5. FIRST plays A1, B1, C1 and so on.
@@ -59,9 +59,9 @@ def passing(plan="-", style="<reply>"):
     return Planned(1, 1, style, plan)
 
 
-def timed(place):
+def timed(place, seconds=2):
     """An engine that always passes, and is silent from this place on, behind `timeout`."""
-    return Timed(1, 1, "<reply>", f"*/{place}//ends:124")
+    return Timed(seconds, 1, 1, "<reply>", f"*/{place}//ends:124")
 
 
 def playing(vertices):
@@ -313,7 +313,8 @@ def behind_timeout():
     yield game("abandoned black moves 0 restarts 0 0", timed("c1-9"), FIRST, black, restarts=0)
     yield game("abandoned black moves 0 restarts 1 0", timed("c1-9"), FIRST, black, black)
     yield game("abandoned white moves 0 restarts 0 0", FIRST, timed("c1-9"), white, restarts=0)
-    yield from both_sides(timed("q"), book(""), PASSED, PASSED)
+    # It has the time to play before it is ended.
+    yield from both_sides(timed("q", seconds=10), book(""), PASSED, PASSED)
 
 
 def refusals():

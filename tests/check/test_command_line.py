@@ -1,0 +1,98 @@
+"""The command line of gtp_check: usage errors, after which nothing is started, and the help."""
+from __future__ import annotations
+
+from pathlib import Path
+
+import pytest
+
+from tests.shared.processes import run
+from tests.shared.usage import check_help, check_unread, check_usage_error
+
+ENGINE = "touch started"  # leaves a file where it is started
+PUT_IT_IN_QUOTES = "An engine's command is one argument: put it in quotes\n"
+
+
+@pytest.mark.parametrize(
+    "words, named",
+    [
+        pytest.param(
+            ["touch", "started"],
+            ["'started'", "--help", PUT_IT_IN_QUOTES],
+            id="an engine without quotes",
+        ),
+        pytest.param(
+            ["gtp_engine", "--policy", "random"],
+            ["'--policy'", PUT_IT_IN_QUOTES],
+            id="an engine's option without quotes",
+        ),
+        pytest.param(
+            ["--only", "kos", ENGINE],
+            ["'kos'", "--only", "start, sizes, ko, captures"],
+            id="a lesson that there is not",
+        ),
+        pytest.param(
+            ["--skip", "kos", ENGINE],
+            ["'kos'", "--skip"],
+            id="a lesson to skip that there is not",
+        ),
+        pytest.param([ENGINE, "--only"], ["--only", "--help"], id="no lesson"),
+        pytest.param(["--size", "4", ENGINE], ["'4'", "--size", "5..=25"], id="a size below 5"),
+        pytest.param(["--size", "26", ENGINE], ["'26'", "--size", "5..=25"], id="a size above 25"),
+        pytest.param(
+            ["--ko", "japanese", ENGINE],
+            ["'japanese'", "--ko", "simple, positional"],
+            id="a rule that there is not",
+        ),
+        pytest.param(
+            ["--seed", "4294967296", ENGINE],
+            ["'4294967296'", "--seed"],
+            id="a seed that is too large",
+        ),
+        pytest.param(["--restarts", "-1", ENGINE], ["-1", "--help"], id="restarts below zero"),
+        pytest.param(["--quick", "--quick", ENGINE], ["--quick", "--help"], id="an option twice"),
+        pytest.param(
+            ["--black", ENGINE], ["--black", "--help"], id="an option of the match program"
+        ),
+    ],
+)
+def test_usage_error(words: list[str], named: list[str], gtp_check: Path, tmp_path: Path) -> None:
+    check_usage_error(run([gtp_check, *words], cwd=tmp_path), *named)
+    assert not (tmp_path / "started").exists()
+
+
+@pytest.mark.parametrize(
+    "words, error",
+    [
+        pytest.param([], "no command of an engine", id="no engine"),
+        pytest.param(["  "], "no command of an engine", id="an engine of spaces"),
+        pytest.param(
+            ["--only", "ko", "--skip", "ko", ENGINE],
+            "--only, --skip and --quick leave no lesson to ask",
+            id="no lesson is left",
+        ),
+        pytest.param(
+            ["./engin"], 'not started: no such file: "./engin"', id="an engine that is not there"
+        ),
+    ],
+)
+def test_own_error(words: list[str], error: str, gtp_check: Path, tmp_path: Path) -> None:
+    done = run([gtp_check, *words], cwd=tmp_path)
+    assert (done.returncode, done.stdout, done.stderr) == (2, "", f"gtp_check: {error}\n")
+    assert not (tmp_path / "started").exists()
+
+
+def test_list_has_the_lessons(gtp_check: Path) -> None:
+    check_help(run([gtp_check, "--list"]), "start ", " restarts ")
+
+
+def test_help_has_the_statuses(gtp_check: Path) -> None:
+    check_help(
+        run([gtp_check, "--help"]),
+        "0 no complaint: each lesson was completed, with a move answered correctly "
+        "1 at least one complaint",
+        "patience before its command",
+    )
+
+
+def test_list_that_nobody_reads(gtp_check: Path) -> None:
+    check_unread([gtp_check, "--list"])
