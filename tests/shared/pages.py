@@ -7,7 +7,7 @@ import re
 from functools import lru_cache
 from pathlib import Path
 
-from .running import TOP
+from .processes import TOP
 
 LEFT_OUT = {".git", ".mypy_cache", ".pytest_cache", "__pycache__", "bin", "dist", "out", "target", "workspace"}  # directories of what checks and builds leave
 
