@@ -1,0 +1,1 @@
+"""Tests of the pages, of the declarations of the library, and of the scripts."""
