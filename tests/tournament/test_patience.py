@@ -242,9 +242,10 @@ def child_of(process: int) -> int:
     return int(Path(f"/proc/{process}/task/{process}/children").read_text().split()[0])
 
 
-def heed_interrupts() -> None:
-    """Ends the process by an interrupt, also where a shell has it ignored."""
-    signal.signal(signal.SIGINT, signal.SIG_DFL)
+def heed_signals() -> None:
+    """Has these signals end the process, also where a shell or nohup has them ignored."""
+    for number in (signal.SIGINT, signal.SIGHUP, signal.SIGTERM):
+        signal.signal(number, signal.SIG_DFL)
 
 
 @pytest.mark.parametrize(
@@ -262,7 +263,7 @@ def test_nothing_is_left_where_one_is_killed(
     stubborn: Processes, whom: str, number: signal.Signals, status: int
 ) -> None:
     command = [PATIENCE, LONG, *stubborn.command]
-    streams: Any = {"stdin": PIPE, "stdout": PIPE, "stderr": PIPE, "preexec_fn": heed_interrupts}
+    streams: Any = {"stdin": PIPE, "stdout": PIPE, "stderr": PIPE, "preexec_fn": heed_signals}
     with process_tree(command, **streams) as process:
         assert process.stdin and process.stdout and process.stderr
         process.stdin.write(b"name\n")
