@@ -1,7 +1,7 @@
 /* A board as one writes it by hand in C for playouts alone, without a proof: an array with an edge around the board, chains as rings of
  * their stones, of each chain the number of its pseudo-liberties, simple ko as one point. There is no record, and nothing is taken back.
  *
- * `playout` makes the moves of vintsaky_game_playout under simple ko, move for move: tests/stages/playouts.py compares them. */
+ * `playout` makes the moves of vintsaky_game_playout under simple ko, move for move: tests/library/test_playouts.py compares them. */
 #include <stdbool.h>
 #include <stdint.h>
 #include <string.h>
