@@ -21,12 +21,12 @@ Words = Sequence[object]
 def compile_c(words: Words, folder: Path) -> CompletedProcess[str]:
     """Runs a compiler that leaves its own files in this folder where it is killed."""
     environment = {**os.environ, "TMPDIR": str(folder)}
-    return run([*map(str, words)], timeout=10 * TIMEOUT, env=environment, cwd=TOP)
+    return run(words, timeout=10 * TIMEOUT, env=environment, cwd=TOP)
 
 
 def said_by(command: Words, **options: Any) -> str:
     """Returns what a command writes, and its status where that isn't 0."""
-    done = run([*map(str, command)], **options)
+    done = run(command, **options)
     status = f"status {done.returncode}" if done.returncode else ""
     text: str = done.stdout + done.stderr
     return text + status

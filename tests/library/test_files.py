@@ -117,7 +117,7 @@ class Symbol(NamedTuple):
 def symbols(*words: object) -> Set[Symbol]:
     """Returns what nm prints with these words."""
     need_tools("nm")
-    rows = [line.split() for line in run(["nm", *map(str, words)]).stdout.splitlines()]
+    rows = [line.split() for line in run(["nm", *words]).stdout.splitlines()]
     return {Symbol(*row[-2:]) for row in rows if len(row) > 1}
 
 

@@ -15,14 +15,15 @@ TOP = Path(__file__).resolve().parents[2]
 # a machine.
 TIMEOUT = 120
 
-Command = Sequence[Union[str, bytes, Path]]
+Command = Sequence[Any]  # texts, bytes, paths and numbers
 Process = subprocess.Popen[Any]
 
 
 @contextlib.contextmanager
 def process_tree(command: Command, timeout: float = TIMEOUT, **options: Any) -> Iterator[Process]:
     """Starts a process, and kills it and all that it has started at the end, or when it hangs."""
-    with subprocess.Popen(command, start_new_session=True, **options) as process:
+    words: Sequence[Any] = [it if isinstance(it, bytes) else str(it) for it in command]
+    with subprocess.Popen(words, start_new_session=True, **options) as process:
         timer = threading.Timer(timeout, kill_tree, [process.pid])
         timer.start()
         try:

@@ -36,7 +36,7 @@ SILENT_AT_QUIT = ["sh", "-c", 'read x; printf "=\\n\\n"; read x; sleep 60']
 
 def patience(*words: object, text: str = "") -> CompletedProcess[str]:
     """Returns what comes of patience with these words, which reads this text."""
-    return run([PATIENCE, *map(str, words)], text)
+    return run([PATIENCE, *words], text)
 
 
 def late(command: str) -> str:

@@ -1,1 +1,1 @@
-"""The parts of tests/stages/library_in_c.py, and the programs in C that it compiles."""
+"""Each call of the library in C, for tests/library and tests/stages/cargo.py."""
