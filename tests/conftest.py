@@ -11,6 +11,8 @@ from typing import Callable, Optional
 
 import pytest
 
+from tests.shared.refused_memory import Refuser
+
 TOP = Path(__file__).resolve().parents[1]
 
 
@@ -98,6 +100,21 @@ def archive(programs: Path) -> Path:
 def shared_library(programs: Path) -> Path:
     """Returns the path of the library that programs load."""
     return built_library(programs, "libvintsaky.so.1")
+
+
+@pytest.fixture(scope="session")
+def refusing_library(tmp_path_factory: pytest.TempPathFactory) -> Path:
+    """Returns the path of a library that is loaded into programs, and refuses them memory."""
+    library = tmp_path_factory.mktemp("refusing") / "refusing.so"
+    source = TOP / "tests/shared/refusing.c"
+    subprocess.run(["cc", "-O1", "-shared", "-fPIC", "-o", library, source, "-ldl"], check=True)
+    return library
+
+
+@pytest.fixture
+def refuser(refusing_library: Path, programs: Path, tmp_path: Path) -> Refuser:
+    """Returns what refuses programs memory."""
+    return Refuser(refusing_library, programs, tmp_path)
 
 
 @pytest.fixture(scope="session")
