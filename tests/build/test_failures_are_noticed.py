@@ -57,6 +57,32 @@ def outcome_of(folder: Path, files: Dict[str, str], *words: str) -> Outcome:
     return Outcome(done.returncode, [it for it in lines if it.startswith("FAILED")], lines[-1])
 
 
+def stage(second: str = "pass", last_row: int = 2) -> str:
+    """Returns a stage of four checks, the second of which does this. Its rows are 1 and 2."""
+    return f"""\
+#!/usr/bin/env python3
+import os, sys
+sys.path[0] = {str(TOP)!r}
+from tests.shared import checks
+
+class Cases(checks.Case):
+    def test_first(self):
+        \'\'\'one is one.\'\'\'
+        self.same(1, 1)
+    def test_second(self):
+        \'\'\'one is two.\'\'\'
+        {second}
+
+@checks.table([1, 2], lambda it: f"row {{it}}")
+class Rows(checks.Case):
+    def row(self, row):
+        self.same(row, [1, {last_row}][row - 1])
+
+if __name__ == "__main__":
+    checks.main()
+"""
+
+
 @dataclass(frozen=True)
 class Run:
     """A run of ./test programs that has these files: what fails in it, and its last line."""
@@ -67,7 +93,6 @@ class Run:
     failed: Sequence[str] = field(default=())
 
 
-ONE_FAILS = "def test_one(): assert 1 == 2\n"
 ENDED = "with 0 passed and none failed"
 RUNS = [
     Run("all pass", {}, "2 passed, 0 failed"),
@@ -112,6 +137,31 @@ RUNS = [
         {"tests/conftest.py": "import os\nos.kill(os.getpid(), 9)\n"},
         "1 passed, 1 failed",
         [f"FAILED: 'by_pytest' ended with status 137, {ENDED}"],
+    ),
+    Run("all checks of a stage pass", {"tests/stage": stage()}, "5 passed, 0 failed"),
+    Run(
+        "a check of a stage fails",
+        {"tests/stage": stage("self.same(1, 2)")},
+        "4 passed, 1 failed",
+        ["FAILED: one is two"],
+    ),
+    Run(
+        "a check within a check of a stage fails",
+        {"tests/stage": stage("self.check('1 is 2', 1, 2)")},
+        "4 passed, 1 failed",
+        ["FAILED: 1 is 2"],
+    ),
+    Run(
+        "a check of a stage raises an error",
+        {"tests/stage": stage("raise KeyError")},
+        "4 passed, 1 failed",
+        ["FAILED: one is two"],
+    ),
+    Run(
+        "a row of a stage fails",
+        {"tests/stage": stage(last_row=3)},
+        "4 passed, 1 failed",
+        ["FAILED: row 2"],
     ),
     Run(
         "a stage fails after its checks",

@@ -124,10 +124,13 @@ def test_gtp_check_finds_nothing(engine: str, examples: Examples, gtp_check: Pat
     assert done.stdout.endswith(", 0 complaints\n")
 
 
-def test_engine_is_the_reference_on_random_conversations(examples: Examples) -> None:
+def test_engine_is_the_reference_on_random_conversations(
+    request: pytest.FixtureRequest, examples: Examples
+) -> None:
+    count = request.config.getoption("--count") or 2
     script = TOP / "tests/references/engine/chosen.py"
-    command = [sys.executable, script, "--count", "2", examples.engine, "3"]
-    done = run(command, timeout=4 * LIMIT)
+    command = [sys.executable, script, "--count", count, examples.engine, "3"]
+    done = run(command, timeout=count * LIMIT)
     assert done.returncode == 0, done.stdout + done.stderr
     assert done.stdout.endswith(", 0 failed\n")
 
