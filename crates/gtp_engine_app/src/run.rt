@@ -2,9 +2,9 @@
 ghost use Rattle.std.specs.Prelude.{◌≡◌, ◌≢◌, ◌⊎◌, map, string_bytes, IfOk, IfErr, IsOkAnd};
 ghost use Rattle.cli.specs.Requests.{IsRefused};
 ghost use Rattle.gtp_engine_app.specs.Options.{HasNoBook, HasNoFault, IsMistake, Spells};
-ghost use Rattle.gtp_engine_app.specs.Program.{FreshCameOut, PolicyCameOut, HasConversed, HasServed, HasHelped};
-ghost use Rattle.gtp_engine_app.specs.Program.{IsOutOfMemory, HasMistake, IsShown, ends, streams, task};
-ghost use Rattle.gtp_engine_app.specs.Status.{IsStatus, ReportsFailure, ReportsEnd, program_name};
+ghost use Rattle.gtp_engine_app.specs.Program.{FreshCameOut, HasServed, HasHelped};
+ghost use Rattle.gtp_engine_app.specs.Program.{IsOutOfMemory, HasMistake, IsShown, ends, streams};
+ghost use Rattle.gtp_engine_app.specs.Status.{IsStatus, ReportsEnd, program_name};
 ghost use Rattle.gtp_engine_app.specs.Status.{stopped, status_after};
 ghost use Rattle.cli.specs.Status.{IsRequest, done, usage_failure};
 
@@ -61,34 +61,20 @@ pub fn run<S: AsStr, R: Incoming, W: Outgoing, E: WriteOnce>(
         × (input.new ≡ input.old) × (output.new ≡ output.old)) }
     ensures quiet { (result ≡ done) ⊎ (result ≡ stopped) → errors.new ≡ errors.old }
 {
-    match read_options(alloc, words) {
-        Ok(options) => serve_options(options, input, output, errors),
-        Err(error) => answer_error(error.kind(), error.to_string(alloc), output, errors),
-    }
-}
-
-/// Holds the conversation that the options ask for, and returns the status. If the text of the book or of the fault is
-/// wrong, it reports that and holds none.
-fn serve_options<R: Incoming, W: Outgoing, E: WriteOnce>(
-    options: Options<'_>,
-    input: &mut R,
-    output: &mut W,
-    errors: &mut E,
-) -> u8
-    ensures status { IsStatus result }
-    ensures usage { result ≡ usage_failure → (failure : Failure) × IsMistake options.entry failure
-        × ReportsFailure E.WriteOnce failure errors.old errors.new
-        × (input.new ≡ input.old) × (output.new ≡ output.old) }
-    ensures served { result ≢ usage_failure → HasConversed E.WriteOnce options.entry result
-        (streams (ends (R.shown input.old) (W.shown output.old)) errors.old)
-        (streams (ends (R.shown input.new) (W.shown output.new)) errors.new) }
-    ensures quiet { (result ≡ done) ⊎ (result ≡ stopped) → errors.new ≡ errors.old }
-{
+    let options = match read_options(alloc, words) {
+        Ok(options) => options,
+        Err(error) => return answer_error(error.kind(), error.to_string(alloc), output, errors),
+    };
     let (book, fault) = match read_texts(options) {
         Ok(texts) => texts,
         Err(failure) => return report(failure, errors),
     };
-    let served = converse_by(options, book, fault, input, output);
+    let rule = options.rule;
+    let served = match options.policy {
+        PolicyName::First => converse(First, rule, fault, input, output),
+        PolicyName::Random => converse(Random::new(options.seed), rule, fault, input, output),
+        PolicyName::Book => converse(book, rule, fault, input, output),
+    };
     end(served, errors)
 }
 
@@ -150,31 +136,6 @@ fn show<W: Outgoing, E: WriteOnce>(text: &[u8], output: &mut W, errors: &mut E) 
     match send(output, text) {
         Ok(()) => 0,
         Err(Broken) => report(Failure::Serve(ServeFault::Write), errors),
-    }
-}
-
-/// Serves a new session with the policy and the ko rule of the options and this fault.
-fn converse_by<R: Incoming, W: Outgoing>(
-    options: Options<'_>,
-    book: Book,
-    fault: Fault,
-    reader: &mut R,
-    writer: &mut W,
-) -> Result<Served, ServeFault>
-    ensures { PolicyCameOut options.entry.policy (task options.entry book fault) result
-        (ends (R.shown reader.old) (W.shown writer.old))
-        (ends (R.shown reader.new) (W.shown writer.new)) }
-{
-    match options.policy {
-        PolicyName::First => converse(First, options.rule, fault, reader, writer),
-        PolicyName::Random => converse(
-            Random::new(options.seed),
-            options.rule,
-            fault,
-            reader,
-            writer,
-        ),
-        PolicyName::Book => converse(book, options.rule, fault, reader, writer),
     }
 }
 

@@ -3,27 +3,30 @@ use Rattle.std.specs.Prelude.{string_bytes}
 use Rattle.gtp_engine_app.proofs.Answering.{never_both, refused_loud, refused_own, refused_status, refused_usage}
 use Rattle.gtp_engine_app.proofs.Answering.{shown_no_mistake, shown_quiet, shown_status, value_of}
 use Rattle.gtp_engine_app.proofs.run.run.Goals as goal
+use Rattle.gtp_engine_app.proofs.run.run.Goals.{in-First, in-Random, in-Book}
 
-pub returns-in-Ok-clause-usage : goal.returns-in-Ok-clause-usage
-returns-in-Ok-clause-usage g c = λ two.
-    let usage = c.serve_options.ensures.usage two in (
-      inr (record {
-        options = c.in-Ok.options;
-        asked = c.in-Ok.ensures.asked;
-        failure = usage.0;
-        mistake = usage.1;
-        reported = usage.2;
-      }),
-      usage.3,
-      usage.4,
-    )
-
-pub returns-in-Ok-clause-served : goal.returns-in-Ok-clause-served
-returns-in-Ok-clause-served g c = λ other.
+pub returns-clause-served : goal.returns-clause-served
+returns-clause-served g c = λ other.
     inl (record {
       options = c.in-Ok.options;
       asked = c.in-Ok.ensures.asked;
-      conversed = c.serve_options.ensures.served other;
+      conversed = record {
+        entries = c.in-Ok-read_texts.texts.0;
+        fault = c.in-Ok-read_texts.texts.1;
+        spells = c.in-Ok-read_texts.ensures.texts;
+        served = c.match-options.served;
+        came_out = elim c.match-options.branch [
+          | in-First w ↦
+              rw (w.in-First.is, w.served-is, w.input-is, w.output-is) (_, w.converse-served.ensures)
+          | in-Random w ↦
+              rw (w.in-Random.is, w.served-is, w.input-is, w.output-is, ← w.new.ensures)
+              w.converse-served-in-Random.ensures
+          | in-Book w ↦
+              rw (w.in-Book.is, w.served-is, w.input-is, w.output-is) w.converse-served-in-Book.ensures
+        ];
+        status_is = c.end.ensures.status;
+        reported = c.end.ensures.reported;
+      };
     })
 
 pub returns-in-Err-clause-status : goal.returns-in-Err-clause-status
