@@ -5,7 +5,6 @@ docs/matches.md and docs/protocol.md.
 """
 from __future__ import annotations
 
-import sys
 from dataclasses import dataclass
 from typing import Optional, Tuple, Union
 
@@ -335,7 +334,7 @@ SHELL_SYNTAX = [
 ]
 
 # It is no engine, or says something on its standard error, which is the program's. A shell takes
-# the commands for its own, and writes there alone; Python reads to the end of its input. Both are
+# the commands for its own, and writes there alone; sort reads to the end of its input. Both are
 # ended by `timeout`. A book is used under its policy alone; without it our engine plays A1.
 ENDS_AT_ONCE = [
     Mistake(
@@ -357,10 +356,10 @@ ENDS_AT_ONCE = [
         why=ended("exit status 124", said=SPOKEN, times=1),
     ),
     Mistake(
-        "Python in place of an engine",
+        "a program that reads to the end in place of an engine",
         ABANDONED_AT_ONCE,
         1,
-        f"timeout 2 {sys.executable}",
+        "timeout 2 sort",
         options=("--size", "9", "--restarts", "0"),
         why=ended("exit status 124", times=1),
     ),
