@@ -1,12 +1,16 @@
 -- What is answered to `list_commands`. (The standard, administrative commands: `list_commands` lists all known commands,
 -- one a row. The order is free, and an engine may know any others.)
-use Rattle.std.specs.Prelude.{ℕ, Bool, false, List, [], ◌∷◌}
-use Rattle.std.specs.Borrow.{Bor}
+use Rattle.std.specs.Prelude.{ℕ, Bool, false, List, [], ◌∷◌, codes}
 use Rattle.std.specs.List.{list_all, list_any, slice_split}
 use Rattle.std.specs.Str.{bytes_eq}
 use Rattle.gtp_wire.specs.Bytes.{is_newline}
 use Rattle.gtp_wire.specs.Words.{reply_words}
-use Rattle.gtp_check_judge.specs.declared.listings.TheConstants.{REQUIRED}
+
+-- the commands that the standard requires of every engine: the administrative ones, and those of setup and of play
+abbrev pub required_commands : List (List ℕ)
+required_commands =
+    codes "protocol_version" ∷ codes "name" ∷ codes "version" ∷ codes "known_command" ∷ codes "list_commands"
+    ∷ codes "quit" ∷ codes "boardsize" ∷ codes "clear_board" ∷ codes "komi" ∷ codes "play" ∷ codes "genmove" ∷ []
 
 -- the rows of a text: the parts between its newlines
 unfoldable pub rows : List ℕ → List (List ℕ)
@@ -27,9 +31,9 @@ abbrev pub is_listed : List (List ℕ) → List ℕ → Bool
 is_listed rows name = list_any (is_row_of name) rows
 
 -- each of these names has a row, wherever it stands and whatever else is there
-abbrev pub are_listed : List (List ℕ) → List (Bor (List ℕ)) → Bool
-are_listed rows names = list_all (λ name. is_listed rows name.now) names
+abbrev pub are_listed : List (List ℕ) → List (List ℕ) → Bool
+are_listed rows names = list_all (is_listed rows) names
 
--- each command that the standard requires of every engine has one
+-- each of those commands has one
 abbrev pub lists_required : List (List ℕ) → Bool
-lists_required rows = list_all (λ name. is_listed rows name.now) REQUIRED
+lists_required rows = are_listed rows required_commands

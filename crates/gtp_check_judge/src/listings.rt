@@ -1,6 +1,7 @@
 //! The reply to `list_commands`.
 ghost use Rattle.std.specs.Prelude.{◌≡◌};
-ghost use Rattle.gtp_check_judge.specs.Listings.{are_listed, is_listed, is_row_of, lists_required, rows};
+ghost use Rattle.std.specs.List.{list_all};
+ghost use Rattle.gtp_check_judge.specs.Listings.{is_listed, is_row_of, lists_required, rows};
 
 use gtp_wire::first_word;
 
@@ -28,7 +29,7 @@ pub(crate) fn lists_required(text: &[u8]) -> bool
 
 /// Returns whether a text has a row for each of these names.
 fn are_listed(text: &[u8], names: &[&[u8]]) -> bool
-    ensures { result ≡ are_listed (rows text.now) names.now }
+    ensures { result ≡ list_all (λ name. is_listed (rows text.now) name.now) names.now }
 {
     names.iter().all(|name| is_listed(text, name))
 }

@@ -1,6 +1,6 @@
 """Which lessons show the bugs of the wrong engines, and which bugs nothing shows.
 
-A row follows from the bug's source and from the tables of the lessons, in crates/gtp_check_course/specs. Most were written before a
+A row follows from the bug's source and from the tables of the lessons, in crates/gtp_check_course/src. Most were written before a
 check was run. Some were set after one, and derived then: points_twice, rows_from_the_top, columns_for_rows, the bugs for which the course
 was made longer, and some of UNNOTICED. Where a comment speaks of games that are drawn, a row is only likely. The rows of CHANCE can't be
 derived: what shows these bugs hangs on what the engine draws, so they were found by checks. So were those of some 70 bugs, which were

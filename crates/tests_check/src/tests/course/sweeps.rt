@@ -89,6 +89,19 @@ fn a_board_is_emptied_by_as_many_undos_as_it_has_moves(rt: HostRuntime) {
     }
 }
 
+/// A float of 32 bits has 24 binary digits: it represents each number of half points up to 2^24, and no odd one beyond.
+#[test]
+fn each_komi_is_exact_in_32_bits_and_each_inexact_one_is_not(rt: HostRuntime) {
+    for part in 0..Lesson::Komi.parts() {
+        let board = board(&rt, Lesson::Komi, part, 5);
+        let half_points = board.komi.half_points().unsigned_abs();
+        let most = if part < 10 { 2_000 } else { 16_777_216 };
+        assert_true_for(&rt, part, half_points <= most);
+        let inexact = board.inexact_komi.half_points().unsigned_abs();
+        assert_true_for(&rt, part, inexact > 16_777_216 && inexact % 2 == 1);
+    }
+}
+
 #[test]
 fn sixteen_komis_are_asked_and_each_lesson_has_a_name_of_its_own(rt: HostRuntime) {
     let parts = Lesson::Komi.parts();
