@@ -233,9 +233,9 @@ last_games games whole = record { games = games; is_whole = whole; kept = None }
 abbrev pub standing_before : ℕ → Bool → Shortening
 standing_before kept whole = record { games = 1; is_whole = whole; kept = Some kept }
 
--- They are tried in this order. At first come the last commands, on the board as it stood before them: a few whole, and
--- more of them flat. Then come ever more of the last games: whole, and the most of them flat.
+-- They are tried in this order. At first come ever more of the last commands, on the board as it stood before them: a few
+-- whole, and more of them flat. Then come ever more of the last games: one flat and whole, more whole, and the most flat.
 abbrev pub shortenings : List Shortening
 shortenings =
-    standing_before 8 true ∷ standing_before 128 false ∷ last_games 1 true ∷ last_games 16 true ∷
-    last_games 256 false ∷ []
+    standing_before 1 false ∷ standing_before 8 true ∷ standing_before 64 false ∷ standing_before 256 false ∷
+    last_games 1 false ∷ last_games 1 true ∷ last_games 16 true ∷ last_games 256 false ∷ []

@@ -51,12 +51,15 @@ pub enum Role {
 }
 
 /// Returns the shortenings to try, in this order.
-pub fn shortenings() -> [Shortening; 5]
+pub fn shortenings() -> [Shortening; 8]
     ensures { result ≡ shortenings }
 {
     [
+        standing_before(1, false),
         standing_before(8, true),
-        standing_before(128, false),
+        standing_before(64, false),
+        standing_before(256, false),
+        last_games(1, false),
         last_games(1, true),
         last_games(16, true),
         last_games(256, false),
