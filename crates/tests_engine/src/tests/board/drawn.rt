@@ -186,6 +186,25 @@ fn draw(rt: &impl Abort, state: &mut u64, game: &Game) -> Move {
     Move { colour, vertex }
 }
 
+/// Tries a random move in both games.
+fn play_drawn(
+    rt: &impl Abort,
+    state: &mut u64,
+    game: &mut Game,
+    plain: &mut PlainGame,
+    refused: &mut Refused,
+) {
+    let made = draw(rt, state, game);
+    play_both(rt, game, plain, made, refused);
+    assert_same(rt, game, plain);
+}
+
+/// Undoes the last move of both games, if there is one.
+fn undo_both(rt: &impl Abort, game: &mut Game, plain: &mut PlainGame) {
+    assert_equal(rt, game.undo(), plain.undo());
+    assert_same(rt, game, plain);
+}
+
 #[test]
 fn random_games_go_as_plain_ones(rt: HostRuntime) {
     let mut state = 7_u64;
@@ -201,12 +220,9 @@ fn random_games_go_as_plain_ones(rt: HostRuntime) {
             plain.begin_with(Colour::Black, at(&rt, 5, 5));
         }
         for _ in 0..80 {
-            let made = draw(&rt, &mut state, &game);
-            play_both(&rt, &mut game, &mut plain, made, &mut refused);
-            assert_same(&rt, &game, &plain);
+            play_drawn(&rt, &mut state, &mut game, &mut plain, &mut refused);
             if below(&mut state, 10) == 0 {
-                assert_equal(&rt, game.undo(), plain.undo());
-                assert_same(&rt, &game, &plain);
+                undo_both(&rt, &mut game, &mut plain);
             }
         }
         let mut listed = NONE;
