@@ -4,6 +4,7 @@ import signal
 import subprocess
 import sys
 import time
+from contextlib import suppress
 
 from tests.shared import checks, running
 
@@ -39,7 +40,8 @@ class Alone:
         with running.started(words, stdin=reads, encoding="utf-8", env=self.here.environment) as process:
             os.close(reads)
             with open(writes, "wb", buffering=0) as given:
-                given.write(text.encode())
+                with suppress(BrokenPipeError):  # what starts nothing may have ended before
+                    given.write(text.encode())
                 return running.Came(process.wait(LIMIT), process.stdout.read(), process.stderr.read())
 
     def lines(self):
@@ -124,9 +126,10 @@ class Passing(Case):
                 for number in (signal.SIGTERM, signal.SIGINT, signal.SIGHUP):
                     between.send_signal(number)
                 time.sleep(0.1)
+                here.until(alone.lines, 60)
                 self.check("who asks a game to end asks twogtp and the engine, and it goes on", None, between.poll())
                 between.kill()
-                gone = here.until(lambda: not running_state(engine), 5)
+                gone = here.until(lambda: not running_state(engine), 60)
             self.check("the engine ends with what stands between", (True, ["0 black started S"]), (gone, alone.lines()))
 
     def test_game_ends(self):
