@@ -28,10 +28,6 @@ pub record AreRaised (board : List Cell) (ids old new : List ℕ) (p : ℕ) : Ty
   pub each : (id : ℕ) → id < place_count
       → count_at new id ≡ count_at old id + ids_beside board ids id p
 
--- the most pseudo-liberties of an id: four neighbours for each place
-abbrev pub most_pseudo_liberties : ℕ
-most_pseudo_liberties = 2808
-
 -- no number is over this
 abbrev pub IsBelow : ℕ → List ℕ → Type 0
 IsBelow most counts = (id : ℕ) → id < place_count → count_at counts id ≤ most

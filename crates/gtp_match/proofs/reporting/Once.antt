@@ -121,20 +121,6 @@ adds_retake c side e reply o owed count before after is retake loss = record {
       ∙ ap (option_or before.retake) (sym (is text));
 }
 
--- or what else the reply shows
-pub adds_cause : (c : Controller) (side : Colour) (e : EngineRun) (reply : Reply) (o : Outcome) (owed : Owed)
-    (cause : Option LossCause) (before after : Report) → IsRetakeCount c side e o None
-    → HasLossCause c side e reply o cause → after.retake ≡ before.retake
-    → after.loss ≡ first_of before.loss (option_map (loss_owing owed) cause)
-    → AddsReply c side e reply o owed before after
-adds_cause c side e reply o owed cause before after is has retake loss = record {
-  cause = cause;
-  has = has;
-  loss = loss;
-  retake = λ text owed_is.
-      retake ∙ sym (or_none before.retake) ∙ ap (option_or before.retake) (sym (is text));
-}
-
 -- ---- what a reader returned, of an engine that is up and before any verdict
 
 -- what a reply adds is the same once its bytes were read
