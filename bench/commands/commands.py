@@ -93,10 +93,17 @@ def plays_of(engines, size, half):
     random.Random(1).shuffle(points)
     tried = [f"play {'bw'[number % 2]} {point}" for number, point in enumerate(points)]
     start = [f"boardsize {size}", "clear_board"]
-    taken = [play for play, reply in zip(tried, replies(engines[0].split(), start + tried)[2:]) if reply.startswith("=")]
+    taken = [
+        play
+        for play, reply in zip(tried, replies(engines[0].split(), start + tried)[2:])
+        if reply.startswith("=")
+    ]
     plays = taken[: size * size // 2]
     for engine in engines:
-        if not all(reply.startswith("=") for reply in replies(with_book(engine, size, plays), start + plays)[:-1]):
+        if not all(
+            reply.startswith("=")
+            for reply in replies(with_book(engine, size, plays), start + plays)[:-1]
+        ):
             sys.exit(f"bench: {engine} refuses a play of the position")
     return plays
 
@@ -104,7 +111,12 @@ def plays_of(engines, size, half):
 def free_point(size, plays):
     """The first point that no play named."""
     named = {play.split()[2] for play in plays}
-    return next(letter + str(row) for letter in LETTERS[:size] for row in range(1, size + 1) if letter + str(row) not in named)
+    return next(
+        letter + str(row)
+        for letter in LETTERS[:size]
+        for row in range(1, size + 1)
+        if letter + str(row) not in named
+    )
 
 
 def with_book(engine, size, plays):
@@ -122,7 +134,9 @@ def found(engine):
         subprocess.run([os.path.join(TOP, "build"), "--needed"], check=True)
     program = shutil.which(words[0]) or shutil.which(words[0], path=GAMES)
     if program is None:
-        sys.exit(f"bench: there is no program {words[0]}: ./build makes ours, and Debian has the packages gnugo and leela-zero")
+        sys.exit(
+            f"bench: there is no program {words[0]}: ./build makes ours, and Debian has the packages gnugo and leela-zero"
+        )
     return " ".join([program if "/" not in words[0] else words[0], *words[1:]])
 
 
@@ -149,7 +163,9 @@ class Program:
             text = self.last + piece
             came += text.count(self.mark)
             ended = text.endswith(self.mark)
-            self.last = b"" if ended else text[-(len(self.mark) - 1) :] if len(self.mark) > 1 else b""
+            self.last = (
+                b"" if ended else text[-(len(self.mark) - 1) :] if len(self.mark) > 1 else b""
+            )
 
     def peak_kilobytes(self):
         with open(f"/proc/{self.process.pid}/status", encoding="ascii") as status:
@@ -202,7 +218,11 @@ def seconds_each(program, command, between, most):
 
 def timed(program, command, between, count):
     """The seconds of `count` commands: in one burst, or one at a time where there are commands between them."""
-    return timed_singly(program, command, between, count) if between else timed_burst(program, command, count)
+    return (
+        timed_singly(program, command, between, count)
+        if between
+        else timed_burst(program, command, count)
+    )
 
 
 def timed_burst(program, command, count):
@@ -247,21 +267,32 @@ def position_table(options):
     """Measures a command in a position, for each program in turn, and prints a line for each."""
     plays = plays_of(options.engines, options.size, options.half)
     before = [f"boardsize {options.size}", "clear_board"] + plays
-    between = [line.replace("{free}", free_point(options.size, plays)) for line in BETWEEN.get(options.work, [])]
+    between = [
+        line.replace("{free}", free_point(options.size, plays))
+        for line in BETWEEN.get(options.work, [])
+    ]
     best = {}
     for _ in range(options.rounds):
         for engine in options.engines:
             words = with_book(engine, options.size, plays)
-            got = measure_position(words, before, POSITION_WORKS[options.work], between, options.count)
+            got = measure_position(
+                words, before, POSITION_WORKS[options.work], between, options.count
+            )
             best[engine] = min(best.get(engine, got), got)
     first = best[options.engines[0]][0]
-    print(f"{options.work} on {options.size}x{options.size} with {len(plays)} plays, the best of {options.rounds} rounds")
+    print(
+        f"{options.work} on {options.size}x{options.size} with {len(plays)} plays, the best of {options.rounds} rounds"
+    )
     for engine, (each, count, peak) in best.items():
-        print(f"{engine}: {each * 1e6:,.1f} microseconds each of {count:,}, {each / first:,.2f} times the first's time, peak {peak} kB")
+        print(
+            f"{engine}: {each * 1e6:,.1f} microseconds each of {count:,}, {each / first:,.2f} times the first's time, peak {peak} kB"
+        )
 
 
 def main():
-    parser = argparse.ArgumentParser(description=__doc__, formatter_class=argparse.RawDescriptionHelpFormatter)
+    parser = argparse.ArgumentParser(
+        description=__doc__, formatter_class=argparse.RawDescriptionHelpFormatter
+    )
     parser.add_argument("--work", default="name")
     parser.add_argument("--size", type=int, default=19, choices=range(5, 26))
     parser.add_argument("--half", action="store_true")
@@ -272,7 +303,9 @@ def main():
     options = parser.parse_args()
     options.engines = [found(engine) for engine in options.engines]
     if options.work == "name" and shutil.which("cc") is None:
-        sys.exit("bench: there is no cc, which compiles the limit of this work, bench/commands/copy.c (apt-get install gcc libc6-dev)")
+        sys.exit(
+            "bench: there is no cc, which compiles the limit of this work, bench/commands/copy.c (apt-get install gcc libc6-dev)"
+        )
     if options.work in POSITION_WORKS:
         position_table(options)
         return
@@ -296,7 +329,9 @@ def main():
     print(f"{options.work}: {len(lines)} commands {way}, the best of {options.rounds} rounds")
     for name, _, _ in rows:
         seconds, peak = best[name]
-        print(f"{name}: {len(lines) / seconds:,.0f} a second, {seconds / first:.2f} times the first's time, peak {peak} kB")
+        print(
+            f"{name}: {len(lines) / seconds:,.0f} a second, {seconds / first:.2f} times the first's time, peak {peak} kB"
+        )
 
 
 if __name__ == "__main__":

@@ -43,7 +43,9 @@ class Figures:
 def run(folder, trial, limit=LIMIT):
     """What comes of a trial with the programs of this folder."""
     command, pipe = [f"./{trial.program}", *trial.words], subprocess.PIPE
-    with subprocess.Popen(command, cwd=folder, stdin=pipe, stdout=pipe, stderr=pipe, start_new_session=True) as process:
+    with subprocess.Popen(
+        command, cwd=folder, stdin=pipe, stdout=pipe, stderr=pipe, start_new_session=True
+    ) as process:
         try:
             return Ran(*process.communicate(trial.text, limit), process.returncode)
         except subprocess.TimeoutExpired:
@@ -59,7 +61,9 @@ def differ(one, other):
 def is_of_clap(ran):
     """Is what came of a trial a text of clap's own: the help, or a mistake in the arguments? One version of clap words it otherwise than
     another."""
-    return (ran.status == 0 and b"\nUsage: " in b"\n" + ran.output) or (ran.status == 2 and not ran.output and ran.errors.startswith(b"error: "))
+    return (ran.status == 0 and b"\nUsage: " in b"\n" + ran.output) or (
+        ran.status == 2 and not ran.output and ran.errors.startswith(b"error: ")
+    )
 
 
 def differ_but_for_clap(one, other):
@@ -71,7 +75,9 @@ def compare(one, other, trials, workers=None, differ=differ):
     """Runs the trials with the programs of two folders, some at once. The differences, and the figures."""
     differences, figures = [], Figures()
     with ThreadPoolExecutor(workers or max(1, (os.cpu_count() or 2) // 2)) as pool:
-        for trial, ran, its in pool.map(lambda trial: (trial, run(one, trial), run(other, trial)), trials):
+        for trial, ran, its in pool.map(
+            lambda trial: (trial, run(one, trial), run(other, trial)), trials
+        ):
             figures.add(trial, ran)
             if differ(ran, its):
                 differences.append(Difference(trial, ran, its))
@@ -84,12 +90,21 @@ def shown(difference, one, other):
     command = shlex.join(os.fsdecode(word) for word in [f"./{trial.program}", *trial.words])
     text = [f"{trial.name}: {command}"]
     if difference.one.status != difference.other.status:
-        text.append(f"  the status is {difference.one.status} in {one}, {difference.other.status} in {other}")
+        text.append(
+            f"  the status is {difference.one.status} in {one}, {difference.other.status} in {other}"
+        )
     for what in ("output", "errors"):
-        left, right = (getattr(ran, what).split(b"\n") for ran in (difference.one, difference.other))
-        at = next((at for at, (its, others) in enumerate(zip(left, right)) if its != others), min(len(left), len(right)))
+        left, right = (
+            getattr(ran, what).split(b"\n") for ran in (difference.one, difference.other)
+        )
+        at = next(
+            (at for at, (its, others) in enumerate(zip(left, right)) if its != others),
+            min(len(left), len(right)),
+        )
         if left != right:
-            text.append(f"  {what}, line {at + 1}:\n    {line_of(left, at)} in {one}\n    {line_of(right, at)} in {other}")
+            text.append(
+                f"  {what}, line {at + 1}:\n    {line_of(left, at)} in {one}\n    {line_of(right, at)} in {other}"
+            )
     return "\n".join(text)
 
 

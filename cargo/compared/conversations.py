@@ -30,7 +30,9 @@ def conversation(seed, number):
     r = random.Random(f"{seed} {number}")
     kind = r.choice(RARE_KINDS if r.random() < 0.05 else KINDS)
     talk = reference.conversation(kind, f"{seed} {number}")
-    return Trial(f"conversation {number} of seed {seed}", "gtp_engine", words_of(r, talk), talk.data)
+    return Trial(
+        f"conversation {number} of seed {seed}", "gtp_engine", words_of(r, talk), talk.data
+    )
 
 
 def conversations(seed, count):
@@ -53,7 +55,9 @@ def words_of(r, talk):
 
 def fault(r):
     """A fault that the engine knows. Where it ends at one, its reply isn't whole: else a controller would write to it once more."""
-    return r.choice(FAULTS).format(n=r.choice([1, 2, 3, 5, 8, r.randint(1, 40)]), k=r.choice([0, 1, 2, 4, 6]))
+    return r.choice(FAULTS).format(
+        n=r.choice([1, 2, 3, 5, 8, r.randint(1, 40)]), k=r.choice([0, 1, 2, 4, 6])
+    )
 
 
 def spoil(r, options):

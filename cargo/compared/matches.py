@@ -11,7 +11,14 @@ from .conversations import fault
 SIZES = [1, 2, 3, 4, 5, 7, 9, 9, 9, 13, 19, 25]
 KOMIS = ["6.5", "0", "-3.5", "7", "0.5", "100.5", "999999999.5", "-0"]
 ENTRIES = ["C3", "D4", "", "E5", "resign", "A1", "pass", "B2", "T19", "Z25"]
-NOT_STARTED = ["./no_such_engine", "no_such_engine", "/etc/passwd", "/etc/passwd/x", "/", "./" + "x" * 300]
+NOT_STARTED = [
+    "./no_such_engine",
+    "no_such_engine",
+    "/etc/passwd",
+    "/etc/passwd/x",
+    "/",
+    "./" + "x" * 300,
+]
 ODD_WORDS = [
     ["--size", "0"], ["--size=26"], ["--komi=6.7"], ["--handicap", "1"], ["--games", "0"], ["--max-moves=2001"], ["--restarts", "1001"],
     ["--why", "--why"], ["--help"], ["--version"], ["--black="], ["--x"], [b"\xff"], ["x"], ["--games", "4294967297"],
@@ -57,7 +64,13 @@ def engine(r):
 
 def right_engine(r):
     """The command of an engine of ours, which may fail on request."""
-    words = ["./gtp_engine", "--policy", r.choice(["random", "random", "random", "first", "book"]), "--seed", str(r.randint(0, 9999))]
+    words = [
+        "./gtp_engine",
+        "--policy",
+        r.choice(["random", "random", "random", "first", "book"]),
+        "--seed",
+        str(r.randint(0, 9999)),
+    ]
     if r.random() < 0.3:
         words += ["--ko", r.choice(["simple", "positional"])]
     if r.random() < 0.2:

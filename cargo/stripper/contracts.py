@@ -52,7 +52,11 @@ def clauses_by_item(parts):
                 function = None
         elif part.kind == "clause":
             if function is None or depth != 0:
-                raise Refused("clause of a closure", "it would be shown as one of the function around it", part.line)
+                raise Refused(
+                    "clause of a closure",
+                    "it would be shown as one of the function around it",
+                    part.line,
+                )
             clauses_of.setdefault(item_start(parts, function), []).append(part.text)
     return clauses_of
 
@@ -66,7 +70,10 @@ def documented(parts):
             before = parts[at - 1].text if at and parts[at - 1].kind == "space" else ""
             indent = before[before.rfind("\n") + 1 :]
             has_comment = at > 1 and parts[at - 2].kind == "doc"
-            lines = ([f"{indent}///"] if has_comment else []) + [f"{indent}/// {HEADING}", f"{indent}///"]
+            lines = ([f"{indent}///"] if has_comment else []) + [
+                f"{indent}/// {HEADING}",
+                f"{indent}///",
+            ]
             lines += shown(clauses_of[at], indent)
             made.append(Part("doc", "\n".join(lines).lstrip() + "\n" + indent, part.line))
         if part.kind != "clause":

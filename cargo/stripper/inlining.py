@@ -10,7 +10,9 @@ def end_of(lines, at, margin):
     for end in range(at, min(at + MOST_LINES, len(lines))):
         if end > at and lines[end] == margin + "}":
             return end
-        if lines[end].rstrip().endswith(";") and not any("{" in line for line in lines[at : end + 1]):
+        if lines[end].rstrip().endswith(";") and not any(
+            "{" in line for line in lines[at : end + 1]
+        ):
             return None
     return None
 
@@ -21,7 +23,11 @@ def inlined(text):
     made = []
     for at, line in enumerate(lines):
         found = FUNCTION.match(line)
-        if found and end_of(lines, at, found.group(1)) and not (made and made[-1].strip().startswith("#[inline")):
+        if (
+            found
+            and end_of(lines, at, found.group(1))
+            and not (made and made[-1].strip().startswith("#[inline"))
+        ):
             made.append(found.group(1) + "#[inline]")
         made.append(line)
     return "\n".join(made)

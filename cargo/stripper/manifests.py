@@ -10,7 +10,12 @@ OTHERS = {
     "rand_core": 'version = "0.6.3", default-features = false',
     "clap": 'version = "4.0.32", default-features = false, features = ["std", "help", "usage", "error-context", "suggestions", "string"]',
 }
-BUILT = ("gtp_check", "gtp_engine", "twogtp", "vintsaky")  # the crates that cargo builds where none is named
+BUILT = (
+    "gtp_check",
+    "gtp_engine",
+    "twogtp",
+    "vintsaky",
+)  # the crates that cargo builds where none is named
 SHIMMED = ("rand_core", "clap")
 SHIMS = ("kit_ffi", "kit_simd", "kit_std")
 # Why each lint of clippy is allowed. The sources are proved as they are, and a change has to make them better in itself.
@@ -113,7 +118,9 @@ def dependency(name):
 def manifest(name, is_library_of_c, is_program, needs, test_needs):
     """The manifest of a crate."""
     package = f"{name}_c" if is_library_of_c else name
-    inherited = "".join(f"{key}.workspace = true\n" for key in ("version", "edition", "rust-version", "publish"))
+    inherited = "".join(
+        f"{key}.workspace = true\n" for key in ("version", "edition", "rust-version", "publish")
+    )
     text = f'[package]\nname = "{package}"\n{inherited}\n[lints]\nworkspace = true\n'
     if is_library_of_c:
         text += f'\n[lib]\nname = "{name}"\ncrate-type = ["staticlib", "cdylib"]\ndoc = false\n'
@@ -133,7 +140,9 @@ def workspace(members, version, paths):
         others += f"{name} = {{ {wanted}{where} }}\n"
     quoted = ", ".join(f'"{member}"' for member in members)
     built = ", ".join(f'"crates/{name}"' for name in BUILT)
-    return WORKSPACE.format(members=quoted, built=built, version=version, others=others, lints=LINTS)
+    return WORKSPACE.format(
+        members=quoted, built=built, version=version, others=others, lints=LINTS
+    )
 
 
 def version_of(cli):

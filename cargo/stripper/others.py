@@ -13,9 +13,13 @@ from pathlib import Path
 
 DEBIAN = Path("/usr/share/cargo/registry")
 PACKAGES = "librust-arrayvec-dev librust-thiserror-dev librust-rand-pcg-dev librust-rand-core-dev librust-clap-dev"
-TABLE = re.compile(r'(?m)^\[(?:target\..*\.)?(?:dependencies|build-dependencies)\.(?P<quoted>"?)(?P<name>[\w-]+)(?P=quoted)\]\n(?P<rows>(?:(?!\[).*\n?)*)')
+TABLE = re.compile(
+    r'(?m)^\[(?:target\..*\.)?(?:dependencies|build-dependencies)\.(?P<quoted>"?)(?P<name>[\w-]+)(?P=quoted)\]\n(?P<rows>(?:(?!\[).*\n?)*)'
+)
 RENAMED = re.compile(r'(?m)^package = "([^"]+)"')
-CHANGED = "# Changed by cargo/strip: each `path` says where a crate lies, and no warning is shown.\n"
+CHANGED = (
+    "# Changed by cargo/strip: each `path` says where a crate lies, and no warning is shown.\n"
+)
 QUIET = '\n[lints.rust]\nwarnings = "allow"\n'  # cargo shows no warning of a crate of its registry
 LEAST = 87  # the second number of the first cargo, and of the first rustc, that build it
 LIMIT = 120  # seconds that a call of cargo may take here
@@ -42,7 +46,13 @@ def cargo(folder, *words):
     command = ["cargo", *words, "--manifest-path", str(folder / "Cargo.toml")]
     try:
         done = subprocess.run(
-            command, cwd=folder, env={**os.environ, **quick}, stdin=subprocess.DEVNULL, capture_output=True, text=True, timeout=LIMIT
+            command,
+            cwd=folder,
+            env={**os.environ, **quick},
+            stdin=subprocess.DEVNULL,
+            capture_output=True,
+            text=True,
+            timeout=LIMIT,
         )
     except subprocess.TimeoutExpired:
         return 1, ""
@@ -52,19 +62,25 @@ def cargo(folder, *words):
 def look_at_cargo():
     """Is there a cargo that is new enough?"""
     try:
-        said = subprocess.run(["cargo", "--version"], capture_output=True, text=True, stdin=subprocess.DEVNULL).stdout
+        said = subprocess.run(
+            ["cargo", "--version"], capture_output=True, text=True, stdin=subprocess.DEVNULL
+        ).stdout
     except FileNotFoundError:
         raise Missing(f"there is no cargo: 1.{LEAST} or later is needed") from None
     found = re.match(r"cargo 1\.(\d+)\.", said)
     if found and int(found[1]) < LEAST:
-        raise Missing(f"{said.strip()} is too old: 1.{LEAST} or later is needed (on Debian rustc-web and cargo-web)")
+        raise Missing(
+            f"{said.strip()} is too old: 1.{LEAST} or later is needed (on Debian rustc-web and cargo-web)"
+        )
 
 
 def probe(folder, wanted):
     """A package that needs the other crates and nothing else, by which cargo is asked for them."""
     (folder / "src").mkdir()
     (folder / "src/lib.rs").write_text("")
-    (folder / "Cargo.toml").write_text(PROBE + "".join(f"{name} = {{ {what} }}\n" for name, what in wanted.items()))
+    (folder / "Cargo.toml").write_text(
+        PROBE + "".join(f"{name} = {{ {what} }}\n" for name, what in wanted.items())
+    )
 
 
 def packages_of(folder, *words):
@@ -72,7 +88,11 @@ def packages_of(folder, *words):
     status, output = cargo(folder, "metadata", "--offline", "--format-version", "1", *words)
     if status:
         return None
-    return {(it["name"], it["version"]): Path(it["manifest_path"]).parent for it in json.loads(output)["packages"] if it["source"]}
+    return {
+        (it["name"], it["version"]): Path(it["manifest_path"]).parent
+        for it in json.loads(output)["packages"]
+        if it["source"]
+    }
 
 
 def of_registry(folder):
@@ -85,7 +105,9 @@ def of_registry(folder):
 def of_debian(folder):
     """Those of Debian's packages, where these are installed."""
     source = f'source.debian.directory="{DEBIAN}"'
-    return packages_of(folder, "--config", 'source.crates-io.replace-with="debian"', "--config", source)
+    return packages_of(
+        folder, "--config", 'source.crates-io.replace-with="debian"', "--config", source
+    )
 
 
 def find(wanted, where=None):
@@ -100,7 +122,9 @@ def find(wanted, where=None):
             (folder / "Cargo.lock").unlink(missing_ok=True)
     if where == "registry":
         raise Missing("cargo doesn't reach its registry")
-    raise Missing(f"cargo doesn't reach its registry, and Debian's packages are not all here: apt-get install {PACKAGES}")
+    raise Missing(
+        f"cargo doesn't reach its registry, and Debian's packages are not all here: apt-get install {PACKAGES}"
+    )
 
 
 def with_paths(manifest, taken):
@@ -124,7 +148,11 @@ def files_of(folder, taken):
     found = {}
     for path in folder.rglob("*"):
         inside = path.relative_to(folder)
-        if path.is_file() and path.name != "Cargo.toml.orig" and not any(part.startswith(".") for part in inside.parts):
+        if (
+            path.is_file()
+            and path.name != "Cargo.toml.orig"
+            and not any(part.startswith(".") for part in inside.parts)
+        ):
             found[inside] = path.read_bytes()
     found[Path("Cargo.toml")] = with_paths((folder / "Cargo.toml").read_text(), taken).encode()
     return found
@@ -132,7 +160,9 @@ def files_of(folder, taken):
 
 def lay(folder, files):
     """Makes the files those of the folder. One that is the same stays as it is, or cargo would build what stands on it anew."""
-    for path in [it for it in folder.rglob("*") if it.is_file() and it.relative_to(folder) not in files]:
+    for path in [
+        it for it in folder.rglob("*") if it.is_file() and it.relative_to(folder) not in files
+    ]:
         path.unlink()
     for path, data in files.items():
         at = folder / path

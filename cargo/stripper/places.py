@@ -86,7 +86,9 @@ def parameters(code, at):
     """The type parameters of the angle brackets that begin here, each with its bounds."""
     inner = code[at + 1 : end_of_angles(code, at) - 1]
     pieces = [piece.split("=")[0] if ":" not in piece else piece for piece in split(inner)]
-    named = [piece.partition(":") for piece in pieces if piece and not piece.startswith(("'", "const "))]
+    named = [
+        piece.partition(":") for piece in pieces if piece and not piece.startswith(("'", "const "))
+    ]
     return {name.strip(): bounds for name, _, bounds in named}
 
 

@@ -23,7 +23,9 @@ class Code:
     def __init__(self, parts):
         self.held = [part.text for part in parts if part.kind in HIDDEN]
         numbers = iter(range(len(self.held)))
-        self.text = "".join(f"\0{next(numbers)}\0" if part.kind in HIDDEN else part.text for part in parts)
+        self.text = "".join(
+            f"\0{next(numbers)}\0" if part.kind in HIDDEN else part.text for part in parts
+        )
 
     def whole(self):
         """The code with its comments and literals."""
@@ -77,10 +79,14 @@ def runtime(code):
 def calls(code):
     """The calls to which the kit hands the runtime or the allocator, where Rust's have other arguments."""
     code = re.sub(r"(?<!\w)(assert|assert_eq|assert_ne|panic)!\(\s*&?rt;\s*", r"\1!(", code)
-    code = re.sub(r"(?<![:\w])(println|format)!(?=\(\s*(?:&?rt|in [\w.()]+);)", r"kit_std::\1!", code)
+    code = re.sub(
+        r"(?<![:\w])(println|format)!(?=\(\s*(?:&?rt|in [\w.()]+);)", r"kit_std::\1!", code
+    )
     code = re.sub(r"\.expect\(&?rt,\s*", ".expect(", code)
     code = re.sub(r"\.(collect|to_string)\((?=\s*[^\s)])", r".\1_in(", code)
-    code = re.sub(r"\bErrorKind::Uncategorized =>", "kind if kit_std::io::is_uncategorized(kind) =>", code)
+    code = re.sub(
+        r"\bErrorKind::Uncategorized =>", "kind if kit_std::io::is_uncategorized(kind) =>", code
+    )
     return code.replace("ErrorKind::Uncategorized", "kit_std::io::uncategorized()")
 
 
@@ -125,9 +131,15 @@ def exported(code):
         inner = ",".join([parameter(text, name, lent) for text in pieces])
         rest = re.compile(r"[^{;]*").match(code, end)
         if SLICE.search(rest.group()):
-            raise Refused("slice of C", f"it isn't known what {name} hands C: `{shown(rest.group())}`")
+            raise Refused(
+                "slice of C", f"it isn't known what {name} hands C: `{shown(rest.group())}`"
+            )
         if lent and code[rest.end() : rest.end() + 1] == "{":
-            head = head if re.search(r"\bunsafe\s+extern\b", head) else head.replace("extern", "unsafe extern", 1)
+            head = (
+                head
+                if re.search(r"\bunsafe\s+extern\b", head)
+                else head.replace("extern", "unsafe extern", 1)
+            )
             made += code[done : found.start()] + f"{head}({inner}){rest.group()}{{{''.join(lent)}"
             done = rest.end() + 1
         elif lent:
@@ -139,7 +151,11 @@ def laid_out(code, held):
     """The code as it is laid out where a ghost is gone. No brace comes to stand in a comment that ends with its line."""
 
     def brace(found):
-        return found.group() if held[int(found["number"])].startswith("//") else f"{found['last']} {{\n"
+        return (
+            found.group()
+            if held[int(found["number"])].startswith("//")
+            else f"{found['last']} {{\n"
+        )
 
     code = re.sub(r"(?P<last>\0(?P<number>\d+)\0)\s*\n\s*\{\n", brace, code)
     code = re.sub(r"(?<!\0)(?<!\s)\s*\n\s*\{\n", " {\n", code)
@@ -158,4 +174,8 @@ def rewrite(code, is_of_kit):
 
 def safety(code):
     """Puts the section of documentation that clippy wants above an unsafe function."""
-    code.text = re.sub(r"(#\[unsafe\(no_mangle\)\]\npub unsafe extern)", lambda found: SAFETY + found.group(1), code.text)
+    code.text = re.sub(
+        r"(#\[unsafe\(no_mangle\)\]\npub unsafe extern)",
+        lambda found: SAFETY + found.group(1),
+        code.text,
+    )

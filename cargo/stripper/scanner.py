@@ -26,7 +26,9 @@ MODEL = re.compile(r"impl\b\s*(?:<[^{};/]*>)?\s*(?:\w+::)*Model\s+for\b[^{};/]*(
 GHOST = re.compile(r"(?:pub(?:\([^)]*\))?\s+)?ghost\b")
 GHOST_USE = re.compile(r"\s+use\b")
 BY = re.compile(r"\s*by\s*(?=\{)")
-OF_THE_CHECK = re.compile(r"\[(?:(?:tactic|cycle)\b|derive\(Drop\)\])")  # the attributes that go with a ghost
+OF_THE_CHECK = re.compile(
+    r"\[(?:(?:tactic|cycle)\b|derive\(Drop\)\])"
+)  # the attributes that go with a ghost
 COMMENT_EDGE = re.compile(r"/\*|\*/")
 HIDDEN = ("doc", "note", "text")  # kinds of parts in which no code stands
 
@@ -104,7 +106,12 @@ def end_of_ghost(text, at):
     if ghost := GHOST.match(text, at):
         if not GHOST_USE.match(text, ghost.end()):
             return end_of_member(text, ghost.end())
-        return found_or_refused(text.find(";", ghost.end()), "open ghost", "an import of a ghost has no end") + 1
+        return (
+            found_or_refused(
+                text.find(";", ghost.end()), "open ghost", "an import of a ghost has no end"
+            )
+            + 1
+        )
     if model := MODEL.match(text, at):
         return end_of_braces(text, model.end())
     if clause := CLAUSE.match(text, at):
@@ -120,7 +127,9 @@ def part_of_rust(text, at):
     found = RUST.match(text, at)
     if found.lastgroup == "raw":
         close = '"' + RAW.match(text, at).group(1)
-        return "text", found_or_refused(text.find(close, found.end()), "open text", "a text is not closed") + len(close)
+        return "text", found_or_refused(
+            text.find(close, found.end()), "open text", "a text is not closed"
+        ) + len(close)
     if found.lastgroup == "block":
         return "note", end_of_block_comment(text, at)
     if found.group() == '"':
@@ -145,7 +154,9 @@ def refuse_what_is_above(parts, line):
     at = len(parts)
     while at and (parts[at - 1].kind == "space" or parts[at - 1].kind in ("doc", "note")):
         at -= 1
-        if parts[at].text.startswith(("///", "/**")) and not parts[at].text.startswith(("////", "/***", "/**/")):
+        if parts[at].text.startswith(("///", "/**")) and not parts[at].text.startswith(
+            ("////", "/***", "/**/")
+        ):
             raise Refused("comment of a ghost", "it would be the comment of the next item", line)
     if at and parts[at - 1].text == "]":
         above = attribute_above(parts, at)

@@ -4,10 +4,21 @@ Each function yields the places of a form. What isn't known to mean the same is 
 """
 import re
 
-from .places import bodies, end_of_angles, end_of_group, parameters, split, start_of_group, type_parameters, until
+from .places import (
+    bodies,
+    end_of_angles,
+    end_of_group,
+    parameters,
+    split,
+    start_of_group,
+    type_parameters,
+    until,
+)
 
 # Words after which an operand begins: what stands before them is none.
-NO_OPERAND = set("return in match if while else break let mut ref move as const static for where yield loop unsafe dyn".split())
+NO_OPERAND = set(
+    "return in match if while else break let mut ref move as const static for where yield loop unsafe dyn".split()
+)
 OPERAND = re.compile(r"(?:(\w+)|[)\]}?])\s*$")
 RANGE = re.compile(r"(?<!\.)\.\.(?![.=])")
 OF_PATTERN = re.compile(r"\s*(?:=>|\|[^|])")
@@ -15,15 +26,15 @@ NO_END = re.compile(r"\s*(?:[),;{\]}|.?]|=|if\b|else\b|as\b|$)")
 GET = re.compile(r"\.\s*get(?:_mut)?\s*$")
 
 WRITTEN = re.compile(r"\bwrite(?:ln)?\s*!\s*|(?<!fn )\b(?:write_str|write_char)\b\s*")
-HANDLED = re.compile(r"\s*\.\s*(?:is_ok\s*\(|is_err\s*\(|map_err\s*\(\s*(?:std::)?fmt::Error::from\s*\))")
+HANDLED = re.compile(
+    r"\s*\.\s*(?:is_ok\s*\(|is_err\s*\(|map_err\s*\(\s*(?:std::)?fmt::Error::from\s*\))"
+)
 FMT = re.compile(r"\bfn\s+fmt\s*\([^{};]*->\s*(?:std::)?fmt::Result\s*$")
 
 # What a blanket impl may ask of a type: traits whose impls are the same in both.
 BLANKET = {"Read", "Write", "Maker", "?Sized"}
 # The traits that a type may have by a derive, or in the kit and not in Rust.
-DERIVED = (
-    r"\b(?:Clone|Copy|Debug|Default|Display|Eq|Hash|Ord|PartialEq|PartialOrd|Send|Sync|From|Into|TryFrom|TryInto|ToString|Error)\b"
-)
+DERIVED = r"\b(?:Clone|Copy|Debug|Default|Display|Eq|Hash|Ord|PartialEq|PartialOrd|Send|Sync|From|Into|TryFrom|TryInto|ToString|Error)\b"
 RESULT = re.compile(r"\b(?:Option|Result)\s*(?:::\s*)?$")
 IMPL = re.compile(r"\bimpl\s*(?=<)")
 TRAIT = r"\btrait\s+(\w+)[^{;]*\{"
@@ -58,13 +69,27 @@ def ranges_with_no_end(code):
     for found in RANGE.finditer(code):
         before = OPERAND.search(code, max(0, found.start() - 80), found.start())
         has_start = before and before.group(1) not in NO_OPERAND
-        if not has_start or not NO_END.match(code, found.end()) or OF_PATTERN.match(code, found.end()):
+        if (
+            not has_start
+            or not NO_END.match(code, found.end())
+            or OF_PATTERN.match(code, found.end())
+        ):
             continue
         begin = start_of_group(code, found.start())
-        start, whole = code[begin + 1 : found.start()], end_of_group(code, begin) if begin >= 0 else 0
-        is_all = code[found.end() : whole - 1].strip() == "" and until(start, 0, ",;|=") == len(start)
+        start, whole = (
+            code[begin + 1 : found.start()],
+            end_of_group(code, begin) if begin >= 0 else 0,
+        )
+        is_all = code[found.end() : whole - 1].strip() == "" and until(start, 0, ",;|=") == len(
+            start
+        )
         of = OPERAND.search(code, max(0, begin - 80), begin) if begin >= 0 else None
-        is_index = code[begin] == "[" and of and of.group(1) not in NO_OPERAND and of.group().strip() != "}"
+        is_index = (
+            code[begin] == "["
+            and of
+            and of.group(1) not in NO_OPERAND
+            and of.group().strip() != "}"
+        )
         is_get = code[begin] == "(" and GET.search(code, max(0, begin - 80), begin)
         if not is_all or not (is_index or is_get):
             yield found.start()
@@ -77,7 +102,11 @@ def errors_of_write(code):
         if end and HANDLED.match(code, end):
             continue
         begin = start_of_group(code, found.start())
-        is_last = end and re.match(r"\s*\}", code[end:]) and re.search(r"[;{}]\s*(?:\w+\s*(?:\.|::)\s*)*$", code[: found.start()])
+        is_last = (
+            end
+            and re.match(r"\s*\}", code[end:])
+            and re.search(r"[;{}]\s*(?:\w+\s*(?:\.|::)\s*)*$", code[: found.start()])
+        )
         if not (is_last and begin >= 0 and code[begin] == "{" and FMT.search(code, 0, begin)):
             yield found.start()
 
@@ -96,13 +125,17 @@ def impls_on_all_types(code):
     for found in IMPL.finditer(code):
         bounds_of = parameters(code, found.end())
         end = end_of_angles(code, found.end())
-        header, _, where = re.sub(r"\bwhere\b", "\n", " ".join(code[end : until(code, end, "{;")].split())).partition("\n")
+        header, _, where = re.sub(
+            r"\bwhere\b", "\n", " ".join(code[end : until(code, end, "{;")].split())
+        ).partition("\n")
         trait, _, target = re.sub(r"\bfor\b(?!\s*<)", "\n", header).rpartition("\n")
         target = re.sub(r"^(?:&\s*(?:'\w+\s*)?(?:mut\s+)?|\s)*", "", target).strip("() ")
         for piece in split(where):
             name, _, bounds = piece.partition(":")
             bounds_of[name.strip()] = bounds_of.get(name.strip(), "") + "+" + bounds
-        is_known = {bound.strip() for bound in bounds_of.get(target, "").split("+") if bound.strip()} <= BLANKET
+        is_known = {
+            bound.strip() for bound in bounds_of.get(target, "").split("+") if bound.strip()
+        } <= BLANKET
         is_bare = trait and target in bounds_of
         if is_bare and not (is_known and bounds_of[target].strip()):
             yield found.start()
@@ -127,7 +160,10 @@ def types_of_self(code):
     for _, begin, end in bodies(code, TRAIT):
         for found in re.finditer(r"\bSelf\b", code[begin:end]):
             here = begin + found.start()
-            if any(not RESULT.search(code, begin, at) or re.search(r"[&*]", code[at:here]) for at in angles_around(code, begin, here)):
+            if any(
+                not RESULT.search(code, begin, at) or re.search(r"[&*]", code[at:here])
+                for at in angles_around(code, begin, here)
+            ):
                 yield here
 
 
@@ -137,11 +173,15 @@ def arrays_in_variants(code):
         end = found.end()
         while True:
             end = until(code, end, "=;")
-            if code[end : end + 1] != "=" or (code[end - 1] not in ".<>=!" and code[end + 1 : end + 2] not in (">", "=")):
+            if code[end : end + 1] != "=" or (
+                code[end - 1] not in ".<>=!" and code[end + 1 : end + 2] not in (">", "=")
+            ):
                 break
             end += 1 + (code[end + 1 : end + 2] == "=")
         is_plain = not re.search(r"(?:\b(?:if|while)|&&|\|\||[(=])\s*$", code[: found.start()])
-        if is_plain and not re.search(r"\belse\b", code[found.end() : until(code, found.end(), ";")]):
+        if is_plain and not re.search(
+            r"\belse\b", code[found.end() : until(code, found.end(), ";")]
+        ):
             continue
         depth = 0
         for char in code[found.end() : end]:
@@ -170,7 +210,9 @@ def sizes_of_parameters(code):
 def renames(code):
     """An import gives something of std another name, or takes all names of a module."""
     for found in re.finditer(r"\buse\b[^;]*;", code):
-        of_std = re.search(r"\b(?:std|core|alloc)\b|\buse\s+(?:\{|[^;]*\b(?:thread|iter|mem)\b)", found.group())
+        of_std = re.search(
+            r"\b(?:std|core|alloc)\b|\buse\s+(?:\{|[^;]*\b(?:thread|iter|mem)\b)", found.group()
+        )
         named = re.sub(r"\bstd::simd::prelude::\*|\bas\s+_\b", "", found.group())
         if of_std and re.search(r"\bas\b|\*", named):
             yield found.start()

@@ -11,7 +11,11 @@ from .refused import Refused
 from .sources import files_of, stripped
 
 TOP = Path(__file__).resolve().parents[2]
-MADE = ("crates", "shims", "vintsaky")  # the folders of the workspace in which no other file may lie
+MADE = (
+    "crates",
+    "shims",
+    "vintsaky",
+)  # the folders of the workspace in which no other file may lie
 WHERE = {"registry": "cargo's registry", "debian": "Debian's packages"}
 
 
@@ -45,7 +49,11 @@ def crates_of(top):
 def with_room(text, header):
     """The calls of an object, which compile only where the memory that the header tells C to give is enough for it."""
     lines = ""
-    for name, size, align in re.findall(r"fn vintsaky_(\w+)_bytes\(\)[^{]*\{\s*size_of::<(\w+)>\(\)\s*\}.*?align_of::<(\w+)>\(\)", text, re.S):
+    for name, size, align in re.findall(
+        r"fn vintsaky_(\w+)_bytes\(\)[^{]*\{\s*size_of::<(\w+)>\(\)\s*\}.*?align_of::<(\w+)>\(\)",
+        text,
+        re.S,
+    ):
         most = re.search(rf"#define VINTSAKY_{name.upper()}_BYTES \(\(size_t\)(\d+)\)", header)[1]
         multiple = re.search(r"#define VINTSAKY_ALIGN \(\(size_t\)(\d+)\)", header)[1]
         lines += f"const _: () = assert!(size_of::<{size}>() <= {most} && {multiple} % align_of::<{align}>() == 0);\n"
@@ -54,13 +62,21 @@ def with_room(text, header):
 
 def copies_of(folder, at):
     """Each file below a folder, by its path in the workspace."""
-    paths = (path for path in sorted(folder.rglob("*")) if path.is_file() and "target" not in path.relative_to(folder).parts)
+    paths = (
+        path
+        for path in sorted(folder.rglob("*"))
+        if path.is_file() and "target" not in path.relative_to(folder).parts
+    )
     return {f"{at}/{path.relative_to(folder)}": path.read_text() for path in paths}
 
 
 def files_of_workspace(top):
     """Each file of the workspace but its manifest, by its path."""
-    return {**crates_of(top), **copies_of(top / "cargo/shims", "shims"), **copies_of(top / "library/rust", "vintsaky")}
+    return {
+        **crates_of(top),
+        **copies_of(top / "cargo/shims", "shims"),
+        **copies_of(top / "library/rust", "vintsaky"),
+    }
 
 
 def write(path, text):
@@ -79,7 +95,11 @@ def lay(workspace, files):
             if path.is_file() and str(path.relative_to(workspace)) not in files:
                 path.unlink()
     for path in sorted(workspace.glob("*/**"), reverse=True):
-        if path.relative_to(workspace).parts[0] in MADE and path.is_dir() and not any(path.iterdir()):
+        if (
+            path.relative_to(workspace).parts[0] in MADE
+            and path.is_dir()
+            and not any(path.iterdir())
+        ):
             path.rmdir()
 
 
@@ -88,7 +108,9 @@ def look_at(workspace):
     made = workspace / "Cargo.toml"
     is_ours = made.is_file() and made.read_text().startswith(manifests.MARK)
     if not is_ours and workspace.exists() and (not workspace.is_dir() or any(workspace.iterdir())):
-        raise others.Missing(f"{workspace} has files of others: name a folder that is empty, or that cargo/strip made")
+        raise others.Missing(
+            f"{workspace} has files of others: name a folder that is empty, or that cargo/strip made"
+        )
 
 
 def held(workspace):
@@ -104,7 +126,13 @@ def make(workspace, where=None):
     workspace = Path(workspace)
     look_at(workspace)
     files = files_of_workspace(TOP)
-    members = sorted({"/".join(path.split("/")[:-1]) for path in files if path.count("/") <= 2 and path.endswith("/Cargo.toml")})
+    members = sorted(
+        {
+            "/".join(path.split("/")[:-1])
+            for path in files
+            if path.count("/") <= 2 and path.endswith("/Cargo.toml")
+        }
+    )
     version = manifests.version_of((TOP / "crates/cli/src/lib.rt").read_text())
     kind, taken = others.find(manifests.OTHERS, where)
     lock = held(workspace)

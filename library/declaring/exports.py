@@ -65,9 +65,15 @@ def slice_of(name, kind, is_written):
     if is_written:
         byte = ("uint8_t", "c_uint8") if name in OF_BYTES else ("char", "c_char")
         number = {"u8": byte, **NUMBERS}[kind]
-        return [Argument(name, f"{number[0]} *", f"POINTER({number[1]})"), Argument(f"{name}_room", *NUMBERS["usize"])]
+        return [
+            Argument(name, f"{number[0]} *", f"POINTER({number[1]})"),
+            Argument(f"{name}_room", *NUMBERS["usize"]),
+        ]
     if kind != "u8":
-        return [Argument(name, f"const {NUMBERS[kind][0]} *", f"POINTER({NUMBERS[kind][1]})"), length]
+        return [
+            Argument(name, f"const {NUMBERS[kind][0]} *", f"POINTER({NUMBERS[kind][1]})"),
+            length,
+        ]
     pointer = ("const void *", "c_void_p") if name == BYTES else ("const char *", "c_char_p")
     return [Argument(name, *pointer), length]
 
@@ -95,7 +101,9 @@ def arguments_of(text, where):
         try:
             arguments += given(name, kind)
         except KeyError:
-            raise Mistake(f"{where}: the argument {name} is of a type that C can't have: {kind}") from None
+            raise Mistake(
+                f"{where}: the argument {name} is of a type that C can't have: {kind}"
+            ) from None
     return tuple(arguments)
 
 
@@ -112,7 +120,9 @@ def said_of(comment, where):
     parts = re.split(r"^/// # (\w+)\n", comment, flags=re.MULTILINE)
     sections = dict(zip(parts[1::2], parts[2::2]))
     if not parts[0].strip() or set(sections) - {"Errors", "Safety"}:
-        raise Mistake(f"{where}: its comment has to say what it does, and then, if it can be rejected, '# Errors'")
+        raise Mistake(
+            f"{where}: its comment has to say what it does, and then, if it can be rejected, '# Errors'"
+        )
     return paragraphs(parts[0].splitlines()), paragraphs(sections.get("Errors", "").splitlines())
 
 
@@ -122,7 +132,9 @@ def call_of(found, path):
     where = f"{path}: {name}"
     said, errors = said_of(comment, where)
     if ("code_of(" in (body or "")) != bool(errors):
-        raise Mistake(f"{where}: '# Errors' has to list the errors, and must not be there if it is never rejected")
+        raise Mistake(
+            f"{where}: '# Errors' has to list the errors, and must not be there if it is never rejected"
+        )
     if result and result not in NUMBERS:
         raise Mistake(f"{where}: it returns what C can't: {result}")
     c, python = NUMBERS[result] if result else ("void", "None")
@@ -134,13 +146,18 @@ def calls_in(path, text):
     """The calls of a file of exports, in their order there."""
     calls = [call_of(it, path) for it in EXPORT.finditer(text)]
     if len(calls) != text.count(ATTRIBUTE) or text.count(ATTRIBUTE) != text.count("no_mangle"):
-        raise Mistake(f"{path}: {text.count('no_mangle')} exports are begun, and {len(calls)} can be read")
+        raise Mistake(
+            f"{path}: {text.count('no_mangle')} exports are begun, and {len(calls)} can be read"
+        )
     return calls
 
 
 def files_of(section, files):
     """The files of a section of the header: a module, or a module's folder."""
-    names = [f"{FOLDER}{section}.rt", *(f"{FOLDER}{section}/{it}.rt" for it in ("exports", "searching"))]
+    names = [
+        f"{FOLDER}{section}.rt",
+        *(f"{FOLDER}{section}/{it}.rt" for it in ("exports", "searching")),
+    ]
     return [it for it in names if it in files and "no_mangle" in files[it]]
 
 

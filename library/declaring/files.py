@@ -52,7 +52,9 @@ def write(top):
 def first_difference(wanted, got):
     """The number of the first line in which two texts differ, and that line of each."""
     ours, theirs = wanted.splitlines(), got.splitlines()
-    at = next((i for i, (a, b) in enumerate(zip(ours, theirs)) if a != b), min(len(ours), len(theirs)))
+    at = next(
+        (i for i, (a, b) in enumerate(zip(ours, theirs)) if a != b), min(len(ours), len(theirs))
+    )
     shown = [f"'{lines[at].strip()}'" if at < len(lines) else "the end" for lines in (theirs, ours)]
     return at + 1, *shown
 

@@ -25,15 +25,25 @@ LAST = "\N{NO-BREAK SPACE}*/"  # the end of a comment, which stays with the last
 
 def declaration(call):
     """The declaration of a call. Where it is too long for a line its arguments go to the next one, or else fill the lines."""
-    arguments = [it.c + it.name if it.c.endswith("*") else f"{it.c} {it.name}" for it in call.arguments] or ["void"]
+    arguments = [
+        it.c + it.name if it.c.endswith("*") else f"{it.c} {it.name}" for it in call.arguments
+    ] or ["void"]
     front, rest = f"{call.c} {call.name}(", ", ".join(arguments) + ");"
     if len(front + rest) <= WIDTH:
         return front + rest
     if len(rest) + 4 <= WIDTH:
         return f"{front}\n    {rest}"
     # an argument isn't parted from its type
-    words = ", ".join(arguments).replace(" ", "\N{NO-BREAK SPACE}").replace(",\N{NO-BREAK SPACE}", ", ")
-    lines = textwrap.wrap(front + words + ");", WIDTH, subsequent_indent="    ", break_long_words=False, break_on_hyphens=False)
+    words = (
+        ", ".join(arguments).replace(" ", "\N{NO-BREAK SPACE}").replace(",\N{NO-BREAK SPACE}", ", ")
+    )
+    lines = textwrap.wrap(
+        front + words + ");",
+        WIDTH,
+        subsequent_indent="    ",
+        break_long_words=False,
+        break_on_hyphens=False,
+    )
     return "\n".join(lines).replace("\N{NO-BREAK SPACE}", " ")
 
 
@@ -65,13 +75,19 @@ def comment_of(call, causes):
 
 def sections(files):
     """The sections that have calls, in the order of the header."""
-    return [name for _, what, name in LINE.findall(numbers.text_of(files, TEMPLATE)) if what == "calls"]
+    return [
+        name for _, what, name in LINE.findall(numbers.text_of(files, TEMPLATE)) if what == "calls"
+    ]
 
 
 def calls_of(section, files):
     """The calls of a section, except the one with the number of the interface, which stands at the head of the header."""
     causes = {it.name for it in numbers.causes_of(files)}
-    calls = [it for it in exports.calls_of(section, files) if not it.name.startswith("vintsaky_interface_")]
+    calls = [
+        it
+        for it in exports.calls_of(section, files)
+        if not it.name.startswith("vintsaky_interface_")
+    ]
     return "\n\n".join(f"{comment_of(it, causes)}\n{declaration(it)}" for it in calls)
 
 
@@ -88,13 +104,19 @@ def lines_of(values):
 
 def causes_of(files):
     """The lines of the errors: each ends with a comma, since later releases add more."""
-    return [f"VINTSAKY_{it.name} = {it.number}, /* {it.said} */" for it in (cause.value for cause in numbers.causes_of(files))]
+    return [
+        f"VINTSAKY_{it.name} = {it.number}, /* {it.said} */"
+        for it in (cause.value for cause in numbers.causes_of(files))
+    ]
 
 
 def enums_of(values):
     """Short enumerations of values of which nothing is said here."""
     shown = [f"VINTSAKY_{it.name} = {it.number}" for it in values]
-    return [f"enum {{ {', '.join(shown[at : at + IN_A_LINE])} }};" for at in range(0, len(shown), IN_A_LINE)]
+    return [
+        f"enum {{ {', '.join(shown[at : at + IN_A_LINE])} }};"
+        for at in range(0, len(shown), IN_A_LINE)
+    ]
 
 
 def number_of(mark, calls, files):
@@ -136,7 +158,9 @@ def made(files):
     text = NUMBER.sub(lambda found: number_of(found, calls, files), text)
     for name in calls:
         if len(re.findall(rf"^\w+ {name}\(", text, re.MULTILINE)) != 1:
-            raise Mistake(f"{TEMPLATE}: {name} has to be declared once: is its module a section there?")
+            raise Mistake(
+                f"{TEMPLATE}: {name} has to be declared once: is its module a section there?"
+            )
     for name in sorted(set(re.findall(r"\bVINTSAKY_\w+", text)) - declared_names(text)):
         raise Mistake(f"{PATH}: a comment names {name}, which isn't there")
     for line in [it for it in text.splitlines() if len(it) > MOST]:
@@ -147,4 +171,6 @@ def made(files):
 def declared_names(text):
     """The names of all that a header defines in capitals."""
     text = bare(text, C_COMMENT)
-    return set(re.findall(r"\b(VINTSAKY_\w+) = ", text)) | set(re.findall(r"^#define (VINTSAKY_\w+)", text, re.MULTILINE))
+    return set(re.findall(r"\b(VINTSAKY_\w+) = ", text)) | set(
+        re.findall(r"^#define (VINTSAKY_\w+)", text, re.MULTILINE)
+    )

@@ -4,7 +4,13 @@ import re
 from . import exports, python
 
 RUST, PACKAGE = "library/rust/src/", "library/python/vintsaky/"
-OBJECTS = {"game": "Game", "engine": "Engine", "match": "Match", "lines": "CommandLines", "replies": "Replies"}
+OBJECTS = {
+    "game": "Game",
+    "engine": "Engine",
+    "match": "Match",
+    "lines": "CommandLines",
+    "replies": "Replies",
+}
 # what has another name in Rust, and what is elsewhere there: the beginning of its line
 NAMES = {
     "place": "new", "finished": "is_finished", "hash": "board_hash", "ended": "is_ended", "next": "next_action", "in_step": "is_in_step",
@@ -18,8 +24,13 @@ ELSEWHERE = {
     "write_reply": "pub fn reply(",
     "game_copy": "impl Clone for Game ",
     "game_board_text": "impl fmt::Display for Game ",
-    **{f"read_{name}": f"impl FromStr for {name.title()} " for name in ("colour", "vertex", "komi")},
-    **{f"{name}_text": f"impl fmt::Display for {name.title()} " for name in ("colour", "vertex", "komi")},
+    **{
+        f"read_{name}": f"impl FromStr for {name.title()} " for name in ("colour", "vertex", "komi")
+    },
+    **{
+        f"{name}_text": f"impl fmt::Display for {name.title()} "
+        for name in ("colour", "vertex", "komi")
+    },
 }
 NOT_IN_RUST = r"interface_\d+|[a-z]+_(?:bytes|align)|games_\w+"  # on linking, memory and many games
 
@@ -29,16 +40,26 @@ def in_rust(name, text):
     if name in ELSEWHERE:
         return f"\n{ELSEWHERE[name]}" in text
     kind, _, verb = name.partition("_")
-    blocks = re.findall(rf"^impl {OBJECTS.get(kind, 'None')} \{{\n(.*?)^\}}", text, re.MULTILINE | re.DOTALL)
-    return any(re.search(rf"^    pub fn {NAMES.get(verb, verb)}(?:<\w+>)?\(", block, re.MULTILINE) for block in blocks)
+    blocks = re.findall(
+        rf"^impl {OBJECTS.get(kind, 'None')} \{{\n(.*?)^\}}", text, re.MULTILINE | re.DOTALL
+    )
+    return any(
+        re.search(rf"^    pub fn {NAMES.get(verb, verb)}(?:<\w+>)?\(", block, re.MULTILINE)
+        for block in blocks
+    )
 
 
 def used_in_python(files):
     """The calls that the Python package makes, as patterns: a part of a name may be filled in."""
     own = (python.DECLARED, python.NUMBERS)
-    text = "\n".join(text for path, text in files.items() if path.startswith(PACKAGE) and path not in own)
+    text = "\n".join(
+        text for path, text in files.items() if path.startswith(PACKAGE) and path not in own
+    )
     filled = re.findall(r'f"(vintsaky_[\w{}.]*)"', text)
-    return {*re.findall(r"\b(?:library|unlocked)\.(vintsaky_\w+)", text), *(re.sub(r"\{[\w.]*\}", "[a-z0-9]+", it) for it in filled)}
+    return {
+        *re.findall(r"\b(?:library|unlocked)\.(vintsaky_\w+)", text),
+        *(re.sub(r"\{[\w.]*\}", "[a-z0-9]+", it) for it in filled),
+    }
 
 
 def differing(files):
@@ -47,11 +68,19 @@ def differing(files):
     rust = "\n".join(text for path, text in files.items() if path.startswith(RUST))
     lines = []
     for name, call in calls.items():
-        short = name[len("vintsaky_"):]
+        short = name[len("vintsaky_") :]
         if not re.fullmatch(NOT_IN_RUST, short) and not in_rust(short, rust):
             lines.append(f"{name} is in the exports, and not in {RUST}")
         if not any(re.fullmatch(it, name) for it in used):
             lines.append(f"{name} is in the exports, and {PACKAGE} makes it nowhere")
-        lost = [it for it in re.findall(r"\[`(vintsaky_\w+)`\]", call.said + call.errors) if it not in calls]
+        lost = [
+            it
+            for it in re.findall(r"\[`(vintsaky_\w+)`\]", call.said + call.errors)
+            if it not in calls
+        ]
         lines += [f"the comment of {name} names {it}, which is not in the exports" for it in lost]
-    return lines + [f"{PACKAGE} makes {it}, which is not in the exports" for it in used if not any(re.fullmatch(it, name) for name in calls)]
+    return lines + [
+        f"{PACKAGE} makes {it}, which is not in the exports"
+        for it in used
+        if not any(re.fullmatch(it, name) for name in calls)
+    ]

@@ -10,7 +10,9 @@ from .texts import Mistake, once, snake
 
 FOLDER = "crates/vintsaky_calls/src/"
 ARM = re.compile(r"((?:^ +// [^\n]*\n)*)^ +(\w[^\n]*?) => \(?(\d+)\b", re.MULTILINE)
-ARM_OF_COMMANDS = re.compile(r"()^ +(?P<number>\d+) => (?:\{.*?)?Ok\(Command::(?P<name>\w+)", re.MULTILINE | re.DOTALL)
+ARM_OF_COMMANDS = re.compile(
+    r"()^ +(?P<number>\d+) => (?:\{.*?)?Ok\(Command::(?P<name>\w+)", re.MULTILINE | re.DOTALL
+)
 
 
 @dataclass(frozen=True)
@@ -40,10 +42,17 @@ KINDS = {
     "events": Kind("engines", ("number_of_event",)),
     "actions": Kind("matches", ("next",), "", {"Done": "OVER"}),
     "losses": Kind("losses", ("number_of_fault", "number_of_cause", "number_of_rule"), "LOSS_"),
-    "endings": Kind("endings", ("number_of_ending", "number_of_ruling"), "BY_", {"Resign": "RESIGNATION", "Reason": "RULING"}),
+    "endings": Kind(
+        "endings",
+        ("number_of_ending", "number_of_ruling"),
+        "BY_",
+        {"Resign": "RESIGNATION", "Reason": "RULING"},
+    ),
     "commands": Kind("writing", ("command_of",), arm=ARM_OF_COMMANDS),
     "lines": Kind("lines", ("feed",), "", {"Command": "LINE"}),
-    "replies": Kind("replies", ("feed",), "", {"Ok": "READ", "NoStatus": "NO_REPLY", "Overlong": "LONG_REPLY"}),
+    "replies": Kind(
+        "replies", ("feed",), "", {"Ok": "READ", "NoStatus": "NO_REPLY", "Overlong": "LONG_REPLY"}
+    ),
 }
 
 
@@ -56,7 +65,9 @@ def text_of(files, path):
 
 def body_of(text, function, path):
     """The lines of a function."""
-    found = re.search(rf"^(?:pub(?:\(crate\))? )?fn {function}\(.*?^\}}$", text, re.MULTILINE | re.DOTALL)
+    found = re.search(
+        rf"^(?:pub(?:\(crate\))? )?fn {function}\(.*?^\}}$", text, re.MULTILINE | re.DOTALL
+    )
     if not found:
         raise Mistake(f"{path}: there is no function {function}")
     return found[0]
@@ -70,7 +81,9 @@ def arms_of(kind, body):
             continue
         names = re.findall(r"\b[A-Z]\w*", found[2])
         if names and names[-1] != "None":
-            yield names[-1], int(found[3]), " ".join(re.sub(r"^ +//", "", found[1], flags=re.MULTILINE).split())
+            yield names[-1], int(found[3]), " ".join(
+                re.sub(r"^ +//", "", found[1], flags=re.MULTILINE).split()
+            )
 
 
 @once
@@ -84,7 +97,9 @@ def values_in(name, text):
             values.append(Value(kind.start + kind.others.get(word, snake(word)), number, said))
     values.sort(key=lambda it: it.number)
     if not values or len({it.number for it in values}) != len(values):
-        raise Mistake(f"{path}: {', '.join(kind.functions)}: no numbers are found there, or two are the same")
+        raise Mistake(
+            f"{path}: {', '.join(kind.functions)}: no numbers are found there, or two are the same"
+        )
     return values
 
 
@@ -125,15 +140,26 @@ CAUSES = f"{FOLDER}causes.rt"
 def causes_in(text):
     """The causes, in the order of their numbers."""
     block = re.search(r"^pub enum Cause \{\n(.*?)^\}", text, re.MULTILINE | re.DOTALL)
-    comments = {name: said for said, name in re.findall(r"((?:^    ///[^\n]*\n)*)^    (\w+),$", block[1] if block else "", re.MULTILINE)}
-    numbers = dict(re.findall(r"^ +Cause::(\w+) => (\d+),$", body_of(text, "number_of", CAUSES), re.MULTILINE))
+    comments = {
+        name: said
+        for said, name in re.findall(
+            r"((?:^    ///[^\n]*\n)*)^    (\w+),$", block[1] if block else "", re.MULTILINE
+        )
+    }
+    numbers = dict(
+        re.findall(r"^ +Cause::(\w+) => (\d+),$", body_of(text, "number_of", CAUSES), re.MULTILINE)
+    )
     if not comments or set(comments) != set(numbers) or len(set(numbers.values())) != len(numbers):
-        raise Mistake(f"{CAUSES}: each variant of Cause has to have one number of its own in number_of")
+        raise Mistake(
+            f"{CAUSES}: each variant of Cause has to have one number of its own in number_of"
+        )
     causes = []
     for name, comment in comments.items():
         said = " ".join(re.sub(r"^ +///", "", comment, flags=re.MULTILINE).split())
         if not re.fullmatch(r"[A-Z][ -~]*\.", said) or re.search(r'["\\]|\*/', said):
-            raise Mistake(f"{CAUSES}: the comment of {name} has to be a sentence in ASCII, without quotes: '{said}'")
+            raise Mistake(
+                f"{CAUSES}: the comment of {name} has to be a sentence in ASCII, without quotes: '{said}'"
+            )
         causes.append(Cause(name, int(numbers[name]), said))
     return sorted(causes, key=lambda it: it.number)
 
@@ -150,7 +176,9 @@ def constant_of(crate, name, files):
     """A constant of a crate, which has one of this name."""
     found = []
     for path in [it for it in files if it.startswith(f"crates/{crate}/src/")]:
-        found += re.findall(rf"^(?:pub(?:\(crate\))? )?const {name}: \w+ = (\d+);$", files[path], re.MULTILINE)
+        found += re.findall(
+            rf"^(?:pub(?:\(crate\))? )?const {name}: \w+ = (\d+);$", files[path], re.MULTILINE
+        )
     if len(found) != 1:
         raise Mistake(f"crates/{crate}/src has {len(found)} constants {name}, and has to have one")
     return int(found[0])
@@ -159,7 +187,9 @@ def constant_of(crate, name, files):
 def version_of(files):
     """The version of the library, as the call spells it that returns it."""
     path = f"{FOLDER}library.rt"
-    found = re.search(r"^    (0x[0-9a-f]{6})$", body_of(text_of(files, path), "version", path), re.MULTILINE)
+    found = re.search(
+        r"^    (0x[0-9a-f]{6})$", body_of(text_of(files, path), "version", path), re.MULTILINE
+    )
     if not found:
         raise Mistake(f"{path}: version has to return a number of the form 0x010000")
     return found[1]
@@ -167,7 +197,11 @@ def version_of(files):
 
 def interface_of(calls):
     """The number of the interface, which one call has in its name."""
-    found = [it[len("vintsaky_interface_"):] for it in calls if re.fullmatch(r"vintsaky_interface_\d+", it)]
+    found = [
+        it[len("vintsaky_interface_") :]
+        for it in calls
+        if re.fullmatch(r"vintsaky_interface_\d+", it)
+    ]
     if len(found) != 1:
         raise Mistake(f"{len(found)} calls are vintsaky_interface_N, and has to be one")
     return found[0]

@@ -82,7 +82,9 @@ def declared(files):
     """The module of the table."""
     constants = "".join(f"{name} = {number}\n" for name, number in constants_of(files).items())
     handles = "".join(HANDLE.format(name.title(), said) for name, said in HANDLES.items())
-    rows = [row_of(it) for section in header.sections(files) for it in exports.calls_of(section, files)]
+    rows = [
+        row_of(it) for section in header.sections(files) for it in exports.calls_of(section, files)
+    ]
     return f"{HEAD_OF_DECLARED}\n{constants}{handles}{HEAD_OF_TABLE}{''.join(rows)}}}\n"
 
 
@@ -96,22 +98,39 @@ def said_of(values):
 
 def lines_of(value, said):
     """The lines of a docstring about a value."""
-    return textwrap.wrap(f"{value.name}: {said}", WIDTH, initial_indent="    ", subsequent_indent="        ", break_on_hyphens=False)
+    return textwrap.wrap(
+        f"{value.name}: {said}",
+        WIDTH,
+        initial_indent="    ",
+        subsequent_indent="        ",
+        break_on_hyphens=False,
+    )
 
 
 def enumeration(name, base, head, values):
     """An enumeration. Its docstring says what each member means, so that `help` does."""
     lines = [line for value, said in said_of(values) for line in lines_of(value, said)]
-    return CLASS.format(name, base, head, "\n".join(lines), "".join(f"    {it.name} = {it.number}\n" for it in values))
+    return CLASS.format(
+        name,
+        base,
+        head,
+        "\n".join(lines),
+        "".join(f"    {it.name} = {it.number}\n" for it in values),
+    )
 
 
 def named(files):
     """The module of the numbers of which much is said."""
     causes = [numbers.Value("DONE", 0, DONE), *(it.value for it in numbers.causes_of(files))]
-    losses = [numbers.Value(it.name[len("LOSS_"):], it.number, it.said) for it in numbers.values_of("losses", files)]
+    losses = [
+        numbers.Value(it.name[len("LOSS_") :], it.number, it.said)
+        for it in numbers.values_of("losses", files)
+    ]
     return (
         HEAD_OF_NUMBERS
         + enumeration("Cause", "Told", "Why a call is rejected: its error.", causes)
         + enumeration("Loss", "Numbered", "Why a side fails by its output.", losses)
-        + enumeration("Ending", "Numbered", "How a match ended.", numbers.values_of("endings", files))
+        + enumeration(
+            "Ending", "Numbered", "How a match ended.", numbers.values_of("endings", files)
+        )
     )

@@ -11,8 +11,13 @@ DEFINITION = "crates/vintsaky_calls/specs/Library.antt"
 RUST = "library/rust/src/refusal/causes.rs"
 CODE_WIDTH = 100
 DEFINITION_WIDTH = 120
-CODE_ROWS = re.compile(r'(?<=^    match cause \{\n)(?:        Cause::\w+ =>\s+b"[^"\n]*",\n)+', re.MULTILINE)
-DEFINITION_ROWS = re.compile(r'(?<=^abbrev pub sentence : Cause → List ℕ\n)(?:sentence cause\.\w+ =\s+codes "[^"\n]*"\n)+', re.MULTILINE)
+CODE_ROWS = re.compile(
+    r'(?<=^    match cause \{\n)(?:        Cause::\w+ =>\s+b"[^"\n]*",\n)+', re.MULTILINE
+)
+DEFINITION_ROWS = re.compile(
+    r'(?<=^abbrev pub sentence : Cause → List ℕ\n)(?:sentence cause\.\w+ =\s+codes "[^"\n]*"\n)+',
+    re.MULTILINE,
+)
 HEAD_OF_RUST = """\
 //! The errors: the name and the number of each, and its meaning to users of this crate. `library/declare` writes this file.
 
@@ -42,13 +47,19 @@ def with_rows(path, rows, pattern, files):
 
 def code(files):
     """The code of the sentences."""
-    rows = [row(f"        Cause::{it.name} =>", f'b"{it.sentence}",', " " * 12, CODE_WIDTH) for it in numbers.causes_of(files)]
+    rows = [
+        row(f"        Cause::{it.name} =>", f'b"{it.sentence}",', " " * 12, CODE_WIDTH)
+        for it in numbers.causes_of(files)
+    ]
     return with_rows(CODE, rows, CODE_ROWS, files)
 
 
 def definition(files):
     """The definition of the sentences."""
-    rows = [row(f"sentence cause.{it.name} =", f'codes "{it.sentence}"', "    ", DEFINITION_WIDTH) for it in numbers.causes_of(files)]
+    rows = [
+        row(f"sentence cause.{it.name} =", f'codes "{it.sentence}"', "    ", DEFINITION_WIDTH)
+        for it in numbers.causes_of(files)
+    ]
     return with_rows(DEFINITION, rows, DEFINITION_ROWS, files)
 
 
@@ -64,5 +75,11 @@ def rust(files):
     causes = numbers.causes_of(files)
     gone = {*NEVER, *OTHERWISE} - {it.name for it in causes}
     if gone:
-        raise Mistake(f"{numbers.CAUSES}: no cause is called {', '.join(sorted(gone))}, of which library/declaring/sentences.py says more")
-    return HEAD_OF_RUST + "".join(f'    {it.name} = {it.number} "{meaning(it)}",\n' for it in causes) + "}\n"
+        raise Mistake(
+            f"{numbers.CAUSES}: no cause is called {', '.join(sorted(gone))}, of which library/declaring/sentences.py says more"
+        )
+    return (
+        HEAD_OF_RUST
+        + "".join(f'    {it.name} = {it.number} "{meaning(it)}",\n' for it in causes)
+        + "}\n"
+    )

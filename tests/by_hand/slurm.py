@@ -54,9 +54,18 @@ NodeName=one NodeHostname={host} NodeAddr=127.0.0.1 Port={one} CPUs=2
 NodeName=two NodeHostname={host} NodeAddr=127.0.0.1 Port={two} CPUs=2
 PartitionName=all Nodes=ALL Default=YES State=UP
 """
-ENGINES = ["--engine", "one=./slow 1%s", "--engine", "two=./slow 2%s", "--seeds", "8", "--limit", "30"]
+ENGINES = [
+    "--engine",
+    "one=./slow 1%s",
+    "--engine",
+    "two=./slow 2%s",
+    "--seeds",
+    "8",
+    "--limit",
+    "30",
+]
 TASKS = 4
-SLOW = "#!/bin/bash\nsleep 0.5\nexec gtp_engine --policy random --seed \"$@\"\n"
+SLOW = '#!/bin/bash\nsleep 0.5\nexec gtp_engine --policy random --seed "$@"\n'
 
 
 def free_ports(count):
@@ -79,20 +88,36 @@ class Cluster:
         (self.at / "key").write_bytes(os.urandom(1024))
         (self.at / "key").chmod(0o400)
         port, one, two = free_ports(3)
-        (self.at / "slurm.conf").write_text(CONFIGURATION.format(at=self.at, host=socket.gethostname().split(".")[0], port=port, one=one, two=two))
+        (self.at / "slurm.conf").write_text(
+            CONFIGURATION.format(
+                at=self.at, host=socket.gethostname().split(".")[0], port=port, one=one, two=two
+            )
+        )
         here.environment |= {"SLURM_CONF": str(self.at / "slurm.conf"), "TZ": "UTC"}
-        self.serve("munged", "--foreground", "--force", f"--key-file={self.at}/key", f"--socket={self.at}/munge.socket",
-                   f"--pid-file={self.at}/munged.pid", f"--log-file={self.at}/munged.log", f"--seed-file={self.at}/seed")
+        self.serve(
+            "munged",
+            "--foreground",
+            "--force",
+            f"--key-file={self.at}/key",
+            f"--socket={self.at}/munge.socket",
+            f"--pid-file={self.at}/munged.pid",
+            f"--log-file={self.at}/munged.log",
+            f"--seed-file={self.at}/seed",
+        )
         here.until((self.at / "munge.socket").exists)
         self.serve("slurmctld", "-D")
         for node in ("one", "two"):
             self.node(node)
-        self.is_up = here.until(lambda: self.says("sinfo", "-h", "-N", "-o", "%N %t") == "one idle\ntwo idle\n", 60)
+        self.is_up = here.until(
+            lambda: self.says("sinfo", "-h", "-N", "-o", "%N %t") == "one idle\ntwo idle\n", 60
+        )
 
     def serve(self, name, *words):
         """Starts a service."""
         log = open(self.at / f"{name}.out", "ab")  # pylint: disable=consider-using-with
-        self.services[words[-1] if name == "slurmd" else name] = self.here.start(f"/usr/sbin/{name}", *words, stdout=log, stderr=log)
+        self.services[words[-1] if name == "slurmd" else name] = self.here.start(
+            f"/usr/sbin/{name}", *words, stdout=log, stderr=log
+        )
 
     def node(self, name):
         """Starts a node."""
@@ -119,24 +144,50 @@ class Cluster:
                 words = Path(f"/proc/{pid}/environ").read_bytes().split(b"\0")
                 parent = int(Path(f"/proc/{pid}/stat").read_text().rsplit(")", 1)[1].split()[1])
                 watches = "slurmstepd" in Path(f"/proc/{parent}/comm").read_text()
-                found += [pid] + [parent] * watches if f"SLURMD_NODENAME={node}".encode() in words else []
+                found += (
+                    [pid] + [parent] * watches
+                    if f"SLURMD_NODENAME={node}".encode() in words
+                    else []
+                )
         return found
 
     def submit(self, *words, folder, tasks=TASKS, array=None):
         """Submits the tournament as an array, and answers its number."""
         script = str(rooms.SCRIPTS / "tournament.sbatch")
-        said = self.here.run("sbatch", "--parsable", f"--array={array or f'1-{tasks}'}", *words, script, folder, str(tasks))
+        said = self.here.run(
+            "sbatch",
+            "--parsable",
+            f"--array={array or f'1-{tasks}'}",
+            *words,
+            script,
+            folder,
+            str(tasks),
+        )
         return said.output.strip() or said.errors
 
     def each(self, jobs, minutes):
         """Submits the page's script for a job of one's own once for each node, with these numbers, and answers the numbers of the jobs."""
-        text = re.search("  (#!/bin/bash\n  #SBATCH [^`]*)", (running.TOP / "docs/tournaments.md").read_text())[1].replace("\n  ", "\n")
-        text = re.sub("(--jobs |--cpus-per-task=)[0-9]+", rf"\g<1>{jobs}", re.sub("(--time=)[0-9:]+", rf"\g<1>{minutes}", text))
-        return [self.says("sbatch", "--parsable", "-w", node, self.here.script("each", text)).strip() for node in ("one", "two")]
+        text = re.search(
+            "  (#!/bin/bash\n  #SBATCH [^`]*)", (running.TOP / "docs/tournaments.md").read_text()
+        )[1].replace("\n  ", "\n")
+        text = re.sub(
+            "(--jobs |--cpus-per-task=)[0-9]+",
+            rf"\g<1>{jobs}",
+            re.sub("(--time=)[0-9:]+", rf"\g<1>{minutes}", text),
+        )
+        return [
+            self.says("sbatch", "--parsable", "-w", node, self.here.script("each", text)).strip()
+            for node in ("one", "two")
+        ]
 
     def state(self, number):
         """The state, status and node of a job."""
-        return " ".join(re.findall(r" (?:JobState|ExitCode|NodeList)=(\S*)", self.says("scontrol", "-o", "show", "job", number)))
+        return " ".join(
+            re.findall(
+                r" (?:JobState|ExitCode|NodeList)=(\S*)",
+                self.says("scontrol", "-o", "show", "job", number),
+            )
+        )
 
     def waits(self, seconds=240):
         """Waits until no task is left: has it ended?"""
@@ -186,7 +237,11 @@ class Slurm(rooms.Case):
         """A planned tournament, on nodes that are up, and the results that it should have."""
         with cluster() as made:
             self.check("both nodes are up", True, made.is_up)
-            self.check("the plan", 0, made.here.run("tournament", "plan", "far", *ENGINES, *rooms.SMALL).status)
+            self.check(
+                "the plan",
+                0,
+                made.here.run("tournament", "plan", "far", *ENGINES, *rooms.SMALL).status,
+            )
             yield made, undisturbed()
 
     def same_games(self, made, wanted):
@@ -210,10 +265,19 @@ class Slurm(rooms.Case):
             self.check("the array ends", True, made.waits())
             print(f"# the array took {time.monotonic() - began:.0f} seconds", flush=True)
             self.same_games(made, wanted)
-            dates = {place: place.stat().st_mtime_ns for place in (made.here.at / "far/games").iterdir()}
+            dates = {
+                place: place.stat().st_mtime_ns for place in (made.here.at / "far/games").iterdir()
+            }
             made.submit("--time=10", folder="far")
             self.check("a second submission ends", True, made.waits())
-            self.check("and plays nothing", dates, {place: place.stat().st_mtime_ns for place in (made.here.at / "far/games").iterdir()})
+            self.check(
+                "and plays nothing",
+                dates,
+                {
+                    place: place.stat().st_mtime_ns
+                    for place in (made.here.at / "far/games").iterdir()
+                },
+            )
 
     def test_twice(self):
         """Two submissions at once share the games."""
@@ -228,7 +292,10 @@ class Slurm(rooms.Case):
         """A node is killed: the other one plays its games."""
         with self.planned() as (made, wanted):
             made.submit("--time=10", "--requeue", folder="far")
-            made.here.until(lambda: made.says("squeue", "-h", "-t", "R", "-o", "%N").split().count("two") > 0, 60)
+            made.here.until(
+                lambda: made.says("squeue", "-h", "-t", "R", "-o", "%N").split().count("two") > 0,
+                60,
+            )
             made.here.until(lambda: len(made.here.games("far")) >= 2, 60)
             made.kill("two")
             began = time.monotonic()
@@ -239,14 +306,29 @@ class Slurm(rooms.Case):
     def test_cancelled(self):
         """An array is cancelled, and then a job for each node: nothing is left, and some of the array's tasks are played."""
         with self.planned() as (made, wanted):
-            for submit in (lambda: [made.submit("--time=10", folder="far")], lambda: made.each(1, 10)):
+            for submit in (
+                lambda: [made.submit("--time=10", folder="far")],
+                lambda: made.each(1, 10),
+            ):
                 numbers = submit()
-                made.here.until(lambda least=len(made.here.games("far")) + 2: len(made.here.games("far")) >= least, 60)
+                made.here.until(
+                    lambda least=len(made.here.games("far")) + 2: len(made.here.games("far"))
+                    >= least,
+                    60,
+                )
                 made.here.run("scancel", *numbers)
                 self.check("it ends", True, made.waits(60))
                 made.here.until(lambda: not made.here.named("gtp_engine"), 10)
-                self.check("no engine is left", [], made.here.named("gtp_engine") + made.here.named("twogtp"))
-            self.check("each job as by TERM", ["CANCELLED 143:0 one", "CANCELLED 143:0 two"], [made.state(it) for it in numbers])
+                self.check(
+                    "no engine is left",
+                    [],
+                    made.here.named("gtp_engine") + made.here.named("twogtp"),
+                )
+            self.check(
+                "each job as by TERM",
+                ["CANCELLED 143:0 one", "CANCELLED 143:0 two"],
+                [made.state(it) for it in numbers],
+            )
             for array in ("2,4", "1-4"):
                 made.submit("--time=10", folder="far", array=array)
                 self.check(f"the tasks {array} end", True, made.waits())
@@ -261,20 +343,36 @@ class Slurm(rooms.Case):
             self.check("two jobs of one minute end", True, made.waits())
             failed = ["FAILED 1:0 one", "FAILED 1:0 two"]
             self.check("by themselves, with status 1", failed, [made.state(it) for it in short])
-            self.check("no game was cut off", {it.name for it in (made.here.at / "far/notes").iterdir()}, {*made.here.games("far")})
+            self.check(
+                "no game was cut off",
+                {it.name for it in (made.here.at / "far/notes").iterdir()},
+                {*made.here.games("far")},
+            )
             made.here.script("slow", slow)
             long = made.each(2, 10)
             self.check("two jobs of ten minutes end", True, made.waits())
             states = [made.state(it) for it in long]
-            good = states != failed and {*states} <= {"COMPLETED 0:0 one", "COMPLETED 0:0 two", *failed}
+            good = states != failed and {*states} <= {
+                "COMPLETED 0:0 one",
+                "COMPLETED 0:0 two",
+                *failed,
+            }
             self.check(f"with status 0, or one with 1 while the other plays: {states}", True, good)
             self.same_games(made, wanted)
             wrote = [(made.here.at / f"slurm-{it}.out").read_text() for it in short + long]
-            self.check("the first two say why they end", [1, 1, 0, 0], [it.count("30 seconds doesn't fit into the time left") for it in wrote])
+            self.check(
+                "the first two say why they end",
+                [1, 1, 0, 0],
+                [it.count("30 seconds doesn't fit into the time left") for it in wrote],
+            )
             played = [re.findall("^[0-9]+ of 16: (.*?):", it, re.MULTILINE) for it in wrote]
             self.check(f"each job played some games: {[*map(len, played)]}", True, all(played))
             self.check("each game was played once", sorted(wanted), sorted(sum(played, [])))
-            self.check("by both engines; and two trials", 2 * 16 + 2, len((made.here.at / "starts").read_text().split()))
+            self.check(
+                "by both engines; and two trials",
+                2 * 16 + 2,
+                len((made.here.at / "starts").read_text().split()),
+            )
 
     def test_each_killed(self):
         """A node with such a job is killed: the other one plays its games, and it waits for its node."""
@@ -282,13 +380,27 @@ class Slurm(rooms.Case):
             jobs = made.each(1, 10)
             made.here.until(lambda: len(made.here.games("far")) >= 3, 60)
             made.kill("two")
-            self.check("the other node's job ends", True, made.here.until(lambda: made.state(jobs[0]) == "COMPLETED 0:0 one"))
+            self.check(
+                "the other node's job ends",
+                True,
+                made.here.until(lambda: made.state(jobs[0]) == "COMPLETED 0:0 one"),
+            )
             self.same_games(made, wanted)
             made.here.until(lambda: made.state(jobs[1]).startswith("PENDING"))
-            made.here.run("scontrol", "update", f"JobId={jobs[1]}", "StartTime=now")  # and not in two minutes
-            self.check("the dead node's job waits for it", True, made.here.until(lambda: "two" in made.says("squeue", "-h", "-o", "%r")))
+            made.here.run(
+                "scontrol", "update", f"JobId={jobs[1]}", "StartTime=now"
+            )  # and not in two minutes
+            self.check(
+                "the dead node's job waits for it",
+                True,
+                made.here.until(lambda: "two" in made.says("squeue", "-h", "-o", "%r")),
+            )
             made.node("two")
-            self.check("and ends there", True, made.here.until(lambda: made.state(jobs[1]) == "COMPLETED 0:0 two"))
+            self.check(
+                "and ends there",
+                True,
+                made.here.until(lambda: made.state(jobs[1]) == "COMPLETED 0:0 two"),
+            )
 
 
 PARSER = checks.Parser(__doc__)

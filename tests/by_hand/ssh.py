@@ -51,7 +51,7 @@ class Machines:
             here.run("ssh-keygen", "-q", "-t", "ed25519", "-N", "", "-f", str(here.at / key))
         Path("/run/sshd").mkdir(exist_ok=True)
         (here.at / "tools").mkdir()
-        here.script("tools/ssh", f"#!/bin/bash\nexec /usr/bin/ssh -F {here.at}/config \"$@\"\n")
+        here.script("tools/ssh", f'#!/bin/bash\nexec /usr/bin/ssh -F {here.at}/config "$@"\n')
         ports = dict(zip(("one", "two", "gone"), free_ports(3)))
         config = "".join(CLIENT.format(name=name, port=port) for name, port in ports.items())
         (here.at / "config").write_text(config + ALL.format(at=here.at))
@@ -59,17 +59,34 @@ class Machines:
             self.serve(name, ports[name])
         here.environment["PATH"] = f"{here.at}/tools:{here.environment['PATH']}"
         (here.at / "machines").write_text("2/one\n2/gone\n2/two\n")
-        self.is_up = here.until(lambda: all(here.run("ssh", name, "true").status == 0 for name in self.servers), 20)
+        self.is_up = here.until(
+            lambda: all(here.run("ssh", name, "true").status == 0 for name in self.servers), 20
+        )
 
     def serve(self, name, port):
         """Starts the server of a machine. Its sessions can be found as all else that is started in the room."""
         here = self.here
         (here.at / name).mkdir()
         path = f"{here.at}/{name}:{here.environment['PATH']}"
-        text = SERVER.format(port=port, at=here.at, name=name, mark=here.mark, twogtp=here.environment["TWOGTP"], path=path)
+        text = SERVER.format(
+            port=port,
+            at=here.at,
+            name=name,
+            mark=here.mark,
+            twogtp=here.environment["TWOGTP"],
+            path=path,
+        )
         (here.at / f"{name}.conf").write_text(text)
         log = open(here.at / f"{name}.log", "wb")  # pylint: disable=consider-using-with
-        self.servers[name] = here.start("/usr/sbin/sshd", "-D", "-e", "-f", str(here.at / f"{name}.conf"), stdout=log, stderr=log)
+        self.servers[name] = here.start(
+            "/usr/sbin/sshd",
+            "-D",
+            "-e",
+            "-f",
+            str(here.at / f"{name}.conf"),
+            stdout=log,
+            stderr=log,
+        )
 
     def cut(self, name):
         """Ends the server of a machine with all its connections, and nothing of what was started over them."""
@@ -104,15 +121,23 @@ class Ssh(rooms.Case):
     """The games by GNU Parallel over a real ssh."""
 
     def setUp(self):
-        if os.getuid() or not Path("/usr/sbin/sshd").exists() or not all(map(shutil.which, ("ssh", "ssh-keygen", "parallel"))):
-            self.skip("a real ssh", "it wants root, openssh-server, openssh-client and GNU Parallel")
+        if (
+            os.getuid()
+            or not Path("/usr/sbin/sshd").exists()
+            or not all(map(shutil.which, ("ssh", "ssh-keygen", "parallel")))
+        ):
+            self.skip(
+                "a real ssh", "it wants root, openssh-server, openssh-client and GNU Parallel"
+            )
             self.skipTest("no ssh")
 
     def plays(self, made, disturb=lambda: None):
         """Plays all games, disturbed so, and looks at what comes of them."""
         here = made.here
         self.check("both machines are up", True, made.is_up)
-        self.check("the plan", 0, here.run("tournament", "plan", "far", *ENGINES, *rooms.SMALL).status)
+        self.check(
+            "the plan", 0, here.run("tournament", "plan", "far", *ENGINES, *rooms.SMALL).status
+        )
         began = time.monotonic()
         process = here.start("bash", "-c", PLAY.format(at=here.at, scripts=rooms.SCRIPTS))
         disturb()
@@ -123,7 +148,9 @@ class Ssh(rooms.Case):
         odd = sorted(name for name in {*wanted, *got} if wanted.get(name) != got.get(name))
         self.check("the same results", ([], ""), (odd, errors if odd else ""))
         self.check("no engine is left", [], here.named("twogtp") + here.named("gtp_engine"))
-        return [line.split(" left: ")[0] for line in (here.at / "machines").read_text().splitlines()]
+        return [
+            line.split(" left: ")[0] for line in (here.at / "machines").read_text().splitlines()
+        ]
 
     def test_unreached(self):
         """A machine that can't be reached leaves, and the others play all games."""

@@ -40,4 +40,7 @@ def made():
 
 def environment(*folders):
     """The environment in which this `python3` is found first, and then what is in these folders."""
-    return {**os.environ, "PATH": os.pathsep.join(map(str, [python(), *folders, os.environ["PATH"]]))}
+    return {
+        **os.environ,
+        "PATH": os.pathsep.join(map(str, [python(), *folders, os.environ["PATH"]])),
+    }

@@ -154,8 +154,15 @@ class Parser(argparse.ArgumentParser):
 
     def __init__(self, text):
         super().__init__(description=text, formatter_class=argparse.RawDescriptionHelpFormatter)
-        self.add_argument("-k", metavar="TEXT", action="append", help="run the checks that have TEXT in their names (repeatable)")
-        self.add_argument("--list", action="store_true", help="print the names of the checks, and run none")
+        self.add_argument(
+            "-k",
+            metavar="TEXT",
+            action="append",
+            help="run the checks that have TEXT in their names (repeatable)",
+        )
+        self.add_argument(
+            "--list", action="store_true", help="print the names of the checks, and run none"
+        )
 
     def options(self, module):
         """The options: those of the command line where the module is run as a program, and else what each is where it isn't given."""
@@ -181,7 +188,13 @@ class Loader(unittest.TestLoader):
         return sorted(super().getTestCaseNames(case), key=written.index)
 
     def loadTestsFromModule(self, module):
-        return self.loadTestsFromCases([it for it in vars(module).values() if isinstance(it, type) and issubclass(it, unittest.TestCase)])
+        return self.loadTestsFromCases(
+            [
+                it
+                for it in vars(module).values()
+                if isinstance(it, type) and issubclass(it, unittest.TestCase)
+            ]
+        )
 
     def loadTestsFromCases(self, cases):
         """The tests of these cases."""
@@ -194,12 +207,16 @@ def sentence_of(test):
     if not isinstance(test, unittest.TestCase):
         place = test.id().partition("(")[2].rstrip(")")
         module, _, case = place.rpartition(".")
-        before = getattr(sys.modules.get(module), case, None) or getattr(sys.modules.get(place), "setUpModule", None)
+        before = getattr(sys.modules.get(module), case, None) or getattr(
+            sys.modules.get(place), "setUpModule", None
+        )
         return first_sentence(inspect.getdoc(before) or test.id())
     name = test.id().rpartition(".")[2]
     method = getattr(type(test), name)
     said = getattr(method, "sentence", None)
-    return said or first_sentence(inspect.getdoc(method) or name.partition("_")[2].replace("_", " "))
+    return said or first_sentence(
+        inspect.getdoc(method) or name.partition("_")[2].replace("_", " ")
+    )
 
 
 def first_sentence(text):
@@ -243,7 +260,9 @@ class Lines(unittest.TestResult):
         self.note_failed(sentence_of(test), error)
 
     def addUnexpectedSuccess(self, test):
-        self.note_failed(sentence_of(test), (AssertionError, AssertionError("it passes, and should not"), None))
+        self.note_failed(
+            sentence_of(test), (AssertionError, AssertionError("it passes, and should not"), None)
+        )
 
     def addSubTest(self, test, part, error):
         self.has_parts = True
@@ -298,7 +317,9 @@ def main(options=None, cases=None):
     stage = sys.modules["__main__"]
     options = options or Parser(stage.__doc__).options("__main__")
     loader = Loader()
-    loader.testNamePatterns = [pattern for text in options.k for pattern in patterns_of(text)] if options.k else None
+    loader.testNamePatterns = (
+        [pattern for text in options.k for pattern in patterns_of(text)] if options.k else None
+    )
     tests = loader.loadTestsFromModule(stage) if cases is None else loader.loadTestsFromCases(cases)
     if not tests.countTestCases():
         sys.exit(f"no check has {' or '.join(map(repr, options.k or ['test']))} in its name")

@@ -30,7 +30,9 @@ def lacks(files=(), tools=()):
     for file in files:
         if not file.is_file():
             return f"{file.relative_to(TOP) if TOP in file.parents else file} is not there, which ./build makes, or ./build library"
-    return None if all(map(shutil.which, tools)) else f"not all of these are there: {' '.join(tools)}"
+    return (
+        None if all(map(shutil.which, tools)) else f"not all of these are there: {' '.join(tools)}"
+    )
 
 
 class Needing(checks.Case):
@@ -60,7 +62,14 @@ def sizes():
 def python_with_numpy():
     """A Python that has numpy: this one, or Debian's. None where neither has it."""
     pythons = (sys.executable, "/usr/bin/python3")
-    return next((it for it in pythons if os.path.exists(it) and running.run([it, "-c", "import numpy"]).status == 0), None)
+    return next(
+        (
+            it
+            for it in pythons
+            if os.path.exists(it) and running.run([it, "-c", "import numpy"]).status == 0
+        ),
+        None,
+    )
 
 
 def said(words, **how):
@@ -87,7 +96,9 @@ def most_lines(name):
 def compiled(name, folder, *flags):
     """Compiles an example in C into this folder. What the compiler says."""
     words = ["-std=c99", "-D_POSIX_C_SOURCE=200809L", "-O2", *WARN, "-Ilibrary", *flags]
-    return cc(["cc", *words, "-o", folder / name, f"library/examples/{name}.c", ARCHIVE, "-lm"], folder)
+    return cc(
+        ["cc", *words, "-o", folder / name, f"library/examples/{name}.c", ARCHIVE, "-lm"], folder
+    )
 
 
 def twogtp(black, white, *options):
@@ -98,7 +109,10 @@ def twogtp(black, white, *options):
 
 def restarts(output):
     """The restarts of both sides in each game of a match."""
-    return [tuple(map(int, it)) for it in re.findall(r"^game .* restarts (\d+) (\d+)$", output, re.MULTILINE)]
+    return [
+        tuple(map(int, it))
+        for it in re.findall(r"^game .* restarts (\d+) (\d+)$", output, re.MULTILINE)
+    ]
 
 
 def complaints(engine):
@@ -117,8 +131,17 @@ def finished(line):
 
 def killed(engine, kept, other, *options):
     """A game of Black, an engine that is killed at its third genmove after each start, and after so many bytes of the reply. What has to
-    come of it, and what comes: is it finished, and how often was each side started again? Each start of Black plays two moves."""
-    line = twogtp(f"tests/engines/hostile/dies 3 {kept} {engine}", other, "--size", "5", "--restarts", "1000", *options).output
+    come of it, and what comes: is it finished, and how often was each side started again? Each start of Black plays two moves.
+    """
+    line = twogtp(
+        f"tests/engines/hostile/dies 3 {kept} {engine}",
+        other,
+        "--size",
+        "5",
+        "--restarts",
+        "1000",
+        *options,
+    ).output
     moves = re.search(r" moves ([0-9]+)", line)
     starts = (int(moves[1]) + 1) // 2 if moves else 0
     return (True, [((starts - 1) // 2, 0)]), (finished(line), restarts(line))
@@ -134,11 +157,15 @@ class Match(NamedTuple):
 
     def of(self, engine):
         """The match in which the example has this command."""
-        return self._replace(black=self.black.replace("@", str(engine)), white=self.white.replace("@", str(engine)))
+        return self._replace(
+            black=self.black.replace("@", str(engine)), white=self.white.replace("@", str(engine))
+        )
 
     def by_twogtp(self, *options):
         """The line that twogtp writes of it."""
-        return twogtp(self.black, self.white, "--size", self.size, f"--komi={self.half_komi / 2:g}", *options).output
+        return twogtp(
+            self.black, self.white, "--size", self.size, f"--komi={self.half_komi / 2:g}", *options
+        ).output
 
 
 def drawn_matches(seed, count):
@@ -153,13 +180,30 @@ def drawn_engine(r, size):
     """The command of a drawn engine: mostly one of ours, at times with a fault."""
     fault = r.choice(FAULTS).format(n=r.randint(1, 12), k=r.randint(0, 9))
     rule = r.choice(["simple", "simple", "positional"])
-    book = ",".join(r.choice(["", "pass", "resign", f"{r.choice('ABCDEFGHJ'[:size])}{r.randint(1, size)}"]) for _ in range(9))
+    book = ",".join(
+        r.choice(["", "pass", "resign", f"{r.choice('ABCDEFGHJ'[:size])}{r.randint(1, size)}"])
+        for _ in range(9)
+    )
     ours = f"bin/gtp_engine --fault {fault} --ko {rule} --policy "
     seed = r.randint(0, 2**32 - 1)
-    return r.choice([f"@ {seed}", f"{ours}book --book {book}", *[f"{ours}first", f"{ours}random --seed {seed}"] * 3])
+    return r.choice(
+        [
+            f"@ {seed}",
+            f"{ours}book --book {book}",
+            *[f"{ours}first", f"{ours}random --seed {seed}"] * 3,
+        ]
+    )
 
 
 def unseen(lines):
     """The ends of a match that none of these has, and restarts."""
-    ends = {end for end, form in VERDICTS.items() if any(re.match(rf"game 1: ({form}) moves ", line) for line in lines)}
-    return {*VERDICTS, "restarts"} - ends - ({"restarts"} if any(not line.endswith(" 0 0\n") for line in lines) else set())
+    ends = {
+        end
+        for end, form in VERDICTS.items()
+        if any(re.match(rf"game 1: ({form}) moves ", line) for line in lines)
+    }
+    return (
+        {*VERDICTS, "restarts"}
+        - ends
+        - ({"restarts"} if any(not line.endswith(" 0 0\n") for line in lines) else set())
+    )

@@ -9,7 +9,17 @@ from pathlib import Path
 
 from .processes import TOP
 
-LEFT_OUT = {".git", ".mypy_cache", ".pytest_cache", "__pycache__", "bin", "dist", "out", "target", "workspace"}  # directories of what checks and builds leave
+LEFT_OUT = {
+    ".git",
+    ".mypy_cache",
+    ".pytest_cache",
+    "__pycache__",
+    "bin",
+    "dist",
+    "out",
+    "target",
+    "workspace",
+}  # directories of what checks and builds leave
 
 BLOCK = re.compile(r"^```(\w*)\n(.*?)^```$", re.MULTILINE | re.DOTALL)
 SPAN = re.compile(r"(`+)(?!`)(.+?)(?<!`)\1(?!`)")
@@ -72,11 +82,17 @@ def anchors_of(text: str) -> set[str]:
     """The anchors of a page, as GitHub makes them of its headings: in small letters, without punctuation, with hyphens in place of spaces.
     The second heading of the same text has `-1` after it, the third `-2`."""
     found: dict[str, int] = {}
-    for heading in re.findall(r"^#+ +(.*?) *$", COMMENT.sub("", without_blocks(text)), re.MULTILINE):
+    for heading in re.findall(
+        r"^#+ +(.*?) *$", COMMENT.sub("", without_blocks(text)), re.MULTILINE
+    ):
         words = re.sub(r"\[([^]]*)\]\([^)]*\)", r"\1", heading)
         anchor = re.sub(r"[^\w\- ]", "", words.lower()).replace(" ", "-")
         found[anchor] = found.get(anchor, 0) + 1
-    return {f"{anchor}-{number}" if number else anchor for anchor, times in found.items() for number in range(times)}
+    return {
+        f"{anchor}-{number}" if number else anchor
+        for anchor, times in found.items()
+        for number in range(times)
+    }
 
 
 def leads(page: Path, target: str) -> bool:
@@ -92,4 +108,8 @@ def lost_links(page: Path) -> list[str]:
     """The links of a page that lead nowhere, each with the page's name and its line."""
     text = page.read_text()
     found = TARGET.finditer(without_code(text))
-    return [f"{page.name}:{line_of(text, link.start())}: {link[0]}" for link in found if not leads(page, link[0])]
+    return [
+        f"{page.name}:{line_of(text, link.start())}: {link[0]}"
+        for link in found
+        if not leads(page, link[0])
+    ]

@@ -40,7 +40,13 @@ def started(words, limit=LIMIT, spare=False, **how):
     """A process that leads a group of its own. At the end, or after so many seconds, what is left of the group is killed. Where it is
     to be spared it lives on to the end of the stage, which may look for it."""
     assert not _over, "the stage is over"
-    how = {"cwd": TOP, "stdin": subprocess.DEVNULL, "stdout": subprocess.PIPE, "stderr": subprocess.PIPE, **how}
+    how = {
+        "cwd": TOP,
+        "stdin": subprocess.DEVNULL,
+        "stdout": subprocess.PIPE,
+        "stderr": subprocess.PIPE,
+        **how,
+    }
     words = [it if isinstance(it, bytes) else str(it) for it in words]
     with subprocess.Popen(words, start_new_session=True, **how) as process:
         _started.add(process.pid)
@@ -80,7 +86,9 @@ def end_all():
 def run(words, text=None, limit=LIMIT, encoding="utf-8", spare=False, **how):
     """Runs a command, which reads this text, or nothing. Without an encoding what it reads and writes is bytes."""
     how = {"stdin": subprocess.DEVNULL if text is None else subprocess.PIPE, **how}
-    with started(words, 2 * limit, spare, encoding=encoding, errors=encoding and "backslashreplace", **how) as process:
+    with started(
+        words, 2 * limit, spare, encoding=encoding, errors=encoding and "backslashreplace", **how
+    ) as process:
         try:
             output, errors = process.communicate(text, limit)
             status = process.returncode

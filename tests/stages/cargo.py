@@ -27,14 +27,39 @@ from tests.stages.of_cargo.building import BUILT, PROVED, OfWorkspace, need_prov
 from tests.stages.of_cargo.building import Build, Clippy, Clones, Documentation, Tests  # noqa: E402
 from tests.stages.of_cargo.commands import run  # noqa: E402
 from tests.stages.of_cargo.ends import Ends  # noqa: E402
-from tests.stages.of_cargo.refusals import Files, Inlined, Message, Refusals, Taken, Traits  # noqa: E402
+from tests.stages.of_cargo.refusals import (
+    Files,
+    Inlined,
+    Message,
+    Refusals,
+    Taken,
+    Traits,
+)  # noqa: E402
 from tests.stages.of_library_in_c import each_call  # noqa: E402
 
 PARSER = checks.Parser(__doc__)
-PARSER.add_argument("--all", action="store_true", help="both commands of the README where there is no kit, and nothing else")
-PARSER.add_argument("--conversations", metavar="N", type=checks.at_least_one, default=1000, help="how many are drawn; else 1000")
-PARSER.add_argument("--matches", metavar="N", type=checks.at_least_one, default=300, help="how many are drawn; else 300")
-PARSER.add_argument("--courses", metavar="N", type=checks.at_least_one, default=6, help="how many are drawn; else 6")
+PARSER.add_argument(
+    "--all",
+    action="store_true",
+    help="both commands of the README where there is no kit, and nothing else",
+)
+PARSER.add_argument(
+    "--conversations",
+    metavar="N",
+    type=checks.at_least_one,
+    default=1000,
+    help="how many are drawn; else 1000",
+)
+PARSER.add_argument(
+    "--matches",
+    metavar="N",
+    type=checks.at_least_one,
+    default=300,
+    help="how many are drawn; else 300",
+)
+PARSER.add_argument(
+    "--courses", metavar="N", type=checks.at_least_one, default=6, help="how many are drawn; else 6"
+)
 PARSER.add_argument("--seed", metavar="TEXT", default="1", help="of what is drawn; else 1")
 OPTIONS = PARSER.options(__name__)
 HOURS = 3  # that one run of ./test programs may take
@@ -51,15 +76,25 @@ class Compared(OfWorkspace):
 
     def alike(self, what, trials):
         """Checks that the trials come out alike."""
-        differences, figures = comparing.compare(PROVED, BUILT, trials, differ=comparing.differ_but_for_clap)
-        shown = "\n".join(comparing.shown(it, "the proved programs", "cargo's") for it in differences[:5])
-        statuses = ", ".join(f"{status}: {count}" for status, count in sorted(figures.statuses.items(), key=str))
+        differences, figures = comparing.compare(
+            PROVED, BUILT, trials, differ=comparing.differ_but_for_clap
+        )
+        shown = "\n".join(
+            comparing.shown(it, "the proved programs", "cargo's") for it in differences[:5]
+        )
+        statuses = ", ".join(
+            f"{status}: {count}" for status, count in sorted(figures.statuses.items(), key=str)
+        )
         games = f", {figures.games} games" if figures.games else f", {figures.lines} lines"
-        self.check(f"{figures.trials} drawn {what} come out alike{games}; statuses {statuses}", "", shown)
+        self.check(
+            f"{figures.trials} drawn {what} come out alike{games}; statuses {statuses}", "", shown
+        )
 
     def test_conversations(self):
         """Drawn conversations come out alike."""
-        self.alike("conversations", conversations.conversations(OPTIONS.seed, OPTIONS.conversations))
+        self.alike(
+            "conversations", conversations.conversations(OPTIONS.seed, OPTIONS.conversations)
+        )
 
     def test_matches(self):
         """Drawn matches come out alike."""
@@ -84,8 +119,12 @@ class All(checks.Case):
     def setUpClass(cls):
         if not OPTIONS.all:
             raise SkipTest("--all runs them")
-        path = os.pathsep.join(it for it in os.environ["PATH"].split(os.pathsep) if not (Path(it) / "rt").exists())
-        assert not shutil.which("rt", path=path), "rt is found also where its folder is taken off PATH"
+        path = os.pathsep.join(
+            it for it in os.environ["PATH"].split(os.pathsep) if not (Path(it) / "rt").exists()
+        )
+        assert not shutil.which(
+            "rt", path=path
+        ), "rt is found also where its folder is taken off PATH"
         cls.path, cls.clone = path, cls.room_of_all() / "clone"
         assert run(["git", "clone", "-q", TOP, cls.clone]) == (0, "")
 
@@ -94,7 +133,11 @@ class All(checks.Case):
         for turn in ("first", "second"):
             status, said = run(["./demo"], self.clone, PATH=self.path)
             lines = [line for line in said.splitlines() if HOW_BUILT.search(line)]
-            self.check(f"./demo, the {turn} time: its status, and lines that say how it is built", (0, 1), (status, len(lines)))
+            self.check(
+                f"./demo, the {turn} time: its status, and lines that say how it is built",
+                (0, 1),
+                (status, len(lines)),
+            )
             last = self.last_line()
             is_fine = re.fullmatch(r"[1-9][0-9]* passed, 0 failed\n", last) is not None
             self.check(f"./test programs, the {turn} time: {last.strip()}", True, is_fine)
@@ -102,7 +145,9 @@ class All(checks.Case):
     def last_line(self):
         """The last line of ./test programs. Those of checks that fail are printed as they come."""
         last = ""
-        how = dict(cwd=self.clone, env={**os.environ, "PATH": self.path}, encoding="utf-8", stderr=None)
+        how = dict(
+            cwd=self.clone, env={**os.environ, "PATH": self.path}, encoding="utf-8", stderr=None
+        )
         with running.started(["./test", "programs"], 3600 * HOURS, **how) as test:
             for line in test.stdout:
                 last = line
@@ -113,4 +158,9 @@ class All(checks.Case):
 
 if __name__ == "__main__":
     of_sources = [Refusals, Traits, Taken, Inlined, Files, Message, Clones]
-    checks.main(OPTIONS, [All] if OPTIONS.all else [*of_sources, Build, Tests, Clippy, Documentation, Compared, Ends, EachCall])
+    checks.main(
+        OPTIONS,
+        [All]
+        if OPTIONS.all
+        else [*of_sources, Build, Tests, Clippy, Documentation, Compared, Ends, EachCall],
+    )

@@ -32,7 +32,9 @@ from tests.stages.of_gtp_check.running import checked, left  # noqa: E402
 
 PARSER = checks.Parser(__doc__)
 PARSER.add_argument("--all", action="store_true", help="try each wrong engine")
-PARSER.add_argument("--seeds", metavar="N", type=int, default=0, help="ask right engines alone, with so many seeds")
+PARSER.add_argument(
+    "--seeds", metavar="N", type=int, default=0, help="ask right engines alone, with so many seeds"
+)
 OPTIONS = PARSER.options(__name__)
 SHOWN, HIDDEN = wrong.chosen(OPTIONS.all)
 
@@ -59,7 +61,11 @@ class Free(Checks):
     """Engines that have a freedom: nothing may be found."""
 
 
-@checks.table([it for it in right.FREEDOMS if it in right.SUICIDAL], lambda it: f"suicide is blamed: {it}", right.suicidal)
+@checks.table(
+    [it for it in right.FREEDOMS if it in right.SUICIDAL],
+    lambda it: f"suicide is blamed: {it}",
+    right.suicidal,
+)
 class Suicidal(Checks):
     """Engines whose rules allow suicide, where the check isn't told so: they are blamed for that alone."""
 
@@ -99,7 +105,11 @@ class Sample(Checks):
     def test_sample_is_unread(self):
         """the sample engine is quiet where nobody reads what it writes."""
         for kept in (1, 100, 1000):
-            self.check(f"after {kept} bytes the sample engine isn't read: it is quiet", None, right.unread(kept))
+            self.check(
+                f"after {kept} bytes the sample engine isn't read: it is quiet",
+                None,
+                right.unread(kept),
+            )
 
 
 # ---- the same bytes
@@ -116,9 +126,19 @@ def without_counts(output):
 # the name, the options, the engine, and what has to be the same of the output
 SAME = (
     ("a right engine", SEED, "gtp_engine --policy random", str),
-    ("an engine of another ko rule", (*SEED, "--only", "ko"), "gtp_engine --ko positional", without_counts),
+    (
+        "an engine of another ko rule",
+        (*SEED, "--only", "ko"),
+        "gtp_engine --ko positional",
+        without_counts,
+    ),
     ("a wrong engine, one command at a time", (*SEED, "--only", "komi", "--singly"), BUG, str),
-    ("a wrong engine, but for the number of commands", (*SEED, "--only", "komi"), BUG, without_counts),
+    (
+        "a wrong engine, but for the number of commands",
+        (*SEED, "--only", "komi"),
+        BUG,
+        without_counts,
+    ),
 )
 
 
@@ -163,7 +183,11 @@ class NotStarted(Checks):
         self.nothing(hostile.gone_after_its_first_start(self.room()))
 
 
-@checks.table(terminal.CHECKS, lambda it: f"a terminal as standard error: {it}", lambda it: terminal.CHECKS[it]())
+@checks.table(
+    terminal.CHECKS,
+    lambda it: f"a terminal as standard error: {it}",
+    lambda it: terminal.CHECKS[it](),
+)
 class Terminal(Checks):
     """A terminal has what is waited for."""
 
@@ -181,7 +205,11 @@ class Late(Checks):
     """A mistake that no shorter conversation shows: the last game of more than forty commands is shown alone."""
 
 
-@checks.table(wrong.TRIED, lambda it: f"shorter conversations are tried of more than twelve commands: {it[0]}", wrong.tried)
+@checks.table(
+    wrong.TRIED,
+    lambda it: f"shorter conversations are tried of more than twelve commands: {it[0]}",
+    wrong.tried,
+)
 class Tried(Checks):
     """Of how many commands shorter conversations are tried, and up to how many commands in all of them."""
 
@@ -204,7 +232,11 @@ class Noticed(Checks):
     """Wrong engines that are noticed."""
 
 
-@checks.table(HIDDEN, lambda it: f"not noticed: {it}: {wrong.UNNOTICED[it]}", lambda it: wrong.unnoticed(it, OPTIONS.all))
+@checks.table(
+    HIDDEN,
+    lambda it: f"not noticed: {it}: {wrong.UNNOTICED[it]}",
+    lambda it: wrong.unnoticed(it, OPTIONS.all),
+)
 class NotNoticed(Checks):
     """Wrong engines that nothing shows."""
 
@@ -225,7 +257,11 @@ class Drawn(checks.Case):
         print(f"{cls.commands} commands")
 
 
-@checks.table(right.free_rows(range(OPTIONS.seeds)), lambda it: f"a freedom: {it[0]}, with seed {it[1]}", right.free)
+@checks.table(
+    right.free_rows(range(OPTIONS.seeds)),
+    lambda it: f"a freedom: {it[0]}, with seed {it[1]}",
+    right.free,
+)
 class FreeDrawn(Checks):
     """Engines that have a freedom, with many seeds."""
 

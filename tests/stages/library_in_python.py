@@ -27,7 +27,15 @@ from tests.references.engine.conversations import KINDS  # noqa: E402
 from tests.shared import checks, library  # noqa: E402
 from tests.shared.library import TOP, Match, finished, most_lines, twogtp  # noqa: E402
 from tests.stages.of_library_in_python import environments  # noqa: E402
-from tests.stages.of_library_in_python.here import LIBRARY, OURS, PACKAGE, Needing, by_twogtp, run, setUpModule  # noqa: E402, F401
+from tests.stages.of_library_in_python.here import (
+    LIBRARY,
+    OURS,
+    PACKAGE,
+    Needing,
+    by_twogtp,
+    run,
+    setUpModule,
+)  # noqa: E402, F401
 from tests.stages.of_library_in_python.served import Served  # noqa: E402, F401
 from tests.stages.of_library_in_python.typed import Tools, Typed  # noqa: E402, F401
 from tests.stages.of_library_in_python.wheels import Installed, Wheel  # noqa: E402, F401
@@ -91,7 +99,9 @@ BEFORE = files_of(PACKAGE)
 # ---- the package
 
 
-@checks.table(EXAMPLES, lambda example: f"{example.name} has at most {most_lines(example.stem)} lines")
+@checks.table(
+    EXAMPLES, lambda example: f"{example.name} has at most {most_lines(example.stem)} lines"
+)
 class Examples(checks.Case):
     """The examples are short."""
 
@@ -104,7 +114,9 @@ def pythons():
     others = [shutil.which(f"python3.{number}") for number in range(9, 30)]
     named = {}
     for python in [sys.executable, *filter(None, others), DEBIANS]:
-        status, version, _ = run([python, "-c", "import sys; print('%d.%d.%d' % sys.version_info[:3])"])
+        status, version, _ = run(
+            [python, "-c", "import sys; print('%d.%d.%d' % sys.version_info[:3])"]
+        )
         if status == 0:
             named.setdefault(version.strip(), python)
     return named
@@ -142,7 +154,9 @@ def package():
 def differences(vintsaky, r):
     """What one drawn game does otherwise than the reference: a text, or None."""
     size, rule, komi = r.randint(1, 6), r.choice([1, 2]), r.randint(-20, 20)
-    game, plain = vintsaky.Game(size, komi / 2, rule), rules.Game(rules.SIMPLE if rule == 1 else rules.POSITIONAL)
+    game, plain = vintsaky.Game(size, komi / 2, rule), rules.Game(
+        rules.SIMPLE if rule == 1 else rules.POSITIONAL
+    )
     plain.begin(size)
     plain.komi = komi
     for _ in range(r.choice([20, 80])):
@@ -155,7 +169,9 @@ def differences(vintsaky, r):
         after = plain.after(colour, vertex)
         own_vertex = vintsaky.PASS if vertex == values.PASS else vintsaky.Point(*vertex)
         cause = game.why_not(own, own_vertex)
-        if (cause is None) != (after is not None) or (cause is not None and cause.name not in CAUSES):
+        if (cause is None) != (after is not None) or (
+            cause is not None and cause.name not in CAUSES
+        ):
             return f"{vertex} is {cause} in {plain.moves}"
         legal = [point for point in rules.points(size) if plain.after(colour, point) is not None]
         if game.legal_points(own) != legal:
@@ -164,10 +180,16 @@ def differences(vintsaky, r):
             before = plain.board
             game.play(own, own_vertex)
             plain.play(colour, vertex)
-            taken = [point for point in rules.points(size) if point in before and point not in after]
+            taken = [
+                point for point in rules.points(size) if point in before and point not in after
+            ]
             if game.taken != taken:
                 return f"the stones taken after {plain.moves}"
-        if (str(game), game.score * 2, len(game.moves)) != (plain.show(), plain.score(), len(plain.moves)):
+        if (str(game), game.score * 2, len(game.moves)) != (
+            plain.show(),
+            plain.score(),
+            len(plain.moves),
+        ):
             return f"the board after {plain.moves}"
     return None
 
@@ -190,7 +212,9 @@ class Engine(Needing):
     def test_whole(self):
         """Whole games."""
         for seed in (1, 2):
-            came, again = (twogtp(f"{ENGINE} {seed}", OURS, "--size", "9", "--komi", "7.5") for _ in range(2))
+            came, again = (
+                twogtp(f"{ENGINE} {seed}", OURS, "--size", "9", "--komi", "7.5") for _ in range(2)
+            )
             self.check(f"a whole game with seed {seed}", (True, [(0, 0)], ""),
                        (finished(came.output), library.restarts(came.output), came.errors))  # fmt: skip
             self.check(f"the same game again with seed {seed}", came.output, again.output)
@@ -210,7 +234,9 @@ class Engine(Needing):
 
 def odd_conversations(kind):
     """What is wrong in the drawn conversations of this kind."""
-    return chosen.failures([*ENGINE.split(), "5"], kind, chosen.counted(kind, 6), "python", name="random_engine")
+    return chosen.failures(
+        [*ENGINE.split(), "5"], kind, chosen.counted(kind, 6), "python", name="random_engine"
+    )
 
 
 @checks.table(KINDS, lambda kind: f"{chosen.counted(kind, 6)} conversations of {KINDS[kind][0]} are the reference's", odd_conversations,
@@ -234,7 +260,14 @@ class Authors(Needing):
         """an engine serves on after a wrong answer of an own command, of which standard error says what is wrong."""
         program = self.room() / "engine.py"
         program.write_text(ANSWERS)
-        _, line, errors = twogtp(f"{sys.executable} {program}", "bin/gtp_engine --policy first", "--size", "5", "--max-moves", "4")
+        _, line, errors = twogtp(
+            f"{sys.executable} {program}",
+            "bin/gtp_engine --policy first",
+            "--size",
+            "5",
+            "--max-moves",
+            "4",
+        )
         said = "Engine: the command bad: its answer is wrong: text: 5 is neither str nor bytes\n"
         self.same(("game 1: limit moves 4 restarts 0 0\n", True), (line, errors.count(said) > 4))
 
@@ -253,7 +286,10 @@ class Authors(Needing):
 
     def row(self, name):
         _, line, errors = self.play(WRONG[name])
-        self.same(("game 1: abandoned black moves 2 restarts 1 0\n", True), (line, errors.count("Traceback (most recent call last)") >= 2))
+        self.same(
+            ("game 1: abandoned black moves 2 restarts 1 0\n", True),
+            (line, errors.count("Traceback (most recent call last)") >= 2),
+        )
 
 
 # ---- the tournament program
@@ -271,13 +307,22 @@ def played(match):
     return by_twogtp(match), run([*PLAY_MATCH, *match])
 
 
-@checks.table(MATCHES, lambda match: f"a match on {match.size}x{match.size} of {match.black} and {match.white}", played, AT_ONCE)
+@checks.table(
+    MATCHES,
+    lambda match: f"a match on {match.size}x{match.size} of {match.black} and {match.white}",
+    played,
+    AT_ONCE,
+)
 class Matches(Needing):
     """Matches of the tournament program."""
 
     def row(self, match, came):
         wanted, got = came
-        self.check(f"a match on {match.size}x{match.size}: {wanted[8:].strip()}", (0, wanted, ""), tuple(got))
+        self.check(
+            f"a match on {match.size}x{match.size}: {wanted[8:].strip()}",
+            (0, wanted, ""),
+            tuple(got),
+        )
 
 
 @checks.table(MISTAKES, lambda words: f"arguments with a mistake: '{words}'")
@@ -299,7 +344,10 @@ class Left(checks.Case):
     def test_left(self):
         """nothing is left in the tree."""
         after = files_of(PACKAGE)
-        self.same([], sorted(str(path) for path in {*BEFORE, *after} if BEFORE.get(path) != after.get(path)))
+        self.same(
+            [],
+            sorted(str(path) for path in {*BEFORE, *after} if BEFORE.get(path) != after.get(path)),
+        )
 
 
 if __name__ == "__main__":

@@ -25,7 +25,9 @@ from tests.shared import checks, library, running  # noqa: E402
 from tests.shared.library import TOP, finished, most_lines, twogtp  # noqa: E402
 
 PARSER = checks.Parser(__doc__)
-PARSER.add_argument("--workspace", type=Path, help="one that cargo/strip wrote of these sources; else a new one")
+PARSER.add_argument(
+    "--workspace", type=Path, help="one that cargo/strip wrote of these sources; else a new one"
+)
 PARSER.add_argument("--matches", type=int, default=60, help="how many matches are drawn; else 60")
 OPTIONS = PARSER.options(__name__)
 CRATE = TOP / "library/rust"
@@ -106,9 +108,23 @@ def workspace():
 
 def cargo(command, *words, at=None, **changed):
     """What comes of a command of cargo on the crate, or on another package where that is named."""
-    environment = {**os.environ, "CARGO_NET_OFFLINE": "true", "CARGO_TERM_COLOR": "never", **changed}
+    environment = {
+        **os.environ,
+        "CARGO_NET_OFFLINE": "true",
+        "CARGO_TERM_COLOR": "never",
+        **changed,
+    }
     environment.pop("CARGO_TARGET_DIR", None)
-    return run(["cargo", command, "--manifest-path", (at or workspace() / "vintsaky") / "Cargo.toml", *words], env=environment)
+    return run(
+        [
+            "cargo",
+            command,
+            "--manifest-path",
+            (at or workspace() / "vintsaky") / "Cargo.toml",
+            *words,
+        ],
+        env=environment,
+    )
 
 
 @lru_cache(maxsize=None)
@@ -155,7 +171,12 @@ class Crate(InWorkspace):
     def test_tests(self):
         """The tests."""
         status, output, errors = cargo("test")
-        counts = [int(it) for it in re.findall(r"^test result: ok\. ([0-9]+) passed; 0 failed; 0 ignored", output, re.M)]
+        counts = [
+            int(it)
+            for it in re.findall(
+                r"^test result: ok\. ([0-9]+) passed; 0 failed; 0 ignored", output, re.M
+            )
+        ]
         results = len(re.findall(r"^test result", output, re.M))
         self.check(f"cargo test, with {sum(counts)} tests", (0, results, True, ""),
                    (status, len(counts), sum(counts) >= LEAST_TESTS, output[-4000:] + errors[-2000:] if status else ""))  # fmt: skip
@@ -178,7 +199,10 @@ class Safety(checks.Case):
         odd = []
         for path in sorted(CRATE.glob("*/*.rs")):
             text = re.sub(r"//[^\n]*", "", path.read_text())
-            odd += [f"{path.name}: {found}" for found in re.findall(r"\bunsafe\b[^\n]*|\bextern\b[^\n]*", text)]
+            odd += [
+                f"{path.name}: {found}"
+                for found in re.findall(r"\bunsafe\b[^\n]*|\bextern\b[^\n]*", text)
+            ]
         self.same([], odd)
 
     def test_forbidden(self):
@@ -213,7 +237,9 @@ class Elsewhere(InWorkspace):
         self.try_it("a program in its own workspace", room / "engine", room)
 
 
-@checks.table(EXAMPLES, lambda example: f"{example.name} has at most {most_lines(example.stem)} lines")
+@checks.table(
+    EXAMPLES, lambda example: f"{example.name} has at most {most_lines(example.stem)} lines"
+)
 class Examples(InWorkspace):
     """The examples."""
 
@@ -235,8 +261,14 @@ class Engine(Played):
         """Whole games."""
         engine = example("random_engine")
         for seed in range(1, 4):
-            line = twogtp(f"{engine} {seed}", f"{engine} {seed + 9}", "--size", "9", "--komi", "7.5").output
-            self.check(f"a whole game of the engine with seed {seed}", (True, [(0, 0)]), (finished(line), library.restarts(line)))
+            line = twogtp(
+                f"{engine} {seed}", f"{engine} {seed + 9}", "--size", "9", "--komi", "7.5"
+            ).output
+            self.check(
+                f"a whole game of the engine with seed {seed}",
+                (True, [(0, 0)]),
+                (finished(line), library.restarts(line)),
+            )
 
     def test_killed(self):
         """Games in which it is killed."""
@@ -248,7 +280,12 @@ class Engine(Played):
     def test_seeds(self):
         """another seed plays another game."""
         engine = example("random_engine")
-        self.same(3, len({twogtp(f"{engine} {seed}", f"{engine} 1", "--record").output for seed in (1, 2, 3)}))
+        self.same(
+            3,
+            len(
+                {twogtp(f"{engine} {seed}", f"{engine} 1", "--record").output for seed in (1, 2, 3)}
+            ),
+        )
 
     def test_checked(self):
         """gtp_check finds nothing."""
@@ -262,8 +299,18 @@ class Searching(Played):
 
     def test_whole(self):
         """the engine that searches plays whole games, and wins them."""
-        line = twogtp(f"{example('uct_engine')} 100 7", f"{example('random_engine')} 8", "--size", "5", "--games", "3").output
-        self.same(["B+"] * 3, re.findall(r"^game [0-9]: ([BW]\+)[0-9.]+ moves [0-9]+ restarts 0 0$", line, re.M))
+        line = twogtp(
+            f"{example('uct_engine')} 100 7",
+            f"{example('random_engine')} 8",
+            "--size",
+            "5",
+            "--games",
+            "3",
+        ).output
+        self.same(
+            ["B+"] * 3,
+            re.findall(r"^game [0-9]: ([BW]\+)[0-9.]+ moves [0-9]+ restarts 0 0$", line, re.M),
+        )
 
     def test_checked(self):
         """gtp_check finds nothing in the engine that searches."""
@@ -274,7 +321,13 @@ class Searching(Played):
 
 def odd_conversations(kind):
     """What is wrong in the drawn conversations of this kind."""
-    return chosen.failures([str(example("random_engine")), "5"], kind, chosen.counted(kind, 10), "rust", name="random_engine")
+    return chosen.failures(
+        [str(example("random_engine")), "5"],
+        kind,
+        chosen.counted(kind, 10),
+        "rust",
+        name="random_engine",
+    )
 
 
 @checks.table(KINDS, lambda kind: f"{chosen.counted(kind, 10)} conversations of {KINDS[kind][0]} are the reference's", odd_conversations,
@@ -295,7 +348,13 @@ class Conversations(Played):
 # each takes the other's stones again and again
 ENDLESS = library.Match(2, 0, "bin/gtp_engine --policy first", "bin/gtp_engine --policy first")
 MATCHES = [ENDLESS, *list(library.drawn_matches(7, OPTIONS.matches + 1))[1:]]
-MISTAKES = ([], ["9", "0", "cat"], ["26", "0", "cat", "cat"], ["9", "2000000000", "cat", "cat"], ["x", "0", "cat", "cat"])
+MISTAKES = (
+    [],
+    ["9", "0", "cat"],
+    ["26", "0", "cat", "cat"],
+    ["9", "2000000000", "cat", "cat"],
+    ["x", "0", "cat", "cat"],
+)
 
 
 @lru_cache(maxsize=None)
@@ -306,17 +365,26 @@ def by_twogtp(number):
 
 def played(number):
     """The line of twogtp, and what comes of the tournament program."""
-    return by_twogtp(number), run([example("play_match"), *MATCHES[number].of(example("random_engine"))])
+    return by_twogtp(number), run(
+        [example("play_match"), *MATCHES[number].of(example("random_engine"))]
+    )
 
 
-@checks.table(range(len(MATCHES)), lambda number: f"match {number}, {MATCHES[number].size}x{MATCHES[number].size}", played, AT_ONCE)
+@checks.table(
+    range(len(MATCHES)),
+    lambda number: f"match {number}, {MATCHES[number].size}x{MATCHES[number].size}",
+    played,
+    AT_ONCE,
+)
 class Matches(Played):
     """Matches of the tournament program."""
 
     def row(self, number, came):
         wanted, (status, line, _) = came
         size = MATCHES[number].size
-        self.check(f"match {number}, {size}x{size}: {wanted[8:].strip()}", (0, wanted), (status, line))
+        self.check(
+            f"match {number}, {size}x{size}: {wanted[8:].strip()}", (0, wanted), (status, line)
+        )
 
 
 @checks.table(MISTAKES, lambda words: f"arguments with a mistake: {words}")
@@ -339,7 +407,12 @@ class Left(checks.Case):
         """nothing is left in the tree."""
         (said, files), (said_now, files_now) = BEFORE, left_in_tree()
         self.same(said, said_now)
-        self.same([], sorted(str(path) for path in {*files, *files_now} if files.get(path) != files_now.get(path)))
+        self.same(
+            [],
+            sorted(
+                str(path) for path in {*files, *files_now} if files.get(path) != files_now.get(path)
+            ),
+        )
 
 
 if __name__ == "__main__":

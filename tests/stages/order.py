@@ -19,7 +19,16 @@ sys.dont_write_bytecode = True
 sys.path[0] = str(Path(__file__).resolve().parents[2])
 
 from tests.shared import checks, running  # noqa: E402
-from tests.stages.of_order.clones import LIMIT, Clone, here, last_of, path_without_kit, room, until, what_is_new  # noqa: E402
+from tests.stages.of_order.clones import (
+    LIMIT,
+    Clone,
+    here,
+    last_of,
+    path_without_kit,
+    room,
+    until,
+    what_is_new,
+)  # noqa: E402
 
 OPTIONS = checks.Parser(__doc__).options(__name__)
 ACCEPTED = ([], ["3 passed, 0 failed"], 0)
@@ -38,7 +47,9 @@ def while_proving(clone, what):
     """What comes of a build in the clone, in which `what` is done with it while its first crate is proved: its status and its output."""
     log = room() / "cache/vintsaky/work/small_base.log"
     with open(room() / "output", "w+") as output:
-        with running.started(["./build", "small"], LIMIT, stdout=output, stderr=subprocess.STDOUT, **clone.how()) as build:
+        with running.started(
+            ["./build", "small"], LIMIT, stdout=output, stderr=subprocess.STDOUT, **clone.how()
+        ) as build:
             until(log.exists, 60)
             time.sleep(1)
             what(build)
@@ -114,7 +125,11 @@ class Builds(checks.Case):
     def test_at_once(self):
         """Two clones that build at once."""
         for name, (clone, status, _) in built().items():
-            self.check(f"a build after a killed one, while another clone builds the same: {name}", 0, status)
+            self.check(
+                f"a build after a killed one, while another clone builds the same: {name}",
+                0,
+                status,
+            )
             self.check(f"its program runs: {name}", (0, "7\n", ""), clone.run("bin/small"))
         proved = [crate for _, _, output in built().values() for crate in what_is_new(output)]
         self.check("each crate is proved once for both", ["small_base", "small"], proved)
@@ -125,10 +140,15 @@ class Gate(checks.Case):
 
     def test_library(self):
         """The library."""
-        came = [(status, what_is_new(output), last_of(output)) for status, output in (gated().over, gated().older)]
+        came = [
+            (status, what_is_new(output), last_of(output))
+            for status, output in (gated().over, gated().older)
+        ]
         last = "build: bin/libvintsaky.so is there"
         self.check("the library is built over what the gate left", (0, ["vintsaky"], last), came[0])
-        self.check("where that is older, all is proved", (0, ["small_base", "vintsaky"], last), came[1])
+        self.check(
+            "where that is older, all is proved", (0, ["small_base", "vintsaky"], last), came[1]
+        )
 
     def test_after(self):
         """the gate accepts a clone with a program and the library."""
@@ -137,10 +157,14 @@ class Gate(checks.Case):
     def test_is_built(self):
         """The program after the gate."""
         clone = gated().clone
-        self.check("the gate built the same program", gated().sum, clone.sum_of("crates/small/out/small"))
+        self.check(
+            "the gate built the same program", gated().sum, clone.sum_of("crates/small/out/small")
+        )
         self.check("after the gate the program is there", gated().sum, clone.sum_of("bin/small"))
         self.check("nothing is to be built", (0, ""), clone.said("./build", "--needed", "small"))
-        self.check("the program is said to be built", (0, ""), clone.said("./build", "--is-built", "small"))
+        self.check(
+            "the program is said to be built", (0, ""), clone.said("./build", "--is-built", "small")
+        )
 
 
 class Kinds(checks.Case):
@@ -153,7 +177,11 @@ class Kinds(checks.Case):
     def test_proved(self):
         """What was proved."""
         clone = gated().clone
-        self.check("what was proved is known by that", (0, "proved\n"), clone.said("packaging/built", "small"))
+        self.check(
+            "what was proved is known by that",
+            (0, "proved\n"),
+            clone.said("packaging/built", "small"),
+        )
         (clone.at / "crates/small/src/main.rt").touch()
         self.check("it is so whatever the dates are", 0, self.is_built("--proved"))
 
@@ -184,7 +212,11 @@ class Kinds(checks.Case):
             what = "what cargo built is there, and is said not to be proved"
             self.check(what, (0, said), clone.said("./build", "--needed", "small"))
             said = "build: bin/small is missing, or made of other sources, or not proved: ./build small makes it\n"
-            self.check("it is not taken for what was proved", (1, said), clone.said("./build", "--proved", "--is-built", "small"))
+            self.check(
+                "it is not taken for what was proved",
+                (1, said),
+                clone.said("./build", "--proved", "--is-built", "small"),
+            )
             status, _ = clone.said(*words)
             came = (status, clone.run("packaging/built", "small").output)
             self.check(f"the kit makes it anew: {' '.join(words)}", (0, "proved\n"), came)
@@ -192,7 +224,9 @@ class Kinds(checks.Case):
     def test_no_kit(self):
         """without the kit nothing is proved."""
         said = "build: there is no Rattle kit (rt), without which nothing is proved\n"
-        self.same((1, said), gated().clone.said("./build", "--proved", "small", PATH=path_without_kit()))
+        self.same(
+            (1, said), gated().clone.said("./build", "--proved", "small", PATH=path_without_kit())
+        )
 
 
 class Again(checks.Case):
@@ -201,12 +235,22 @@ class Again(checks.Case):
     def test_again(self):
         """a build makes nothing anew."""
         status, output = gated().clone.said("./build", "small")
-        self.same((0, [], "build: bin/small is there"), (status, what_is_new(output), last_of(output)))
+        self.same(
+            (0, [], "build: bin/small is there"), (status, what_is_new(output), last_of(output))
+        )
 
     def test_object(self):
         """the program is linked from the object file beside its record."""
         clone, kit = gated().clone, Path(running.run(["rt", "doc"]).output).parent
-        words = ["--target", "x86_64-unknown-linux-gnu", "--toolchain", kit / "toolchain", "-o", "linked", "bin/built/small.o"]
+        words = [
+            "--target",
+            "x86_64-unknown-linux-gnu",
+            "--toolchain",
+            kit / "toolchain",
+            "-o",
+            "linked",
+            "bin/built/small.o",
+        ]
         clone.run(kit / "bin/rattle-link", *words, kit / "c/libos_c.a", kit / "c/liblibc_c.a")
         self.same(clone.sum_of("bin/small"), clone.sum_of("linked"))
 
@@ -214,11 +258,21 @@ class Again(checks.Case):
         """A source that changes."""
         clone = gated().clone
         clone.change("crates/small_base/src/lib.rt", "7", "8")
-        status, output, _ = while_proving(clone, lambda _: clone.change("crates/small_base/src/lib.rt", "8", "9"))
+        status, output, _ = while_proving(
+            clone, lambda _: clone.change("crates/small_base/src/lib.rt", "8", "9")
+        )
         what = "a build ends where a source changes meanwhile"
-        self.check(what, (1, "build: a source was changed meanwhile: run ./build again"), (status, last_of(output)))
+        self.check(
+            what,
+            (1, "build: a source was changed meanwhile: run ./build again"),
+            (status, last_of(output)),
+        )
         status, _ = clone.said("./build", "small")
-        self.check("a program whose library changed is made anew", (0, (0, "9\n")), (status, clone.said("bin/small")))
+        self.check(
+            "a program whose library changed is made anew",
+            (0, (0, "9\n")),
+            (status, clone.said("bin/small")),
+        )
 
 
 # ---- words on the command line
@@ -239,10 +293,18 @@ class Words(checks.Case):
         mark.parent.mkdir(exist_ok=True)
         mark.touch()
         status, output, _ = plain().run(f"./{script}", "--help", limit=20)
-        self.check(f"{script} --help has a usage text and status 0", (0, True), (status, output.startswith("usage: ")))
+        self.check(
+            f"{script} --help has a usage text and status 0",
+            (0, True),
+            (status, output.startswith("usage: ")),
+        )
         status, output, errors = plain().run(f"./{script}", "--nothing", limit=20)
         lines = [line.partition(": ")[0] for line in errors.splitlines()[:2]]
-        self.check(f"{script} takes no other word, and says so", (2, "", [script, "usage"]), (status, output, lines))
+        self.check(
+            f"{script} takes no other word, and says so",
+            (2, "", [script, "usage"]),
+            (status, output, lines),
+        )
         self.check(f"{script}: nothing is touched by that", True, mark.exists())
 
 

@@ -18,7 +18,16 @@ sys.dont_write_bytecode = True
 sys.path[0] = str(Path(__file__).resolve().parents[2])
 
 from tests.shared import checks  # noqa: E402
-from tests.stages.of_release import archive, library, library_shown, making, manuals, package, source, stopped  # noqa: E402
+from tests.stages.of_release import (
+    archive,
+    library,
+    library_shown,
+    making,
+    manuals,
+    package,
+    source,
+    stopped,
+)  # noqa: E402
 
 OPTIONS = checks.Parser(__doc__).options(__name__)
 # in this order: those of `stopped` leave nothing to look at

@@ -38,19 +38,77 @@ sys.path[0] = str(Path(__file__).resolve().parents[2])
 
 from tests.shared import checks  # noqa: E402
 from tests.stages.of_tournament import rooms  # noqa: E402
-from tests.stages.of_tournament.apart import AskedToEnd, Children, Groups, MayNot, Substituted  # noqa: E402, F401
-from tests.stages.of_tournament.stops import AllKilled, BothKilled, Full, Interrupted, Killed, Limited  # noqa: E402, F401
-from tests.stages.of_tournament.stops import OneKilled, Sessions, Silent, Stopped, Stubborn, Whole  # noqa: E402, F401
+from tests.stages.of_tournament.apart import (
+    AskedToEnd,
+    Children,
+    Groups,
+    MayNot,
+    Substituted,
+)  # noqa: E402, F401
+from tests.stages.of_tournament.stops import (
+    AllKilled,
+    BothKilled,
+    Full,
+    Interrupted,
+    Killed,
+    Limited,
+)  # noqa: E402, F401
+from tests.stages.of_tournament.stops import (
+    OneKilled,
+    Sessions,
+    Silent,
+    Stopped,
+    Stubborn,
+    Whole,
+)  # noqa: E402, F401
 from tests.stages.of_tournament.drawn import Drawn, Two, Unread  # noqa: E402, F401
-from tests.stages.of_tournament.plans import CutAtSpaces, Lost, NoNotes, NoResults, Plans, Vanished  # noqa: E402, F401
-from tests.stages.of_tournament.machines import Arrays, Elsewhere, Leaving, Locks  # noqa: E402, F401
+from tests.stages.of_tournament.plans import (
+    CutAtSpaces,
+    Lost,
+    NoNotes,
+    NoResults,
+    Plans,
+    Vanished,
+)  # noqa: E402, F401
+from tests.stages.of_tournament.machines import (
+    Arrays,
+    Elsewhere,
+    Leaving,
+    Locks,
+)  # noqa: E402, F401
 from tests.stages.of_tournament.copied import Commands, Loop  # noqa: E402, F401
-from tests.stages.of_tournament.asked import Forms, Helps, Python, Said, SaidByTally  # noqa: E402, F401
+from tests.stages.of_tournament.asked import (
+    Forms,
+    Helps,
+    Python,
+    Said,
+    SaidByTally,
+)  # noqa: E402, F401
 from tests.stages.of_tournament.gauntlets import Gauntlets, Same, Warned  # noqa: E402, F401
-from tests.stages.of_tournament.exports import ByGnuGo, DamagedNotes, Exported, Opened, Page, Records, Versions  # noqa: E402, F401
+from tests.stages.of_tournament.exports import (
+    ByGnuGo,
+    DamagedNotes,
+    Exported,
+    Opened,
+    Page,
+    Records,
+    Versions,
+)  # noqa: E402, F401
 from tests.stages.of_tournament.progressed import Abandoned, Lines, Times  # noqa: E402, F401
-from tests.stages.of_tournament.numbers import Errors, PairsOfTwo, Tests, Values, Year  # noqa: E402, F401
-from tests.stages.of_tournament.damaged import Copied, Cut, Damages, Old, Spelled  # noqa: E402, F401
+from tests.stages.of_tournament.numbers import (
+    Errors,
+    PairsOfTwo,
+    Tests,
+    Values,
+    Year,
+)  # noqa: E402, F401
+from tests.stages.of_tournament.damaged import (
+    Copied,
+    Cut,
+    Damages,
+    Old,
+    Spelled,
+)  # noqa: E402, F401
 from tests.stages.of_tournament.damaged import Unread as UnreadResults  # noqa: E402, F401
 from tests.stages.of_tournament.costs import Dear, Filled, Many, OneGame  # noqa: E402, F401
 from tests.stages.of_tournament.counted import Intervals, Tallies, Wrong  # noqa: E402, F401
@@ -61,13 +119,41 @@ from tests.stages.of_tournament.openings import Folders, Refused, Rules, Taken  
 from tests.stages.of_tournament.opened import Answers, Crashes, Refusals, Talks  # noqa: E402, F401
 from tests.stages.of_tournament.opened import Times as OpenedTimes  # noqa: E402, F401
 from tests.stages.of_tournament.opened import Games as OpenedGames  # noqa: E402, F401
-from tests.stages.of_tournament.replayed import Begun, Followed, InTheWay, Looks, Put  # noqa: E402, F401
-from tests.stages.of_tournament.tries import Added, Counted, Gone, InARow, NotStarted, Tried, Unable  # noqa: E402, F401
-from tests.stages.of_tournament.trials import Broken, Dressed, Kept, Noticed, Pauses, Quits, TrialKilled  # noqa: E402, F401
+from tests.stages.of_tournament.replayed import (
+    Begun,
+    Followed,
+    InTheWay,
+    Looks,
+    Put,
+)  # noqa: E402, F401
+from tests.stages.of_tournament.tries import (
+    Added,
+    Counted,
+    Gone,
+    InARow,
+    NotStarted,
+    Tried,
+    Unable,
+)  # noqa: E402, F401
+from tests.stages.of_tournament.trials import (
+    Broken,
+    Dressed,
+    Kept,
+    Noticed,
+    Pauses,
+    Quits,
+    TrialKilled,
+)  # noqa: E402, F401
 from tests.stages.of_tournament.beside import Died, Games, Sample, Taps  # noqa: E402, F401
 
 PARSER = checks.Parser(__doc__)
-PARSER.add_argument("--programs", metavar="FOLDER", default=rooms.Room.programs, type=Path, help="where both programs are; else bin/")
+PARSER.add_argument(
+    "--programs",
+    metavar="FOLDER",
+    default=rooms.Room.programs,
+    type=Path,
+    help="where both programs are; else bin/",
+)
 PARSER.add_argument("--kills", metavar="N", default=Drawn.kills, type=checks.at_least_one,
                     help=f"how many kills at drawn moments; else {Drawn.kills}")  # fmt: skip
 PARSER.add_argument("--whole", action="store_true",

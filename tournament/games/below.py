@@ -8,9 +8,18 @@ except ImportError:
     import signal
 
 ENDING = (signal.SIGTERM, signal.SIGINT, signal.SIGHUP)
-AS_BEFORE = (*ENDING, signal.SIGPIPE, signal.SIGXFSZ)  # signals that do in an engine what they do where nobody asked
+AS_BEFORE = (
+    *ENDING,
+    signal.SIGPIPE,
+    signal.SIGXFSZ,
+)  # signals that do in an engine what they do where nobody asked
 NO_START = 126  # the status of one that can't be started, and 127 where there is no such file
-DEATH, DUMPED, NAME, ADOPTS = 1, 4, 15, 36  # what prctl sets: PR_SET_PDEATHSIG, PR_SET_DUMPABLE, PR_SET_NAME, PR_SET_CHILD_SUBREAPER
+DEATH, DUMPED, NAME, ADOPTS = (
+    1,
+    4,
+    15,
+    36,
+)  # what prctl sets: PR_SET_PDEATHSIG, PR_SET_DUMPABLE, PR_SET_NAME, PR_SET_CHILD_SUBREAPER
 
 
 def c_function(name):
@@ -49,7 +58,8 @@ def be_called(name):
 
 def start(words, folder, streams, as_before=AS_BEFORE):
     """Starts a program in a folder, with these three streams. It ends with this process, has no signal blocked, and a process group of its
-    own: what it sends that doesn't come here. Returns its process, and why it can't be started, if it can't."""
+    own: what it sends that doesn't come here. Returns its process, and why it can't be started, if it can't.
+    """
     own, (failed, fails) = os.getpid(), os.pipe()
     process = os.fork()
     if not process:

@@ -44,7 +44,15 @@ class Game:
     """What the file of the game says of this colour's engine."""
 
     def __init__(self, text, colour):
-        parts = {"notes": [], "folder": [], "held": [], "limit": [], "move-limit": [], "opening": [], colour: []}
+        parts = {
+            "notes": [],
+            "folder": [],
+            "held": [],
+            "limit": [],
+            "move-limit": [],
+            "opening": [],
+            colour: [],
+        }
         for part in os.fsdecode(text).split("\0"):
             key, _, value = part.partition(" ")
             parts.get(key, []).append(value)
@@ -102,7 +110,9 @@ class Engine:
 
     def __init__(self, game):
         (from_caller, self.given), (self.taken, from_engine) = os.pipe(), os.pipe()
-        self.number, self.failure = below.start(game.words, game.folder, (from_caller, from_engine, 2))
+        self.number, self.failure = below.start(
+            game.words, game.folder, (from_caller, from_engine, 2)
+        )
         os.close(from_caller)
         os.close(from_engine)
         os.set_blocking(self.given, False)
@@ -139,8 +149,14 @@ class Relay:
             if 0 not in self.reads:
                 pause = PAUSE if pause is None else min(PAUSE, pause)
                 self.end_if_left()
-            writes = [end for end, text in ((self.engine.given, self.to_engine), (1, self.to_caller)) if text]
-            readable = self.game.heed(pause, self.reads if len(self.to_caller) < ROOM else self.reads - {taken}, writes)
+            writes = [
+                end
+                for end, text in ((self.engine.given, self.to_engine), (1, self.to_caller))
+                if text
+            ]
+            readable = self.game.heed(
+                pause, self.reads if len(self.to_caller) < ROOM else self.reads - {taken}, writes
+            )
             if 0 in readable:
                 self.hear_caller()
             if taken in readable:
@@ -194,7 +210,7 @@ class Relay:
 def rest(end, data):
     """Writes what there is room for, and returns the rest. Where nobody reads any more, nothing is left."""
     try:
-        return data[os.write(end, data):]
+        return data[os.write(end, data) :]
     except BlockingIOError:
         return data
     except BrokenPipeError:
@@ -205,7 +221,11 @@ def how(status):
     """How an engine ended that ended with this status."""
     if status is None:
         return "its output ended, but it ran on"
-    return f"signal {os.WTERMSIG(status)}" if os.WIFSIGNALED(status) else f"exit status {os.WEXITSTATUS(status)}"
+    return (
+        f"signal {os.WTERMSIG(status)}"
+        if os.WIFSIGNALED(status)
+        else f"exit status {os.WEXITSTATUS(status)}"
+    )
 
 
 def was_asked_to_end(status):
@@ -260,7 +280,9 @@ def play(game, colour):
 def main(text, colour):
     """Does so in the game whose file has this text, and returns the status."""
     for number in below.ENDING:
-        signal.signal(number, signal.SIG_IGN)  # who asks a game to end asks twogtp and the engine too
+        signal.signal(
+            number, signal.SIG_IGN
+        )  # who asks a game to end asks twogtp and the engine too
     try:
         game = Game(text, colour)
     except FileNotFoundError:

@@ -21,7 +21,9 @@ def asked_plan(words):
     plan.gauntlet = words.last("--gauntlet", lambda _, name: name)
     plan.options = words.after or []
     plan.seeds, plan.limit = words.last("--seeds", number), words.last("--limit", number)
-    plan.move_limit, plan.start_limit = words.last("--move-limit", seconds), words.last("--start-limit", seconds)
+    plan.move_limit, plan.start_limit = words.last("--move-limit", seconds), words.last(
+        "--start-limit", seconds
+    )
     plan.is_direct = words.has("--direct")
     for option in ("--move-limit", "--start-limit", "--openings"):
         if plan.is_direct and words.has(option):
@@ -73,7 +75,9 @@ def do_play(words):
 
     (folder,), (plan, twogtp, said) = words.places, plan_of(words)
     task, left = words.last("--task", share), words.last("--time-left", time_left)
-    play = Play(Run(plan, folder, twogtp), plan, words.last("--jobs", number) or processors(), task, left)
+    play = Play(
+        Run(plan, folder, twogtp), plan, words.last("--jobs", number) or processors(), task, left
+    )
     if plan.had:
         output.complain(plan.had)
     status = play.try_added()
@@ -91,19 +95,25 @@ def do_plan(words):
     write(plan, words.places[0], said)
     unkept = [it for it in OF_PLAY if words.has(it)]
     if unkept:
-        output.complain(f"a plan doesn't keep {' and '.join(unkept)}: give {'them' if unkept[1:] else 'it'} to tournament play")
+        output.complain(
+            f"a plan doesn't keep {' and '.join(unkept)}: give {'them' if unkept[1:] else 'it'} to tournament play"
+        )
     return 0
 
 
 def do_list(words):
     """tournament list"""
-    folder, = words.places
+    (folder,) = words.places
     plan = read_plan(folder)
     games = plan.games()
     names = iter(games)
     if not words.has("--all"):
         kinds = results.kinds_of(plan, folder)
-        names = (games.name(game) for game, kind in enumerate(kinds) if kind in (results.NONE, results.DAMAGED))
+        names = (
+            games.name(game)
+            for game, kind in enumerate(kinds)
+            if kind in (results.NONE, results.DAMAGED)
+        )
     output.write_all(1, names)
     return 0
 
@@ -115,7 +125,9 @@ def do_game(words):
     folder, name = words.places
     plan = read_plan(folder)
     if plan.games().number(name) is None:
-        raise Mistake(f"{folder}/plan has no game '{name}': a game is named SEED_BLACK_WHITE, and tournament list --all prints them")
+        raise Mistake(
+            f"{folder}/plan has no game '{name}': a game is named SEED_BLACK_WHITE, and tournament list --all prints them"
+        )
     twogtp = find_twogtp()
     make_folders(folder)
     return play_one(plan, folder, twogtp, name)
@@ -138,7 +150,9 @@ def main(words):
     if not words:
         return show(2, HELP[None], 2)
     if words[0] not in COMMANDS:
-        raise Mistake(f"there is no command '{words[0]}': write tournament play, plan, list, game or export")
+        raise Mistake(
+            f"there is no command '{words[0]}': write tournament play, plan, list, game or export"
+        )
     asked = Words(words[0], words[1:])
     return show(1, HELP[words[0]], 0) if asked.is_help else COMMANDS[words[0]](asked)
 
@@ -153,7 +167,9 @@ def run(name, main_of, words):
     """Runs the main function of a command, and returns its status. A mistake and an error are reported."""
     output.hold_streams()
     output.program[0] = name
-    signal.signal(signal.SIGCHLD, signal.SIG_DFL)  # whoever started it may ignore the ends of processes
+    signal.signal(
+        signal.SIGCHLD, signal.SIG_DFL
+    )  # whoever started it may ignore the ends of processes
     try:
         return main_of(words)
     except Mistake as mistake:

@@ -5,7 +5,9 @@ from . import notes, results
 from .output import Mistake
 
 FORFEIT = "forfeit "  # how each way begins in which a side forfeits
-FORFEITS = [f"{FORFEIT}({it})" for it in results.FORFEITS]  # those of twogtp; a server may have others
+FORFEITS = [
+    f"{FORFEIT}({it})" for it in results.FORFEITS
+]  # those of twogtp; a server may have others
 
 
 class End(NamedTuple):
@@ -35,10 +37,20 @@ class Ends:
     """How the games of a folder ended. The ways in which a side loses that else have no winner are given."""
 
     def __init__(self, plan, folder, losing=()):
-        self.games, self.folder, self.losing, self.is_direct = plan.games(), folder, losing, plan.is_direct
+        self.games, self.folder, self.losing, self.is_direct = (
+            plan.games(),
+            folder,
+            losing,
+            plan.is_direct,
+        )
         self.known = {}  # of a verdict, how the game ended
-        self.unknown = 0  # games in which a side was abandoned, of which it isn't known whether it was late
-        self.restarts = (0, 0)  # of both sides in the last game, without those that started no engine
+        self.unknown = (
+            0  # games in which a side was abandoned, of which it isn't known whether it was late
+        )
+        self.restarts = (
+            0,
+            0,
+        )  # of both sides in the last game, without those that started no engine
 
     def of(self, game, parts):
         """How the game of this number ended, by the parts of its result."""
@@ -48,10 +60,16 @@ class Ends:
 
     def abandoned(self, game, parts, end):
         """How a game ended in which a side was abandoned, by its notes if they are of this result."""
-        found = None if self.is_direct else notes.late_in(self.folder, self.games.name(game), results.line_of(parts))
+        found = (
+            None
+            if self.is_direct
+            else notes.late_in(self.folder, self.games.name(game), results.line_of(parts))
+        )
         self.unknown += found is None
         if found:
-            self.restarts = tuple(count - ignored for count, ignored in zip(self.restarts, found.ignored))
+            self.restarts = tuple(
+                count - ignored for count, ignored in zip(self.restarts, found.ignored)
+            )
         way = "late" if found and found.late[end.blamed] else "abandoned"
         return End(1 - end.blamed if way in self.losing else None, end.blamed, way)
 
@@ -61,8 +79,16 @@ def losing_ways(words, plan):
     for name in ("--abandoned", "--late"):
         words.last(name, loses)
     if words.has("--late") and plan.is_direct:
-        raise Mistake("which side was late is known only where `between` stands: leave out --late, or write --abandoned loses")
-    return ["abandoned", "late"] if words.has("--abandoned") else ["late"] if words.has("--late") else []
+        raise Mistake(
+            "which side was late is known only where `between` stands: leave out --late, or write --abandoned loses"
+        )
+    return (
+        ["abandoned", "late"]
+        if words.has("--abandoned")
+        else ["late"]
+        if words.has("--late")
+        else []
+    )
 
 
 def loses(name, value):

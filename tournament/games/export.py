@@ -36,7 +36,9 @@ class Exports:
 
     def __iter__(self):
         """Each game: its row, how it ended, and its moves."""
-        for game, parts in results.of_share(self.plan, self.folder, ALL, bytearray(self.games.count)):
+        for game, parts in results.of_share(
+            self.plan, self.folder, ALL, bytearray(self.games.count)
+        ):
             if parts:
                 self.without -= 1
                 end = self.ends.of(game, parts)
@@ -51,7 +53,23 @@ class Exports:
         opening = (seed - 1) % len(self.openings) + 1 if self.openings else None
         won = None if end.winner is None else NAMES[end.winner]
         versions = (known.get(it) for it in (*(f"engine {it}" for it in sides), "twogtp"))
-        return dict(zip(FIELDS, (name, *sides, seed, opening, parts[1].decode(), won, int(parts[2]), *thought, host, *versions)))
+        return dict(
+            zip(
+                FIELDS,
+                (
+                    name,
+                    *sides,
+                    seed,
+                    opening,
+                    parts[1].decode(),
+                    won,
+                    int(parts[2]),
+                    *thought,
+                    host,
+                    *versions,
+                ),
+            )
+        )
 
     def noted(self, name, parts):
         """The machine on which a game was played, and how long both sides thought, by the notes if they are of this result."""
@@ -71,7 +89,12 @@ class Exports:
 
 def is_host(text):
     """May a machine have this name, by which its versions are found? Notes may be damaged."""
-    return text.isprintable() and "/" not in text and 0 < len(text) <= LONGEST and text.strip(".") != ""
+    return (
+        text.isprintable()
+        and "/" not in text
+        and 0 < len(text) <= LONGEST
+        and text.strip(".") != ""
+    )
 
 
 def as_csv(games):
@@ -125,12 +148,17 @@ def write_records(games, plan, folder):
             with open(places[-1], "x", encoding="utf-8") as file:
                 file.write(board.record(row, end, moves))
     except BaseException as problem:
-        for remove, place in [*((os.unlink, it) for it in places), *([] if is_there else [(os.rmdir, folder)])]:
+        for remove, place in [
+            *((os.unlink, it) for it in places),
+            *([] if is_there else [(os.rmdir, folder)]),
+        ]:
             with contextlib.suppress(OSError):
                 remove(place)
         if isinstance(problem, OSError):
             place = folder if problem.filename in (None, *places[-1:]) else problem.filename
-            raise OSError(problem.errno, f"no file of --sgf is left: {problem.strerror}", place) from None
+            raise OSError(
+                problem.errno, f"no file of --sgf is left: {problem.strerror}", place
+            ) from None
         raise
 
 
@@ -139,14 +167,23 @@ def export(words):
     forms = [it for it in FORMS if words.has(it)]
     if len(forms) != 1:
         raise Mistake("write one of --pgn, --csv, --jsonl and --sgf FOLDER")
-    folder, = words.places
+    (folder,) = words.places
     plan = read_plan(folder)
     games = Exports(plan, folder, losing_ways(words, plan))
     if words.has("--sgf"):
         write_records(games, plan, words.last("--sgf", lambda _, place: place))
     else:
         event = os.path.basename(os.path.abspath(folder))
-        output.write_all(1, as_csv(games) if words.has("--csv") else as_jsonl(games) if words.has("--jsonl") else as_pgn(games, event))
+        output.write_all(
+            1,
+            as_csv(games)
+            if words.has("--csv")
+            else as_jsonl(games)
+            if words.has("--jsonl")
+            else as_pgn(games, event),
+        )
     if games.without:
-        output.complain(f"without a result, and so not exported: {games.without} of {games.games.count} games")
+        output.complain(
+            f"without a result, and so not exported: {games.without} of {games.games.count} games"
+        )
     return 0

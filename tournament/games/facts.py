@@ -31,20 +31,40 @@ def text_of(counts, test=None):
 def of_engine(sums, engine):
     """What an engine has, against all others."""
     row, *colours = (sums.rows[key] for key in ((engine,), (engine, 0), (engine, 1)))
-    of_colours = {colour: {"won": it.won, "lost": it.decided - it.won} for colour, it in zip(("black", "white"), colours)}
+    of_colours = {
+        colour: {"won": it.won, "lost": it.decided - it.won}
+        for colour, it in zip(("black", "white"), colours)
+    }
     looked = {way: count for name, way, count in sums.to_look_into() if name == engine}
     points = row.won + row.drawn / 2
-    return {"name": engine, "points": points, **of_row(row), **of_colours, "to_look_into": looked, **of_pairs(sums.found[engine,])}
+    return {
+        "name": engine,
+        "points": points,
+        **of_row(row),
+        **of_colours,
+        "to_look_into": looked,
+        **of_pairs(sums.found[engine,]),
+    }
 
 
 def of_two(sums, one, other):
     """What two engines have of each other, as the first one sees it."""
-    return {"engines": [one, other], **of_row(sums.rows[one, other]), **of_pairs(sums.found[one, other])}
+    return {
+        "engines": [one, other],
+        **of_row(sums.rows[one, other]),
+        **of_pairs(sums.found[one, other]),
+    }
 
 
 def of_row(row):
     """How some games ended: won, lost, or without a winner, as drawn ones did."""
-    return {"games": row.all, "won": row.won, "lost": row.decided - row.won, "no_winner": row.all - row.decided, "drawn": row.drawn}
+    return {
+        "games": row.all,
+        "won": row.won,
+        "lost": row.decided - row.won,
+        "no_winner": row.all - row.decided,
+        "drawn": row.drawn,
+    }
 
 
 def of_pairs(found):
@@ -69,5 +89,13 @@ def of_test(test):
     """What a sequential test says."""
     said = {None: "go on", 0: "elo0", 1: "elo1"}[test.decision]
     elo0, elo1 = test.differences
-    return {"engines": test.engines, "elo0": elo0, "elo1": elo1, "accepted": said, "pairs": test.counts,
-            "ratio": test.ratio, "exact": test.exact, "bound": scores.BOUND}
+    return {
+        "engines": test.engines,
+        "elo0": elo0,
+        "elo1": elo1,
+        "accepted": said,
+        "pairs": test.counts,
+        "ratio": test.ratio,
+        "exact": test.exact,
+        "bound": scores.BOUND,
+    }

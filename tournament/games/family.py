@@ -23,7 +23,8 @@ def adopt():
 
 def stand_apart(ending):
     """Where this process has children by now, it never started them: a shell did, before it became this one by `exec`. Then a fork goes on
-    in its place, so that they, and all that they start, are none of those below. This process passes on these signals, and ends as it."""
+    in its place, so that they, and all that they start, are none of those below. This process passes on these signals, and ends as it.
+    """
     if not children_of(os.getpid()):
         return
     signal.pthread_sigmask(signal.SIG_BLOCK, [signal.SIGCHLD, *ending])
@@ -52,7 +53,9 @@ class Family:
     """The processes below this one."""
 
     def __init__(self):
-        self.ended = {}  # how those ended that are awaited: the status, or the negative number of a signal
+        self.ended = (
+            {}
+        )  # how those ended that are awaited: the status, or the negative number of a signal
         self.awaited = set()
 
     def reap(self):

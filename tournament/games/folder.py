@@ -42,14 +42,22 @@ def plan_for(asked, is_given, folder):
         if is_given and not asked.goes_on(plan):
             text = f"{difference(plan, asked)}\n{advice(plan, asked, folder)}{of_openings(plan, asked)}"
             is_order = sorted(plan.shown()) == sorted(asked.shown())
-            raise Mistake(f"{folder} was begun with {'the same in another order' if is_order else 'other engines or options'}. It has\n{text}")
+            raise Mistake(
+                f"{folder} was begun with {'the same in another order' if is_order else 'other engines or options'}. It has\n{text}"
+            )
         if is_given and plan.openings and not asked.openings:
-            raise Mistake(f"{folder} was begun with openings: write --openings with the same ones, or leave out engines and options, too")
-        plan.had = had and f"{folder} has more than the command: {', '.join(had)}; all of it is played"
+            raise Mistake(
+                f"{folder} was begun with openings: write --openings with the same ones, or leave out engines and options, too"
+            )
+        plan.had = (
+            had and f"{folder} has more than the command: {', '.join(had)}; all of it is played"
+        )
         plan.added = [it for it in asked.engines if it not in plan.engines]
         plan.engines, plan.made = asked.engines if is_given else plan.engines, None
     elif len(asked.engines) < 2:
-        raise Mistake(TWO_ENGINES if asked.engines else f"there is no {folder}/plan, so {TWO_ENGINES}")
+        raise Mistake(
+            TWO_ENGINES if asked.engines else f"there is no {folder}/plan, so {TWO_ENGINES}"
+        )
     else:
         plan = asked
         plan.folder, plan.is_new, plan.added = os.getcwd(), True, list(plan.engines)
@@ -75,7 +83,11 @@ def whole(plan, asked, is_given):
 def advice(plan, asked, folder):
     """What to write where a folder has other engines or options."""
     new = [name for name in asked.engines if name not in plan.engines]
-    old = all(plan.engines[name] == command for name, command in asked.engines.items() if name in plan.engines)
+    old = all(
+        plan.engines[name] == command
+        for name, command in asked.engines.items()
+        if name in plan.engines
+    )
     if new and old and (not asked.options or asked.options == plan.options):
         return "To add an engine, repeat the whole command with the new one behind the others. Else take another directory."
     return f"Take another folder, or write tournament play {folder} alone, which goes on with what it has."
@@ -83,7 +95,11 @@ def advice(plan, asked, folder):
 
 def of_openings(plan, asked):
     """What is said besides where a folder has openings, and none are given."""
-    return " It has openings, too: where engines or options are given, write --openings." if plan.openings and not asked.openings else ""
+    return (
+        " It has openings, too: where engines or options are given, write --openings."
+        if plan.openings and not asked.openings
+        else ""
+    )
 
 
 def difference(plan, asked):
@@ -93,7 +109,11 @@ def difference(plan, asked):
     old, new = plan.shown(), asked.shown()
     if sorted(old) == sorted(new):
         return "\n".join([*old, "where the command has", *new])
-    blocks = [it for it in difflib.SequenceMatcher(None, old, new, False).get_opcodes() if it[0] != "equal"]
+    blocks = [
+        it
+        for it in difflib.SequenceMatcher(None, old, new, False).get_opcodes()
+        if it[0] != "equal"
+    ]
     had = [line for _, begin, end, _, _ in blocks for line in old[begin:end]]
     wanted = [line for _, _, _, begin, end in blocks for line in new[begin:end]]
     return "\n".join([*(had or ["nothing"]), "where the command has", *(wanted or ["nothing"])])
@@ -103,16 +123,24 @@ def look_at_limits(plan, asked, folder):
     """Is what is asked for of the program between as the plan has it?"""
     if asked.is_direct and not plan.is_direct:
         raise Mistake(f"{folder} was begun without --direct: take another directory")
-    values = (("--start-limit", asked.start_limit), ("--move-limit", asked.move_limit), ("--openings", asked.openings))
+    values = (
+        ("--start-limit", asked.start_limit),
+        ("--move-limit", asked.move_limit),
+        ("--openings", asked.openings),
+    )
     given = [option for option, value in values if value]
     if given and plan.is_direct:
         why = "by earlier scripts, which had none" if plan.is_old() else "with --direct"
-        raise Mistake(f"{folder} was begun {why}, so it can't have {given[0]}: take another directory")
+        raise Mistake(
+            f"{folder} was begun {why}, so it can't have {given[0]}: take another directory"
+        )
     if asked.move_limit and asked.move_limit != plan.move_limit:
         old = f"--move-limit {plan.move_limit}" if plan.move_limit else "no --move-limit"
         raise Mistake(f"{folder} was begun with {old}: take another directory")
     if asked.openings and asked.openings != plan.openings:
-        raise Mistake(f"{folder} was begun with {'other' if plan.openings else 'no'} openings: take another directory")
+        raise Mistake(
+            f"{folder} was begun with {'other' if plan.openings else 'no'} openings: take another directory"
+        )
 
 
 def look_at_pairing(plan, asked, folder):
@@ -139,7 +167,9 @@ def write_plan(plan, folder):
         if found == text:
             return
         if plan.before not in (None, found):  # the trial of an engine takes its time
-            raise Mistake(f"{place} was changed by another run at the same time: give the command again")
+            raise Mistake(
+                f"{place} was changed by another run at the same time: give the command again"
+            )
     try:
         with open(aside, "wb") as file:
             file.write(text)
@@ -162,7 +192,9 @@ def put(aside, place, is_new):
                 is_same = mine.read() == other.read()
             os.unlink(aside)
             if not is_same:
-                raise Mistake(f"{place} was made by another run at the same time: take another directory") from None
+                raise Mistake(
+                    f"{place} was made by another run at the same time: take another directory"
+                ) from None
             return
         except OSError:  # a file system without links
             os.replace(aside, place)

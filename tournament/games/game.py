@@ -15,7 +15,9 @@ from .places import is_file
 # how it ends: with a result, without one, since nothing can be written, since it was asked to, since another process has its files, broken,
 # or since the engine of Black or of White wasn't started
 DONE, NONE, NO_ROOM, STOPPED, TAKEN, BROKEN, NO_BLACK, NO_WHITE = range(8)
-GRACE = 2  # seconds that engines have to end by themselves after their game, and twogtp at the limit
+GRACE = (
+    2  # seconds that engines have to end by themselves after their game, and twogtp at the limit
+)
 SAME = 0.2  # seconds within which TERM reaches this process, where all processes get it
 STOPPING = 1  # seconds in which all gets TERM at a stop, before it is killed
 ENDING = (signal.SIGTERM, signal.SIGINT, signal.SIGHUP)
@@ -41,7 +43,10 @@ class Game:
             return TAKEN
         except OSError as problem:
             return self.no_result(output.in_words(problem), NO_ROOM)
-        words, folder = self.match.words(self.name), self.match.folder if self.match.is_direct else program.HERE
+        words, folder = (
+            self.match.words(self.name),
+            self.match.folder if self.match.is_direct else program.HERE,
+        )
         try:
             twogtp, failure = program.start(words, folder, self.result, self.log)
         except OSError as problem:
@@ -71,7 +76,12 @@ class Game:
                 self.is_over, until = True, until + GRACE
                 family.send(signal.SIGTERM, [twogtp])
         until = time.monotonic() + GRACE
-        while twogtp in self.family.ended and not self.is_alone and not self.is_stopped and time.monotonic() < until:
+        while (
+            twogtp in self.family.ended
+            and not self.is_alone
+            and not self.is_stopped
+            and time.monotonic() < until
+        ):
             self.heed(until - time.monotonic())
         if not self.is_alone:
             self.family.end(seconds=STOPPING if self.is_stopped else 0)
@@ -89,14 +99,22 @@ class Game:
         if self.noted and not found:
             if output.why_no_room(self.places.at):
                 return self.no_result(f"{self.noted.place} can't be written", NO_ROOM)
-            return self.no_result(f"{self.noted.place} is gone: somebody removed it, or there was no room for it")
+            return self.no_result(
+                f"{self.noted.place} is gone: somebody removed it, or there was no room for it"
+            )
         side = results.side_abandoned(parts)
         if side is not None and (found is None or not found.started[side]):
             why = found.why(side) if found else why_not_started(self.places.new_log, side)
             if why == "":
-                return self.no_result(f"what stands between ended: {results.last_line(self.places.new_log)}", NONE, found)
+                return self.no_result(
+                    f"what stands between ended: {results.last_line(self.places.new_log)}",
+                    NONE,
+                    found,
+                )
             if why is not None:
-                return self.no_result(f"{self.engine(side)} wasn't started: {why}", NO_BLACK + side, found)
+                return self.no_result(
+                    f"{self.engine(side)} wasn't started: {why}", NO_BLACK + side, found
+                )
         return self.keep(parts, found)
 
     def keep(self, parts, found):
@@ -126,8 +144,15 @@ class Game:
         if status < 0:
             return f"ended by signal {-status}"
         if status in (2, 3):
-            return results.last_line(self.places.new_log) or f"status {status} of twogtp: is the disk full?"
-        return "what twogtp wrote is not whole: is the disk full?" if status in (0, 1) else f"status {status} of twogtp"
+            return (
+                results.last_line(self.places.new_log)
+                or f"status {status} of twogtp: is the disk full?"
+            )
+        return (
+            "what twogtp wrote is not whole: is the disk full?"
+            if status in (0, 1)
+            else f"status {status} of twogtp"
+        )
 
     def no_result(self, why, outcome=NONE, found=None):
         """Reports why there is no result, on standard error and in the log, unless it was asked to end. How it ended then."""
@@ -149,7 +174,9 @@ def report(name, places, why):
         places.add_to_log(said if places.has_old else why)
     except OSError as problem:
         cause = "" if problem.strerror in why else f"{problem.strerror}: "
-        said = f"{NO_NEW if places.has_old else NO_OLD}: {cause}{why}; so its log isn't written either"
+        said = (
+            f"{NO_NEW if places.has_old else NO_OLD}: {cause}{why}; so its log isn't written either"
+        )
     output.complain(f"{name}: {said}")
 
 
@@ -161,8 +188,12 @@ def play_here(name, places, match, parent):
         below.be_called(f"game {name}")
         signal.signal(signal.SIGTERM, signal.SIG_DFL)
         family.adopt()
-        outcome = STOPPED if below.end_with(parent, signal.SIGTERM) else Game(name, places, match).play()
+        outcome = (
+            STOPPED if below.end_with(parent, signal.SIGTERM) else Game(name, places, match).play()
+        )
     except BaseException as problem:  # this process may not go on as the run
-        output.complain(f"{name}: {NO_NEW if places.has_old else NO_OLD}: {type(problem).__name__}: {problem}")
+        output.complain(
+            f"{name}: {NO_NEW if places.has_old else NO_OLD}: {type(problem).__name__}: {problem}"
+        )
     finally:
         os._exit(outcome)

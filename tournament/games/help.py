@@ -72,7 +72,9 @@ LOSSES = """\
 """
 HELP = {
     None: "\n".join([HEAD, PLAN + PLAY + OPTION, FILES, STATUS]),
-    "play": "\n".join(["""\
+    "play": "\n".join(
+        [
+            """\
 usage: tournament play FOLDER --engine NAME=CMD --engine NAME=CMD ..
            [--gauntlet NAME]
            [--seeds N] [--limit SECONDS] [--move-limit SECONDS]
@@ -88,8 +90,15 @@ If the plan has more engines or seeds than the command, the whole plan is
 played. New engines are added to a plan only if each of them can be started on
 this machine. Each minute, and in a terminal each ten seconds, a line on
 standard error shows the progress.
-""", PLAN + PLAY + OPTION, FILES, STATUS]),
-    "plan": "\n".join(["""\
+""",
+            PLAN + PLAY + OPTION,
+            FILES,
+            STATUS,
+        ]
+    ),
+    "plan": "\n".join(
+        [
+            """\
 usage: tournament plan FOLDER --engine NAME=CMD --engine NAME=CMD ..
            [--gauntlet NAME]
            [--seeds N] [--limit SECONDS] [--move-limit SECONDS]
@@ -99,11 +108,15 @@ usage: tournament plan FOLDER --engine NAME=CMD --engine NAME=CMD ..
 Makes FOLDER and FOLDER/plan, plays nothing, and tries no engine. The arguments
 are those of tournament play. If FOLDER has a plan, you can give it more seeds,
 more engines after the others, or another limit.
-""", PLAN + OPTION, """\
+""",
+            PLAN + OPTION,
+            """\
 status: 0  FOLDER/plan is as the arguments say
         1  FOLDER/plan can't be written
         2  usage error, or FOLDER/plan has other engines or options
-"""]),
+""",
+        ]
+    ),
     "list": """\
 usage: tournament list FOLDER [--all]
 
@@ -117,12 +130,18 @@ status: 0  the names are printed
         2  usage error
         141  nobody reads what it prints
 """,
-    "game": "\n".join(["""\
+    "game": "\n".join(
+        [
+            """\
 usage: tournament game FOLDER GAME
 
 Plays one game of FOLDER/plan, such as 1_one_two. If the game has a result, or
 another process is playing it, this command plays nothing and ends with 0.
-""", FILES, STATUS]),
+""",
+            FILES,
+            STATUS,
+        ]
+    ),
     "export": """\
 usage: tournament export FOLDER --pgn | --csv | --jsonl | --sgf RECORDS
            [--abandoned loses] [--late loses]
@@ -137,7 +156,9 @@ Writes the results of FOLDER in the plan's order, for other programs.
   --sgf RECORDS      write an SGF file for each game, RECORDS/GAME.sgf, into a
                      new directory. The result 0 is a drawn game, and Void is
                      any other game that nobody won
-""" + LOSSES + """
+"""
+    + LOSSES
+    + """
 The version of an engine is what it said in its last trial on the game's
 machine. If the engine was replaced or tried again after the game, that can
 differ from what played. No format says when a game was played: the time of its
@@ -154,7 +175,9 @@ usage: tally FOLDER [--abandoned loses] [--late loses] [--no-winner half|out]
 
 Counts the results of a directory that tournament made.
 
-""" + LOSSES + """\
+"""
+    + LOSSES
+    + """\
   --no-winner half   in a pair (the two games of two engines with one seed),
                      count a game that nobody won as half a point; this is the
                      default

@@ -7,7 +7,11 @@ import sys
 from . import notes, output, program, results
 
 NAMES = ("black", "white")  # of both sides
-MODULES = ("below", "talk", "between")  # what `between` needs, in the order in which one needs another
+MODULES = (
+    "below",
+    "talk",
+    "between",
+)  # what `between` needs, in the order in which one needs another
 # of an engine that answered nothing, by a line of --why without its beginning
 NO_ANSWER = re.compile(r'not started: .*|\d+ unanswered, (?:the first )?"1 boardsize .*')
 
@@ -38,13 +42,28 @@ class Match:
             black, white = (self.plan.engines[it].replace("%s", seed) for it in engines)
         else:
             black, white = (f"{self.between} {it}" for it in NAMES)
-        return [self.twogtp, "--why", "--record", *self.plan.options, "--black", black, "--white", white]
+        return [
+            self.twogtp,
+            "--why",
+            "--record",
+            *self.plan.options,
+            "--black",
+            black,
+            "--white",
+            white,
+        ]
 
     def file(self, game, place, held):
         """What the file of a game has, whose notes are in this place, and whose process holds this pipe."""
         seed, *engines = game.split("_")
-        parts = [f"notes {place}", f"folder {self.folder}", f"held /proc/{os.getpid()}/fd/{held} {os.fstat(held).st_ino}"]
-        parts += [f"limit {it}" for it in [self.plan.start_limit] if it] + [f"move-limit {it}" for it in [self.plan.move_limit] if it]
+        parts = [
+            f"notes {place}",
+            f"folder {self.folder}",
+            f"held /proc/{os.getpid()}/fd/{held} {os.fstat(held).st_ino}",
+        ]
+        parts += [f"limit {it}" for it in [self.plan.start_limit] if it] + [
+            f"move-limit {it}" for it in [self.plan.move_limit] if it
+        ]
         parts += [f"opening {it}" for it in [self.plan.opening(int(seed))] if it]
         for colour, engine in zip(NAMES, engines):
             parts += [f"{colour} {word}" for word in self.command(engine, seed)]
@@ -91,7 +110,7 @@ def why_not_started(log, side):
     with open(log, errors="surrogateescape") as lines:
         for line in lines:
             if line.startswith(head):
-                why = line[len(head):].rstrip("\n")
+                why = line[len(head) :].rstrip("\n")
                 if not NO_ANSWER.fullmatch(why):
                     return None
     return why

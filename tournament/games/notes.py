@@ -58,7 +58,9 @@ class Notes:
 
     def times(self):
         """How long both thought."""
-        return ", ".join(f"{colour} {seconds:.3f}" for colour, seconds in zip(COLOURS, self.thought))
+        return ", ".join(
+            f"{colour} {seconds:.3f}" for colour, seconds in zip(COLOURS, self.thought)
+        )
 
     def why(self, side):
         """Why the last start of a side ended, or how long it was waited for."""
@@ -97,7 +99,7 @@ def counts_of(text, what):
     """How many notes of each side say this."""
     found, at = [0, 0], text.find(what)
     while at >= 0:
-        number, _, colour = text[text.rfind(b"\n", 0, at) + 1:at].decode("latin-1").partition(" ")
+        number, _, colour = text[text.rfind(b"\n", 0, at) + 1 : at].decode("latin-1").partition(" ")
         if number.isdigit() and colour in COLOURS:
             found[COLOURS.index(colour)] += 1
         at = text.find(what, at + 1)

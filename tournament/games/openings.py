@@ -39,7 +39,9 @@ def read(place):
         if words:
             found.append(opening(f"line {number} of {place}", words))
     if not found:
-        raise Mistake(f"{place} has no opening: write a line of moves for each, such as D4 Q16 pass")
+        raise Mistake(
+            f"{place} has no opening: write a line of moves for each, such as D4 Q16 pass"
+        )
     return found
 
 
@@ -49,7 +51,9 @@ def opening(where, words):
     moves = [rules.vertex(word) for word in words[bool(first) :]]
     if None in moves:
         word = words[bool(first) + moves.index(None)]
-        raise Mistake(f"{where}: '{word}' is no vertex: write moves such as D4 Q16 pass; a colour may come first alone")
+        raise Mistake(
+            f"{where}: '{word}' is no vertex: write moves such as D4 Q16 pass; a colour may come first alone"
+        )
     if not moves:
         raise Mistake(f"{where} has no move")
     return Opening(where, first, moves)
@@ -62,9 +66,13 @@ def look_at(openings, options):
     to_move = rules.WHITE if handicap else rules.BLACK
     for it in openings:
         if it.first not in (0, to_move):
-            raise Mistake(f"{it.where}: {NAMES[to_move]} moves first{' after a handicap' if handicap else ''}, and not {NAMES[it.first]}")
+            raise Mistake(
+                f"{it.where}: {NAMES[to_move]} moves first{' after a handicap' if handicap else ''}, and not {NAMES[it.first]}"
+            )
         if len(it.moves) >= most:
-            raise Mistake(f"{it.where} has {len(it.moves)} moves: there have to be fewer than the {most} of --max-moves")
+            raise Mistake(
+                f"{it.where} has {len(it.moves)} moves: there have to be fewer than the {most} of --max-moves"
+            )
         look_at_moves(it, rules.Board(size, handicap), to_move)
 
 
@@ -73,7 +81,9 @@ def look_at_moves(it, board, colour):
     last = None
     for number, move in enumerate(it.moves, 1):
         if last == move == rules.PASS:
-            raise Mistake(f"{it.where}: moves {number - 1} and {number} are passes, which end the game")
+            raise Mistake(
+                f"{it.where}: moves {number - 1} and {number} are passes, which end the game"
+            )
         why = board.play(colour, move)
         if why:
             raise Mistake(f"{it.where}: move {number}, {NAMES[colour]} {move}: {why}")

@@ -5,7 +5,12 @@ import os
 
 program = ["tournament"]  # its name, in what it says of itself
 NO_ROOM = (errno.ENOSPC, errno.EDQUOT, errno.EFBIG)  # the errors of a disk that is full
-FEWER = (errno.EAGAIN, errno.ENOMEM, errno.EMFILE, errno.ENFILE)  # errors of which no file is the cause, but many games at once
+FEWER = (
+    errno.EAGAIN,
+    errno.ENOMEM,
+    errno.EMFILE,
+    errno.ENFILE,
+)  # errors of which no file is the cause, but many games at once
 SPELLED = {it: f"\\x{it:02x}" for it in (*range(32), *range(127, 160)) if chr(it) not in "\t\n"}
 ROOM = 65536  # bytes by which it is tried whether there is room: more than a game begins with
 
@@ -26,7 +31,7 @@ def write(number, text):
 def write_bytes(number, left):
     """Writes all of these bytes to a descriptor."""
     while left:
-        left = left[os.write(number, left):]
+        left = left[os.write(number, left) :]
 
 
 def read_lines(file):
@@ -63,7 +68,11 @@ def hold_streams():
 
 def in_words(problem):
     """What an error of the system says."""
-    return f"{os.fsdecode(problem.filename)}: {problem.strerror}" if problem.filename else str(problem.strerror)
+    return (
+        f"{os.fsdecode(problem.filename)}: {problem.strerror}"
+        if problem.filename
+        else str(problem.strerror)
+    )
 
 
 def why_no_room(folder):

@@ -10,19 +10,30 @@ from collections import Counter, defaultdict
 from . import scores
 
 SHORT = 20  # moves up to which games may be the same by chance
-NONE, LOST, HALF, WON, OUT = range(5)  # what a game was for Black: no result yet; three scores; not to be counted
+NONE, LOST, HALF, WON, OUT = range(
+    5
+)  # what a game was for Black: no result yet; three scores; not to be counted
 # of two games, the first engine's with Black and then its with White: the outcome of the pair
-OUTCOMES = {(one, other): one - LOST + WON - other for one in (LOST, HALF, WON) for other in (LOST, HALF, WON)}
+OUTCOMES = {
+    (one, other): one - LOST + WON - other
+    for one in (LOST, HALF, WON)
+    for other in (LOST, HALF, WON)
+}
 
 
 class Pairs:
     """What the games were for Black, and what moves they have, by their numbers. It says of each two engines how their pairs ended."""
 
     def __init__(self, plan, is_out=False):
-        self.games, self.is_out = plan.games(), is_out  # aren't those to be counted that nobody won?
+        self.games, self.is_out = (
+            plan.games(),
+            is_out,
+        )  # aren't those to be counted that nobody won?
         self.openings = plan.openings
         self.scores = bytearray(self.games.count)
-        self.moves = array("q", [0]) * self.games.count  # a number that the opening and the moves give; 0 for few moves
+        self.moves = (
+            array("q", [0]) * self.games.count
+        )  # a number that the opening and the moves give; 0 for few moves
 
     def add(self, game, end, parts):
         """Takes a game that ended so, and the parts of its result."""
@@ -34,7 +45,11 @@ class Pairs:
 
     def number(self, game, parts):
         """The number that stands for a game's opening and moves; 0 where there are so few that they may be the same by chance."""
-        opening = self.openings[game // len(self.games.sides) % len(self.openings)] if self.openings else ""
+        opening = (
+            self.openings[game // len(self.games.sides) % len(self.openings)]
+            if self.openings
+            else ""
+        )
         own = int(parts[2]) - len(opening.split())
         return hash((opening, parts[5])) if own > SHORT else 0
 
@@ -44,7 +59,7 @@ class Pairs:
 
     def of(self, values, side):
         """These values of all games of two engines with these colours, by the seed."""
-        return values[side::len(self.games.sides)]
+        return values[side :: len(self.games.sides)]
 
     def of_two(self, one, other):
         """The pairs of two engines, whose games of a seed have these numbers."""
@@ -76,7 +91,12 @@ class Pairs:
         ends = [it for it in (first.find(NONE), second.find(NONE)) if it >= 0]
         until = min(ends, default=len(first))
         first, second = first[:until], second[:until]
-        return without(counts_of(zip(first, second)), first, second, [seed for seed in self.repeats(one, other) if seed < until])
+        return without(
+            counts_of(zip(first, second)),
+            first,
+            second,
+            [seed for seed in self.repeats(one, other) if seed < until],
+        )
 
     def same(self):
         """The games that are the same, move by move: the numbers of each such group, in the plan's order."""
@@ -106,7 +126,10 @@ class Found:
 
     def turned(self):
         """The same pairs, as the other engine sees them."""
-        return Found(self.every[::-1], {(size, 4 * size - won): count for (size, won), count in self.clusters.items()})
+        return Found(
+            self.every[::-1],
+            {(size, 4 * size - won): count for (size, won), count in self.clusters.items()},
+        )
 
     def score(self):
         """The score; None where there is no pair."""

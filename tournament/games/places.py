@@ -31,11 +31,22 @@ class Places:
     """Where the files of a game lie."""
 
     def __init__(self, folder, name):
-        self.result, self.log, self.notes = (f"{folder}/{kind}/{name}" for kind in ("games", "logs", "notes"))
+        self.result, self.log, self.notes = (
+            f"{folder}/{kind}/{name}" for kind in ("games", "logs", "notes")
+        )
         self.name, self.at = name, f"{folder}/running/{name}"
-        self.new_result, self.new_log, self.lock = f"{self.at}/result", f"{self.at}/log", f"{self.at}/lock"
-        self.has_old = False  # is the game played again, whose old result stays until there is a new one?
-        self.again_notes, self.again_log = f"{self.at}/notes", f"{self.at}/log.whole"  # of such a game, the log once it has ended
+        self.new_result, self.new_log, self.lock = (
+            f"{self.at}/result",
+            f"{self.at}/log",
+            f"{self.at}/lock",
+        )
+        self.has_old = (
+            False  # is the game played again, whose old result stays until there is a new one?
+        )
+        self.again_notes, self.again_log = (
+            f"{self.at}/notes",
+            f"{self.at}/log.whole",
+        )  # of such a game, the log once it has ended
 
     def take(self):
         """Takes the lock, which is made where there is none, and returns its descriptor. Raises Taken where another process has it."""
@@ -61,7 +72,11 @@ class Places:
             os.close(lock)
             if isinstance(problem, BlockingIOError):
                 raise Taken from None
-            raise OSError(problem.errno, f"{problem.strerror}: the directory has to be on a file system with locks", self.lock) from None
+            raise OSError(
+                problem.errno,
+                f"{problem.strerror}: the directory has to be on a file system with locks",
+                self.lock,
+            ) from None
         if is_file(lock, self.lock):
             return lock
         os.close(lock)
@@ -132,7 +147,10 @@ class Places:
         with open(self.log, "ab", buffering=0) as old, open(self.new_log, "rb") as new:
             before = old.seek(0, os.SEEK_END)
             try:
-                output.write(old.fileno(), f"tournament: played again until {time.strftime('%Y-%m-%d %H:%M:%S')}:\n")
+                output.write(
+                    old.fileno(),
+                    f"tournament: played again until {time.strftime('%Y-%m-%d %H:%M:%S')}:\n",
+                )
                 while piece := new.read(PIECE):
                     output.write_bytes(old.fileno(), piece)
             except OSError:

@@ -58,7 +58,9 @@ def time_left(option, text):
     """The seconds of a time as Slurm writes it, [DAYS-][[HOURS:]MINUTES:]SECONDS. None where it has no limit."""
     if text.strip() in ("UNLIMITED", "NOT_SET"):
         return None
-    found = re.fullmatch(r"(?:([0-9]{1,5})-)?(?:(?:([0-9]{1,5}):)?([0-9]{1,5}):)?([0-9]{1,9})", text.strip())
+    found = re.fullmatch(
+        r"(?:([0-9]{1,5})-)?(?:(?:([0-9]{1,5}):)?([0-9]{1,5}):)?([0-9]{1,9})", text.strip()
+    )
     if not found:
         raise Mistake(f"{option} needs a time such as 1-00:30:00, 30:00 or 90, and not '{text}'")
     days, hours, minutes, rest = (int(it or 0) for it in found.groups())
@@ -86,7 +88,9 @@ class Plan:
     def add_engine(self, name, command):
         """Adds an engine."""
         if not NAME.fullmatch(name):
-            raise Mistake(f"an engine's name may have letters, digits, . + and -, at most 40 of them, unlike '{name}'")
+            raise Mistake(
+                f"an engine's name may have letters, digits, . + and -, at most 40 of them, unlike '{name}'"
+            )
         if not command.strip(" "):
             raise Mistake(f"{name} has no command")
         if "\n" in command:
@@ -132,7 +136,13 @@ class Plan:
         """The lines that say how the engines are started, which may not change either."""
         if self.is_old():
             return []
-        return ["direct"] if self.is_direct else [f"move-limit {self.move_limit}"] if self.move_limit else []
+        return (
+            ["direct"]
+            if self.is_direct
+            else [f"move-limit {self.move_limit}"]
+            if self.move_limit
+            else []
+        )
 
     def players(self):
         """The lines that may not change in a folder."""
@@ -147,7 +157,7 @@ class Plan:
         for line in self.players():
             is_value = line.startswith("option ") and not line.startswith("option --")
             if is_value and lines and lines[-1].startswith("option "):
-                lines[-1] += line[len("option"):]
+                lines[-1] += line[len("option") :]
             else:
                 lines.append(line)
         return lines
@@ -159,13 +169,19 @@ class Plan:
     def goes_on(self, old):
         """Does it have all of an older plan that may not change? There may be more engines behind the others."""
         have, had = list(self.engines.items()), list(old.engines.items())
-        return have[: len(had)] == had and self.players()[len(have):] == old.players()[len(had):]
+        return have[: len(had)] == had and self.players()[len(have) :] == old.players()[len(had) :]
 
     def is_part_of(self, whole):
         """Has it some engines of another plan, in the same order, and all else that may not change?"""
         names = [name for name in whole.engines if name in self.engines]
-        is_so = names == list(self.engines) and all(whole.engines[name] == command for name, command in self.engines.items())
-        return bool(names) and is_so and self.players()[len(names):] == whole.players()[len(whole.engines):]
+        is_so = names == list(self.engines) and all(
+            whole.engines[name] == command for name, command in self.engines.items()
+        )
+        return (
+            bool(names)
+            and is_so
+            and self.players()[len(names) :] == whole.players()[len(whole.engines) :]
+        )
 
     def text(self):
         """All lines."""
@@ -209,7 +225,11 @@ class Plan:
         """What is said of engines that have to play the same games again, unless they draw by themselves: those whose commands don't have
         the seed. An empty text where each game is another one."""
         fixed = [name for name, command in self.engines.items() if "%s" not in command]
-        found = [name for name in fixed if any(name in sides and set(sides) <= set(fixed) for sides in self.games().sides)]
+        found = [
+            name
+            for name in fixed
+            if any(name in sides and set(sides) <= set(fixed) for sides in self.games().sides)
+        ]
         if not found or self.seeds <= (len(set(self.openings[: self.seeds])) or 1):
             return ""
         seeds = "all seeds with the same opening" if self.openings else "all seeds"
@@ -223,7 +243,9 @@ class Plan:
     def games(self):
         """The games of the plan."""
         if self.gauntlet is not None and self.gauntlet not in self.engines:
-            raise Mistake(f"--gauntlet needs the name of an engine, such as {next(iter(self.engines))}, and not '{self.gauntlet}'")
+            raise Mistake(
+                f"--gauntlet needs the name of an engine, such as {next(iter(self.engines))}, and not '{self.gauntlet}'"
+            )
         if self.made is None:
             self.made = Games(list(self.engines), self.seeds, self.gauntlet)
         return self.made
@@ -233,8 +255,15 @@ class Games:
     """The names of all games, SEED_BLACK_WHITE, each of which has a number from 0 up."""
 
     def __init__(self, engines, seeds, gauntlet=None):
-        pairs = [(one, other) for at, one in enumerate(engines) for other in engines[at + 1:] if gauntlet in (None, one, other)]
-        self.sides = [sides for one, other in pairs for sides in ((one, other), (other, one))]  # of a seed, in the plan's order
+        pairs = [
+            (one, other)
+            for at, one in enumerate(engines)
+            for other in engines[at + 1 :]
+            if gauntlet in (None, one, other)
+        ]
+        self.sides = [
+            sides for one, other in pairs for sides in ((one, other), (other, one))
+        ]  # of a seed, in the plan's order
         self.of_seed = ["_".join(sides) for sides in self.sides]
         self.at = {name: at for at, name in enumerate(self.of_seed)}
         self.seeds = seeds
@@ -254,6 +283,13 @@ class Games:
         """The number of the game with this name; None where the plan has none."""
         seed, _, pair = name.partition("_")
         at = self.at.get(pair)
-        if at is None or not seed.isascii() or not seed.isdigit() or seed[0] == "0" or len(seed) > 7 or int(seed) > self.seeds:
+        if (
+            at is None
+            or not seed.isascii()
+            or not seed.isdigit()
+            or seed[0] == "0"
+            or len(seed) > 7
+            or int(seed) > self.seeds
+        ):
             return None
         return (int(seed) - 1) * len(self.sides) + at

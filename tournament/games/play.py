@@ -31,10 +31,14 @@ class Play:
         self.until = None if left is None else time.monotonic() + left
         self.games = plan.games()
         self.own = share.of(self.games.count) if share else range(self.games.count)
-        self.kinds = results.kinds_of(plan, run.folder, share=share, is_quiet=True)  # a file is reported where its game begins
+        self.kinds = results.kinds_of(
+            plan, run.folder, share=share, is_quiet=True
+        )  # a file is reported where its game begins
         self.count, self.total = self.with_result(), len(self.own)
         self.later = array("Q")  # games that another process plays
-        self.old = {}  # of a game that is played again: the inode of its old result, until there is a new one
+        self.old = (
+            {}
+        )  # of a game that is played again: the inode of its old result, until there is a new one
         self.tried = Tried(run, plan)
         self.has_played = False  # was a game begun?
         self.not_started = Counter()  # of an engine, in how many games in a row it wasn't
@@ -59,7 +63,9 @@ class Play:
         for game in self.own:
             if self.kinds[game] == results.LOST:
                 with contextlib.suppress(FileNotFoundError):
-                    self.old[game] = os.stat(Places(self.run.folder, self.games.name(game)).result).st_ino
+                    self.old[game] = os.stat(
+                        Places(self.run.folder, self.games.name(game)).result
+                    ).st_ino
                 self.kinds[game] = results.NONE
                 self.tried.anew.update(self.games.name(game).split("_")[1:])
         self.count = self.with_result()
@@ -73,7 +79,9 @@ class Play:
             self.run.stop(signal.SIGPIPE)
         except OSError as problem:
             if self.is_written:
-                output.complain(f"standard output can't be written to: {problem.strerror}: no other game is begun here")
+                output.complain(
+                    f"standard output can't be written to: {problem.strerror}: no other game is begun here"
+                )
             self.is_written, self.run.no_room = False, True
             self.run.stop()
 
@@ -106,7 +114,9 @@ class Play:
         except OSError as problem:
             if problem.errno in output.FEWER and self.run.playing:
                 return False
-            output.complain(f"{self.games.name(game)}: {self.none_of(game)}: {output.in_words(problem)}")
+            output.complain(
+                f"{self.games.name(game)}: {self.none_of(game)}: {output.in_words(problem)}"
+            )
             self.run.has_no_room(problem)
         return True
 
@@ -120,7 +130,9 @@ class Play:
             game, engines = self.games.number(name), name.split("_")[1:]
             if parts:
                 self.note(game, parts)
-                self.tell(f"{self.count} of {self.total}: {name}: {results.line_of(parts).decode()}")
+                self.tell(
+                    f"{self.count} of {self.total}: {name}: {results.line_of(parts).decode()}"
+                )
                 for engine in engines:
                     self.not_started[engine] = 0
             elif outcome == TAKEN:
@@ -137,16 +149,22 @@ class Play:
         self.tried.note("failed", engine)
         if self.not_started[engine] >= IN_A_ROW and not self.is_unable:
             self.is_unable = True
-            output.complain(f"{engine} wasn't started in {IN_A_ROW} games in a row: no other game is begun here")
+            output.complain(
+                f"{engine} wasn't started in {IN_A_ROW} games in a row: no other game is begun here"
+            )
             self.advise([engine])
 
     def advise(self, engines):
         """Says how the games of the others are played, if any are missing, where these engines can't be started."""
         sides = self.games.sides
-        if not self.share and any(not set(engines).intersection(sides[game % len(sides)]) for game in self.missing()):
+        if not self.share and any(
+            not set(engines).intersection(sides[game % len(sides)]) for game in self.missing()
+        ):
             import shlex  # which isn't needed elsewhere
 
-            names, folder = "|".join(it.replace(".", "\\.").replace("+", "\\+") for it in engines), shlex.quote(self.run.folder)
+            names, folder = "|".join(
+                it.replace(".", "\\.").replace("+", "\\+") for it in engines
+            ), shlex.quote(self.run.folder)
             some = f"tournament list {folder} | grep -vE '_({names})(_|$)' | xargs -n 1 -P {self.jobs} tournament game {folder}"
             output.complain(f"to play the games of the others: {some}")
 
@@ -170,7 +188,9 @@ class Play:
             self.try_engines(self.plan.added)
         if self.is_unable:
             again = "give the command again with what can be started, or make the plan by tournament plan, which tries no engine"
-            output.complain(f"{self.run.folder}/plan {'is not made' if self.plan.is_new else 'stays as it was'}: {again}")
+            output.complain(
+                f"{self.run.folder}/plan {'is not made' if self.plan.is_new else 'stays as it was'}: {again}"
+            )
             return NO_START
         return self.status() if self.run.stopped or self.run.no_room else None
 
@@ -178,7 +198,12 @@ class Play:
         """Plays these games, so many at once, until all have ended or the run is stopped."""
         waiting = next(games, None)
         while waiting is not None and not self.is_over() or self.run.playing:
-            while waiting is not None and not self.is_over() and len(self.run.playing) < self.jobs and self.begin(waiting):
+            while (
+                waiting is not None
+                and not self.is_over()
+                and len(self.run.playing) < self.jobs
+                and self.begin(waiting)
+            ):
                 waiting = next(games, None)
             if self.run.playing:
                 self.await_some()
@@ -207,7 +232,9 @@ class Play:
         is_anew = self.has_played and not self.run.stopped
         if is_anew or self.count < self.total:
             known = None if is_anew else self.kinds
-            self.kinds = results.kinds_of(self.plan, self.run.folder, known, self.share, is_quiet=True)
+            self.kinds = results.kinds_of(
+                self.plan, self.run.folder, known, self.share, is_quiet=True
+            )
             self.count = self.with_result()
 
     def all(self, again):
@@ -224,7 +251,11 @@ class Play:
         missing."""
         missing = self.total - self.count
         share = f" of task {self.share}" if self.share else ""
-        again = f", {lost} of them unfit or abandoned: --again plays {'these' if lost > 1 else 'it'} again" if lost else ""
+        again = (
+            f", {lost} of them unfit or abandoned: --again plays {'these' if lost > 1 else 'it'} again"
+            if lost
+            else ""
+        )
         left = f"{';' if lost else ','} {missing} are missing" if share and missing else ""
         return f"{self.count} of {self.total} games{share} have a result{again}{left}"
 
@@ -235,7 +266,9 @@ class Play:
             output.complain(f"stopped: {counted}; the same command goes on")
             return self.run.stop_status()
         if (self.count < self.total or self.old) and self.has_no_time():
-            output.complain(f"another game of {self.plan.limit} seconds doesn't fit into the time left; the same command goes on")
+            output.complain(
+                f"another game of {self.plan.limit} seconds doesn't fit into the time left; the same command goes on"
+            )
         if self.later and not self.run.no_room:
             output.complain(f"games that another process plays: {len(self.later)}")
         self.tell(self.counted(0 if self.is_unable else self.of_kind(results.LOST)))
@@ -244,7 +277,12 @@ class Play:
         if self.is_unable:
             return NO_START
         others = len(self.later) if self.share else 0  # of a task that was submitted twice
-        is_good = self.count + others >= self.total and not self.of_kind(results.LOST) and self.is_written and not self.run.stopped
+        is_good = (
+            self.count + others >= self.total
+            and not self.of_kind(results.LOST)
+            and self.is_written
+            and not self.run.stopped
+        )
         return 0 if is_good else 1
 
 

@@ -8,7 +8,12 @@ from .output import Mistake
 
 HERE = os.path.dirname(os.path.dirname(os.path.realpath(__file__)))
 BESIDE = ("../bin", "../../bin")  # where it lies beside these scripts, in a clone and in an archive
-AS_BEFORE = (signal.SIGTERM, signal.SIGINT, signal.SIGHUP, signal.SIGPIPE)  # signals that do in it what they do where nobody asked; not
+AS_BEFORE = (
+    signal.SIGTERM,
+    signal.SIGINT,
+    signal.SIGHUP,
+    signal.SIGPIPE,
+)  # signals that do in it what they do where nobody asked; not
 # SIGXFSZ: a file that is too long is reported
 
 
@@ -54,8 +59,13 @@ def version_of(twogtp):
 def printed_by(words):
     """What a program prints, and its status."""
     reads, writes = os.pipe()
-    files = [(os.POSIX_SPAWN_OPEN, 0, os.devnull, os.O_RDONLY, 0), *((os.POSIX_SPAWN_DUP2, writes, it) for it in (1, 2))]
-    process = os.posix_spawn(words[0], words, os.environ, file_actions=files, setsigmask=(), setsigdef=AS_BEFORE)
+    files = [
+        (os.POSIX_SPAWN_OPEN, 0, os.devnull, os.O_RDONLY, 0),
+        *((os.POSIX_SPAWN_DUP2, writes, it) for it in (1, 2)),
+    ]
+    process = os.posix_spawn(
+        words[0], words, os.environ, file_actions=files, setsigmask=(), setsigdef=AS_BEFORE
+    )
     os.close(writes)
     with open(reads, "rb") as file:
         printed = os.fsdecode(file.read())
@@ -65,7 +75,14 @@ def printed_by(words):
 def try_options(twogtp, options):
     """Does twogtp take these options? It plays a game of two programs that end at once."""
     if any(it == "--games" or it.startswith("--games=") for it in options):
-        raise Mistake("leave out --games: each game is a run of its own, with its seed; --seeds says how many")
-    printed, status = printed_by([twogtp, "--why", "--record", "--black", "true", "--white", "true", *options])
+        raise Mistake(
+            "leave out --games: each game is a run of its own, with its seed; --seeds says how many"
+        )
+    printed, status = printed_by(
+        [twogtp, "--why", "--record", "--black", "true", "--white", "true", *options]
+    )
     if status != 1 or "game 1: abandoned black" not in printed:
-        raise Mistake(f"{twogtp} doesn't play with the options '{' '.join(options)}': status {status}", printed)
+        raise Mistake(
+            f"{twogtp} doesn't play with the options '{' '.join(options)}': status {status}",
+            printed,
+        )

@@ -4,7 +4,11 @@ import time
 
 from . import output
 
-AT_ONCE, OFTEN, SELDOM = 0, 10, 60  # seconds to the first line in a terminal, between two there, and between two elsewhere
+AT_ONCE, OFTEN, SELDOM = (
+    0,
+    10,
+    60,
+)  # seconds to the first line in a terminal, between two there, and between two elsewhere
 
 
 class Progress:

@@ -15,11 +15,15 @@ from .setup import Setup
 FORFEITS = ("illegal move", "no vertex", "no move", "refused play")
 OTHERS = ("limit", "B+R", "W+R", *(f"{winner}+F({why})" for winner in "BW" for why in FORFEITS),
           *(f"{what} {side}" for what in ("unfit", "abandoned") for side in ("black", "white")))  # fmt: skip
-RULED = re.compile(rb"[BW]\+(?:T|F\([A-Za-z ]{1,20}\))")  # verdicts of a server that ended the match: for time, or for a reason of its own
+RULED = re.compile(
+    rb"[BW]\+(?:T|F\([A-Za-z ]{1,20}\))"
+)  # verdicts of a server that ended the match: for time, or for a reason of its own
 BOARD_END = re.compile(rb"captures B [0-9]+ W [0-9]+\n\n\Z")
 SHOWN = 10  # files that can't be read, of which a line says so
 PIECE = 16384  # bytes, which a result seldom has
-NONE, WHOLE, LOST, DAMAGED = range(4)  # what a game has: a side was unfit or abandoned where it is lost
+NONE, WHOLE, LOST, DAMAGED = range(
+    4
+)  # what a game has: a side was unfit or abandoned where it is lost
 
 
 class Rule:
@@ -28,7 +32,13 @@ class Rule:
     def __init__(self, plan):
         setup, self.has_board = Setup(plan.options), plan.has_boards()
         size, komi = setup.rows(), setup.half_points()
-        self.verdicts = frozenset(it.encode() for it in (*OTHERS, *map(score, range(-2 * size**2 - komi, 2 * size**2 - komi + 1, 2))))
+        self.verdicts = frozenset(
+            it.encode()
+            for it in (
+                *OTHERS,
+                *map(score, range(-2 * size**2 - komi, 2 * size**2 - komi + 1, 2)),
+            )
+        )
         move = f"(?:[{COLUMNS[:size]}](?:{rows(size)})|pass)"
         line = r"game 1: ([BWalu0][^\n]*) moves ([0-9]{1,4}) restarts ([0-9]{1,4}) ([0-9]{1,4})"
         self.whole = re.compile(f"{line}\n((?:{move}(?: {move})*)?)\n".encode())
@@ -40,9 +50,17 @@ class Rule:
     def parts_of(self, text):
         """The parts of a whole result. None where it isn't whole."""
         parts = self.whole.match(text)
-        if not parts or not self.has(parts[1]) or (parts[5].count(b" ") + 1 if parts[5] else 0) != int(parts[2]):
+        if (
+            not parts
+            or not self.has(parts[1])
+            or (parts[5].count(b" ") + 1 if parts[5] else 0) != int(parts[2])
+        ):
             return None
-        return parts if (BOARD_END.search(text, parts.end()) if self.has_board else parts.end() == len(text)) else None
+        return (
+            parts
+            if (BOARD_END.search(text, parts.end()) if self.has_board else parts.end() == len(text))
+            else None
+        )
 
     def read(self, place, folder=None):
         """The parts of the result in a file, or None where that is damaged. FileNotFoundError where there is no file."""
@@ -52,13 +70,23 @@ class Rule:
 def score(half_points):
     """A score as twogtp writes it: so many half points, positive where Black is ahead."""
     points, is_half = divmod(abs(half_points), 2)
-    return f"{'B' if half_points > 0 else 'W'}+{points}{'.5' if is_half else ''}" if half_points else "0"
+    return (
+        f"{'B' if half_points > 0 else 'W'}+{points}{'.5' if is_half else ''}"
+        if half_points
+        else "0"
+    )
 
 
 def rows(size):
     """The numbers from 1 to a size, as a regular expression."""
     tens, ones = divmod(size, 10)
-    return "|".join([*([f"{tens}[0-{ones}]"] if tens else []), *(f"{it}[0-9]" for it in range(1, tens)), f"[1-{9 if tens else ones}]"])
+    return "|".join(
+        [
+            *([f"{tens}[0-{ones}]"] if tens else []),
+            *(f"{it}[0-9]" for it in range(1, tens)),
+            f"[1-{9 if tens else ones}]",
+        ]
+    )
 
 
 def text_of(file):
@@ -100,7 +128,9 @@ class Unread:
             raise problem
         self.count += 1
         if self.count <= self.shown:
-            output.complain(f"{self.folder}/games/{name} can't be read, and so is no result: {problem.strerror}")
+            output.complain(
+                f"{self.folder}/games/{name} can't be read, and so is no result: {problem.strerror}"
+            )
 
     def end(self):
         """Says how many there are, where not all were named."""
@@ -115,12 +145,14 @@ def is_lost(parts):
 
 def side_abandoned(parts):
     """The side that was abandoned, Black 0 and White 1, or None."""
-    return (b"abandoned black", b"abandoned white").index(parts[1]) if parts[1][:1] == b"a" else None
+    return (
+        (b"abandoned black", b"abandoned white").index(parts[1]) if parts[1][:1] == b"a" else None
+    )
 
 
 def line_of(parts):
     """The line of a result without `game 1: `."""
-    return parts.string[8:parts.end(4)]
+    return parts.string[8 : parts.end(4)]
 
 
 def each(plan, folder, known=None, is_quiet=False):
@@ -171,7 +203,11 @@ def kinds_of(plan, folder, kinds=None, share=None, is_quiet=False):
     """What each game of the plan has, by its number, or each of a share. Where it was looked at before, that is brought up to date."""
     if kinds is None:
         kinds = bytearray(plan.games().count)
-    for number, parts in of_share(plan, folder, share, kinds, is_quiet) if share else each(plan, folder, kinds, is_quiet):
+    for number, parts in (
+        of_share(plan, folder, share, kinds, is_quiet)
+        if share
+        else each(plan, folder, kinds, is_quiet)
+    ):
         kinds[number] = DAMAGED if parts is None else LOST if is_lost(parts) else WHOLE
     return kinds
 

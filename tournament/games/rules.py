@@ -25,7 +25,16 @@ def handicap_points(size, stones):
     middle of the board. They are on the third line, or on the fourth from size 13 up."""
     low = 3 if size < 13 else 4
     high, middle = size + 1 - low, (size + 1) // 2
-    points = [(low, low), (high, high), (low, high), (high, low), (low, middle), (high, middle), (middle, low), (middle, high)]
+    points = [
+        (low, low),
+        (high, high),
+        (low, high),
+        (high, low),
+        (low, middle),
+        (high, middle),
+        (middle, low),
+        (middle, high),
+    ]
     has_middle = stones >= 5 and stones % 2 == 1
     return points[: stones - has_middle] + [(middle, middle)] * has_middle
 

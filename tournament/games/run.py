@@ -14,11 +14,15 @@ class Run:
 
     def __init__(self, plan, folder, twogtp):
         self.folder, self.at, self.match = folder, os.path.abspath(folder), Match(plan, twogtp)
-        self.playing = {}  # of the process of each game: its name, its places, its lock, and the result that it is to replace
+        self.playing = (
+            {}
+        )  # of the process of each game: its name, its places, its lock, and the result that it is to replace
         self.family = family.Family()
         self.stopped = None  # the signal that stopped it
         self.no_room = False  # can nothing be written?
-        self.ending = [it for it in ENDING if signal.getsignal(it) != signal.SIG_IGN]  # nohup ignores one
+        self.ending = [
+            it for it in ENDING if signal.getsignal(it) != signal.SIG_IGN
+        ]  # nohup ignores one
         family.stand_apart(self.ending)
         family.adopt()
         below.be_called("tournament")
@@ -43,7 +47,9 @@ class Run:
                 raise
             parts, why = None, f"can't be read: {problem.strerror}"
             if not places.is_replaceable():
-                raise InTheWay(f"{places.result} can't be read, nor be replaced: {problem.strerror}") from None
+                raise InTheWay(
+                    f"{places.result} can't be read, nor be replaced: {problem.strerror}"
+                ) from None
         if parts is None:
             output.complain(f"{places.name}: its file {why}, and it is played again")
         return parts
@@ -125,12 +131,18 @@ class Run:
 
     def stop_status(self):
         """The status of a run that was stopped."""
-        return 128 + (self.stopped if self.stopped in (signal.SIGINT, signal.SIGPIPE) else signal.SIGTERM)
+        return 128 + (
+            self.stopped if self.stopped in (signal.SIGINT, signal.SIGPIPE) else signal.SIGTERM
+        )
 
     def heed(self, seconds=None):
         """Waits for a signal, so many seconds at most, and takes note of what has ended."""
         signals = [signal.SIGCHLD, *self.ending]
-        came = signal.sigwaitinfo(signals) if seconds is None else signal.sigtimedwait(signals, seconds)
+        came = (
+            signal.sigwaitinfo(signals)
+            if seconds is None
+            else signal.sigtimedwait(signals, seconds)
+        )
         if came and came.si_signo != signal.SIGCHLD:
             self.stop(came.si_signo)
         self.family.reap()
@@ -139,7 +151,9 @@ class Run:
         """Waits for a signal, and returns each game that has ended since: its name, how it ended, and the parts of its result."""
         if not self.family.ended:
             self.heed(seconds)
-        return [self.after(process) for process in list(self.playing) if process in self.family.ended]
+        return [
+            self.after(process) for process in list(self.playing) if process in self.family.ended
+        ]
 
     def after(self, process):
         """What came of the game of a process that has ended. Where it was killed or broke, what it left is ended. One that was asked to end,

@@ -6,9 +6,13 @@ outcome. Their score is the mean, as a share of the 2 that can be won: from 0 to
 import math
 
 Z = 1.959963984540054  # of a 95 % interval
-BOUND = math.log(19)  # of the log likelihood ratio, where both errors are to be 5 %: ln(0.95 / 0.05)
+BOUND = math.log(
+    19
+)  # of the log likelihood ratio, where both errors are to be 5 %: ln(0.95 / 0.05)
 FEWEST = 16  # pairs from which on a test says anything
-FEWEST_OTHERS = 10  # of them that aren't of the most frequent outcome: before, their variance isn't known
+FEWEST_OTHERS = (
+    10  # of them that aren't of the most frequent outcome: before, their variance isn't known
+)
 ADDED = 0.001  # to each count in a test, so that there is a variance
 HALVINGS = 60  # which find a number to the last digits
 
@@ -23,10 +27,15 @@ def moments(counts):
 def interval(clusters):
     """The 95 % interval of the score: 1.96 standard errors to each side. It is given how many clusters there are of so many pairs and so many
     half points: pairs that repeat an earlier one are a cluster with it, and others are alone. One cluster is added, as large as a pair's is
-    on average, half of it won twice and half of it lost twice. So few clusters, or those that are all alike, don't look certain."""
+    on average, half of it won twice and half of it lost twice. So few clusters, or those that are all alike, don't look certain.
+    """
     pairs = sum(count * size for (size, _), count in clusters.items())
-    added = sum(count * size**2 for (size, _), count in clusters.items()) / pairs  # how many pairs it has
-    mean = (sum(count * won / 4 for (_, won), count in clusters.items()) + added / 2) / (pairs + added)
+    added = (
+        sum(count * size**2 for (size, _), count in clusters.items()) / pairs
+    )  # how many pairs it has
+    mean = (sum(count * won / 4 for (_, won), count in clusters.items()) + added / 2) / (
+        pairs + added
+    )
     squares = sum(count * (won / 4 - size * mean) ** 2 for (size, won), count in clusters.items())
     squares += added**2 * (mean**2 + (1 - mean) ** 2) / 2
     half = Z * math.sqrt(squares / (pairs + added) / pairs)
@@ -40,7 +49,11 @@ def alone(counts):
 
 def elo(score):
     """The difference in Elo that has this score; infinite where all is won or lost."""
-    return math.copysign(math.inf, score - 0.5) if score in (0, 1) else 400 * math.log10(score / (1 - score))
+    return (
+        math.copysign(math.inf, score - 0.5)
+        if score in (0, 1)
+        else 400 * math.log10(score / (1 - score))
+    )
 
 
 def expected(difference):
@@ -81,11 +94,14 @@ def others(counts):
 
 def decision(counts, elo0, elo1):
     """Which of two differences a sequential test accepts, 0 or 1; None where it needs more pairs. Both ratios have to say so: the first one
-    takes the mean of pairs for normal and the variance for known, and errs where outcomes are rare or differences great."""
+    takes the mean of pairs for normal and the variance for known, and errs where outcomes are rare or differences great.
+    """
     if sum(counts) < FEWEST or others(counts) < FEWEST_OTHERS:
         return None
     found = accepted(ratio(counts, elo0, elo1))
-    return found if found is not None and accepted(exact_ratio(counts, elo0, elo1)) == found else None
+    return (
+        found if found is not None and accepted(exact_ratio(counts, elo0, elo1)) == found else None
+    )
 
 
 def accepted(found):

@@ -14,14 +14,16 @@ class Setup:
         for at, option in enumerate(options):
             name, is_joined, value = option.partition("=")
             if name in said:
-                said[name] = value if is_joined else "".join(options[at + 1:at + 2])
+                said[name] = value if is_joined else "".join(options[at + 1 : at + 2])
         self.size, self.komi, self.handicap, self.max_moves = said.values()
 
     def commands(self):
         """What an engine is asked: as by twogtp, and then for a move."""
         has_handicap = self.handicap != "0"
         first = [f"boardsize {self.size}", f"komi {self.komi}", "clear_board"]
-        return first + ([f"fixed_handicap {self.handicap}", "genmove w"] if has_handicap else ["genmove b"])
+        return first + (
+            [f"fixed_handicap {self.handicap}", "genmove w"] if has_handicap else ["genmove b"]
+        )
 
     def rows(self):
         """The size as a number, in a plan that somebody may have changed."""
@@ -39,5 +41,7 @@ class Setup:
         """The komi in half points, in the same way."""
         found = KOMI.fullmatch(self.komi)
         if not found or not any(it.isdigit() for it in self.komi):
-            raise Mistake(f"the plan has --komi '{self.komi}': it is a multiple of 0.5, such as 6.5")
+            raise Mistake(
+                f"the plan has --komi '{self.komi}': it is a multiple of 0.5, such as 6.5"
+            )
         return (-1 if found[1] == "-" else 1) * (2 * int(found[2] or 0) + (found[3] == "5"))

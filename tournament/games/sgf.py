@@ -16,7 +16,9 @@ class Board:
         head = {"FF": 4, "GM": 1, "CA": "UTF-8", "AP": row["twogtp_version"] and f"twogtp:{escaped(row['twogtp_version'])}", "SZ": self.size,
                 "KM": self.komi, "HA": self.handicap or None, "PB": row["black"], "PW": row["white"], "RE": result(row["verdict"], end),
                 "GN": row["game"], "C": row["verdict"]}  # fmt: skip
-        root = "".join(f"{name}[{value}]" for name, value in head.items() if value is not None) + (f"AB{stones}" if stones else "")
+        root = "".join(f"{name}[{value}]" for name, value in head.items() if value is not None) + (
+            f"AB{stones}" if stones else ""
+        )
         colours = "WB" if stones else "BW"
         played = "".join(f";{colours[at % 2]}[{self.of(move)}]" for at, move in enumerate(moves))
         return f"(;{root}\n{played})\n"

@@ -38,7 +38,11 @@ class Command:
     __slots__ = ("text", "name", "since", "opening", "is_noted")
 
     def __init__(self, text, name, opening):
-        self.text, self.name, self.opening = text, name, opening  # and the move that the engine is told in place of a genmove
+        self.text, self.name, self.opening = (
+            text,
+            name,
+            opening,
+        )  # and the move that the engine is told in place of a genmove
         self.since = time.monotonic()
         self.is_noted = name != b"genmove"  # that it is waited for
 
@@ -48,7 +52,10 @@ class Talk:
 
     def __init__(self, colour, limits, opening, note):
         self.colour, self.opening, self.note = colour, opening, note
-        self.limit, self.move_limit = limits  # of each answer but that of a genmove, and of that; None where there is none
+        (
+            self.limit,
+            self.move_limit,
+        ) = limits  # of each answer but that of a genmove, and of that; None where there is none
         self.began = self.last = time.monotonic()  # when did the last answer end?
         self.waiting = []
         self.moves = []
@@ -95,7 +102,11 @@ class Talk:
     def next_of_opening(self, moves):
         """The move that the opening has behind these, if it begins with them and goes on."""
         count = len(moves)
-        return self.opening[count] if count < len(self.opening) and moves == self.opening[:count] else None
+        return (
+            self.opening[count]
+            if count < len(self.opening) and moves == self.opening[:count]
+            else None
+        )
 
     def heard(self, data):
         """Takes what the engine wrote, and returns what twogtp gets. An answer ends at an empty line."""
@@ -115,14 +126,20 @@ class Talk:
             if not bare:
                 return line
             self.inside, self.answer = True, b""
-            self.held = b"" if bare[:1] == b"=" and self.waiting and self.waiting[0].opening else None
+            self.held = (
+                b"" if bare[:1] == b"=" and self.waiting and self.waiting[0].opening else None
+            )
         is_end = bare == b"\n" and self.at_start
         if bare:
             self.at_start = bare.endswith(b"\n")
         if len(self.answer) < LONGEST:
             self.answer += bare
         if self.held is not None:
-            line, self.held = (b"", self.held + line) if len(self.held) + len(line) <= MOST else (self.held + line, None)
+            line, self.held = (
+                (b"", self.held + line)
+                if len(self.held) + len(line) <= MOST
+                else (self.held + line, None)
+            )
         if is_end:
             self.inside = False
             if self.waiting:
@@ -166,7 +183,9 @@ class Talk:
         words = self.answer[1:].split()
         vertex = b" ".join(words[1:] if self.answer[1:2].isdigit() else words).upper()
         is_vertex = is_good and vertex.isalnum() and len(vertex) <= len(RESIGN)
-        self.tell(f"{written(vertex).decode() if is_vertex else 'no-vertex' if is_good else 'failed'} {seconds:.3f}")
+        self.tell(
+            f"{written(vertex).decode() if is_vertex else 'no-vertex' if is_good else 'failed'} {seconds:.3f}"
+        )
         if is_vertex and vertex != RESIGN:
             self.moves.append(vertex)
 

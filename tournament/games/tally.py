@@ -27,7 +27,9 @@ class Counts:
     def __init__(self, plan, folder, losing=(), is_out=False):
         self.plan, self.games, self.folder, self.losing = plan, plan.games(), folder, losing
         self.kinds = bytearray(self.games.count)
-        self.ends = [{} for _ in self.games.sides]  # of two engines with these colours: how often a game ended so
+        self.ends = [
+            {} for _ in self.games.sides
+        ]  # of two engines with these colours: how often a game ended so
         self.restarts = Counter()  # of an engine
         self.restarted = 0  # games
         self.pairs = Pairs(plan, is_out)
@@ -127,8 +129,14 @@ class Sums:
             for end, count in ends.items():
                 self.add(sides, end, count)
         rulings = sorted({way for _, way in self.blamed if way.startswith(FORFEIT)} - set(FORFEITS))
-        self.ways = [*FORFEITS, *rulings, *OTHERS_TO_LOOK_INTO]  # in which an engine may be to blame
-        self.order = sorted(self.engines, key=lambda it: -2 * self.rows[it,].won - self.rows[it,].drawn)
+        self.ways = [
+            *FORFEITS,
+            *rulings,
+            *OTHERS_TO_LOOK_INTO,
+        ]  # in which an engine may be to blame
+        self.order = sorted(
+            self.engines, key=lambda it: -2 * self.rows[it,].won - self.rows[it,].drawn
+        )
 
     def add(self, sides, end, count):
         """Adds so many games of these engines that ended so."""
@@ -141,12 +149,19 @@ class Sums:
     def to_look_into(self):
         """How often each engine was to blame, and restarted: each with its way and its count."""
         for it in self.engines:
-            counts = [(way, self.blamed[it, way]) for way in self.ways] + [("restarts", self.counts.restarts[it])]
+            counts = [(way, self.blamed[it, way]) for way in self.ways] + [
+                ("restarts", self.counts.restarts[it])
+            ]
             yield from ((it, way, count) for way, count in counts if count)
 
     def two(self):
         """Each two engines that play, the better one first."""
-        return ((one, other) for at, one in enumerate(self.order) for other in self.order[at + 1:] if (one, other) in self.found)
+        return (
+            (one, other)
+            for at, one in enumerate(self.order)
+            for other in self.order[at + 1 :]
+            if (one, other) in self.found
+        )
 
 
 class Table:
@@ -182,9 +197,15 @@ class Table:
 
     def of_pairs(self):
         """A line for each two engines, and before them one for each engine that has more than one opponent."""
-        several = [it for it in self.sums.order if sum((it, other) in self.sums.found for other in self.sums.order) > 1]
+        several = [
+            it
+            for it in self.sums.order
+            if sum((it, other) in self.sums.found for other in self.sums.order) > 1
+        ]
         keys = [*((it,) for it in several), *self.sums.two()]
-        name, counted = 2 * self.width + 3, max(4, *(len(str(max(self.sums.found[key].every))) for key in keys))
+        name, counted = 2 * self.width + 3, max(
+            4, *(len(str(max(self.sums.found[key].every))) for key in keys)
+        )
         won = max(5, *(len(self.sums.rows[key].record()) for key in keys))
         outcomes = " ".join(f"{it:>{counted}}" for it in ("0", "0.5", "1", "1.5", "2"))
         yield f"{'pair':{name}}  {'won':>{won}}  no winner   {outcomes}  score  95 % interval   Elo  95 % interval"
@@ -269,7 +290,7 @@ def main(arguments):
         output.write(1, HELP["tally"])
         return 0
     gc.disable()  # nothing here has cycles, and with many engines the search for them takes half the time
-    folder, = words.places
+    (folder,) = words.places
     plan = read_plan(folder)
     asked, is_out = asked_of(words, plan), words.last("--no-winner", half_or_out)
     counts = Counts(plan, folder, losing_ways(words, plan), is_out)

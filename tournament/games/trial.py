@@ -53,7 +53,9 @@ class Asked:
         while b"\n\n" not in self.read[:LONGEST]:
             if len(self.read) >= LONGEST:
                 self.judge_status(command, self.read)
-                raise Failed(f"its answer to '{command}' has more than {LONGEST} bytes{self.shown()}")
+                raise Failed(
+                    f"its answer to '{command}' has more than {LONGEST} bytes{self.shown()}"
+                )
             left = until - time.monotonic()
             if left <= 0 or not select.select([self.taken], [], [], left)[0]:
                 raise Late(f"it doesn't answer '{command}' in {seconds:g} seconds{self.shown()}")
@@ -82,14 +84,18 @@ class Asked:
         if head[:1] == b"?":
             raise Failed(f"it refuses '{command}': {said!r}")
         if head[1:].split(b"\n")[0].lstrip(b"0") != number:
-            raise Failed(f"its answer to '{number.decode()} {command}' has another number: {said!r}")
+            raise Failed(
+                f"its answer to '{number.decode()} {command}' has another number: {said!r}"
+            )
         if command.startswith("genmove") and (len(text.split()) != 1 or not text.strip().isalnum()):
             raise Failed(f"its answer to '{command}' is no move: {said!r}")
 
     def judge_status(self, command, answer):
         """Does it begin as an answer?"""
         if answer[:1] not in (b"=", b"?"):
-            raise Failed(f"what it answers to '{command}' is no answer: {answer[:MOST].decode('latin-1')!r}")
+            raise Failed(
+                f"what it answers to '{command}' is no answer: {answer[:MOST].decode('latin-1')!r}"
+            )
 
     def shown(self):
         """What it wrote of an answer that it didn't end, the beginning."""
@@ -112,7 +118,9 @@ class Asked:
         try:
             self.answer_to("quit", "quit", LAST)
         except Late:
-            raise Late(f"it doesn't answer 'quit' in {LAST} seconds: each of its games waits for that, up to {most:g} seconds") from None
+            raise Late(
+                f"it doesn't answer 'quit' in {LAST} seconds: each of its games waits for that, up to {most:g} seconds"
+            ) from None
         except Failed:
             return  # it ended, or it writes too much
         os.close(self.given)
@@ -129,7 +137,15 @@ def attempt(words, folder, log, setup, limits):
         commands = setup.commands()
         for number, command in enumerate(commands, 1):
             engine.ask(number, command, limits[command.startswith("genmove")])
-        said = " ".join(filter(None, [engine.says(number, it) for number, it in enumerate(("name", "version"), len(commands) + 1)]))
+        said = " ".join(
+            filter(
+                None,
+                [
+                    engine.says(number, it)
+                    for number, it in enumerate(("name", "version"), len(commands) + 1)
+                ],
+            )
+        )
         engine.part(limits[2])
         return PASSED, "", said
     except Failed as failed:
@@ -176,6 +192,8 @@ def try_here(name, parent, tell, *what):
         if watches(f"trial {name}", parent):
             outcome = try_below(name, tell, *what)
     except BaseException as problem:  # this process may not go on as the run
-        os.write(tell, f"its trial failed: {type(problem).__name__}: {problem}".encode(errors="replace"))
+        os.write(
+            tell, f"its trial failed: {type(problem).__name__}: {problem}".encode(errors="replace")
+        )
     finally:
         os._exit(outcome)

@@ -26,7 +26,9 @@ class Tried:
     def __init__(self, run, plan):
         self.run, self.plan, self.match = run, plan, run.match
         self.setup = Setup(plan.options)
-        self.done = set()  # those that were tried by this run, or of which it said what they can't do
+        self.done = (
+            set()
+        )  # those that were tried by this run, or of which it said what they can't do
         self.anew = set()  # those that are tried by this run, whatever is known of them
         self.began = time.time()
         start, move = plan.start_limit or plan.limit, plan.move_limit or plan.limit
@@ -55,7 +57,9 @@ class Tried:
         with contextlib.suppress(FileNotFoundError):
             file = os.open(f"{self.place}/passed", os.O_WRONLY | os.O_APPEND)
             try:
-                output.write(file, f"{outcome} " + "\t".join([self.key(name), *map(in_line, more)]) + "\n")
+                output.write(
+                    file, f"{outcome} " + "\t".join([self.key(name), *map(in_line, more)]) + "\n"
+                )
             finally:
                 os.close(file)
 
@@ -68,7 +72,9 @@ class Tried:
             return None  # its trial says what is missing
         if outcome == "unable" and when == str(self.limits) and name not in self.done:
             self.done.add(name)
-            output.complain(f"{name}: {why}; tried before: to try again, remove {self.run.folder}/{self.name}/passed")
+            output.complain(
+                f"{name}: {why}; tried before: to try again, remove {self.run.folder}/{self.name}/passed"
+            )
         elif outcome == "unstarted" and seconds_of(when) > self.began:
             output.complain(f"{name} can't be started here: {why}")
             return False
@@ -83,7 +89,9 @@ class Tried:
         """Tries these engines, but for those that passed before. What one can't do is reported. Raises NoStart where one can't be started."""
         if not os.path.isdir(self.match.folder):
             where = f"{self.match.folder}, in which the engines start"
-            raise NoStart(f"there is no directory {where}: make it, or name another one in {self.run.folder}/plan")
+            raise NoStart(
+                f"there is no directory {where}: make it, or name another one in {self.run.folder}/plan"
+            )
         os.makedirs(self.place, exist_ok=True)
         file = os.open(f"{self.place}/passed", os.O_RDWR | os.O_CREAT | os.O_APPEND, 0o666)
         try:
@@ -91,9 +99,15 @@ class Tried:
             started = [self.recall(name, known) for name in names]
             if None in started and self.lock(file):
                 known = self.known(file)
-                started = [self.is_started(name, known) if it is None else it for name, it in zip(names, started)]
+                started = [
+                    self.is_started(name, known) if it is None else it
+                    for name, it in zip(names, started)
+                ]
             if False in started and not self.run.stopped:
-                raise NoStart("no game is begun here", *(name for name, it in zip(names, started) if it is False))
+                raise NoStart(
+                    "no game is begun here",
+                    *(name for name, it in zip(names, started) if it is False),
+                )
         finally:
             os.close(file)
 
@@ -130,8 +144,16 @@ class Tried:
             self.note("passed", name)
         elif not self.run.stopped:
             why = why or "its trial was ended"
-            why += f"; the last line of {self.run.folder}/{self.name}/{name}.log is: {written}" if written else ""
-            output.complain(f"{name} can't be started here: {why}" if outcome == trial.NOT_STARTED else f"{name}: {why}")
+            why += (
+                f"; the last line of {self.run.folder}/{self.name}/{name}.log is: {written}"
+                if written
+                else ""
+            )
+            output.complain(
+                f"{name} can't be started here: {why}"
+                if outcome == trial.NOT_STARTED
+                else f"{name}: {why}"
+            )
             self.note_why(outcome, name, why)
         if outcome != trial.NOT_STARTED:
             self.done.add(name)
@@ -147,7 +169,11 @@ class Tried:
     def keep_version(self, name, said):
         """Writes down what an engine says that it is, and the version of twogtp."""
         with open(f"{self.place}/versions", "ab") as file:
-            file.write(os.fsencode(f"engine {name} {said}\ntwogtp {program.version_of(self.match.twogtp)}\n"))
+            file.write(
+                os.fsencode(
+                    f"engine {name} {said}\ntwogtp {program.version_of(self.match.twogtp)}\n"
+                )
+            )
 
     def outcome(self, name, log):
         """How a trial ended, what the engine can't do, and what it says that it is."""
@@ -156,11 +182,22 @@ class Tried:
         process = os.fork()
         if not process:
             os.close(reads)
-            trial.try_here(name, own, writes, self.match.command(name, "1"), self.match.folder, log, self.setup, self.limits)
+            trial.try_here(
+                name,
+                own,
+                writes,
+                self.match.command(name, "1"),
+                self.match.folder,
+                log,
+                self.setup,
+                self.limits,
+            )
         os.close(writes)
         self.run.family.awaited.add(process)
         start, move, _ = self.limits
-        is_long = Long(f"{name} is tried: its start and each answer may take {start:g} seconds, and its move {move:g}")
+        is_long = Long(
+            f"{name} is tried: its start and each answer may take {start:g} seconds, and its move {move:g}"
+        )
         while process not in self.run.family.ended and not self.run.stopped:
             self.run.heed(is_long.left())
         if process not in self.run.family.ended:
@@ -196,7 +233,9 @@ def in_line(text):
 def versions_of(place):
     """What was written down last of each program in such a folder: `engine NAME` and `twogtp`, each with its version."""
     found = {}
-    with contextlib.suppress(FileNotFoundError), open(f"{place}/versions", encoding="utf-8", errors="replace") as file:
+    with contextlib.suppress(FileNotFoundError), open(
+        f"{place}/versions", encoding="utf-8", errors="replace"
+    ) as file:
         for line in file:
             words = line.rstrip("\n").split(" ")
             count = 2 if words[0] == "engine" else 1

@@ -5,21 +5,55 @@ from itertools import islice
 from .output import Mistake
 
 QUOTED = "--engine 'one=gtp_engine --policy random --seed %s'"
-OF_PLAN = {"--engine": ("NAME=CMD", QUOTED), "--seeds": ("a number", "--seeds 10"),
-           "--limit": ("a number of seconds", "--limit 600"), "--move-limit": ("seconds", "--move-limit 30"),
-           "--start-limit": ("seconds", "--start-limit 300"), "--openings": ("FILE", "--openings openings.txt"), "--direct": None,
-           "--gauntlet": ("an engine's NAME", "--gauntlet new")}
-OF_PLAY = {"--jobs": ("a number", "--jobs 4"), "--again": None, "--task": ("K/T", "--task 3/100"),
-           "--time-left": ("a time", "--time-left 30:00")}  # which no plan keeps
+OF_PLAN = {
+    "--engine": ("NAME=CMD", QUOTED),
+    "--seeds": ("a number", "--seeds 10"),
+    "--limit": ("a number of seconds", "--limit 600"),
+    "--move-limit": ("seconds", "--move-limit 30"),
+    "--start-limit": ("seconds", "--start-limit 300"),
+    "--openings": ("FILE", "--openings openings.txt"),
+    "--direct": None,
+    "--gauntlet": ("an engine's NAME", "--gauntlet new"),
+}
+OF_PLAY = {
+    "--jobs": ("a number", "--jobs 4"),
+    "--again": None,
+    "--task": ("K/T", "--task 3/100"),
+    "--time-left": ("a time", "--time-left 30:00"),
+}  # which no plan keeps
 OF_PLAN.update(OF_PLAY)
 OF_LOSSES = {name: ("the word loses", f"{name} loses") for name in ("--abandoned", "--late")}
-OF_TALLY = {**OF_LOSSES, "--no-winner": ("half or out", "--no-winner out"), "--sprt": ("two differences in Elo", "--sprt 0 10", 2),
-            "--between": ("two engines' NAMEs", "--between new old", 2), "--json": None}
-OF_EXPORT = {**OF_LOSSES, "--pgn": None, "--csv": None, "--jsonl": None, "--sgf": ("a new FOLDER", "--sgf records")}
+OF_TALLY = {
+    **OF_LOSSES,
+    "--no-winner": ("half or out", "--no-winner out"),
+    "--sprt": ("two differences in Elo", "--sprt 0 10", 2),
+    "--between": ("two engines' NAMEs", "--between new old", 2),
+    "--json": None,
+}
+OF_EXPORT = {
+    **OF_LOSSES,
+    "--pgn": None,
+    "--csv": None,
+    "--jsonl": None,
+    "--sgf": ("a new FOLDER", "--sgf records"),
+}
 # what each has after it, an example, and how many words that are, where it isn't one
-OPTIONS = {"play": OF_PLAN, "plan": OF_PLAN, "list": {"--all": None}, "game": {}, "export": OF_EXPORT, "tally": OF_TALLY}
+OPTIONS = {
+    "play": OF_PLAN,
+    "plan": OF_PLAN,
+    "list": {"--all": None},
+    "game": {},
+    "export": OF_EXPORT,
+    "tally": OF_TALLY,
+}
 PLACES = {it: ["FOLDER", "GAME"] if it == "game" else ["FOLDER"] for it in OPTIONS}
-VALUES = {"--size": "9", "--komi": "7.5", "--handicap": "2", "--max-moves": "400", "--restarts": "0"}  # examples
+VALUES = {
+    "--size": "9",
+    "--komi": "7.5",
+    "--handicap": "2",
+    "--max-moves": "400",
+    "--restarts": "0",
+}  # examples
 OF_TWOGTP = (*VALUES, "--record", "--show", "--why", "--games", "--black", "--white")
 
 
@@ -55,7 +89,7 @@ class Words:
             wanted, example, count = (*known[name], 1)[:3]
             values = [value] if has_value else []
             values += islice(words, count - len(values))
-            if len(values) < count or any(it.startswith("--") for it in values[bool(has_value):]):
+            if len(values) < count or any(it.startswith("--") for it in values[bool(has_value) :]):
                 raise Mistake(f"{name} needs {wanted} after it, such as {example}")
             value = values if count > 1 else values[0]
         self.options.append((name, value))
@@ -65,7 +99,9 @@ class Words:
         for name, value in zip(self.after, [*self.after[1:], "--"]):
             if name in VALUES and value.startswith("-"):
                 is_negative = value[1:2].isdigit()
-                raise Mistake(f"{name} needs a value after it, such as {name}{'=' + value if is_negative else ' ' + VALUES[name]}")
+                raise Mistake(
+                    f"{name} needs a value after it, such as {name}{'=' + value if is_negative else ' ' + VALUES[name]}"
+                )
 
     def why_unknown(self, name):
         """What to write in place of an option that a command hasn't."""
@@ -77,24 +113,40 @@ class Words:
         close = difflib.get_close_matches(name, OPTIONS[self.command], 1)
         if close:
             return f"{self.command} has no option {name}: is it {close[0]}?"
-        more = f", and one of an engine belongs into the quotes of its command: {QUOTED}" if has_plan else ""
+        more = (
+            f", and one of an engine belongs into the quotes of its command: {QUOTED}"
+            if has_plan
+            else ""
+        )
         return f"{self.command} has no option {name}: {self.program} --help has those that it has{more}"
 
     def look_at_places(self):
         """Are as many places given as the command has?"""
         wanted = PLACES[self.command]
-        line = f"{self.program} {' '.join(wanted)}{' ..' if OPTIONS[self.command] is OF_PLAN else ''}"
+        line = (
+            f"{self.program} {' '.join(wanted)}{' ..' if OPTIONS[self.command] is OF_PLAN else ''}"
+        )
         if len(self.places) < len(wanted):
             raise Mistake(f"{wanted[len(self.places)]} is missing: write {line}")
         if "" in self.places[: len(wanted)]:
-            raise Mistake(f"{wanted[self.places.index('')]} is empty, perhaps by a variable that isn't set: write {line}")
+            raise Mistake(
+                f"{wanted[self.places.index('')]} is empty, perhaps by a variable that isn't set: write {line}"
+            )
         if len(self.places) > len(wanted):
-            more = f"; a command with spaces needs quotes: {QUOTED}" if OPTIONS[self.command] is OF_PLAN else ""
-            raise Mistake(f"'{self.places[len(wanted)]}' is one argument too many: write {line}{more}")
+            more = (
+                f"; a command with spaces needs quotes: {QUOTED}"
+                if OPTIONS[self.command] is OF_PLAN
+                else ""
+            )
+            raise Mistake(
+                f"'{self.places[len(wanted)]}' is one argument too many: write {line}{more}"
+            )
 
     def last(self, name, read):
         """What this reads of the last value of an option; None where it isn't given. All are looked at."""
-        return ([read(name, value) for option, value in self.options if option == name] or [None])[-1]
+        return ([read(name, value) for option, value in self.options if option == name] or [None])[
+            -1
+        ]
 
     def has(self, name):
         """Is the option given?"""

@@ -20,7 +20,6 @@ from typing import Any, Dict, Tuple
 from vintsaky import BLACK, Games
 
 
-
 def found(name: str) -> Any:
     """A module, or None if it isn't installed."""
     try:
@@ -47,15 +46,22 @@ class GoEnv(VectorEnv):  # type: ignore[misc]
 
     metadata: Dict[str, Any] = {"render_modes": [], "autoreset_mode": same_step}
 
-    def __init__(self, num_envs: int = 1, size: int = 9, komi: float = 7, earlier: int = 0, limit: int = 500) -> None:
+    def __init__(
+        self, num_envs: int = 1, size: int = 9, komi: float = 7, earlier: int = 0, limit: int = 500
+    ) -> None:
         self.num_envs, self.earlier = num_envs, earlier
         self.made = num_envs, size, komi
         self.limit, actions, planes = limit, size * size + 1, 2 * (1 + earlier)
-        self.room, self.masks = bytearray(num_envs * planes * size * size), bytearray(num_envs * actions)
+        self.room, self.masks = bytearray(num_envs * planes * size * size), bytearray(
+            num_envs * actions
+        )
         self.causes, self.over = bytearray(num_envs), bytearray(num_envs)
         self.scores, self.won = array("f", [0] * num_envs), array("f", [0] * num_envs)
         self.planes: Any = shaped(self.room, num_envs, planes, size, size)
-        self.infos = {"action_mask": shaped(self.masks, num_envs, actions), "refused": shaped(self.causes, num_envs)}
+        self.infos = {
+            "action_mask": shaped(self.masks, num_envs, actions),
+            "refused": shaped(self.causes, num_envs),
+        }
         if batch_space:
             self.single_observation_space = spaces.Box(0, 1, (planes, size, size), "uint8")
             self.single_action_space = spaces.Discrete(actions)
@@ -80,7 +86,9 @@ class GoEnv(VectorEnv):  # type: ignore[misc]
         for number, score in enumerate(self.scores):
             ahead = (score > 0) - (score < 0)
             self.won[number] = ahead if movers[number] == BLACK else -ahead
-        ended, cut = (shaped(bytearray(way == it for way in self.over), self.num_envs) for it in (1, 2))
+        ended, cut = (
+            shaped(bytearray(way == it for way in self.over), self.num_envs) for it in (1, 2)
+        )
         if numpy:
             ended, cut = ended.view(bool), cut.view(bool)
         return self.planes, shaped(self.won, self.num_envs), ended, cut, self.infos

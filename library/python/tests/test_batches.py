@@ -37,7 +37,11 @@ class Called:
             library.vintsaky_game_place(place, start + number * each)
             done(library.vintsaky_game_begin(place, *begins))
             if handicap:
-                done(library.vintsaky_game_place_handicap(place, whole(handicap, "the number of handicap stones")))
+                done(
+                    library.vintsaky_game_place_handicap(
+                        place, whole(handicap, "the number of handicap stones")
+                    )
+                )
 
     def __len__(self):
         return len(self._handles)
@@ -58,23 +62,41 @@ class Called:
         """Tells of each game whether it is over: 1 after two passes, 2 after `limit` moves, else 0. Those that are over
         are scored in half points, and begin anew."""
         most = whole(limit, "the limit")
-        done(library.vintsaky_games_restart(*self._held(), most, over, len(over), half_points, len(half_points)))
+        done(
+            library.vintsaky_games_restart(
+                *self._held(), most, over, len(over), half_points, len(half_points)
+            )
+        )
 
     def planes(self, values, earlier=0):
         """The stones of the colour whose turn it is, and those of the other one, of each game's board and of so many
         earlier ones. The array is of c_uint8 or of c_float."""
-        call = library.vintsaky_games_planes_f32 if values._type_ is ctypes.c_float else library.vintsaky_games_planes
-        done(call(*self._held(), whole(earlier, "the number of earlier boards"), values, len(values)))
+        call = (
+            library.vintsaky_games_planes_f32
+            if values._type_ is ctypes.c_float
+            else library.vintsaky_games_planes
+        )
+        done(
+            call(*self._held(), whole(earlier, "the number of earlier boards"), values, len(values))
+        )
 
     def masks(self, values):
         """Whether the colour whose turn it is may make the move of each number. The array is of c_uint8 or c_float."""
-        call = library.vintsaky_games_masks_f32 if values._type_ is ctypes.c_float else library.vintsaky_games_masks
+        call = (
+            library.vintsaky_games_masks_f32
+            if values._type_ is ctypes.c_float
+            else library.vintsaky_games_masks
+        )
         done(call(*self._held(), values, len(values)))
 
     def rollouts(self, seeds, limit, half_points):
         """The score of a rollout of each game by its seed, in half points."""
         most = whole(limit, "the limit")
-        done(library.vintsaky_games_rollouts(*self._held(), seeds, len(seeds), most, half_points, len(half_points)))
+        done(
+            library.vintsaky_games_rollouts(
+                *self._held(), seeds, len(seeds), most, half_points, len(half_points)
+            )
+        )
 
 
 def other(colour):
@@ -132,7 +154,9 @@ def planes(game, earlier):
 
 def mask(game):
     """The mask of a single game, move by move."""
-    return [int(game.legal(turn(game), vertex_of(game, number))) for number in range(game.size**2 + 1)]
+    return [
+        int(game.legal(turn(game), vertex_of(game, number))) for number in range(game.size**2 + 1)
+    ]
 
 
 class Beside(unittest.TestCase):
@@ -140,7 +164,9 @@ class Beside(unittest.TestCase):
 
     def compared(self, seed, size, count, steps, limit, **named):
         draw = random.Random(seed)
-        games, single = Called(count, size, **named), [single_game(size, **named) for _ in range(count)]
+        games, single = Called(count, size, **named), [
+            single_game(size, **named) for _ in range(count)
+        ]
         met = set()
         for step in range(steps):
             numbers = [self.drawn(draw, it) for it in single]
@@ -154,19 +180,30 @@ class Beside(unittest.TestCase):
     def drawn(self, draw, game):
         """The number of a move: mostly of one that may be made."""
         if draw.random() < 0.2:
-            return draw.choice([draw.randrange(game.size**2 + 1), game.size**2, game.size**2 + 1, 2**32 - 1])
+            return draw.choice(
+                [
+                    draw.randrange(game.size**2 + 1),
+                    game.size**2,
+                    game.size**2 + 1,
+                    2**32 - 1,
+                ]
+            )
         return draw.choice([number for number, may in enumerate(mask(game)) if may])
 
     def moved(self, games, single, numbers):
         moves = (ctypes.c_uint32 * (len(single) + SPARE))(*numbers)
         causes = (ctypes.c_uint8 * (len(single) + SPARE))(*[FILL] * (len(single) + SPARE))
         games.play(moves, causes)
-        self.assertEqual(list(causes), [*(played(*it) for it in zip(single, numbers)), *[FILL] * SPARE])
+        self.assertEqual(
+            list(causes), [*(played(*it) for it in zip(single, numbers)), *[FILL] * SPARE]
+        )
         return causes[: len(single)]
 
     def told(self, games, single, limit):
         many = len(single) + SPARE
-        overs, scores = (ctypes.c_uint8 * many)(*[FILL] * many), (ctypes.c_int32 * many)(*[FILL] * many)
+        overs, scores = (ctypes.c_uint8 * many)(*[FILL] * many), (ctypes.c_int32 * many)(
+            *[FILL] * many
+        )
         games.restart(limit, overs, scores)
         wanted = [over(it, limit) for it in single] + [(FILL, FILL)] * SPARE
         self.assertEqual(list(zip(overs, scores)), wanted)
@@ -186,7 +223,9 @@ class Beside(unittest.TestCase):
         many = len(single) + SPARE
         scores = (ctypes.c_int32 * many)(*[FILL] * many)
         games.rollouts((ctypes.c_uint64 * len(seeds))(*seeds), 50, scores)
-        wanted = [round(game.rollout(turn(game), seed, 50) * 2) for game, seed in zip(single, seeds)]
+        wanted = [
+            round(game.rollout(turn(game), seed, 50) * 2) for game, seed in zip(single, seeds)
+        ]
         self.assertEqual(list(scores), wanted + [FILL] * SPARE)
 
     def test_small_boards(self):

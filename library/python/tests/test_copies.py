@@ -102,7 +102,9 @@ class Copies(Refusing):
             for other in again(game):
                 self.assertIs(type(other), Game)
                 self.assertIsNot(other, game)
-                for name in "size komi rule handicap board board_hash taken score finished turn".split():
+                for (
+                    name
+                ) in "size komi rule handicap board board_hash taken score finished turn".split():
                     self.assertEqual(getattr(other, name), getattr(game, name), name)
                 self.assertEqual((list(other.moves), str(other)), (list(game.moves), str(game)))
                 self.assertEqual(other.captured("b"), game.captured("b"))
@@ -145,7 +147,9 @@ class Copies(Refusing):
             self.assertIsNot(other, game)
 
     def test_moves_are_pickled_with_their_game(self):
-        self.assertEqual(list(pickle.loads(pickle.dumps(handicapped().moves))), list(handicapped().moves))
+        self.assertEqual(
+            list(pickle.loads(pickle.dumps(handicapped().moves))), list(handicapped().moves)
+        )
 
 
 class Subclasses(unittest.TestCase):
@@ -155,7 +159,9 @@ class Subclasses(unittest.TestCase):
         made = Named.made
         for other in again(game):
             self.assertIs(type(other), Named)
-            self.assertEqual((other.name, other.notes, list(other.moves)), ("mine", ["mine"], [(BLACK, (3, 3))]))
+            self.assertEqual(
+                (other.name, other.notes, list(other.moves)), ("mine", ["mine"], [(BLACK, (3, 3))])
+            )
         self.assertEqual(Named.made, made)
         self.assertIs(copy.copy(game).notes, game.notes)
         self.assertIs(game.copy().notes, game.notes)
@@ -174,25 +180,33 @@ class Subclasses(unittest.TestCase):
             self.assertIsNot(copy.deepcopy(game).place, game.place)
         game = Both([1])
         game.more = 2
-        self.assertEqual([(other.more, other.place) for other in again(game)], [(2, [1])] * len(again(game)))
+        self.assertEqual(
+            [(other.more, other.place) for other in again(game)], [(2, [1])] * len(again(game))
+        )
 
     def test_a_state_that_leaves_something_out(self):
         game = Less()
         game.play("b", "C3")
         for other in again(game):
-            self.assertEqual((other == game, other.kept, hasattr(other, "left")), (True, "kept", False))
+            self.assertEqual(
+                (other == game, other.kept, hasattr(other, "left")), (True, "kept", False)
+            )
             other.play("w", "C4")
             self.assertEqual(len(game.moves), 1)
 
     def test_a_state_of_its_own(self):
         game = Stated(5)
         game.kept = 4
-        self.assertEqual([(type(other), other.kept) for other in again(game)], [(Stated, 50)] * len(again(game)))
+        self.assertEqual(
+            [(type(other), other.kept) for other in again(game)], [(Stated, 50)] * len(again(game))
+        )
 
     def test_from_moves(self):
         game = Mirrored.from_moves([("b", "A1"), ("w", "B2")], 5)
         self.assertEqual((type(game), game.plays, len(game.moves)), (Mirrored, 2, 2))
-        self.assertEqual([(other.plays, len(other.moves)) for other in again(game)], [(2, 2)] * len(again(game)))
+        self.assertEqual(
+            [(other.plays, len(other.moves)) for other in again(game)], [(2, 2)] * len(again(game))
+        )
         self.assertRaises(TypeError, Named.from_moves, [])
 
     def test_a_new_with_arguments(self):
@@ -251,8 +265,16 @@ class Comparisons(unittest.TestCase):
 
     def test_handicap_stones_that_were_taken(self):
         """Of two and of three stones nothing is left, so the boards and the moves are the same."""
-        around = [(column, row) for x in (3, 7) for y in (3, 7) for column, row in Point(x, y).neighbours(9)]
-        two, three = (Game.from_moves([("w", point) for point in around], 9, handicap=stones) for stones in (2, 3))
+        around = [
+            (column, row)
+            for x in (3, 7)
+            for y in (3, 7)
+            for column, row in Point(x, y).neighbours(9)
+        ]
+        two, three = (
+            Game.from_moves([("w", point) for point in around], 9, handicap=stones)
+            for stones in (2, 3)
+        )
         self.assertEqual((two.captured("w"), three.captured("w")), (2, 3))
         self.assertEqual((two.board, list(two.moves)), (three.board, list(three.moves)))
         self.assertNotEqual(two, three)
@@ -277,8 +299,12 @@ class OfMoves(Refusing):
     def test_moves_are_played(self):
         moves = [("b", "C3"), (WHITE, Point(4, 4)), (1, (1, 1)), Move(WHITE, PASS)]
         game = Game.from_moves(moves, 5, 6.5, KoRule.POSITIONAL)
-        self.assertEqual((game.size, game.komi, game.rule, game.handicap), (5, 6.5, KoRule.POSITIONAL, 0))
-        self.assertEqual(list(game.moves), [(BLACK, (3, 3)), (WHITE, (4, 4)), (BLACK, (1, 1)), (WHITE, PASS)])
+        self.assertEqual(
+            (game.size, game.komi, game.rule, game.handicap), (5, 6.5, KoRule.POSITIONAL, 0)
+        )
+        self.assertEqual(
+            list(game.moves), [(BLACK, (3, 3)), (WHITE, (4, 4)), (BLACK, (1, 1)), (WHITE, PASS)]
+        )
         self.assertEqual(Game.from_moves(game.moves, 5, 6.5, KoRule.POSITIONAL), game)
         self.assertEqual(Game.from_moves(iter(game.moves), 5).komi, 0)
         self.assertEqual(Game.from_moves([]), Game())
@@ -344,7 +370,9 @@ class Damaged(unittest.TestCase):
             ),
         }.items():  # fmt: skip
             for value in wrong:
-                with self.subTest(**{name: value}), self.assertRaisesRegex(pickle.UnpicklingError, DAMAGED):
+                with self.subTest(**{name: value}), self.assertRaisesRegex(
+                    pickle.UnpicklingError, DAMAGED
+                ):
                     pickle.loads(tampered(**{name: value}))
         other = pickle.loads(tampered(size=5, komi=0.5, rule=2, moves="b A1, w B2"))
         self.assertEqual(other, played(5, "b A1, w B2", komi=0.5, rule=2))
@@ -355,7 +383,9 @@ class Damaged(unittest.TestCase):
             ({"size": 26}, "size: 26 is not from 1 to 25$"), ({"kind": int}, "<class 'int'> is no Game"),
             ({"moves": 5}, "5 no moves"),
         ):  # fmt: skip
-            self.assertRaisesRegex(pickle.UnpicklingError, f"{DAMAGED}.*{text}", pickle.loads, tampered(**changed))
+            self.assertRaisesRegex(
+                pickle.UnpicklingError, f"{DAMAGED}.*{text}", pickle.loads, tampered(**changed)
+            )
 
     def test_any_byte_of_the_moves_may_be_another(self):
         whole, read = pickle.dumps(handicapped()), 0
@@ -388,7 +418,9 @@ class Processes(unittest.TestCase):
 
     def test_the_thread_that_uses_it_first_has_it(self):
         read, seen = [], []
-        thread = threading.Thread(target=lambda: read.append(pickle.loads(pickle.dumps(handicapped()))))
+        thread = threading.Thread(
+            target=lambda: read.append(pickle.loads(pickle.dumps(handicapped())))
+        )
         thread.start()
         thread.join()
         self.assertEqual(read[0].size, 9)

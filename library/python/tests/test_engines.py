@@ -8,7 +8,20 @@ import unittest
 from unittest import mock
 
 import vintsaky
-from vintsaky import BLACK, PASS, RESIGN, WHITE, Cause, CommandLine, Engine, Event, Failure, KoRule, Steps, command
+from vintsaky import (
+    BLACK,
+    PASS,
+    RESIGN,
+    WHITE,
+    Cause,
+    CommandLine,
+    Engine,
+    Event,
+    Failure,
+    KoRule,
+    Steps,
+    command,
+)
 
 from .test_values import Refusing
 
@@ -68,7 +81,14 @@ class Says(First):
             raise Failure({"fails": "no\n", "refused": " "}[words[0]])
         if words[0] == "value":
             raise ValueError("a fault of its author")
-        answers = {"text": "a\n\nb", "long": "x" * 2001, "bytes": b"\xff", "accent": "é", "type": 5, "list": ["a"]}
+        answers = {
+            "text": "a\n\nb",
+            "long": "x" * 2001,
+            "bytes": b"\xff",
+            "accent": "é",
+            "type": 5,
+            "list": ["a"],
+        }
         return words[0] if words[0] == "right" else answers[words[0]]
 
 
@@ -82,7 +102,9 @@ def served(engine, said):
 class InSteps(Refusing):
     def test_what_comes_of_a_piece(self):
         steps = Steps()
-        self.assertEqual((steps.wait, steps.reply, steps.line, steps.ended), (Event.MORE, b"", None, False))
+        self.assertEqual(
+            (steps.wait, steps.reply, steps.line, steps.ended), (Event.MORE, b"", None, False)
+        )
         self.assertEqual(steps.feed(b"1 na"), (4, Event.MORE))
         self.assertEqual(steps.feed(b"me\n2 genmove w\n"), (3, Event.REPLY))
         self.assertEqual(steps.reply, b"=1 stepgo\n\n")
@@ -107,13 +129,20 @@ class InSteps(Refusing):
     def test_choices(self):
         steps = Steps()
         resigns = b"= resign\n\n"
-        for choice, reply in ((RESIGN, resigns), ("Resign", resigns), ("pass", b"= pass\n\n"), ("a1", b"= A1\n\n")):
+        for choice, reply in (
+            (RESIGN, resigns),
+            ("Resign", resigns),
+            ("pass", b"= pass\n\n"),
+            ("a1", b"= A1\n\n"),
+        ):
             steps.feed(b"genmove b\n")
             steps.choose(choice)
             self.assertEqual(steps.reply, reply)
         steps.feed(b"genmove b\n")
         self.refused(Cause.OCCUPIED, steps.choose, "A1")
-        self.assertRaisesRegex(vintsaky.Refused, "^choose A1: A stone is on the point.$", steps.choose, "A1")
+        self.assertRaisesRegex(
+            vintsaky.Refused, "^choose A1: A stone is on the point.$", steps.choose, "A1"
+        )
         self.refused(Cause.BAD_VERTEX, steps.choose, (26, 1))
         self.refused(Cause.BAD_TEXT, steps.choose, "resigned")
         self.refused(Cause.BAD_VERTEX, steps.choose, (2**32 + 1, 1))
@@ -177,7 +206,9 @@ class Served(unittest.TestCase):
         ours = served(Plain(), b"list_commands\n")[:-2].decode()
         self.assertTrue(ours.startswith("= protocol_version\nname\n"))
         for engine, answer, more in ((First(), b"= a", []), (Second(), b"= second", ["last"])):
-            listed, known, own, _ = served(engine, b"list_commands\nknown_command fails\nkgs-chat a\n").split(b"\n\n")
+            listed, known, own, _ = served(
+                engine, b"list_commands\nknown_command fails\nkgs-chat a\n"
+            ).split(b"\n\n")
             self.assertEqual(listed.decode().split("\n"), [*ours.split("\n"), *OWN, *more])
             self.assertEqual((known, own), (b"= true", answer))
 
@@ -191,7 +222,9 @@ class Served(unittest.TestCase):
 
         for engine, kind in ((Raises(), KeyError), (Engine(), NotImplementedError)):
             sink = io.BytesIO()
-            self.assertRaises(kind, engine.serve, io.BytesIO(b"1 name\n2 genmove b\n3 name\n"), sink)
+            self.assertRaises(
+                kind, engine.serve, io.BytesIO(b"1 name\n2 genmove b\n3 name\n"), sink
+            )
             self.assertEqual(sink.getvalue(), b"=1 stepgo\n\n")
             self.assertRaises(RuntimeError, getattr, engine, "game")
 
@@ -226,26 +259,40 @@ class Served(unittest.TestCase):
             with self.subTest(word):
                 said = b"1 name\n2 bad %s\n3 genmove b\n4 bad right\n" % word.encode()
                 output, errors = self.answered(Says(), said)
-                self.assertEqual(output, b"=1 first\n\n?2 the answer is wrong\n\n=3 A1\n\n=4 right\n\n")
+                self.assertEqual(
+                    output, b"=1 first\n\n?2 the answer is wrong\n\n=3 A1\n\n=4 right\n\n"
+                )
                 self.assertEqual(len(errors), 1)
-                self.assertTrue(errors[0].startswith(f"Says: the command bad: its answer is wrong: {text}"), errors)
+                self.assertTrue(
+                    errors[0].startswith(f"Says: the command bad: its answer is wrong: {text}"),
+                    errors,
+                )
 
     def test_right_answers_write_nothing(self):
-        self.assertEqual(self.answered(First(), b"fails\nnothing\nkgs-chat a\n"), (b"? not today\n\n=\n\n= a\n\n", []))
+        self.assertEqual(
+            self.answered(First(), b"fails\nnothing\nkgs-chat a\n"),
+            (b"? not today\n\n=\n\n= a\n\n", []),
+        )
 
     def test_what_an_own_command_raises_comes_out(self):
         for word, kind in (("other", KeyError), ("value", ValueError)):
             sink = io.BytesIO()
-            self.assertRaises(kind, Says().serve, io.BytesIO(b"name\nbad %s\nname\n" % word.encode()), sink)
+            self.assertRaises(
+                kind, Says().serve, io.BytesIO(b"name\nbad %s\nname\n" % word.encode()), sink
+            )
             self.assertEqual(sink.getvalue(), b"= first\n\n")
 
     def test_without_standard_error(self):
         output = io.StringIO()
         with mock.patch.object(sys, "stderr", None), contextlib.redirect_stdout(output):
-            self.assertEqual(served(Says(), b"bad type\nname\n"), b"? the answer is wrong\n\n= first\n\n")
+            self.assertEqual(
+                served(Says(), b"bad type\nname\n"), b"? the answer is wrong\n\n= first\n\n"
+            )
         self.assertEqual(output.getvalue(), "")
         with open(os.devnull) as unwritable, mock.patch.object(sys, "stderr", unwritable):
-            self.assertEqual(served(Says(), b"bad type\nname\n"), b"? the answer is wrong\n\n= first\n\n")
+            self.assertEqual(
+                served(Says(), b"bad type\nname\n"), b"? the answer is wrong\n\n= first\n\n"
+            )
 
     def test_streams_that_do_not_block(self):
         source, sink = io.BytesIO(b"name\n"), io.BytesIO()
@@ -267,7 +314,11 @@ class Served(unittest.TestCase):
         self.assertRaises(vintsaky.Refused, served, Named(), b"name\n")
 
     def test_bad_commands_come_out_at_once(self):
-        said = {"play": "The protocol already", "a b": "A name may have only", "é": "A name may have only"}
+        said = {
+            "play": "The protocol already",
+            "a b": "A name may have only",
+            "é": "A name may have only",
+        }
         for name, text in said.items():
 
             class Commanded(First):
@@ -348,20 +399,29 @@ Answers().serve()
 class Standard(unittest.TestCase):
     def test_wrong_answers_of_an_own_command(self):
         status, output, errors = run(ANSWERS, b"1 bad\n2 bad x\n3 genmove b\n4 quit\n")
-        self.assertEqual((status, output), (0, b"?1 the answer is wrong\n\n?2 the answer is wrong\n\n=3 A1\n\n=4\n\n"))
+        self.assertEqual(
+            (status, output),
+            (0, b"?1 the answer is wrong\n\n?2 the answer is wrong\n\n=3 A1\n\n=4\n\n"),
+        )
         first, second = errors.splitlines()
-        self.assertEqual(first, "Answers: the command bad: its answer is wrong: text: 5 is neither str nor bytes")
+        self.assertEqual(
+            first, "Answers: the command bad: its answer is wrong: text: 5 is neither str nor bytes"
+        )
         self.assertRegex(second, "its answer is wrong: text: 'caf.*' may be in no reply; ")
 
     def test_what_else_is_printed_goes_to_standard_error(self):
         status, output, errors = run(NOISY, b"1 genmove b\n2 quit\n")
-        self.assertEqual((status, output), (0, f"=1 pass\n\n=2\n\noutput is back{os.linesep}".encode()))
+        self.assertEqual(
+            (status, output), (0, f"=1 pass\n\n=2\n\noutput is back{os.linesep}".encode())
+        )
         self.assertEqual(errors.split(), "before print number child file after".split())
 
     def test_a_choose_that_raises(self):
         for choice in ('raise ValueError("a fault of its author")', 'return "Z25"', "return None"):
             engine = f"class Wrong(vintsaky.Engine):\n    def choose(self, game, colour):\n        {choice}\n"
-            status, output, errors = run(f"import vintsaky\n{engine}Wrong().serve()", b"1 name\n2 genmove b\n3 name\n")
+            status, output, errors = run(
+                f"import vintsaky\n{engine}Wrong().serve()", b"1 name\n2 genmove b\n3 name\n"
+            )
             self.assertEqual((status, output), (1, b"=1 stepgo\n\n"))
             self.assertTrue(errors.startswith("Traceback (most recent call last):"))
 

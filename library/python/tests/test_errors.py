@@ -55,9 +55,15 @@ TYPES = [
     (lambda: ASKED.choose(0), f"choice: 0 is no choice; {CHOICES}"),
     (lambda: OTHER.answer(5), "text: 5 is neither str nor bytes"),
     (lambda: STEPS.set_name(None), "name: None is neither str nor bytes"),
-    (lambda: STEPS.feed("name\n"), r"data: 'name\n' is neither bytes nor a bytearray nor a memoryview"),
+    (
+        lambda: STEPS.feed("name\n"),
+        r"data: 'name\n' is neither bytes nor a bytearray nor a memoryview",
+    ),
     (lambda: Replies().feed(None), "data: None is neither bytes nor a bytearray nor a memoryview"),
-    (lambda: CommandLines().feed([1]), "data: [1] is neither bytes nor a bytearray nor a memoryview"),
+    (
+        lambda: CommandLines().feed([1]),
+        "data: [1] is neither bytes nor a bytearray nor a memoryview",
+    ),
     (lambda: MATCH.hear("b", "=1"), "data: '=1' is neither bytes nor a bytearray nor a memoryview"),
     (lambda: MATCH.hear(None, b""), f"side: None is no colour; {COLOURS}"),
     (lambda: Match(max_moves="9"), "max_moves: '9' is no int; use one from 1 to 2000"),
@@ -67,15 +73,27 @@ TYPES = [
     (lambda: vintsaky.komi_text(None), "komi: None is a NoneType, and no int, float or Fraction"),
     (lambda: Game.from_moves(None), "moves: None is no list of moves"),
     (lambda: GAME.moves["0"], "number: '0' is neither an int nor a slice of them"),
-    (lambda: GAME.moves["a":], "number: slice('a', None, None) is neither an int nor a slice of them"),
+    (
+        lambda: GAME.moves["a":],
+        "number: slice('a', None, None) is neither an int nor a slice of them",
+    ),
     (lambda: Point(1, 1).neighbours("9"), "size: '9' is no int; use one from 1 to 25"),
     (lambda: vintsaky.command(5), 'name: 5 is no str; a command has a name, as @command("NAME")'),
     (lambda: vintsaky.write_reply(5), "text: 5 is neither str nor bytes"),
     (lambda: vintsaky.write_reply(id="1"), "id: '1' is no int; use one from 0 to 2147483647"),
     (lambda: vintsaky.write_command("quit"), "command: 'quit' is no Command"),
-    (lambda: vintsaky.write_command(Command.PLAY, "b"), "PLAY: 1 argument is given; it takes a colour and a vertex"),
-    (lambda: vintsaky.write_command(Command.QUIT, 1, 2), "QUIT: 2 arguments are given; it takes none"),
-    (lambda: vintsaky.write_command(Command.BOARDSIZE, "9"), "size: '9' is no int; use one from 1 to 25"),
+    (
+        lambda: vintsaky.write_command(Command.PLAY, "b"),
+        "PLAY: 1 argument is given; it takes a colour and a vertex",
+    ),
+    (
+        lambda: vintsaky.write_command(Command.QUIT, 1, 2),
+        "QUIT: 2 arguments are given; it takes none",
+    ),
+    (
+        lambda: vintsaky.write_command(Command.BOARDSIZE, "9"),
+        "size: '9' is no int; use one from 1 to 25",
+    ),
 ]
 
 # calls with a wrong value, the cause of the Refused, or None for another ValueError, and its text
@@ -177,7 +195,9 @@ class Errors(unittest.TestCase):
 
     def test_nothing_has_changed(self):
         self.assertEqual((len(GAME.moves), GAME.size, GAME.komi), (0, 9, 0))
-        self.assertEqual((MATCH.next().kind.name, ASKED.wait.name, OTHER.wait.name), ("START", "BLACK", "OTHER"))
+        self.assertEqual(
+            (MATCH.next().kind.name, ASKED.wait.name, OTHER.wait.name), ("START", "BLACK", "OTHER")
+        )
 
     def test_a_move_is_named(self):
         game = Game(4)
@@ -220,7 +240,10 @@ class Errors(unittest.TestCase):
         for call in [*(row[0] for row in TYPES), *(row[0] for row in VALUES)]:
             with self.assertRaises((TypeError, ValueError)) as caught:
                 call()
-            self.assertIsNone(re.search("256|65535|half point|number is no", str(caught.exception)), caught.exception)
+            self.assertIsNone(
+                re.search("256|65535|half point|number is no", str(caught.exception)),
+                caught.exception,
+            )
 
     def test_long_values_are_cut(self):
         class Wrong:

@@ -4,7 +4,19 @@ import ctypes
 import unittest
 from unittest import mock
 
-from vintsaky import BLACK, PASS, RESIGN, WHITE, Cause, Game, KoRule, Move, Point, moves, read_vertex
+from vintsaky import (
+    BLACK,
+    PASS,
+    RESIGN,
+    WHITE,
+    Cause,
+    Game,
+    KoRule,
+    Move,
+    Point,
+    moves,
+    read_vertex,
+)
 
 from .test_values import Refusing
 
@@ -26,8 +38,12 @@ def texts(points):
 class Beginnings(Refusing):
     def test_what_a_new_game_is(self):
         game = Game()
-        self.assertEqual((game.size, game.komi, game.rule, game.handicap), (19, 0, KoRule.SIMPLE, 0))
-        self.assertEqual((len(game.moves), game.score, game.finished, game.taken), (0, 0, False, []))
+        self.assertEqual(
+            (game.size, game.komi, game.rule, game.handicap), (19, 0, KoRule.SIMPLE, 0)
+        )
+        self.assertEqual(
+            (len(game.moves), game.score, game.finished, game.taken), (0, 0, False, [])
+        )
         self.assertTrue(game)
 
     def test_what_is_given(self):
@@ -68,12 +84,16 @@ class Plays(Refusing):
         game.play(BLACK, Point(2, 3))
         game.play("White", "a1")
         game.play(1, (3, 3))
-        self.assertEqual((game["B3"], game[1, 1], game[Point(3, 3)], game["A2"]), (BLACK, WHITE, BLACK, None))
+        self.assertEqual(
+            (game["B3"], game[1, 1], game[Point(3, 3)], game["A2"]), (BLACK, WHITE, BLACK, None)
+        )
         self.assertEqual(str(game), ". X X 3\n. . . 2\nO . . 1\nA B C\ncaptures B 0 W 0")
 
     def test_chains_are_captured(self):
         game = played(4, "b B4, b C4, b B2, b C2, b A3, w B3, w C3, b D3")
-        self.assertEqual((texts(game.taken), game.captured("b"), game.captured("w")), ("B3 C3", 2, 0))
+        self.assertEqual(
+            (texts(game.taken), game.captured("b"), game.captured("w")), ("B3 C3", 2, 0)
+        )
         self.assertIsNone(game["B3"])
         game.undo()
         self.assertEqual((game["B3"], game.captured("b"), game.taken), (WHITE, 0, []))
@@ -89,19 +109,28 @@ class Plays(Refusing):
 
     def test_what_is_refused(self):
         game = played(2, "b A2, b B1")
-        refused = {"C1": Cause.OFF_BOARD, "A2": Cause.OCCUPIED, "A1": Cause.SUICIDE, "B2": Cause.SUICIDE}
+        refused = {
+            "C1": Cause.OFF_BOARD,
+            "A2": Cause.OCCUPIED,
+            "A1": Cause.SUICIDE,
+            "B2": Cause.SUICIDE,
+        }
         for vertex, cause in refused.items():
             self.assertIs(game.why_not("w", vertex), cause)
             self.assertFalse(game.legal(WHITE, vertex))
             self.refused(cause, game.play, WHITE, vertex)
         self.assertIsNone(game.why_not("w", PASS))
-        self.assertEqual((texts(game.legal_points("w")), texts(game.legal_points("b"))), ("", "A1 B2"))
+        self.assertEqual(
+            (texts(game.legal_points("w")), texts(game.legal_points("b"))), ("", "A1 B2")
+        )
         self.assertEqual(len(game.moves), 2)
 
     def test_a_play_that_captures_is_no_suicide(self):
         game = played(2, "b A1, b A2, w B1")
         game.play("w", "B2")
-        self.assertEqual((str(game).split("\n")[:2], texts(game.taken)), ([". O 2", ". O 1"], "A1 A2"))
+        self.assertEqual(
+            (str(game).split("\n")[:2], texts(game.taken)), ([". O 2", ". O 1"], "A1 A2")
+        )
 
     def test_ko(self):
         for rule in KoRule:
@@ -158,7 +187,9 @@ class Plays(Refusing):
 class Searches(Refusing):
     def test_indexes_of_points(self):
         game = Game(5)
-        self.assertEqual([game.index(text) for text in ("A1", "B1", "E1", "A2", (5, 5))], [0, 1, 4, 5, 24])
+        self.assertEqual(
+            [game.index(text) for text in ("A1", "B1", "E1", "A2", (5, 5))], [0, 1, 4, 5, 24]
+        )
         self.assertEqual([game.point(number) for number in range(25)], game.legal_points("b"))
         self.refused(Cause.OFF_BOARD, game.index, "F1")
         self.refused(Cause.BAD_VERTEX, game.index, PASS)
@@ -202,7 +233,9 @@ class Searches(Refusing):
         game = played(3, "b A1, b A2, b B2, b C3, w C1")
         self.assertEqual(texts(game.chain_points("B2")), "A1 A2 B2")
         self.assertEqual(texts(game.chain_liberties("A1")), "B1 C2 A3 B3")
-        self.assertEqual((texts(game.chain_points("C3")), texts(game.chain_liberties("C1"))), ("C3", "B1 C2"))
+        self.assertEqual(
+            (texts(game.chain_points("C3")), texts(game.chain_liberties("C1"))), ("C3", "B1 C2")
+        )
         for call in (game.chain_points, game.chain_liberties):
             self.refused(Cause.NO_STONE, call, "A3")
             self.refused(Cause.OFF_BOARD, call, "D1")
@@ -219,7 +252,9 @@ class Searches(Refusing):
     def test_the_hash_of_a_position(self):
         game = played(5, "b B1, w C1, b A2, w B2, w A1")
         other = played(5, "w A1, w B2, b A2, w C1")  # the same board, and nothing was taken
-        self.assertEqual((game.board, game.ko_point("b"), other.ko_point("b")), (other.board, (2, 1), None))
+        self.assertEqual(
+            (game.board, game.ko_point("b"), other.ko_point("b")), (other.board, (2, 1), None)
+        )
         self.assertNotEqual(game.position_hash("b"), other.position_hash("b"))
         self.assertEqual(game.position_hash("w"), other.position_hash("w"))
         self.assertNotEqual(other.position_hash("b"), other.position_hash("w"))
@@ -231,7 +266,9 @@ class Searches(Refusing):
             game = Game(1, 0.5)  # where nobody may play
             self.assertEqual((game.rollout("b", seed), len(game.moves)), (-0.5, 0))
             game.playout("w", seed)
-            self.assertEqual((list(game.moves), game.finished), ([(WHITE, PASS), (BLACK, PASS)], True))
+            self.assertEqual(
+                (list(game.moves), game.finished), ([(WHITE, PASS), (BLACK, PASS)], True)
+            )
             game.playout("w", seed)
             self.assertEqual(len(game.moves), 2)
 
@@ -285,7 +322,11 @@ class Records(Refusing):
 
     def test_a_loop_makes_one_call_for_each_move(self):
         game = Game.from_moves([("b", PASS), ("w", PASS)] * 200, 5)
-        for loop in (lambda: list(game.moves), lambda: game.moves[:], lambda: [move for move in game.moves]):
+        for loop in (
+            lambda: list(game.moves),
+            lambda: game.moves[:],
+            lambda: [move for move in game.moves],
+        ):
             byref = mock.patch.object(moves.ctypes, "byref", wraps=ctypes.byref)
             with byref as referred, mock.patch.object(moves, "MADE", wraps=moves.MADE) as made:
                 self.assertEqual(len(loop()), 400)
@@ -325,13 +366,25 @@ class Records(Refusing):
         self.assertEqual((game.handicap, len(black), len(game.moves)), (5, 5, 0))
         self.refused(Cause.NOT_EMPTY, game.place_handicap, 2)
         self.refused(Cause.NOTHING_TO_UNDO, game.undo)
-        for size, stones in ((19, 1), (19, 10), (19, 0), (8, 5), (6, 2), (19, 2**32 - 1), (19, -1), (19, 2**32 + 2)):
+        for size, stones in (
+            (19, 1),
+            (19, 10),
+            (19, 0),
+            (8, 5),
+            (6, 2),
+            (19, 2**32 - 1),
+            (19, -1),
+            (19, 2**32 + 2),
+        ):
             self.refused(Cause.BAD_HANDICAP, Game(size).place_handicap, stones)
         self.assertRaises(TypeError, Game(19).place_handicap, 2.0)
 
     def test_legal_points_are_all(self):
         game = Game(25)
-        self.assertEqual(game.legal_points("w"), [(column, row) for row in range(1, 26) for column in range(1, 26)])
+        self.assertEqual(
+            game.legal_points("w"),
+            [(column, row) for row in range(1, 26) for column in range(1, 26)],
+        )
 
     def test_equal_boards_have_equal_hashes(self):
         one, other = played(5, "b A1, w B2, b C3"), played(5, "b C3, w B2, b A1")
@@ -351,7 +404,9 @@ class Copies(Refusing):
     def test_a_copy_is_a_game_of_its_own(self):
         game = played(4, KO, komi=1.5, rule=KoRule.POSITIONAL)
         for copied in (game.copy(), copy.copy(game), copy.deepcopy(game)):
-            self.assertEqual((str(copied), list(copied.moves), copied.komi), (str(game), list(game.moves), 1.5))
+            self.assertEqual(
+                (str(copied), list(copied.moves), copied.komi), (str(game), list(game.moves), 1.5)
+            )
             self.assertIs(copied.why_not("b", "C2"), Cause.KO)
             copied.undo()
             self.assertEqual((len(copied.moves), len(game.moves)), (7, 8))
@@ -366,7 +421,9 @@ class Copies(Refusing):
         game = played(4, KO, komi=1.5, rule=KoRule.POSITIONAL)
         moves, board = list(game.moves), str(game)
         game.become(game)
-        self.assertEqual((list(game.moves), str(game), game.komi, texts(game.taken)), (moves, board, 1.5, "C2"))
+        self.assertEqual(
+            (list(game.moves), str(game), game.komi, texts(game.taken)), (moves, board, 1.5, "C2")
+        )
         game.undo()
         self.assertEqual((game["C2"], len(game.moves)), (BLACK, 7))
 

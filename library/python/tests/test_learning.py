@@ -22,7 +22,9 @@ class Beside(unittest.TestCase):
 
     def compared(self, seed, size, count, limit, earlier, kind, **named):
         draw = random.Random(seed)
-        games, single = Games(count, size, limit=limit, **named), [single_game(size, **named) for _ in range(count)]
+        games, single = Games(count, size, limit=limit, **named), [
+            single_game(size, **named) for _ in range(count)
+        ]
         points = size * size
         causes, ways, scores = bytearray(count), bytearray(count), array("f", [0] * count)
         boards = array(kind, [7] * (count * games.planes(earlier) * points))
@@ -36,7 +38,9 @@ class Beside(unittest.TestCase):
             self.assertEqual(list(causes), wanted)
             self.assertEqual([(way, round(2 * score)) for way, score in zip(ways, scores)], ended)
             self.assertEqual(came, sum(map(bool, wanted)))
-            self.assertEqual(list(boards), [value for it in single for value in planes(it, earlier)])
+            self.assertEqual(
+                list(boards), [value for it in single for value in planes(it, earlier)]
+            )
             self.assertEqual(list(masks), [value for it in single for value in mask(it)])
             self.assertEqual(games.turns, bytes(map(turn, single)))
 
@@ -61,7 +65,9 @@ class Beside(unittest.TestCase):
         games.step([9])
         boards = bytearray(18)
         games.step([9], over=ways, scores=scores, planes=boards)
-        self.assertEqual((ways[0], scores[0], set(boards), len(games.game(0).moves)), (1, 8.5, {0}, 0))
+        self.assertEqual(
+            (ways[0], scores[0], set(boards), len(games.game(0).moves)), (1, 8.5, {0}, 0)
+        )
         games.step([0], over=ways, scores=scores)
         self.assertEqual((ways[0], scores[0]), (0, 0))
 
@@ -76,8 +82,13 @@ class Beside(unittest.TestCase):
         games = Games(3, 5)
         games.step([0, 1, 2])
         single, seeds = [games.game(number) for number in range(3)], [5, 2**64 - 1, 0]
-        self.assertEqual(games.rollouts(seeds, 30), [it.rollout("w", seed, 30) for it, seed in zip(single, seeds)])
-        self.assertEqual([games.game(number).board for number in range(3)], [it.board for it in single])
+        self.assertEqual(
+            games.rollouts(seeds, 30),
+            [it.rollout("w", seed, 30) for it, seed in zip(single, seeds)],
+        )
+        self.assertEqual(
+            [games.game(number).board for number in range(3)], [it.board for it in single]
+        )
 
     def test_games_are_copies(self):
         games, game = Games(2, 5), Game(5)
@@ -85,7 +96,10 @@ class Beside(unittest.TestCase):
         games.put(1, game)
         game.play("w", "C4")
         copied = games.game(-1)
-        self.assertEqual([len(copied.moves), len(games.game(0).moves), games.turns], [1, 0, bytes([BLACK, WHITE])])
+        self.assertEqual(
+            [len(copied.moves), len(games.game(0).moves), games.turns],
+            [1, 0, bytes([BLACK, WHITE])],
+        )
         copied.play("w", "A1")
         self.assertEqual(len(games.game(1).moves), 1)
         with self.assertRaisesRegex(ValueError, "^game: its size is 9, and not 5"):
@@ -117,8 +131,13 @@ class Made(unittest.TestCase):
     def test_what_is_given(self):
         games = Games(4, 9, 7.5, KoRule.POSITIONAL, 2, 100)
         game = games.game(3)
-        self.assertEqual((len(games), games.size, games.limit, games.planes(), games.planes(7)), (4, 9, 100, 2, 16))
-        self.assertEqual((game.size, game.komi, game.rule, game.handicap), (9, 7.5, KoRule.POSITIONAL, 2))
+        self.assertEqual(
+            (len(games), games.size, games.limit, games.planes(), games.planes(7)),
+            (4, 9, 100, 2, 16),
+        )
+        self.assertEqual(
+            (game.size, game.komi, game.rule, game.handicap), (9, 7.5, KoRule.POSITIONAL, 2)
+        )
         self.assertEqual(games.turns, bytes([WHITE] * 4))
 
     def test_limits(self):
@@ -126,7 +145,14 @@ class Made(unittest.TestCase):
         for wrong in ((0,), (-1,), (2**40,), *boards):
             with self.assertRaises(ValueError, msg=str(wrong)):
                 Games(*wrong)
-        for wrong in (("3",), (1, 9.0), (None,), (1, 9, "7"), (1, 9, 0, 1, None), (1, 9, 0, 1, 0.0)):
+        for wrong in (
+            ("3",),
+            (1, 9.0),
+            (None,),
+            (1, 9, "7"),
+            (1, 9, 0, 1, None),
+            (1, 9, 0, 1, 0.0),
+        ):
             with self.assertRaises(TypeError, msg=str(wrong)):
                 Games(*wrong)
 
@@ -146,7 +172,13 @@ def uneven(count):
 class Wrong(unittest.TestCase):
     """Buffers of every wrong kind: nothing is done, and nothing written."""
 
-    NAMES = {"causes": (2, "B"), "over": (2, "B"), "scores": (2, "f"), "planes": (36, "B?f"), "masks": (20, "B?f")}
+    NAMES = {
+        "causes": (2, "B"),
+        "over": (2, "B"),
+        "scores": (2, "f"),
+        "planes": (36, "B?f"),
+        "masks": (20, "B?f"),
+    }
 
     def refused(self, kind, text, **given):
         games = Games(2, 3)
@@ -163,9 +195,15 @@ class Wrong(unittest.TestCase):
         for name, (count, forms) in self.NAMES.items():
             for form in "bBhHiIlLqQfd":
                 if form not in forms:
-                    self.refused(ValueError, f"^{name}: .* format '{form}'.*; use '", **{name: array(form, [0] * count)})
+                    self.refused(
+                        ValueError,
+                        f"^{name}: .* format '{form}'.*; use '",
+                        **{name: array(form, [0] * count)},
+                    )
             letters = memoryview(bytearray(count)).cast("c")
-            self.refused(ValueError, f"^{name}: its items have the format 'c'; use '", **{name: letters})
+            self.refused(
+                ValueError, f"^{name}: its items have the format 'c'; use '", **{name: letters}
+            )
 
     def test_only_read(self):
         for name, (count, forms) in self.NAMES.items():
@@ -181,7 +219,9 @@ class Wrong(unittest.TestCase):
         for name, (count, forms) in self.NAMES.items():
             for wrong in (0, count - 1, count + 1, 2 * count):
                 given = array("f", [0] * wrong) if forms == "f" else bytearray(wrong)
-                self.refused(ValueError, rf"^{name}: its shape is \({wrong},\), and not \(", **{name: given})
+                self.refused(
+                    ValueError, rf"^{name}: its shape is \({wrong},\), and not \(", **{name: given}
+                )
 
     def test_shapes(self):
         """A buffer is flat, or has the whole shape, or a row for each game."""
@@ -190,9 +230,14 @@ class Wrong(unittest.TestCase):
                 flat = memoryview(array(kind, [7] * count))
                 for right in ((count,), shape, (2, count // 2)):
                     Games(2, 3).step([4, 4], **{name: flat.cast("B").cast(kind, right)})
-                others = {"planes": ((2, 3, 3, 2), (1, 2, 2, 9), (18, 2), (4, 9)), "masks": ((10, 2), (1, 20), (4, 5))}
+                others = {
+                    "planes": ((2, 3, 3, 2), (1, 2, 2, 9), (18, 2), (4, 9)),
+                    "masks": ((10, 2), (1, 20), (4, 5)),
+                }
                 for wrong in others[name]:
-                    text = re.escape(f"{name}: its shape is {wrong}, and not {shape}, or flat with {count} items")
+                    text = re.escape(
+                        f"{name}: its shape is {wrong}, and not {shape}, or flat with {count} items"
+                    )
                     self.refused(ValueError, text, **{name: flat.cast("B").cast(kind, wrong)})
 
     def test_earlier_boards(self):
@@ -200,7 +245,12 @@ class Wrong(unittest.TestCase):
         for wrong in ("3", None, 1.0):
             self.refused(TypeError, "^earlier: .* is no int", earlier=wrong, planes=bytearray(36))
         for wrong in (-1, 2001):
-            self.refused(ValueError, "^earlier: .* is not from 0 to 2000", earlier=wrong, planes=bytearray(36))
+            self.refused(
+                ValueError,
+                "^earlier: .* is not from 0 to 2000",
+                earlier=wrong,
+                planes=bytearray(36),
+            )
 
     def test_buffers_that_are_gone(self):
         gone = memoryview(bytearray(36))
@@ -209,11 +259,15 @@ class Wrong(unittest.TestCase):
 
     def test_overlaps(self):
         room = memoryview(bytearray(64))
-        self.refused(ValueError, "^planes and masks: .* bytes in common", planes=room[:36], masks=room[35:55])
+        self.refused(
+            ValueError, "^planes and masks: .* bytes in common", planes=room[:36], masks=room[35:55]
+        )
         self.refused(ValueError, "bytes in common", causes=room[:2], over=room[1:3])
         self.refused(ValueError, "bytes in common", scores=room[:8].cast("f"), planes=room[4:40])
         games = Games(2, 3)
-        games.step([4, 4], causes=room[:2], over=room[2:4], scores=room[4:12].cast("f"), planes=room[12:48])
+        games.step(
+            [4, 4], causes=room[:2], over=room[2:4], scores=room[4:12].cast("f"), planes=room[12:48]
+        )
         self.assertEqual(list(room), [0] * 12 + 2 * ([0] * 9 + [0] * 4 + [1] + [0] * 4) + [0] * 16)
 
     def test_one_game(self):
@@ -240,9 +294,19 @@ class Wrong(unittest.TestCase):
         self.assertEqual(len(games.game(0).moves), 0)
         causes = bytearray(2)
         for wrong in (10, 2**32 - 1, 2**32, 2**80, -1, -(2**80)):
-            self.assertEqual((games.step([wrong, wrong], causes=causes), list(causes)), (2, [Cause.OFF_BOARD] * 2))
+            self.assertEqual(
+                (games.step([wrong, wrong], causes=causes), list(causes)),
+                (2, [Cause.OFF_BOARD] * 2),
+            )
         self.assertEqual(len(games.game(0).moves), 0)
-        right = ([0, 0], (1, 1), array("q", [2, 2]), bytearray([3, 3]), memoryview(b"\4\4"), range(5, 7))
+        right = (
+            [0, 0],
+            (1, 1),
+            array("q", [2, 2]),
+            bytearray([3, 3]),
+            memoryview(b"\4\4"),
+            range(5, 7),
+        )
         for number, moves in enumerate(right):
             self.assertEqual(games.step(moves), 0, str(moves))
             self.assertEqual(games.game(0).index(games.game(0).moves[-1].vertex), number)
@@ -312,7 +376,8 @@ class Threads(unittest.TestCase):
 
     def seen_by_others(self, games, calls, refused):
         """Adds to those that are refused while another thread makes its rollouts, which are returned. The thread has the
-        games before any other call is made, and `adopt` is tried last, once another one was refused."""
+        games before any other call is made, and `adopt` is tried last, once another one was refused.
+        """
         came, adopted = [], threading.Event()
 
         def roll_out():
@@ -338,7 +403,10 @@ class Threads(unittest.TestCase):
         """They are made into numbers before the games are in a call."""
         games = Games(2, 3)
         self.assertEqual(games.step(len(games.game(number).moves) for number in range(2)), 0)
-        self.assertEqual(games.rollouts(len(games.game(number).moves) for number in range(2)), games.rollouts([1, 1]))
+        self.assertEqual(
+            games.rollouts(len(games.game(number).moves) for number in range(2)),
+            games.rollouts([1, 1]),
+        )
 
     def test_they_are_made_once(self):
         games = Games(2, 3)
@@ -362,14 +430,18 @@ class Numpy(unittest.TestCase):
     def test_arrays(self):
         games = Games(2, 3)
         for kind in (numpy.uint8, numpy.bool_, numpy.float32):
-            boards, masks = numpy.full((2, 2, 3, 3), 7).astype(kind), numpy.full((2, 10), 7).astype(kind)
+            boards, masks = numpy.full((2, 2, 3, 3), 7).astype(kind), numpy.full((2, 10), 7).astype(
+                kind
+            )
             games.planes_into(boards)
             games.masks_into(masks)
             self.assertEqual((boards.sum(), masks.sum(), masks.dtype), (0, 20, kind))
         boards = numpy.zeros((2, 4, 3, 3), numpy.float32)
         moves = numpy.array([5, 9])
         games.step(moves, planes=boards, earlier=1)
-        self.assertEqual(boards[0, 1].tolist(), [[0, 0, 0], [0, 0, 1], [0, 0, 0]])  # B2 is (1, 1), and 5 is C2
+        self.assertEqual(
+            boards[0, 1].tolist(), [[0, 0, 0], [0, 0, 1], [0, 0, 0]]
+        )  # B2 is (1, 1), and 5 is C2
         self.assertEqual((boards.sum(), boards[1].sum()), (1, 0))
 
     def test_wrong_ones(self):

@@ -2,7 +2,18 @@
 import itertools
 import unittest
 
-from vintsaky import BLACK, PASS, RESIGN, Cause, Command, CommandLine, CommandLines, Replies, Reply, ReplyEvent
+from vintsaky import (
+    BLACK,
+    PASS,
+    RESIGN,
+    Cause,
+    Command,
+    CommandLine,
+    CommandLines,
+    Replies,
+    Reply,
+    ReplyEvent,
+)
 from vintsaky import write_command, write_reply
 
 from .test_values import Refusing
@@ -16,7 +27,12 @@ LINES = [
     CommandLine(None, ("2147483648", "name")),
 ]
 ANSWERED = b"=\n\n =1 D4\r\n\n?007 not  this\none\n\n= 5\n\n=3"
-REPLIES = [Reply(True, None, b""), Reply(True, 1, b"D4"), Reply(False, 7, b"not  this\none"), Reply(True, None, b"5")]
+REPLIES = [
+    Reply(True, None, b""),
+    Reply(True, 1, b"D4"),
+    Reply(False, 7, b"not  this\none"),
+    Reply(True, None, b"5"),
+]
 
 
 class Readers(Refusing):
@@ -52,7 +68,9 @@ class Readers(Refusing):
 
     def test_long_replies(self):
         replies = Replies()
-        self.assertEqual(replies.feed(b"=" + b"x" * 8189 + b"\n\n"), [Reply(True, None, b"x" * 8189)])
+        self.assertEqual(
+            replies.feed(b"=" + b"x" * 8189 + b"\n\n"), [Reply(True, None, b"x" * 8189)]
+        )
         self.assertEqual(replies.feed(b"=" + b"x" * 8192), [])
         self.assertIs(replies.fault, ReplyEvent.LONG_REPLY)
 
@@ -97,7 +115,9 @@ class Writers(Refusing):
     def test_each_reply(self):
         self.assertEqual(write_reply(), b"=\n\n")
         self.assertEqual(write_reply("a\nb", id=0), b"=0 a\nb\n\n")
-        self.assertEqual(write_reply(b"syntax error", ok=False, id=2147483647), b"?2147483647 syntax error\n\n")
+        self.assertEqual(
+            write_reply(b"syntax error", ok=False, id=2147483647), b"?2147483647 syntax error\n\n"
+        )
         self.assertEqual(write_reply("x" * 2000, id=1), b"=1 " + b"x" * 2000 + b"\n\n")
 
     def test_refused_replies(self):

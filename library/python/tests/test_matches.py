@@ -2,7 +2,20 @@
 import dataclasses
 import unittest
 
-from vintsaky import BLACK, WHITE, Action, Cause, Ending, Loss, Match, Next, Owed, Report, Status, Verdict
+from vintsaky import (
+    BLACK,
+    WHITE,
+    Action,
+    Cause,
+    Ending,
+    Loss,
+    Match,
+    Next,
+    Owed,
+    Report,
+    Status,
+    Verdict,
+)
 
 from .test_values import Refusing
 
@@ -37,7 +50,9 @@ class Turns(Refusing):
         match.started(BLACK)
         self.assertEqual(match.next(), Action(Next.START, WHITE))
         match.started(WHITE)
-        self.assertEqual(brought(match, BLACK, 1)[0], [b"1 boardsize 9\n", b"2 komi 6.5\n", b"3 clear_board\n"])
+        self.assertEqual(
+            brought(match, BLACK, 1)[0], [b"1 boardsize 9\n", b"2 komi 6.5\n", b"3 clear_board\n"]
+        )
         self.assertEqual(match.send("b"), b"4 fixed_handicap 2\n")
         self.assertEqual(match.next(), Action(Next.WAIT, BLACK))
         self.assertIs(match.in_step(BLACK), False)
@@ -58,24 +73,60 @@ class Turns(Refusing):
         self.assertEqual(match.next(), Action(Next.OVER, None))
         self.assertEqual(match.verdict, Verdict(Ending.BY_SCORE, None, 3.5))
         self.assertEqual(match.result(), "game 1: B+3.5 moves 3 restarts 0 0")
-        self.assertEqual(match.result(number=4294967295), "game 4294967295: B+3.5 moves 3 restarts 0 0")
+        self.assertEqual(
+            match.result(number=4294967295), "game 4294967295: B+3.5 moves 3 restarts 0 0"
+        )
         self.assertEqual(match.record, "A1 pass pass")
-        self.assertEqual((len(match.game.moves), match.game.score, match.game.finished), (3, 3.5, True))
+        self.assertEqual(
+            (len(match.game.moves), match.game.score, match.game.finished), (3, 3.5, True)
+        )
 
     def test_endings(self):
         for reply, loss, verdict, line in (
             (b"=4 Resign\n\n", None, Verdict(Ending.BY_RESIGNATION, BLACK, None), "W+R moves 0"),
-            (b"?4 no\n\n", Loss.NO_MOVE, Verdict(Ending.BY_NO_MOVE, BLACK, None), "W+F(no move) moves 0"),
-            (b"=4 A1 B2\n\n", Loss.NO_VERTEX, Verdict(Ending.BY_NO_VERTEX, BLACK, None), "W+F(no vertex) moves 0"),
-            (b"=4 C1\n\n", Loss.OFF_BOARD, Verdict(Ending.BY_ILLEGAL_MOVE, BLACK, None), "W+F(illegal move) moves 0"),
+            (
+                b"?4 no\n\n",
+                Loss.NO_MOVE,
+                Verdict(Ending.BY_NO_MOVE, BLACK, None),
+                "W+F(no move) moves 0",
+            ),
+            (
+                b"=4 A1 B2\n\n",
+                Loss.NO_VERTEX,
+                Verdict(Ending.BY_NO_VERTEX, BLACK, None),
+                "W+F(no vertex) moves 0",
+            ),
+            (
+                b"=4 C1\n\n",
+                Loss.OFF_BOARD,
+                Verdict(Ending.BY_ILLEGAL_MOVE, BLACK, None),
+                "W+F(illegal move) moves 0",
+            ),
             (b"=4 A1\n\n", None, Verdict(Ending.BY_LIMIT, None, None), "limit moves 1"),
-            (b"hello", Loss.NO_STATUS, Verdict(Ending.BY_ABANDONED, BLACK, None), "abandoned black moves 0"),
-            (b"=5 A1\n\n", Loss.WRONG_ID, Verdict(Ending.BY_ABANDONED, BLACK, None), "abandoned black moves 0"),
-            (b"=" + b"x" * 8192, Loss.OVERLONG, Verdict(Ending.BY_ABANDONED, BLACK, None), "abandoned black moves 0"),
+            (
+                b"hello",
+                Loss.NO_STATUS,
+                Verdict(Ending.BY_ABANDONED, BLACK, None),
+                "abandoned black moves 0",
+            ),
+            (
+                b"=5 A1\n\n",
+                Loss.WRONG_ID,
+                Verdict(Ending.BY_ABANDONED, BLACK, None),
+                "abandoned black moves 0",
+            ),
+            (
+                b"=" + b"x" * 8192,
+                Loss.OVERLONG,
+                Verdict(Ending.BY_ABANDONED, BLACK, None),
+                "abandoned black moves 0",
+            ),
         ):
             match = begun(max_moves=1)
             self.assertEqual(said(match, BLACK, reply), (b"4 genmove b\n", loss))
-            self.assertEqual((match.verdict, match.result()), (verdict, f"game 1: {line} restarts 0 0"))
+            self.assertEqual(
+                (match.verdict, match.result()), (verdict, f"game 1: {line} restarts 0 0")
+            )
 
     def test_unfit(self):
         match = Match(2)
@@ -163,7 +214,9 @@ class Rulings(Refusing):
             match.adjudicate(side, reason)
             self.assertEqual(match.verdict, Verdict(ending, side, None, reason))
             self.assertIs(match.verdict.winner, side.other)
-            self.assertEqual(match.result(4294967295), f"game 4294967295: {words} moves 0 restarts 0 0")
+            self.assertEqual(
+                match.result(4294967295), f"game 4294967295: {words} moves 0 restarts 0 0"
+            )
             self.assertEqual(match.next(), Action(Next.OVER, None))
 
     def test_reasons_that_may_not_be(self):

@@ -19,11 +19,33 @@ from ctypes.util import find_library
 from pathlib import Path
 
 import vintsaky
-from vintsaky import Action, Cause, Chain, Colour, CommandLines, Game, Match, Move, Point, Refused, Replies, Steps
+from vintsaky import (
+    Action,
+    Cause,
+    Chain,
+    Colour,
+    CommandLines,
+    Game,
+    Match,
+    Move,
+    Point,
+    Refused,
+    Replies,
+    Steps,
+)
 from vintsaky import _declared, _held, _library
 
 PACKAGE = Path(vintsaky.__file__).resolve().parent
-INNER = ["_declared", "_brief", "_library", "_numbers", "_refused", "_held", "_attributes", "_buffers"]
+INNER = [
+    "_declared",
+    "_brief",
+    "_library",
+    "_numbers",
+    "_refused",
+    "_held",
+    "_attributes",
+    "_buffers",
+]
 MODULES = [*INNER, "values", "moves", "games", "batches", "lines", "engines", "matches"]
 
 
@@ -43,16 +65,26 @@ class Documentation(unittest.TestCase):
     def test_all_that_is_public_is_documented(self):
         for module in modules():
             for node in ast.walk(ast.parse(Path(module.__file__).read_text("ascii"))):
-                if not isinstance(node, (ast.FunctionDef, ast.ClassDef)) or node.name.startswith("_"):
+                if not isinstance(node, (ast.FunctionDef, ast.ClassDef)) or node.name.startswith(
+                    "_"
+                ):
                     continue
-                overload = isinstance(node, ast.FunctionDef) and (node.name == "marked" or "setter" in ast.dump(node))
-                self.assertTrue(overload or ast.get_docstring(node), f"{module.__name__}.{node.name}")
+                overload = isinstance(node, ast.FunctionDef) and (
+                    node.name == "marked" or "setter" in ast.dump(node)
+                )
+                self.assertTrue(
+                    overload or ast.get_docstring(node), f"{module.__name__}.{node.name}"
+                )
 
     def test_all_is_annotated(self):
         for module in modules():
             for node in ast.walk(ast.parse(Path(module.__file__).read_text("ascii"))):
                 if isinstance(node, ast.FunctionDef):
-                    own = [each for each in [*node.args.args, *node.args.kwonlyargs] if each.arg not in ("self", "cls")]
+                    own = [
+                        each
+                        for each in [*node.args.args, *node.args.kwonlyargs]
+                        if each.arg not in ("self", "cls")
+                    ]
                     is_annotated = node.returns and all(each.annotation for each in own)
                     self.assertTrue(is_annotated, f"{module.__name__}.{node.name}")
 
@@ -62,22 +94,42 @@ class Documentation(unittest.TestCase):
 
     def test_help_is_short_and_whole(self):
         text = pydoc.render_doc(vintsaky, renderer=pydoc.plaintext)
-        most = 1500 if sys.version_info < (3, 13) else 1600  # from then on each argument of a long signature has a line
+        most = (
+            1500 if sys.version_info < (3, 13) else 1600
+        )  # from then on each argument of a long signature has a line
         self.assertLess(len(text.splitlines()), most)
         words = " ".join(re.sub(r"^ *\|", "", text, flags=re.MULTILINE).split())
         for cause in Cause:
             self.assertIn(f"{cause.name}: {cause.text}", words)
         for name in vintsaky.__all__:
             self.assertRegex(words, rf"\b{name}\b")
-        for method in ("from_moves", "playout", "turn", "adopt", "next", "feed", "neighbours", "winner", "__getitem__"):
+        for method in (
+            "from_moves",
+            "playout",
+            "turn",
+            "adopt",
+            "next",
+            "feed",
+            "neighbours",
+            "winner",
+            "__getitem__",
+        ):
             self.assertRegex(text, rf"\|  {method}\b")
 
     def test_what_help_leaves_out_is_there(self):
-        left_out = {Point: "count", Move: "_asdict", Cause: "bit_length", Colour: "__members__", Action: "__eq__"}
+        left_out = {
+            Point: "count",
+            Move: "_asdict",
+            Cause: "bit_length",
+            Colour: "__members__",
+            Action: "__eq__",
+        }
         for kind, inherited in left_out.items():
             self.assertNotIn(inherited, dir(kind))
             self.assertTrue(hasattr(kind, inherited))
-        self.assertTrue({"column", "row", "turned", "count", "_replace", "__add__"} <= set(dir(Point(1, 1))))
+        self.assertTrue(
+            {"column", "row", "turned", "count", "_replace", "__add__"} <= set(dir(Point(1, 1)))
+        )
         self.assertTrue({"BLACK", "WHITE", "other"} <= set(dir(Colour)))
         self.assertEqual(list(inspect.signature(Point).parameters), ["column", "row"])
         self.assertEqual(list(inspect.signature(Game).parameters), ["size", "komi", "rule"])
@@ -85,8 +137,18 @@ class Documentation(unittest.TestCase):
         self.assertEqual((Point._fields, Point(1, 2)._replace(row=5)), (("column", "row"), (1, 5)))
         self.assertIs(type(Point._make([1, 2])), Point)
         self.assertEqual(list(Colour), [1, 2])
-        for value in (Point(3, 4), Move(Colour.BLACK, Point(1, 1)), Chain(1, 2), Cause.KO, vintsaky.RESIGN):
-            for again in (pickle.loads(pickle.dumps(value)), copy.copy(value), copy.deepcopy(value)):
+        for value in (
+            Point(3, 4),
+            Move(Colour.BLACK, Point(1, 1)),
+            Chain(1, 2),
+            Cause.KO,
+            vintsaky.RESIGN,
+        ):
+            for again in (
+                pickle.loads(pickle.dumps(value)),
+                copy.copy(value),
+                copy.deepcopy(value),
+            ):
                 self.assertEqual((again, type(again)), (value, type(value)))
         self.assertIs(pickle.loads(pickle.dumps(vintsaky.PASS)), vintsaky.PASS)
 
@@ -100,8 +162,13 @@ class Documentation(unittest.TestCase):
         lines = text.split("\n")
         self.assertLessEqual(len(lines) - lines.index("import vintsaky"), 12)
         said = b"boardsize 1\n1 genmove b\n2 name\n3 quit\n"
-        done = subprocess.run([sys.executable, "-c", text], input=said, capture_output=True, timeout=20)
-        self.assertEqual((done.returncode, done.stdout, done.stderr), (0, b"=\n\n=1 pass\n\n=2 mine\n\n=3\n\n", b""))
+        done = subprocess.run(
+            [sys.executable, "-c", text], input=said, capture_output=True, timeout=20
+        )
+        self.assertEqual(
+            (done.returncode, done.stdout, done.stderr),
+            (0, b"=\n\n=1 pass\n\n=2 mine\n\n=3\n\n", b""),
+        )
 
     def test_versions(self):
         project = PACKAGE.parent / "pyproject.toml"
@@ -147,7 +214,12 @@ class Objects(unittest.TestCase):
     def test_no_other_object_is_pickled_or_copied(self):
         for kind in self.KINDS[1:]:
             text = f"^a {kind.__name__} can't be copied or pickled: of the library's objects only a Game can$"
-            for call in (pickle.dumps, copy.copy, copy.deepcopy, lambda held: copy.deepcopy([held])):
+            for call in (
+                pickle.dumps,
+                copy.copy,
+                copy.deepcopy,
+                lambda held: copy.deepcopy([held]),
+            ):
                 self.assertRaisesRegex(TypeError, text, call, kind())
 
     def in_thread(self, call):
@@ -177,7 +249,9 @@ class Objects(unittest.TestCase):
         for call in calls:
             problem = self.in_thread(call)
             self.assertIsInstance(problem, RuntimeError)
-            self.assertRegex(str(problem), "^a (Game|Steps|Match|CommandLines|Replies) is used by another thread")
+            self.assertRegex(
+                str(problem), "^a (Game|Steps|Match|CommandLines|Replies) is used by another thread"
+            )
         self.assertEqual((len(game.moves), steps.reply), (0, b""))
 
     def test_a_thread_adopts_a_copy(self):
@@ -229,10 +303,17 @@ class Loading(unittest.TestCase):
     @unittest.skipIf((PACKAGE / _library.FILE).exists(), "the library is in the package")
     def test_what_cannot_be_loaded(self):
         for place, text in (
-            ("/nosuch/library", "its library can't be loaded: /nosuch/library: cannot open shared object file"),
+            (
+                "/nosuch/library",
+                "its library can't be loaded: /nosuch/library: cannot open shared object file",
+            ),
             (__file__, "can't be loaded: .*: (invalid ELF header|file too short)"),
             ("libc.so.6", "libc.so.6 has another interface than 1"),
-            *([] if find_library("vintsaky") else [("", "can't be loaded: libvintsaky.so.1: .*VINTSAKY_LIBRARY")]),
+            *(
+                []
+                if find_library("vintsaky")
+                else [("", "can't be loaded: libvintsaky.so.1: .*VINTSAKY_LIBRARY")]
+            ),
         ):
             status, line = self.loaded(VINTSAKY_LIBRARY=place)
             self.assertEqual(status, 1)
@@ -243,9 +324,13 @@ class Loading(unittest.TestCase):
             self.assertRaises(ValueError, _held.whole, value, "number")
         for value in (1.0, "1", None):
             self.assertRaises(TypeError, _held.whole, value, "number")
-        self.assertEqual([_held.whole(number, "number") for number in (0, 2**32 - 1)], [0, 2**32 - 1])
+        self.assertEqual(
+            [_held.whole(number, "number") for number in (0, 2**32 - 1)], [0, 2**32 - 1]
+        )
         most = 2**32 - 1
-        self.assertEqual([_held.clamped(number) for number in (-1, 0, most, 2**32)], [most, 0, most, most])
+        self.assertEqual(
+            [_held.clamped(number) for number in (-1, 0, most, 2**32)], [most, 0, most, most]
+        )
 
     def test_a_closed_input(self):
         self.assertIsNone(vintsaky.Engine().serve(io.BytesIO(), io.BytesIO()))

@@ -38,7 +38,13 @@ class Colours(Refusing):
 
 class Vertices(Refusing):
     def test_columns_skip_the_letter_i(self):
-        for text, point in (("A1", (1, 1)), ("h8", (8, 8)), ("j9", (9, 9)), ("Q10", (16, 10)), ("Z25", (25, 25))):
+        for text, point in (
+            ("A1", (1, 1)),
+            ("h8", (8, 8)),
+            ("j9", (9, 9)),
+            ("Q10", (16, 10)),
+            ("Z25", (25, 25)),
+        ):
             self.assertEqual(vintsaky.read_vertex(text), Point(*point))
             self.assertEqual(str(Point(*point)), text.upper())
 
@@ -70,7 +76,18 @@ class Vertices(Refusing):
             self.refused(Cause.BAD_VERTEX, vintsaky.vertex_text, point)
 
     def test_wrong_types(self):
-        for vertex in (None, 257, 4.0, (1.0, 1), (1, "1"), Point(1.0, 1), (1,), (1, 1, 1), [1, 1], {}):
+        for vertex in (
+            None,
+            257,
+            4.0,
+            (1.0, 1),
+            (1, "1"),
+            Point(1.0, 1),
+            (1,),
+            (1, 1, 1),
+            [1, 1],
+            {},
+        ):
             self.assertRaises(TypeError, vintsaky.vertex_text, vertex)
         for read in (vintsaky.read_vertex, vintsaky.read_colour, vintsaky.read_komi):
             for text in (None, 1, bytearray(b"b"), ["b"]):
@@ -82,7 +99,12 @@ class Vertices(Refusing):
                 self.refused(Cause.BAD_TEXT, read, text)
 
     def test_neighbours(self):
-        wanted = {(1, 1): ["B1", "A2"], (2, 2): ["B1", "A2", "C2", "B3"], (3, 3): ["C2", "B3"], (3, 1): ["B1", "C2"]}
+        wanted = {
+            (1, 1): ["B1", "A2"],
+            (2, 2): ["B1", "A2", "C2", "B3"],
+            (3, 3): ["C2", "B3"],
+            (3, 1): ["B1", "C2"],
+        }
         for point, texts in wanted.items():
             self.assertEqual([str(near) for near in Point(*point).neighbours(3)], texts)
         self.assertEqual(Point(1, 1).neighbours(1), [])
@@ -97,7 +119,19 @@ class Komis(Refusing):
             self.assertEqual(vintsaky.read_komi(text), komi)
 
     def test_refuses_what_spells_none(self):
-        for text in ("", ".", "-", "+.", "6.05", "6.55", "6.7", "1e1", "1000000000", "0000000006.5", "nan"):
+        for text in (
+            "",
+            ".",
+            "-",
+            "+.",
+            "6.05",
+            "6.55",
+            "6.7",
+            "1e1",
+            "1000000000",
+            "0000000006.5",
+            "nan",
+        ):
             self.refused(Cause.BAD_TEXT, vintsaky.read_komi, text)
 
     def test_writes_one_spelling(self):

@@ -5,7 +5,20 @@ import random
 from typing import List, Tuple, Union
 
 import vintsaky
-from vintsaky import BLACK, PASS, RESIGN, AnyChoice, AnyVertex, Colour, Engine, Game, Move, NoPoint, Point, Vertex
+from vintsaky import (
+    BLACK,
+    PASS,
+    RESIGN,
+    AnyChoice,
+    AnyVertex,
+    Colour,
+    Engine,
+    Game,
+    Move,
+    NoPoint,
+    Point,
+    Vertex,
+)
 
 
 def replayed(game: Game) -> Tuple[Game, List[int]]:
@@ -36,7 +49,9 @@ class MyEngine(Engine):
         vertex = game.random_move(colour, random.getrandbits(64))
         if vertex is PASS:
             return RESIGN
-        index: int = vintsaky.symmetry_map(game.size, vintsaky.inverse_symmetry(1))[game.index(vertex)]
+        index: int = vintsaky.symmetry_map(game.size, vintsaky.inverse_symmetry(1))[
+            game.index(vertex)
+        ]
         return game.point(index).turned(game.size, 1)
 
 
@@ -53,8 +68,17 @@ class Other(Engine):
 
 def copies(mine: Mine, vertex: AnyVertex) -> List[Mine]:
     """Copies of a game of a subclass, which are of the subclass."""
-    made = [mine.copy(), copy.copy(mine), copy.deepcopy(mine), Mine.from_moves(mine.moves, mine.size)]
-    made.append(Mine.from_moves([("b", vertex), (BLACK, (1, 1)), (1, PASS), (vintsaky.WHITE, "pass")], komi=6.5))
+    made = [
+        mine.copy(),
+        copy.copy(mine),
+        copy.deepcopy(mine),
+        Mine.from_moves(mine.moves, mine.size),
+    ]
+    made.append(
+        Mine.from_moves(
+            [("b", vertex), (BLACK, (1, 1)), (1, PASS), (vintsaky.WHITE, "pass")], komi=6.5
+        )
+    )
     turn: Colour = made[-1].turn
     same: bool = mine == pickle.loads(pickle.dumps(mine))
     read: Vertex = vintsaky.read_vertex("D4")

@@ -41,11 +41,42 @@ from ._refused import Refused
 from .batches import Games
 from .engines import Engine, Event, Failure, Steps, command
 from .games import Chain, Game
-from .lines import Command, CommandLine, CommandLines, Replies, Reply, ReplyEvent, write_command, write_reply
+from .lines import (
+    Command,
+    CommandLine,
+    CommandLines,
+    Replies,
+    Reply,
+    ReplyEvent,
+    write_command,
+    write_reply,
+)
 from .matches import Action, Match, Next, Owed, Report, Status, Verdict
 from .moves import Move, Moves
-from .values import BLACK, PASS, RESIGN, WHITE, AnyChoice, AnyColour, AnyVertex, Colour, Komi, KoRule, NoPoint, Point
-from .values import Vertex, inverse_symmetry, komi_text, read_colour, read_komi, read_vertex, symmetry_map, vertex_text
+from .values import (
+    BLACK,
+    PASS,
+    RESIGN,
+    WHITE,
+    AnyChoice,
+    AnyColour,
+    AnyVertex,
+    Colour,
+    Komi,
+    KoRule,
+    NoPoint,
+    Point,
+)
+from .values import (
+    Vertex,
+    inverse_symmetry,
+    komi_text,
+    read_colour,
+    read_komi,
+    read_vertex,
+    symmetry_map,
+    vertex_text,
+)
 
 __version__ = "1.0.0"
 

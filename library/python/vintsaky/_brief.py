@@ -6,7 +6,12 @@ from enum import EnumMeta
 from types import FunctionType
 from typing import List
 
-STANDARD = ("builtins", "collections.abc", "enum", "typing")  # modules of the classes whose attributes aren't listed
+STANDARD = (
+    "builtins",
+    "collections.abc",
+    "enum",
+    "typing",
+)  # modules of the classes whose attributes aren't listed
 
 
 def listed(kind: type) -> List[str]:
@@ -39,7 +44,8 @@ class BriefEnum(EnumMeta):
 
 class BriefABC(ABCMeta):
     """The type of a class that lists only its own names, and may have an abstract base class. It still has all that it
-    inherits. A NamedTuple can't name it as its type, so a class that inherits from the NamedTuple does."""
+    inherits. A NamedTuple can't name it as its type, so a class that inherits from the NamedTuple does.
+    """
 
     def __dir__(cls) -> List[str]:
         return listed(cls)

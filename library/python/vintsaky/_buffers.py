@@ -5,10 +5,23 @@ import ctypes
 import math
 from typing import Any, Dict, NamedTuple, Optional, Tuple
 
-BYTE, FLAG, FLOAT = "B", "?", "f"  # formats of items: a byte, a byte that is 0 or 1, and a float of 32 bits
+BYTE, FLAG, FLOAT = (
+    "B",
+    "?",
+    "f",
+)  # formats of items: a byte, a byte that is 0 or 1, and a float of 32 bits
 ANY = (FLOAT, BYTE, FLAG)
 # numpy's names for formats
-NAMES = {"B": "uint8", "?": "bool", "f": "float32", "d": "float64", "e": "float16", "b": "int8", "i": "int32", "l": "int64"}
+NAMES = {
+    "B": "uint8",
+    "?": "bool",
+    "f": "float32",
+    "d": "float64",
+    "e": "float16",
+    "b": "int8",
+    "i": "int32",
+    "l": "int64",
+}
 
 
 class Room(NamedTuple):
@@ -32,7 +45,9 @@ def room_of(given: Any, what: str, shape: Tuple[int, ...], formats: Tuple[str, .
     try:
         view = memoryview(given)
     except TypeError:
-        raise TypeError(f"{what}: {type(given).__name__} has no buffer; use a bytearray, an array or numpy's") from None
+        raise TypeError(
+            f"{what}: {type(given).__name__} has no buffer; use a bytearray, an array or numpy's"
+        ) from None
     except (ValueError, BufferError) as problem:
         raise ValueError(f"{what}: its buffer can't be had: {problem}") from None
     form = view.format.lstrip("@=<") if view.itemsize in (1, 4) else view.format
@@ -42,10 +57,14 @@ def room_of(given: Any, what: str, shape: Tuple[int, ...], formats: Tuple[str, .
     if view.readonly:
         raise ValueError(f"{what}: it can only be read; a buffer is wanted that can be written")
     if not view.c_contiguous:
-        raise ValueError(f"{what}: its items aren't in C order, one after the other; use a copy that is")
+        raise ValueError(
+            f"{what}: its items aren't in C order, one after the other; use a copy that is"
+        )
     count = math.prod(shape)
     if view.shape not in ((count,), shape, (shape[0], count // shape[0])):
-        raise ValueError(f"{what}: its shape is {view.shape}, and not {shape}, or flat with {count} items")
+        raise ValueError(
+            f"{what}: its shape is {view.shape}, and not {shape}, or flat with {count} items"
+        )
     kind: Any = ctypes.c_float if form == "f" else ctypes.c_uint8
     items = (kind * count).from_buffer(view)
     start = ctypes.addressof(items)
@@ -54,7 +73,11 @@ def room_of(given: Any, what: str, shape: Tuple[int, ...], formats: Tuple[str, .
 
 def apart(rooms: Dict[str, Optional[Room]]) -> None:
     """Checks that no two buffers overlap. Errors: ValueError if two have bytes in common."""
-    places = sorted((room.start, room.end, what) for what, room in rooms.items() if room and room.end > room.start)
+    places = sorted(
+        (room.start, room.end, what)
+        for what, room in rooms.items()
+        if room and room.end > room.start
+    )
     for (_, end, one), (start, _, other) in zip(places, places[1:]):
         if start < end:
             raise ValueError(f"{one} and {other}: these buffers have bytes in common")

@@ -3,7 +3,19 @@
 library/declare writes this module. Names are those of vintsaky.h without the prefix; only calls keep their whole
 names."""
 import ctypes
-from ctypes import POINTER, c_bool, c_char, c_char_p, c_float, c_int32, c_size_t, c_uint8, c_uint32, c_uint64, c_void_p
+from ctypes import (
+    POINTER,
+    c_bool,
+    c_char,
+    c_char_p,
+    c_float,
+    c_int32,
+    c_size_t,
+    c_uint8,
+    c_uint32,
+    c_uint64,
+    c_void_p,
+)
 from typing import Any, Dict, Tuple
 
 INTERFACE = 1
@@ -110,10 +122,19 @@ CALLS: Dict[str, Tuple[Any, Tuple[Any, ...]]] = {
         c_uint32,
         (POINTER(GameHandle), c_uint32, POINTER(c_uint32), c_size_t, POINTER(c_size_t)),
     ),
-    "vintsaky_game_taken_by_last_move": (c_size_t, (POINTER(GameHandle), POINTER(c_uint32), c_size_t)),
+    "vintsaky_game_taken_by_last_move": (
+        c_size_t,
+        (POINTER(GameHandle), POINTER(c_uint32), c_size_t),
+    ),
     "vintsaky_game_stone_at": (c_uint32, (POINTER(GameHandle), c_uint32, POINTER(c_uint32))),
-    "vintsaky_game_chain": (c_uint32, (POINTER(GameHandle), c_uint32, POINTER(c_uint32), POINTER(c_uint32))),
-    "vintsaky_game_made": (c_uint32, (POINTER(GameHandle), c_size_t, POINTER(c_uint32), POINTER(c_uint32))),
+    "vintsaky_game_chain": (
+        c_uint32,
+        (POINTER(GameHandle), c_uint32, POINTER(c_uint32), POINTER(c_uint32)),
+    ),
+    "vintsaky_game_made": (
+        c_uint32,
+        (POINTER(GameHandle), c_size_t, POINTER(c_uint32), POINTER(c_uint32)),
+    ),
     "vintsaky_game_captured": (c_uint32, (POINTER(GameHandle), c_uint32, POINTER(c_uint32))),
     "vintsaky_game_rule": (c_uint32, (POINTER(GameHandle),)),
     "vintsaky_game_board_text": (c_size_t, (POINTER(GameHandle), POINTER(c_char), c_size_t)),
@@ -124,7 +145,10 @@ CALLS: Dict[str, Tuple[Any, Tuple[Any, ...]]] = {
         c_uint32,
         (POINTER(GameHandle), c_uint32, POINTER(c_uint8), c_size_t, POINTER(c_size_t)),
     ),
-    "vintsaky_game_is_own_eye": (c_uint32, (POINTER(GameHandle), c_uint32, c_uint32, POINTER(c_uint32))),
+    "vintsaky_game_is_own_eye": (
+        c_uint32,
+        (POINTER(GameHandle), c_uint32, c_uint32, POINTER(c_uint32)),
+    ),
     "vintsaky_game_chain_points": (
         c_uint32,
         (POINTER(GameHandle), c_uint32, POINTER(c_uint32), c_size_t, POINTER(c_size_t)),
@@ -134,32 +158,66 @@ CALLS: Dict[str, Tuple[Any, Tuple[Any, ...]]] = {
         (POINTER(GameHandle), c_uint32, POINTER(c_uint32), c_size_t, POINTER(c_size_t)),
     ),
     "vintsaky_game_ko_point": (c_uint32, (POINTER(GameHandle), c_uint32, POINTER(c_uint32))),
-    "vintsaky_game_random_move": (c_uint32, (POINTER(GameHandle), c_uint32, c_uint64, POINTER(c_uint32))),
+    "vintsaky_game_random_move": (
+        c_uint32,
+        (POINTER(GameHandle), c_uint32, c_uint64, POINTER(c_uint32)),
+    ),
     "vintsaky_game_position_hash": (c_uint32, (POINTER(GameHandle), c_uint32, POINTER(c_uint64))),
     "vintsaky_game_playout": (c_uint32, (POINTER(GameHandle), c_uint32, c_uint64, c_uint32)),
-    "vintsaky_game_rollout": (c_uint32, (POINTER(GameHandle), c_uint32, c_uint64, c_uint32, POINTER(c_int32))),
+    "vintsaky_game_rollout": (
+        c_uint32,
+        (POINTER(GameHandle), c_uint32, c_uint64, c_uint32, POINTER(c_int32)),
+    ),
     "vintsaky_games_play": (
         c_uint32,
         (POINTER(GameHandle), c_size_t, POINTER(c_uint32), c_size_t, POINTER(c_uint8), c_size_t),
     ),
     "vintsaky_games_restart": (
         c_uint32,
-        (POINTER(GameHandle), c_size_t, c_uint32, POINTER(c_uint8), c_size_t, POINTER(c_int32), c_size_t),
+        (
+            POINTER(GameHandle),
+            c_size_t,
+            c_uint32,
+            POINTER(c_uint8),
+            c_size_t,
+            POINTER(c_int32),
+            c_size_t,
+        ),
     ),
-    "vintsaky_games_planes": (c_uint32, (POINTER(GameHandle), c_size_t, c_uint32, POINTER(c_uint8), c_size_t)),
-    "vintsaky_games_planes_f32": (c_uint32, (POINTER(GameHandle), c_size_t, c_uint32, POINTER(c_float), c_size_t)),
+    "vintsaky_games_planes": (
+        c_uint32,
+        (POINTER(GameHandle), c_size_t, c_uint32, POINTER(c_uint8), c_size_t),
+    ),
+    "vintsaky_games_planes_f32": (
+        c_uint32,
+        (POINTER(GameHandle), c_size_t, c_uint32, POINTER(c_float), c_size_t),
+    ),
     "vintsaky_games_masks": (c_uint32, (POINTER(GameHandle), c_size_t, POINTER(c_uint8), c_size_t)),
-    "vintsaky_games_masks_f32": (c_uint32, (POINTER(GameHandle), c_size_t, POINTER(c_float), c_size_t)),
+    "vintsaky_games_masks_f32": (
+        c_uint32,
+        (POINTER(GameHandle), c_size_t, POINTER(c_float), c_size_t),
+    ),
     "vintsaky_games_rollouts": (
         c_uint32,
-        (POINTER(GameHandle), c_size_t, POINTER(c_uint64), c_size_t, c_uint32, POINTER(c_int32), c_size_t),
+        (
+            POINTER(GameHandle),
+            c_size_t,
+            POINTER(c_uint64),
+            c_size_t,
+            c_uint32,
+            POINTER(c_int32),
+            c_size_t,
+        ),
     ),
     "vintsaky_engine_place": (None, (POINTER(EngineHandle), c_void_p)),
     "vintsaky_engine_bytes": (c_size_t, ()),
     "vintsaky_engine_align": (c_size_t, ()),
     "vintsaky_engine_ended": (c_bool, (POINTER(EngineHandle),)),
     "vintsaky_engine_begin": (c_uint32, (POINTER(EngineHandle), c_uint32)),
-    "vintsaky_engine_feed": (c_uint32, (POINTER(EngineHandle), c_void_p, c_size_t, POINTER(c_size_t))),
+    "vintsaky_engine_feed": (
+        c_uint32,
+        (POINTER(EngineHandle), c_void_p, c_size_t, POINTER(c_size_t)),
+    ),
     "vintsaky_engine_wait": (c_uint32, (POINTER(EngineHandle),)),
     "vintsaky_engine_choose": (c_uint32, (POINTER(EngineHandle), c_uint32)),
     "vintsaky_engine_answer": (c_uint32, (POINTER(EngineHandle), c_uint32, c_char_p, c_size_t)),
@@ -169,16 +227,28 @@ CALLS: Dict[str, Tuple[Any, Tuple[Any, ...]]] = {
     "vintsaky_engine_add_command": (c_uint32, (POINTER(EngineHandle), c_char_p, c_size_t)),
     "vintsaky_engine_copy_game": (None, (POINTER(EngineHandle), POINTER(GameHandle))),
     "vintsaky_engine_reply": (c_size_t, (POINTER(EngineHandle), POINTER(c_char), c_size_t)),
-    "vintsaky_engine_word": (c_uint32, (POINTER(EngineHandle), c_size_t, POINTER(c_char), c_size_t, POINTER(c_size_t))),
+    "vintsaky_engine_word": (
+        c_uint32,
+        (POINTER(EngineHandle), c_size_t, POINTER(c_char), c_size_t, POINTER(c_size_t)),
+    ),
     "vintsaky_engine_id": (c_uint32, (POINTER(EngineHandle), POINTER(c_uint32))),
     "vintsaky_match_place": (None, (POINTER(MatchHandle), c_void_p)),
     "vintsaky_match_bytes": (c_size_t, ()),
     "vintsaky_match_align": (c_size_t, ()),
-    "vintsaky_match_begin": (c_uint32, (POINTER(MatchHandle), c_uint32, c_int32, c_uint32, c_uint32, c_uint32)),
+    "vintsaky_match_begin": (
+        c_uint32,
+        (POINTER(MatchHandle), c_uint32, c_int32, c_uint32, c_uint32, c_uint32),
+    ),
     "vintsaky_match_next": (c_uint32, (POINTER(MatchHandle), POINTER(c_uint32))),
     "vintsaky_match_started": (c_uint32, (POINTER(MatchHandle), c_uint32)),
-    "vintsaky_match_send": (c_uint32, (POINTER(MatchHandle), c_uint32, POINTER(c_char), c_size_t, POINTER(c_size_t))),
-    "vintsaky_match_hear": (c_uint32, (POINTER(MatchHandle), c_uint32, c_void_p, c_size_t, POINTER(c_uint32))),
+    "vintsaky_match_send": (
+        c_uint32,
+        (POINTER(MatchHandle), c_uint32, POINTER(c_char), c_size_t, POINTER(c_size_t)),
+    ),
+    "vintsaky_match_hear": (
+        c_uint32,
+        (POINTER(MatchHandle), c_uint32, c_void_p, c_size_t, POINTER(c_uint32)),
+    ),
     "vintsaky_match_hear_reporting": (
         c_uint32,
         (
@@ -225,20 +295,32 @@ CALLS: Dict[str, Tuple[Any, Tuple[Any, ...]]] = {
         (POINTER(MatchHandle), POINTER(c_uint32), POINTER(c_uint32), POINTER(c_int32)),
     ),
     "vintsaky_match_copy_game": (None, (POINTER(MatchHandle), POINTER(GameHandle))),
-    "vintsaky_match_result": (c_uint32, (POINTER(MatchHandle), c_uint32, POINTER(c_char), c_size_t, POINTER(c_size_t))),
+    "vintsaky_match_result": (
+        c_uint32,
+        (POINTER(MatchHandle), c_uint32, POINTER(c_char), c_size_t, POINTER(c_size_t)),
+    ),
     "vintsaky_match_record": (c_size_t, (POINTER(MatchHandle), POINTER(c_char), c_size_t)),
     "vintsaky_match_adjudicate": (c_uint32, (POINTER(MatchHandle), c_uint32, c_char_p, c_size_t)),
     "vintsaky_match_reason": (c_size_t, (POINTER(MatchHandle), POINTER(c_char), c_size_t)),
     "vintsaky_lines_place": (None, (POINTER(LinesHandle), c_void_p)),
     "vintsaky_lines_bytes": (c_size_t, ()),
     "vintsaky_lines_align": (c_size_t, ()),
-    "vintsaky_lines_feed": (c_uint32, (POINTER(LinesHandle), c_void_p, c_size_t, POINTER(c_size_t))),
+    "vintsaky_lines_feed": (
+        c_uint32,
+        (POINTER(LinesHandle), c_void_p, c_size_t, POINTER(c_size_t)),
+    ),
     "vintsaky_lines_id": (c_uint32, (POINTER(LinesHandle), POINTER(c_uint32))),
-    "vintsaky_lines_word": (c_uint32, (POINTER(LinesHandle), c_size_t, POINTER(c_char), c_size_t, POINTER(c_size_t))),
+    "vintsaky_lines_word": (
+        c_uint32,
+        (POINTER(LinesHandle), c_size_t, POINTER(c_char), c_size_t, POINTER(c_size_t)),
+    ),
     "vintsaky_replies_place": (None, (POINTER(RepliesHandle), c_void_p)),
     "vintsaky_replies_bytes": (c_size_t, ()),
     "vintsaky_replies_align": (c_size_t, ()),
-    "vintsaky_replies_feed": (c_uint32, (POINTER(RepliesHandle), c_void_p, c_size_t, POINTER(c_size_t))),
+    "vintsaky_replies_feed": (
+        c_uint32,
+        (POINTER(RepliesHandle), c_void_p, c_size_t, POINTER(c_size_t)),
+    ),
     "vintsaky_replies_ok": (c_bool, (POINTER(RepliesHandle),)),
     "vintsaky_replies_id": (c_uint32, (POINTER(RepliesHandle), POINTER(c_uint32))),
     "vintsaky_replies_text": (c_size_t, (POINTER(RepliesHandle), POINTER(c_char), c_size_t)),

@@ -39,7 +39,9 @@ class Held(metaclass=BriefABC):
         if get_ident() != self._thread:
             if self._thread is not None:
                 name = type(self).__name__
-                raise RuntimeError(f"a {name} is used by another thread than its own: adopt() takes it over")
+                raise RuntimeError(
+                    f"a {name} is used by another thread than its own: adopt() takes it over"
+                )
             self.adopt()
         return self._place
 
@@ -59,7 +61,9 @@ class Held(metaclass=BriefABC):
         self._thread = None
 
     def __reduce_ex__(self, protocol: Any) -> NoReturn:
-        raise TypeError(f"a {type(self).__name__} can't be copied or pickled: of the library's objects only a Game can")
+        raise TypeError(
+            f"a {type(self).__name__} can't be copied or pickled: of the library's objects only a Game can"
+        )
 
 
 def integer(value: Any, what: str, wanted: str) -> int:
@@ -70,7 +74,9 @@ def integer(value: Any, what: str, wanted: str) -> int:
         raise TypeError(f"{what}: {shown(value)} is {wanted}") from None
 
 
-def whole(value: int, what: str, least: int = 0, most: int = 2**32 - 1, cause: Optional[Cause] = None) -> int:
+def whole(
+    value: int, what: str, least: int = 0, most: int = 2**32 - 1, cause: Optional[Cause] = None
+) -> int:
     """A number from the least to the most. Errors: TypeError if it is no int, and ValueError if it is out of range:
     Refused if an error is given for that."""
     number = integer(value, what, f"no int; use one from {least} to {most}")

@@ -25,7 +25,9 @@ def _load(place: str, kind: Any) -> Any:
     try:
         loaded = kind(place)
     except OSError as problem:
-        hint = "" if os.sep in place else f" (install it, or name its file by the variable {VARIABLE})"
+        hint = (
+            "" if os.sep in place else f" (install it, or name its file by the variable {VARIABLE})"
+        )
         raise ImportError(f"vintsaky: its library can't be loaded: {problem}{hint}") from None
     if not hasattr(loaded, f"vintsaky_interface_{INTERFACE}"):
         raise ImportError(f"vintsaky: {place} has another interface than {INTERFACE}")
@@ -39,7 +41,9 @@ def _load(place: str, kind: Any) -> Any:
 
 
 library: Any = _load(_place(), ctypes.PyDLL)
-unlocked: Any = _load(_place(), ctypes.CDLL)  # lets other threads run: only calls over many games are made so
+unlocked: Any = _load(
+    _place(), ctypes.CDLL
+)  # lets other threads run: only calls over many games are made so
 
 
 def untyped(call: Any) -> Any:

@@ -30,7 +30,9 @@ def shown(value: Any) -> str:
     if isinstance(value, Enum):
         return value.name
     try:
-        text = f"{type(value).__name__}{tuple(value)!r}" if hasattr(value, "_fields") else repr(value)
+        text = (
+            f"{type(value).__name__}{tuple(value)!r}" if hasattr(value, "_fields") else repr(value)
+        )
     except Exception:  # one of the author's, or that of a number with too many digits
         return f"a {type(value).__name__}"
     text = text.replace("\n", " ")

@@ -44,7 +44,18 @@ class Games(metaclass=BriefABC):
     [0, 0, 0, 0, 1, 0, 0, 0, 0]
     """
 
-    __slots__ = ("_size", "_limit", "_points", "_thread", "_lock", "_handles", "_memory", "_causes", "_over", "_scores")
+    __slots__ = (
+        "_size",
+        "_limit",
+        "_points",
+        "_thread",
+        "_lock",
+        "_handles",
+        "_memory",
+        "_causes",
+        "_over",
+        "_scores",
+    )
 
     def __init__(
         self,
@@ -89,7 +100,9 @@ class Games(metaclass=BriefABC):
             raise RuntimeError(BUSY)
         try:
             if get_ident() != self._thread:
-                raise RuntimeError("these Games are used by another thread than their own: adopt() takes them over")
+                raise RuntimeError(
+                    "these Games are used by another thread than their own: adopt() takes them over"
+                )
             yield self._handles, len(self._handles)
         finally:
             self._lock.release()
@@ -141,17 +154,25 @@ class Games(metaclass=BriefABC):
         - `planes` and `masks`, of the games as they are afterwards, as `planes_into` and `masks_into` write them.
 
         Errors: TypeError and ValueError for wrong moves and buffers. Then no move is made."""
-        each, earlier, numbers = (len(self._handles),), whole(earlier, "earlier", 0, MOST_MOVES), self._numbers(moves)
+        each, earlier, numbers = (
+            (len(self._handles),),
+            whole(earlier, "earlier", 0, MOST_MOVES),
+            self._numbers(moves),
+        )
         rooms = {
             "causes": None if causes is None else room_of(causes, "causes", each, (BYTE,)),
             "over": None if over is None else room_of(over, "over", each, (BYTE,)),
             "scores": None if scores is None else room_of(scores, "scores", each, (FLOAT,)),
-            "planes": None if planes is None else room_of(planes, "planes", self._plane_shape(earlier)),
+            "planes": None
+            if planes is None
+            else room_of(planes, "planes", self._plane_shape(earlier)),
             "masks": None if masks is None else room_of(masks, "masks", self._mask_shape()),
         }
         apart(rooms)
         if planes is None and earlier:
-            raise ValueError(f"earlier: {earlier} boards are asked for, and no planes to write them into")
+            raise ValueError(
+                f"earlier: {earlier} boards are asked for, and no planes to write them into"
+            )
         with self._held() as (handles, _):
             refused = self._play(handles, numbers, rooms["causes"])
             self._restart(handles, rooms["over"], rooms["scores"])
@@ -184,26 +205,35 @@ class Games(metaclass=BriefABC):
         try:
             given = list(seeds)
         except TypeError:
-            raise TypeError(f"seeds: {shown(seeds)} is no list; use one with a number for each game") from None
+            raise TypeError(
+                f"seeds: {shown(seeds)} is no list; use one with a number for each game"
+            ) from None
         numbers = [whole(seed, "seeds", 0, 2**64 - 1) for seed in given]
         if len(numbers) != len(self._handles):
-            raise ValueError(f"seeds: there are {len(numbers)}, and not {len(self._handles)}, one a game")
+            raise ValueError(
+                f"seeds: there are {len(numbers)}, and not {len(self._handles)}, one a game"
+            )
         halves = (ctypes.c_int32 * len(numbers))()
         with self._held() as (handles, count):
             words = (ctypes.c_uint64 * count)(*numbers)
-            done(unlocked.vintsaky_games_rollouts(handles, count, words, count, most, halves, count))
+            done(
+                unlocked.vintsaky_games_rollouts(handles, count, words, count, most, halves, count)
+            )
         return [half / 2 for half in halves]
 
     def game(self, number: int) -> Game:
         """Returns a copy of the game with this number, counted from 0, or from the end if it is negative."""
         copied = Game()
         with self._held() as (handles, _):
-            library.vintsaky_game_copy(copied._held(), ctypes.byref(handles[self._place_of(number)]))
+            library.vintsaky_game_copy(
+                copied._held(), ctypes.byref(handles[self._place_of(number)])
+            )
         return copied
 
     def put(self, number: int, game: Game) -> None:
         """Makes the game with this number a copy of another one: of a new one if a side resigned, say. When it begins
-        again, it keeps komi, ko rule and handicap. Errors: ValueError if the other one has another size, or is over."""
+        again, it keeps komi, ko rule and handicap. Errors: ValueError if the other one has another size, or is over.
+        """
         if not isinstance(game, Game):
             raise TypeError(f"game: {shown(game)} is no Game")
         if game.size != self._size:
@@ -241,11 +271,15 @@ class Games(metaclass=BriefABC):
         try:
             given = list(map(operator.index, moves.tolist() if hasattr(moves, "tolist") else moves))
         except TypeError:
-            raise TypeError(f"moves: {shown(moves)} is no list of whole numbers, or array of one dimension") from None
+            raise TypeError(
+                f"moves: {shown(moves)} is no list of whole numbers, or array of one dimension"
+            ) from None
         is_inside = not given or 0 <= min(given) and max(given) <= MOST_NUMBER
         numbers = array("I", given if is_inside else map(clamped, given))
         if len(numbers) != len(self._handles):
-            raise ValueError(f"moves: there are {len(numbers)}, and not {len(self._handles)}, one a game")
+            raise ValueError(
+                f"moves: there are {len(numbers)}, and not {len(self._handles)}, one a game"
+            )
         return (ctypes.c_uint32 * len(numbers)).from_buffer(numbers)
 
     def _play(self, handles: Any, numbers: Any, causes: Optional[Room]) -> int:
@@ -257,13 +291,19 @@ class Games(metaclass=BriefABC):
     def _restart(self, handles: Any, over: Optional[Room], scores: Optional[Room]) -> None:
         """Begins the games again that are over."""
         count, ways = len(handles), over.items if over else self._over
-        done(unlocked.vintsaky_games_restart(handles, count, self._limit, ways, count, self._scores, count))
+        done(
+            unlocked.vintsaky_games_restart(
+                handles, count, self._limit, ways, count, self._scores, count
+            )
+        )
         if scores:
             scores.items[:] = [half / 2 for half in self._scores]
 
     def _write_planes(self, handles: Any, room: Room, earlier: int) -> None:
         """Writes the planes of all games."""
-        call = unlocked.vintsaky_games_planes_f32 if room.is_float else unlocked.vintsaky_games_planes
+        call = (
+            unlocked.vintsaky_games_planes_f32 if room.is_float else unlocked.vintsaky_games_planes
+        )
         done(call(handles, len(handles), earlier, room.items, len(room.items)))
 
     def _write_masks(self, handles: Any, room: Room) -> None:
@@ -275,4 +315,6 @@ class Games(metaclass=BriefABC):
         return f"<vintsaky.Games: {len(self)} of size {self._size}>"
 
     def __reduce_ex__(self, protocol: Any) -> NoReturn:
-        raise TypeError("Games can't be copied or pickled: `game` returns a copy of one of them, which can")
+        raise TypeError(
+            "Games can't be copied or pickled: `game` returns a copy of one of them, which can"
+        )

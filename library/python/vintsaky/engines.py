@@ -29,7 +29,9 @@ class Event(IntEnum, metaclass=BriefEnum):
     MORE = _declared.MORE  # All bytes were used: read more.
     BLACK = _declared.BLACK  # Black's move is waited for: call `choose`.
     WHITE = _declared.WHITE  # White's move is waited for: call `choose`.
-    OTHER = _declared.OTHER  # A command that isn't in the protocol's table: see `line`; call `answer` or `decline`.
+    OTHER = (
+        _declared.OTHER
+    )  # A command that isn't in the protocol's table: see `line`; call `answer` or `decline`.
     REPLY = _declared.REPLY  # A line was answered, also a quit: write `reply`.
     ENDED = _declared.ENDED  # A quit was answered before: stop.
 
@@ -91,7 +93,9 @@ class Steps(Held):
         place, number = self._held(), ctypes.c_uint32()
         if self.wait is Event.MORE:
             return None
-        number_or_none = or_none(library.vintsaky_engine_id(place, ctypes.byref(number)), Cause.NO_ID, number)
+        number_or_none = or_none(
+            library.vintsaky_engine_id(place, ctypes.byref(number)), Cause.NO_ID, number
+        )
         return CommandLine(number_or_none, words_of(library.vintsaky_engine_word, place))
 
     @property
@@ -103,7 +107,8 @@ class Steps(Held):
 
     def choose(self, choice: AnyChoice) -> None:
         """Supplies the choice that the engine waits for: a vertex, RESIGN, or the text of either. Errors: BAD_VERTEX,
-        NOT_ASKED, OFF_BOARD, OCCUPIED, SUICIDE or KO; then the engine still waits for the choice."""
+        NOT_ASKED, OFF_BOARD, OCCUPIED, SUICIDE or KO; then the engine still waits for the choice.
+        """
         number = choice_number(choice)
         cause = library.vintsaky_engine_choose(self._held(), number)
         if cause:
@@ -115,7 +120,9 @@ class Steps(Held):
         data = ascii_of(text, "text")
         cause = library.vintsaky_engine_answer(self._held(), int(bool(ok)), data, len(data))
         if cause:
-            raise bad_reply(text) if cause == Cause.BAD_TEXT else Refused(Cause(cause), f"answer {shown(text)}")
+            raise bad_reply(text) if cause == Cause.BAD_TEXT else Refused(
+                Cause(cause), f"answer {shown(text)}"
+            )
 
     def decline(self) -> None:
         """Answers a command that isn't in the protocol's table by `unknown command`. Errors: NOT_ASKED."""
@@ -136,7 +143,10 @@ class Steps(Held):
     def add_command(self, name: Union[str, bytes]) -> None:
         """Adds a custom command. Errors: BAD_LENGTH, BAD_BYTE, ONLY_DIGITS, IN_TABLE, ADDED_BEFORE or TOO_MANY."""
         data = ascii_of(name, "name")
-        done(library.vintsaky_engine_add_command(self._held(), data, len(data)), f"add_command {shown(name)}")
+        done(
+            library.vintsaky_engine_add_command(self._held(), data, len(data)),
+            f"add_command {shown(name)}",
+        )
 
 
 class Failure(Exception, metaclass=Brief):
@@ -155,7 +165,7 @@ def command(name: str) -> Callable[[Method], Method]:
 
     Errors: TypeError if the name is no str, as after `@command` without a name."""
     if not isinstance(name, str):
-        raise TypeError(f"name: {shown(name)} is no str; a command has a name, as @command(\"NAME\")")
+        raise TypeError(f'name: {shown(name)} is no str; a command has a name, as @command("NAME")')
 
     def marked(method: Method) -> Method:
         setattr(method, "gtp_command", name)
@@ -194,7 +204,8 @@ class Engine(metaclass=BriefABC):
         """Returns what the engine plays: a legal Point, PASS or RESIGN, or the text of one. The game is a copy, on
         which the method may play as it likes. When its record has 2,000 moves, `play` raises Refused with FULL.
 
-        An exception that it raises, or that its choice causes, comes out of `serve`, and the genmove has no reply."""
+        An exception that it raises, or that its choice causes, comes out of `serve`, and the genmove has no reply.
+        """
         raise NotImplementedError(f"{type(self).__name__} has no method choose(self, game, colour)")
 
     @property
@@ -318,7 +329,9 @@ def standard_streams() -> Iterator[Tuple[Any, Any]]:
     """Standard input and output as files of their own. While they are open, standard output is standard error, and
     standard input is empty. What `print` had written and not flushed goes to standard error too."""
     with contextlib.ExitStack() as stack:
-        source, sink = (stack.enter_context(own_stream(number, mode)) for number, mode in ((0, "rb"), (1, "wb")))
+        source, sink = (
+            stack.enter_context(own_stream(number, mode)) for number, mode in ((0, "rb"), (1, "wb"))
+        )
         stack.callback(os.dup2, source.fileno(), 0)
         stack.callback(os.dup2, sink.fileno(), 1)
         stack.callback(flush_standard_output, sys.stdout)

@@ -16,8 +16,26 @@ from ._library import library, text_of
 from ._numbers import Cause
 from ._refused import Refused, done, shown
 from .moves import Moves, moves_by_text, text_of_move
-from .values import POINTS, VERTICES, AnyColour, AnyVertex, Colour, Komi, KoRule, Point, Vertex, colour_number
-from .values import half_points, refused_point, rule_number, shown_vertex, size_number, vertex_number
+from .values import (
+    POINTS,
+    VERTICES,
+    AnyColour,
+    AnyVertex,
+    Colour,
+    Komi,
+    KoRule,
+    Point,
+    Vertex,
+    colour_number,
+)
+from .values import (
+    half_points,
+    refused_point,
+    rule_number,
+    shown_vertex,
+    size_number,
+    vertex_number,
+)
 
 MOST_POINTS = 625  # of the largest board
 MOST_WORD = 2**64 - 1
@@ -134,7 +152,11 @@ class Game(Held):
         """Whether the other is a game with the same size, komi, rule, handicap and moves."""
         if not isinstance(other, Game):
             return NotImplemented
-        return self is other or self._setup() == other._setup() and list(self.moves) == list(other.moves)
+        return (
+            self is other
+            or self._setup() == other._setup()
+            and list(self.moves) == list(other.moves)
+        )
 
     def _setup(self) -> Tuple[Any, ...]:
         """What is compared before the moves are. Equal games have equal boards."""
@@ -201,7 +223,9 @@ class Game(Held):
     def why_not(self, colour: AnyColour, vertex: AnyVertex) -> Optional[Cause]:
         """Returns why a move of a colour would be illegal: OFF_BOARD, OCCUPIED, SUICIDE or KO; None if it would be
         legal, even if the record is full. Errors: BAD_COLOUR or BAD_VERTEX."""
-        cause = library.vintsaky_game_legal(self._held(), colour_number(colour), vertex_number(vertex))
+        cause = library.vintsaky_game_legal(
+            self._held(), colour_number(colour), vertex_number(vertex)
+        )
         if not cause:
             return None
         if cause in ILLEGAL:
@@ -248,7 +272,9 @@ class Game(Held):
         """Returns the chain of the stone on a point. Errors: BAD_VERTEX, also for a pass, OFF_BOARD or NO_STONE."""
         stones, liberties = ctypes.c_uint32(), ctypes.c_uint32()
         number = vertex_number(point, "point")
-        cause = library.vintsaky_game_chain(self._held(), number, ctypes.byref(stones), ctypes.byref(liberties))
+        cause = library.vintsaky_game_chain(
+            self._held(), number, ctypes.byref(stones), ctypes.byref(liberties)
+        )
         if cause:
             raise refused_point(cause, "chain", number)
         return Chain(stones.value, liberties.value)
@@ -302,7 +328,11 @@ class Game(Held):
         else 0. Errors: BAD_COLOUR."""
         marks, count = (ctypes.c_uint8 * MOST_POINTS)(), ctypes.c_size_t()
         number = colour_number(colour)
-        done(library.vintsaky_game_legal_mask(self._held(), number, marks, MOST_POINTS, ctypes.byref(count)))
+        done(
+            library.vintsaky_game_legal_mask(
+                self._held(), number, marks, MOST_POINTS, ctypes.byref(count)
+            )
+        )
         return bytes(marks[: count.value])
 
     def board_into(self, board: Any) -> None:
@@ -315,12 +345,17 @@ class Game(Held):
         room = room_of(mask, "mask", (self.size, self.size), (BYTE, FLAG))
         number, count = colour_number(colour), ctypes.c_size_t()
         size = len(room.items)
-        done(library.vintsaky_game_legal_mask(self._held(), number, room.items, size, ctypes.byref(count)))
+        done(
+            library.vintsaky_game_legal_mask(
+                self._held(), number, room.items, size, ctypes.byref(count)
+            )
+        )
 
     def is_own_eye(self, colour: AnyColour, point: AnyVertex) -> bool:
         """Whether a point is an own eye of a colour, which a playout doesn't fill. An own eye is empty, and all its
         neighbours are stones of the colour. The other colour has a stone on at most one of its diagonals, and on none
-        if the point is on the edge. Errors: BAD_COLOUR, BAD_VERTEX, also for a pass, or OFF_BOARD."""
+        if the point is on the edge. Errors: BAD_COLOUR, BAD_VERTEX, also for a pass, or OFF_BOARD.
+        """
         holds = ctypes.c_uint32()
         number, vertex = colour_number(colour), vertex_number(point, "point")
         cause = library.vintsaky_game_is_own_eye(self._held(), number, vertex, ctypes.byref(holds))
@@ -332,7 +367,11 @@ class Game(Held):
         """Returns the empty point where a play of this colour would bring back the board before the last move; None if
         there is none. Errors: BAD_COLOUR."""
         vertex = ctypes.c_uint32()
-        done(library.vintsaky_game_ko_point(self._held(), colour_number(colour), ctypes.byref(vertex)))
+        done(
+            library.vintsaky_game_ko_point(
+                self._held(), colour_number(colour), ctypes.byref(vertex)
+            )
+        )
         return POINTS[vertex.value] if vertex.value else None
 
     def position_hash(self, colour: AnyColour) -> int:
@@ -341,7 +380,11 @@ class Game(Held):
         nothing. The hash leaves out the komi, the ko rule, whether the last move was a pass, and the record, on which
         positional superko depends. Errors: BAD_COLOUR."""
         number = ctypes.c_uint64()
-        done(library.vintsaky_game_position_hash(self._held(), colour_number(colour), ctypes.byref(number)))
+        done(
+            library.vintsaky_game_position_hash(
+                self._held(), colour_number(colour), ctypes.byref(number)
+            )
+        )
         return number.value
 
     def playout(self, colour: AnyColour, seed: int, limit: int = 2000) -> None:
@@ -349,12 +392,20 @@ class Game(Held):
         may play and that aren't its own eyes, and passes if there is none. The playout ends after two passes in a row
         (a pass just before it counts), after `limit` moves, or when the record has 2,000 moves. The same game, colour,
         seed (of 64 bits) and limit always make the same moves. Errors: BAD_COLOUR."""
-        number, seed, limit = colour_number(colour), whole(seed, "seed", 0, MOST_WORD), whole(limit, "limit")
+        number, seed, limit = (
+            colour_number(colour),
+            whole(seed, "seed", 0, MOST_WORD),
+            whole(limit, "limit"),
+        )
         done(library.vintsaky_game_playout(self._held(), number, seed, limit))
 
     def rollout(self, colour: AnyColour, seed: int, limit: int = 2000) -> float:
         """Returns the score after a `playout` like this, in points. The game is unchanged. Errors: BAD_COLOUR."""
-        number, seed, limit = colour_number(colour), whole(seed, "seed", 0, MOST_WORD), whole(limit, "limit")
+        number, seed, limit = (
+            colour_number(colour),
+            whole(seed, "seed", 0, MOST_WORD),
+            whole(limit, "limit"),
+        )
         halves = ctypes.c_int32()
         done(library.vintsaky_game_rollout(self._held(), number, seed, limit, ctypes.byref(halves)))
         return halves.value / 2
@@ -372,7 +423,11 @@ class Game(Held):
     def captured(self, colour: AnyColour) -> int:
         """Returns how many stones a colour has captured. Errors: BAD_COLOUR."""
         stones = ctypes.c_uint32()
-        done(library.vintsaky_game_captured(self._held(), colour_number(colour), ctypes.byref(stones)))
+        done(
+            library.vintsaky_game_captured(
+                self._held(), colour_number(colour), ctypes.byref(stones)
+            )
+        )
         return stones.value
 
     @property
@@ -410,13 +465,17 @@ def play_numbered(play: Callable[[Any, Any], None], number: int, move: Any) -> N
     try:
         colour, vertex = move
     except (TypeError, ValueError):
-        raise TypeError(f"move {number}: {shown(move)} is no pair of a colour and a vertex") from None
+        raise TypeError(
+            f"move {number}: {shown(move)} is no pair of a colour and a vertex"
+        ) from None
     try:
         play(colour, vertex)
     except Refused as refused:
         raise Refused(refused.cause, f"move {number}: {refused.what}", refused.said) from None
     except TypeError as problem:
-        raise TypeError(f"move {number}: {problem}") from problem  # which may be that of a subclass's own play
+        raise TypeError(
+            f"move {number}: {problem}"
+        ) from problem  # which may be that of a subclass's own play
 
 
 def placed(kind: Type[Kind]) -> Kind:
@@ -430,7 +489,9 @@ def unpickled(kind: Any, size: Any, komi: Any, rule: Any, handicap: Any, moves: 
     """The game of a pickle. Everything in it is checked: the game is played again, and belongs to the thread that uses
     it first. Errors: UnpicklingError if there can't be such a game."""
     if not (isinstance(kind, type) and issubclass(kind, Game) and isinstance(moves, str)):
-        raise UnpicklingError(f"the pickle of a Game is damaged: {shown(kind)} is no Game, or {shown(moves)} no moves")
+        raise UnpicklingError(
+            f"the pickle of a Game is damaged: {shown(kind)} is no Game, or {shown(moves)} no moves"
+        )
     game, known = placed(kind), moves_by_text()
     try:
         Game.begin(game, size, komi, rule)

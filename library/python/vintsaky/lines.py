@@ -52,7 +52,8 @@ class _CommandLine(NamedTuple):
 
 class CommandLine(_CommandLine, metaclass=BriefABC):
     """A command line: its id, if it has one, and its words, the command's name first. If a line is too long, only
-    `too_long` is set. Bytes of a word that aren't UTF-8 are kept so that `os.fsencode` gives them back."""
+    `too_long` is set. Bytes of a word that aren't UTF-8 are kept so that `os.fsencode` gives them back.
+    """
 
     __slots__ = ()
 
@@ -112,7 +113,9 @@ class CommandLines(Held):
     def _line(self) -> CommandLine:
         """The line that was read last."""
         place, number = self._held(), ctypes.c_uint32()
-        number_or_none = or_none(library.vintsaky_lines_id(place, ctypes.byref(number)), Cause.NO_ID, number)
+        number_or_none = or_none(
+            library.vintsaky_lines_id(place, ctypes.byref(number)), Cause.NO_ID, number
+        )
         return CommandLine(number_or_none, words_of(library.vintsaky_lines_word, place))
 
 
@@ -155,8 +158,14 @@ class Replies(Held):
     def _reply(self) -> Reply:
         """The reply that was read last."""
         place, number = self._held(), ctypes.c_uint32()
-        number_or_none = or_none(library.vintsaky_replies_id(place, ctypes.byref(number)), Cause.NO_ID, number)
-        return Reply(library.vintsaky_replies_ok(place), number_or_none, text_of(library.vintsaky_replies_text, place))
+        number_or_none = or_none(
+            library.vintsaky_replies_id(place, ctypes.byref(number)), Cause.NO_ID, number
+        )
+        return Reply(
+            library.vintsaky_replies_ok(place),
+            number_or_none,
+            text_of(library.vintsaky_replies_text, place),
+        )
 
 
 def id_number(id: Optional[int]) -> int:
@@ -192,7 +201,9 @@ def arguments_of(kind: Command, arguments: Tuple[Any, ...]) -> Tuple[int, int]:
     numbers: Dict[Command, Callable[[Any], int]] = {
         Command.BOARDSIZE: size_number,
         Command.KOMI: half_points,
-        Command.FIXED_HANDICAP: lambda stones: whole(stones, "stones", 0, LONGEST_INT, Cause.BAD_HANDICAP),
+        Command.FIXED_HANDICAP: lambda stones: whole(
+            stones, "stones", 0, LONGEST_INT, Cause.BAD_HANDICAP
+        ),
         Command.GENMOVE: colour_number,
     }
     return (numbers[kind](arguments[0]) if arguments else 0), 0
@@ -207,13 +218,17 @@ def write_command(command: Command, *arguments: Any, id: Optional[int] = None) -
     b'5 play b D4\\n'
     """
     number, kind = id_number(id), command_number(command)
-    return written(library.vintsaky_write_command, number, kind, *arguments_of(kind, arguments)).encode("ascii")
+    return written(
+        library.vintsaky_write_command, number, kind, *arguments_of(kind, arguments)
+    ).encode("ascii")
 
 
 def bad_reply(text: Union[str, bytes], what: str = "text", most: int = 2000) -> Refused:
     """The error for a text that isn't allowed in a reply, or is too long."""
     said = f"{shown(text)} may be in no reply; a reply's text has at most {most} bytes, each a newline or 32 to 126, "
-    return Refused(Cause.BAD_TEXT, what, f"{said}no empty line, and no space or newline at its ends")
+    return Refused(
+        Cause.BAD_TEXT, what, f"{said}no empty line, and no space or newline at its ends"
+    )
 
 
 def write_reply(text: Union[str, bytes] = "", ok: bool = True, id: Optional[int] = None) -> bytes:
@@ -224,6 +239,8 @@ def write_reply(text: Union[str, bytes] = "", ok: bool = True, id: Optional[int]
     """
     number, data = id_number(id), ascii_of(text, "text")
     try:
-        return written(library.vintsaky_write_reply, number, int(bool(ok)), data, len(data)).encode("ascii")
+        return written(library.vintsaky_write_reply, number, int(bool(ok)), data, len(data)).encode(
+            "ascii"
+        )
     except Refused:
         raise bad_reply(text) from None

@@ -50,7 +50,8 @@ class Owed(metaclass=Brief):
 @dataclass(frozen=True)
 class Report(metaclass=Brief):
     """What came of a side's output: why the side fails, if it does; the number of the retake at its move number, 1 to
-    3, if the side refused a play that is retaken, else 0; and what it owed at the loss, or else at the retake."""
+    3, if the side refused a play that is retaken, else 0; and what it owed at the loss, or else at the retake.
+    """
 
     loss: Optional[Loss]
     retake: int
@@ -70,7 +71,8 @@ class Status(metaclass=Brief):
 @dataclass(frozen=True)
 class Verdict(metaclass=Brief):
     """How a match ended, the score in points if it ended by score, and the reason if a ruling has one. `side` is the
-    one that resigned, forfeited, is unfit, was abandoned or lost by a ruling: never the one that won."""
+    one that resigned, forfeited, is unfit, was abandoned or lost by a ruling: never the one that won.
+    """
 
     ending: Ending
     side: Optional[Colour]
@@ -101,13 +103,22 @@ class OwedRoom:
 
     def __init__(self) -> None:
         self.unanswered = ctypes.c_uint32()
-        self.command, self.command_count = ctypes.create_string_buffer(COMMAND_ROOM), ctypes.c_size_t()
+        self.command, self.command_count = (
+            ctypes.create_string_buffer(COMMAND_ROOM),
+            ctypes.c_size_t(),
+        )
         self.wrote, self.wrote_count = ctypes.create_string_buffer(WROTE_ROOM), ctypes.c_size_t()
 
     def arguments(self) -> Tuple[Any, ...]:
         """The call's last arguments."""
         command = (self.command, COMMAND_ROOM, ctypes.byref(self.command_count))
-        return (ctypes.byref(self.unanswered), *command, self.wrote, WROTE_ROOM, ctypes.byref(self.wrote_count))
+        return (
+            ctypes.byref(self.unanswered),
+            *command,
+            self.wrote,
+            WROTE_ROOM,
+            ctypes.byref(self.wrote_count),
+        )
 
     def owed(self) -> Owed:
         """What was written there."""
@@ -135,13 +146,23 @@ class Match(Held):
     _handle_type = _declared.MatchHandle
 
     def __init__(
-        self, size: int = 19, komi: Komi = 0, handicap: int = 0, max_moves: int = 2000, max_restarts: int = 0
+        self,
+        size: int = 19,
+        komi: Komi = 0,
+        handicap: int = 0,
+        max_moves: int = 2000,
+        max_restarts: int = 0,
     ) -> None:
         super().__init__()
         self.begin(size, komi, handicap, max_moves, max_restarts)
 
     def begin(
-        self, size: int = 19, komi: Komi = 0, handicap: int = 0, max_moves: int = 2000, max_restarts: int = 0
+        self,
+        size: int = 19,
+        komi: Komi = 0,
+        handicap: int = 0,
+        max_moves: int = 2000,
+        max_restarts: int = 0,
     ) -> None:
         """Begins again. Errors: BAD_SIZE, BAD_KOMI, BAD_HANDICAP, BAD_MAX_MOVES or BAD_MAX_RESTARTS."""
         numbers = [
@@ -155,7 +176,10 @@ class Match(Held):
             said = {
                 Cause.BAD_HANDICAP: (f"handicap {shown(handicap)} on size {size}", ""),
                 Cause.BAD_MAX_MOVES: ("max_moves", f"{shown(max_moves)} is not from 1 to 2000"),
-                Cause.BAD_MAX_RESTARTS: ("max_restarts", f"{shown(max_restarts)} is not from 0 to 1000"),
+                Cause.BAD_MAX_RESTARTS: (
+                    "max_restarts",
+                    f"{shown(max_restarts)} is not from 0 to 1000",
+                ),
             }
             raise Refused(Cause(cause), *said[Cause(cause)])
 
@@ -175,7 +199,9 @@ class Match(Held):
         """Returns the next command for the side, which counts as sent. Errors: NOT_NEXT if it isn't what is next."""
         text, count = ctypes.create_string_buffer(COMMAND_ROOM), ctypes.c_size_t()
         number = side_number(side)
-        cause = library.vintsaky_match_send(self._held(), number, text, COMMAND_ROOM, ctypes.byref(count))
+        cause = library.vintsaky_match_send(
+            self._held(), number, text, COMMAND_ROOM, ctypes.byref(count)
+        )
         done(cause, f"send {Colour(number)}")
         return text.raw[: count.value]
 
@@ -191,26 +217,44 @@ class Match(Held):
         data, number, room = bytes_of(data), side_number(side), OwedRoom()
         loss, retake = ctypes.c_uint32(), ctypes.c_uint32()
         written_to = (ctypes.byref(loss), ctypes.byref(retake), *room.arguments())
-        done(library.vintsaky_match_hear_reporting(self._held(), number, data, len(data), *written_to))
+        done(
+            library.vintsaky_match_hear_reporting(
+                self._held(), number, data, len(data), *written_to
+            )
+        )
         happened = bool(loss.value or retake.value)
-        return Report(Loss(loss.value) if loss.value else None, retake.value, room.owed() if happened else None)
+        return Report(
+            Loss(loss.value) if loss.value else None,
+            retake.value,
+            room.owed() if happened else None,
+        )
 
     def owed(self, side: AnyColour) -> Owed:
         """Returns what the side owes. Errors: DOWN if it wasn't started or went down, or the match is over."""
         room, number = OwedRoom(), side_number(side)
-        done(library.vintsaky_match_owed(self._held(), number, *room.arguments()), f"owed {Colour(number)}")
+        done(
+            library.vintsaky_match_owed(self._held(), number, *room.arguments()),
+            f"owed {Colour(number)}",
+        )
         return room.owed()
 
     def status(self, side: AnyColour) -> Status:
         """Returns how far the side is. Errors: DOWN if it wasn't started or went down."""
         confirmed, unanswered, asked = ctypes.c_uint32(), ctypes.c_uint32(), ctypes.c_uint32()
-        places, number = (ctypes.byref(confirmed), ctypes.byref(unanswered), ctypes.byref(asked)), side_number(side)
-        done(library.vintsaky_match_status(self._held(), number, *places), f"status {Colour(number)}")
+        places, number = (
+            ctypes.byref(confirmed),
+            ctypes.byref(unanswered),
+            ctypes.byref(asked),
+        ), side_number(side)
+        done(
+            library.vintsaky_match_status(self._held(), number, *places), f"status {Colour(number)}"
+        )
         return Status(confirmed.value, unanswered.value, bool(asked.value))
 
     def lost(self, side: AnyColour) -> None:
         """Reports that the side is gone: its output ended, or a read or a write failed. If its start failed, call this
-        after `started`. After a loss that `hear` returned, it isn't needed; after a ruling it changes nothing."""
+        after `started`. After a loss that `hear` returned, it isn't needed; after a ruling it changes nothing.
+        """
         done(library.vintsaky_match_lost(self._held(), side_number(side)))
 
     def in_step(self, side: AnyColour) -> bool:
@@ -222,7 +266,9 @@ class Match(Held):
     def restarts(self, side: AnyColour) -> int:
         """Returns how often the side was restarted."""
         restarts = ctypes.c_uint32()
-        done(library.vintsaky_match_restarts(self._held(), side_number(side), ctypes.byref(restarts)))
+        done(
+            library.vintsaky_match_restarts(self._held(), side_number(side), ctypes.byref(restarts))
+        )
         return restarts.value
 
     def retakes(self, number: int) -> int:
@@ -236,7 +282,12 @@ class Match(Held):
         only `begin` changes the match. Errors: IS_OVER if it is over, BAD_REASON."""
         text, number = ascii_of(reason, "reason"), side_number(side)
         cause = library.vintsaky_match_adjudicate(self._held(), number, text, len(text))
-        done(cause, f"reason {shown(reason)}" if cause == Cause.BAD_REASON else f"adjudicate {Colour(number)}")
+        done(
+            cause,
+            f"reason {shown(reason)}"
+            if cause == Cause.BAD_REASON
+            else f"adjudicate {Colour(number)}",
+        )
 
     @property
     def taking_back(self) -> Optional[Colour]:
@@ -255,7 +306,9 @@ class Match(Held):
         done(cause)
         score = halves.value / 2 if ending.value == Ending.BY_SCORE else None
         reason = text_of(library.vintsaky_match_reason, self._held()).decode("ascii")
-        return Verdict(Ending(ending.value), Colour(side.value) if side.value else None, score, reason)
+        return Verdict(
+            Ending(ending.value), Colour(side.value) if side.value else None, score, reason
+        )
 
     @property
     def game(self) -> Game:

@@ -29,7 +29,11 @@ class Move(_Move, metaclass=BriefABC):
     __slots__ = ()
 
 
-MOVES = {(int(colour), number): Move(colour, VERTICES[number]) for colour in Colour for number in VERTICES}
+MOVES = {
+    (int(colour), number): Move(colour, VERTICES[number])
+    for colour in Colour
+    for number in VERTICES
+}
 
 
 @lru_cache(maxsize=None)
@@ -57,20 +61,30 @@ class Moves(Sequence[Move], metaclass=BriefABC):
         return length
 
     @overload
-    def __getitem__(self, number: int) -> Move: ...
+    def __getitem__(self, number: int) -> Move:
+        ...
 
     @overload
-    def __getitem__(self, number: slice) -> List[Move]: ...
+    def __getitem__(self, number: slice) -> List[Move]:
+        ...
 
     def __getitem__(self, number: Union[int, slice]) -> Union[Move, List[Move]]:
         length = len(self)
         try:
             numbers = range(length)[number]
         except IndexError:
-            raise IndexError(f"number: {shown(number)} is no move of a record of {length}") from None
+            raise IndexError(
+                f"number: {shown(number)} is no move of a record of {length}"
+            ) from None
         except TypeError:
-            raise TypeError(f"number: {shown(number)} is neither an int nor a slice of them") from None
-        return self._made(numbers) if isinstance(numbers, range) else self._made(range(numbers, numbers + 1))[0]
+            raise TypeError(
+                f"number: {shown(number)} is neither an int nor a slice of them"
+            ) from None
+        return (
+            self._made(numbers)
+            if isinstance(numbers, range)
+            else self._made(range(numbers, numbers + 1))[0]
+        )
 
     def __iter__(self) -> Iterator[Move]:
         return iter(self._made(range(len(self))))

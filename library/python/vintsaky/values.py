@@ -76,7 +76,12 @@ class Point(_Point, metaclass=BriefABC):
         if type(size) is not int or not 1 <= size <= 25:
             size = size_number(size)
         column, row = self
-        beside = [Point(column, row - 1), Point(column - 1, row), Point(column + 1, row), Point(column, row + 1)]
+        beside = [
+            Point(column, row - 1),
+            Point(column - 1, row),
+            Point(column + 1, row),
+            Point(column, row + 1),
+        ]
         return [point for point in beside if 1 <= point.column <= size and 1 <= point.row <= size]
 
     def turned(self, size: int, symmetry: int) -> Point:
@@ -116,7 +121,9 @@ AnyVertex = Union[Point, Literal[NoPoint.PASS], Tuple[int, int], str, bytes]
 AnyChoice = Union[Point, NoPoint, Tuple[int, int], str, bytes]
 Komi = Union[int, float, Fraction]
 
-POINTS: Dict[int, Point] = {row << 8 | column: Point(column, row) for row in range(1, 26) for column in range(1, 26)}
+POINTS: Dict[int, Point] = {
+    row << 8 | column: Point(column, row) for row in range(1, 26) for column in range(1, 26)
+}
 VERTICES: Dict[int, Vertex] = {_declared.PASS: PASS, **POINTS}
 
 
@@ -147,7 +154,9 @@ def colour_number(colour: AnyColour, what: str = "colour") -> int:
     if type(colour) is Colour:
         return colour
     if isinstance(colour, (str, bytes)):
-        return _read(library.vintsaky_read_colour, ctypes.c_uint32(), colour, what, f"no colour; {COLOURS}")
+        return _read(
+            library.vintsaky_read_colour, ctypes.c_uint32(), colour, what, f"no colour; {COLOURS}"
+        )
     number = integer(colour, what, f"no colour; {COLOURS}")
     if number not in (_declared.BLACK, _declared.WHITE):
         raise Refused(Cause.BAD_COLOUR, what, f"{shown(colour)} is no colour; {COLOURS}")
@@ -294,12 +303,16 @@ def half_points(komi: Komi, what: str = "komi") -> int:
     """A komi in points as half points. Errors: TypeError if it is no number, ValueError if it is no multiple of 0.5,
     and Refused with BAD_KOMI if it is out of range."""
     if not isinstance(komi, (int, float, Fraction)):
-        raise TypeError(f"{what}: {shown(komi)} is a {type(komi).__name__}, and no int, float or Fraction")
+        raise TypeError(
+            f"{what}: {shown(komi)} is a {type(komi).__name__}, and no int, float or Fraction"
+        )
     endless = isinstance(komi, float) and math.isinf(komi)
     if komi != komi or not endless and Fraction(komi).denominator > 2:
         raise ValueError(f"{what}: {shown(komi)} is no multiple of 0.5")
     if endless or not -MOST_KOMI <= komi <= MOST_KOMI:
-        raise Refused(Cause.BAD_KOMI, what, f"{shown(komi)} is not from -{MOST_KOMI} to {MOST_KOMI}")
+        raise Refused(
+            Cause.BAD_KOMI, what, f"{shown(komi)} is not from -{MOST_KOMI} to {MOST_KOMI}"
+        )
     return int(komi * 2)
 
 

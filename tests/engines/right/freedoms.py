@@ -12,7 +12,6 @@ from tests.references.engine.game import POSITIONAL, filled
 from tests.references.engine.values import BLACK, WHITE
 
 
-
 def single(number):
     """The float of 32 bits that is nearest."""
     return struct.unpack("f", struct.pack("f", number))[0]
@@ -192,7 +191,11 @@ class WritesExponents(WritesAsStreams):
     form = ".6e"
 
     def write_score(self, halves):
-        return super().write_score(halves) if self.random.random() < 0.5 else super().write_score(halves).replace("e", "E")
+        return (
+            super().write_score(halves)
+            if self.random.random() < 0.5
+            else super().write_score(halves).replace("e", "E")
+        )
 
 
 class CountsTerritory(Plain):
@@ -253,7 +256,9 @@ class AllowsSuicide(Plain):
 
     def is_ko(self, board, colour, point):
         """One stone's suicide leaves the board as it is, which positional ko forbids."""
-        return self.rule == POSITIONAL and board == self.board or super().is_ko(board, colour, point)
+        return (
+            self.rule == POSITIONAL and board == self.board or super().is_ko(board, colour, point)
+        )
 
 
 class AllowsSuicideOfChains(AllowsSuicide):
@@ -290,4 +295,8 @@ def snake(name):
     return "".join("_" * (at > 0 and it.isupper()) + it.lower() for at, it in enumerate(name))
 
 
-FREEDOMS = {snake(it.__name__): it for it in list(vars().values()) if isinstance(it, type) and issubclass(it, Plain) and it is not Plain}
+FREEDOMS = {
+    snake(it.__name__): it
+    for it in list(vars().values())
+    if isinstance(it, type) and issubclass(it, Plain) and it is not Plain
+}

@@ -38,7 +38,12 @@ class Plain(Engine):
 def run(kind: Type[Engine], words: List[str], usage: str) -> None:
     """Runs an engine of this kind, by options with their values: its rule of ko and its seed. Where they are wrong, it prints the usage."""
     options = {"--ko": SIMPLE, "--seed": "1", **dict(zip(words[::2], words[1::2]))}
-    if len(words) % 2 or len(options) > 2 or options["--ko"] not in (SIMPLE, POSITIONAL) or not options["--seed"].isdecimal():
+    if (
+        len(words) % 2
+        or len(options) > 2
+        or options["--ko"] not in (SIMPLE, POSITIONAL)
+        or not options["--seed"].isdecimal()
+    ):
         misused(usage)
     try:
         kind(Chance(int(options["--seed"])), options["--ko"]).run()

@@ -107,7 +107,9 @@ def instead_of(method, shows, right, **more):
     """Makes a function a bug: it stands in the place of a method. Its argument `right` is what that method does."""
 
     def made(wrong):
-        return made_of(wrong.__module__, wrong.__name__, wrong.__doc__, {method: wrong}, shows, right, more)
+        return made_of(
+            wrong.__module__, wrong.__name__, wrong.__doc__, {method: wrong}, shows, right, more
+        )
 
     return made
 

@@ -19,7 +19,9 @@ FOLLOWS = re.compile(r"was not admitted|was not checked")
 def is_proved(crate, jobs):
     """Checks the crate as it is. What that leaves, the checks of its copies begin with."""
     words = [*RT, "check", "--jobs", str(jobs)]
-    ran = subprocess.run(words, cwd=TOP / "crates" / crate, capture_output=True, text=True, errors="replace")
+    ran = subprocess.run(
+        words, cwd=TOP / "crates" / crate, capture_output=True, text=True, errors="replace"
+    )
     if ran.returncode:
         print(f"{crate}: {(ran.stdout + ran.stderr)[-2000:]}", flush=True)
     return ran.returncode == 0
@@ -32,16 +34,33 @@ def check(crate, texts):
         copy_crates(folder, crate)
         for file, text in texts.items():
             (folder / "crates" / crate / file).write_text(text)
-        words = ["bash", "-c", 'TIMEFORMAT="seconds %U %S"; time "$@"', "check", *RT, "check", "--jobs", "1"]
-        ran = subprocess.run(words, cwd=folder / "crates" / crate, capture_output=True, text=True, errors="replace")
-    seconds = sum(float(number) for found in re.findall(r"^seconds (\S+) (\S+)$", ran.stderr, re.M) for number in found)
+        words = [
+            "bash",
+            "-c",
+            'TIMEFORMAT="seconds %U %S"; time "$@"',
+            "check",
+            *RT,
+            "check",
+            "--jobs",
+            "1",
+        ]
+        ran = subprocess.run(
+            words, cwd=folder / "crates" / crate, capture_output=True, text=True, errors="replace"
+        )
+    seconds = sum(
+        float(number)
+        for found in re.findall(r"^seconds (\S+) (\S+)$", ran.stderr, re.M)
+        for number in found
+    )
     return ran.stdout + ran.stderr, seconds
 
 
 def refusals(crate, texts, output):
     """The functions that goals of their own refuse, each with such a goal. And those of which that says nothing, each with why."""
     own, idle, read = {}, {}, dict(texts)
-    for file, line, what in re.findall(r"^note: (src/\S+?):(\d+):\d+: it is not proved (.*)", output, re.M):
+    for file, line, what in re.findall(
+        r"^note: (src/\S+?):(\d+):\d+: it is not proved (.*)", output, re.M
+    ):
         if file not in read:
             read[file] = (TOP / "crates" / crate / file).read_text()
         at = sum(len(before) + 1 for before in read[file].split("\n")[: int(line) - 1])
@@ -53,7 +72,9 @@ def refusals(crate, texts, output):
             own[function] = goal[1]
         elif "does not cover" in why:
             idle[function] = "the borrow checker does not cover it"
-    own.update(re.findall(rf"^impl {crate}::(\S+): not proved; antt refuses `([^`]*)`", output, re.M))  # the laws of a trait
+    own.update(
+        re.findall(rf"^impl {crate}::(\S+): not proved; antt refuses `([^`]*)`", output, re.M)
+    )  # the laws of a trait
     answers = r"^(?:note: )?\./proofs/(\S+)/(?:Answers|Invariants|Proof)\.antt:\d+:\d+: error: (.*)"
     for path, error in re.findall(answers, output, re.M):
         if GONE.search(error):
@@ -67,10 +88,18 @@ def verdict_on(edit, refused):
     """The goal that refuses an edit, if there is one, and what else the check says of its functions."""
     own, idle = refused
     changed = places(edit)
-    idle = [f"{function}: {why}" for function, why in idle.items() if any(place.has(function) for place in changed)]
+    idle = [
+        f"{function}: {why}"
+        for function, why in idle.items()
+        if any(place.has(function) for place in changed)
+    ]
     if idle:
         return "", "; ".join(idle)[:300]
-    goals = [f"{function}: {goal}" for function, goal in own.items() if any(place.has(function) for place in changed)]
+    goals = [
+        f"{function}: {goal}"
+        for function, goal in own.items()
+        if any(place.has(function) for place in changed)
+    ]
     return goals[0][:150] if goals else "", "no goal of its function refuses it"
 
 
@@ -88,7 +117,13 @@ def try_edits(crate, edits, note):
         for edit in taken:
             goal, why = verdict_on(edit, refused)
             if goal or len(taken) == 1:
-                note(bool(goal), f"{edit.name} is refused by {goal}" if goal else f"{edit.name}: {why}")
+                note(
+                    bool(goal),
+                    f"{edit.name} is refused by {goal}" if goal else f"{edit.name}: {why}",
+                )
             else:
                 left.append(([edit], applied({}, edit)))
-    print(f"{crate}: {len(edits)} edits in {checks} checks, {seconds:.0f} s of processor time", flush=True)
+    print(
+        f"{crate}: {len(edits)} edits in {checks} checks, {seconds:.0f} s of processor time",
+        flush=True,
+    )

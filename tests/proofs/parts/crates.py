@@ -12,7 +12,9 @@ RT = shlex.split(os.environ.get("RT", "rt"))  # what proves a crate
 
 def rows_of_crates():
     """What each crate of crates.txt depends on, the kit's crates too, by the crate's name."""
-    lines = (line.split("#")[0].split(":") for line in (TOP / "crates.txt").read_text().splitlines())
+    lines = (
+        line.split("#")[0].split(":") for line in (TOP / "crates.txt").read_text().splitlines()
+    )
     return {words[0].split()[0]: words[1].split() for words in lines if len(words) == 2}
 
 

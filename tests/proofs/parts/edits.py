@@ -54,12 +54,12 @@ class Lines:
         """The text with this change, and where it is. None where the lines aren't there once."""
         lines, wanted = text.split("\n"), [line.strip() for line in self.kept + self.old]
         bare = [line.strip() for line in lines]
-        found = [at for at in range(len(lines)) if bare[at:at + len(wanted)] == wanted]
+        found = [at for at in range(len(lines)) if bare[at : at + len(wanted)] == wanted]
         if len(found) != 1 or not any(wanted):
             return None
         at = found[0] + len(self.kept)
         before = "".join(line + "\n" for line in lines[:at])
-        return "\n".join([*lines[:at], *self.new, *lines[at + len(self.old):]]), len(before)
+        return "\n".join([*lines[:at], *self.new, *lines[at + len(self.old) :]]), len(before)
 
 
 @dataclass(frozen=True)
@@ -85,8 +85,24 @@ def read_edits(path):
         name, *lines = block.split("\n")
         if re.fullmatch(r"src/[\w/]+\.rt:", block):
             file = name[:-1]
-        elif file and re.fullmatch(r"\w+", name) and re.fullmatch(r" *-*\+*", "".join(line[:1] for line in lines)) and lines:
-            found.append(Edit(path.stem, name, (Lines(file, *(tuple(it[2:] for it in lines if it[0] == sign) for sign in " -+")),)))
+        elif (
+            file
+            and re.fullmatch(r"\w+", name)
+            and re.fullmatch(r" *-*\+*", "".join(line[:1] for line in lines))
+            and lines
+        ):
+            found.append(
+                Edit(
+                    path.stem,
+                    name,
+                    (
+                        Lines(
+                            file,
+                            *(tuple(it[2:] for it in lines if it[0] == sign) for sign in " -+"),
+                        ),
+                    ),
+                )
+            )
         else:
             raise BadEdits(f"{path}: '{name}' is neither a file nor an edit of one")
     return found
@@ -110,7 +126,10 @@ def all_edits():
     """The edits of each crate, by its name: those of its must-fail/ and of its file here."""
     found = {}
     edits = [read_must_fail(path) for path in sorted(TOP.glob("crates/*/must-fail/*.edit"))]
-    for edit in [*edits, *(it for path in sorted(FOLDER.glob("*.edits")) for it in read_edits(path))]:
+    for edit in [
+        *edits,
+        *(it for path in sorted(FOLDER.glob("*.edits")) for it in read_edits(path)),
+    ]:
         if edit.name in (it.name for it in found.setdefault(edit.crate, [])):
             raise BadEdits(f"{edit.name} is there twice")
         found[edit.crate].append(edit)

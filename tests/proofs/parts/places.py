@@ -37,7 +37,11 @@ class Place:
 
 def place_of(file, text, at):
     """The function that this place of a file is in."""
-    module = "::".join(part for part in Path(file).relative_to("src").with_suffix("").parts if part not in ("lib", "main", "mod"))
+    module = "::".join(
+        part
+        for part in Path(file).relative_to("src").with_suffix("").parts
+        if part not in ("lib", "main", "mod")
+    )
     owner = name = ""
     for line in text[: text.find("\n", at)].split("\n"):
         if line.startswith("}"):
@@ -45,7 +49,9 @@ def place_of(file, text, at):
         head = re.match(r"impl(?:<[^>]*>)? (?:([\w:]+)(?:<.*>)? for )?&?(\w+)", line)
         if head:
             owner, name = head[2] + (head[1].split("::")[-1] if head[1] else ""), ""
-        head = re.match(r"\s*(?:pub(?:\([\w ]+\))? )?(?:const )?(?:unsafe )?(?:extern .C. )?fn (\w+)", line)
+        head = re.match(
+            r"\s*(?:pub(?:\([\w ]+\))? )?(?:const )?(?:unsafe )?(?:extern .C. )?fn (\w+)", line
+        )
         if head:
             name = head[1]
     return Place(module, owner, name)

@@ -32,7 +32,9 @@ class Up:
         self.unanswered = []  # pairs of an id and a command, the oldest first
         self.sent = 0  # commands
         self.rest = b""  # what came since the last whole reply
-        self.rests = []  # what that was after each call of `heard`, with how many commands were confirmed then
+        self.rests = (
+            []
+        )  # what that was after each call of `heard`, with how many commands were confirmed then
 
 
 class Controller:
@@ -52,7 +54,9 @@ class Controller:
         self.pending = None  # the maker of the last move, where that move is to be taken back
         self.verdict = None
         self.reported = []  # losses and retakes, as they came
-        self.pieces = []  # what was heard last: a whole reply with what was before it; or each text that may be shown of no reply
+        self.pieces = (
+            []
+        )  # what was heard last: a whole reply with what was before it; or each text that may be shown of no reply
         self.follows_another = False  # was it heard in one read with a reply before it?
 
     # ---- what the tables speak of
@@ -174,7 +178,8 @@ class Controller:
     def heard(self, side, data, following=lambda: [b""]):
         """This side wrote these bytes, which came in one read. Those of a side that is down change nothing, and so do all bytes after a
         verdict. `following` answers what that read might have brought besides, had it come later: nothing, and then what is there
-        with the answer to one command more each time, up to those to all commands that were sent."""
+        with the answer to one command more each time, up to those to all commands that were sent.
+        """
         self.follows_another = False
         while self.verdict is None and not self.is_down(side):
             up = self.sides[side]
@@ -229,7 +234,9 @@ class Controller:
         up = self.sides[side]
         if not reply.ok and command[0] == "play":
             self.judge_refusal(side)
-        elif not reply.ok or (command[0] == "fixed_handicap" and not self.names_handicap(reply.text)):
+        elif not reply.ok or (
+            command[0] == "fixed_handicap" and not self.names_handicap(reply.text)
+        ):
             self.report(side, why.UNFIT)
             self.verdict = f"unfit {side}"
         else:
@@ -264,7 +271,11 @@ class Controller:
     def names_handicap(self, text):
         """Are these words vertices, which are the handicap's points, each once, in any order?"""
         named = [values.read_vertex(word) for word in replies.words(text)]
-        return None not in named and PASS not in named and sorted(named) == sorted(self.handicap_points())
+        return (
+            None not in named
+            and PASS not in named
+            and sorted(named) == sorted(self.handicap_points())
+        )
 
     def judge_move(self, side, reply):
         """A reply to a genmove: a move, a resignation, or none of both."""
@@ -318,13 +329,19 @@ class Controller:
             is_strange = cause in (why.UNASKED, why.WRONG_ID)
             shown = (why.WRONG_ID if unanswered else why.UNASKED) if is_strange else cause
             fewer = len(sent) - len(unanswered)
-            texts += [why.lost(unanswered, shown, piece) for piece in self.pieces[: max(1, len(self.pieces) - fewer)]]
+            texts += [
+                why.lost(unanswered, shown, piece)
+                for piece in self.pieces[: max(1, len(self.pieces) - fewer)]
+            ]
         self.reported.append(Loss(side, texts))
 
     def report_retake(self, side, count):
         """This side has refused the last move, which is retaken. That is no loss. The play still counts as unanswered. It is reported
         whether or not an undo follows."""
-        texts = [why.lost(self.unanswered(side), why.retaken(count, MOST_RETAKES), piece) for piece in self.pieces]
+        texts = [
+            why.lost(self.unanswered(side), why.retaken(count, MOST_RETAKES), piece)
+            for piece in self.pieces
+        ]
         self.reported.append(Retake(side, texts))
 
     def unanswered(self, side):
@@ -341,11 +358,16 @@ class Controller:
             return []
         least = max(self.most, confirmed + (0 if self.follows_another else 1))
         most = confirmed + self.most - (1 if self.follows_another else 0)
-        return [self.of_script(confirmed, sent) for sent in range(min(least, length), min(most, length) + 1)]
+        return [
+            self.of_script(confirmed, sent)
+            for sent in range(min(least, length), min(most, length) + 1)
+        ]
 
     def of_script(self, confirmed, sent):
         """The unanswered commands of an engine that was started, was sent `sent` commands of the script and has confirmed `confirmed`."""
-        return [(number, spelled(command)) for number, command in enumerate(self.script(), 1)][confirmed:sent]
+        return [(number, spelled(command)) for number, command in enumerate(self.script(), 1)][
+            confirmed:sent
+        ]
 
     def writes(self, side):
         """The last write to this side, or each that may be the first that fails, where its engine has ended: what is unanswered then,
@@ -356,7 +378,11 @@ class Controller:
         found = [(self.unanswered(side), up.rest)]
         if length > max(self.most, up.confirmed + 1):
             first = max(1, up.confirmed + 2 - self.most)
-            found += [(self.of_script(heard, min(length, heard + self.most)), rest) for heard, rest in up.rests if heard >= first]
+            found += [
+                (self.of_script(heard, min(length, heard + self.most)), rest)
+                for heard, rest in up.rests
+                if heard >= first
+            ]
         return found
 
     def what_is_illegal(self, side, point):

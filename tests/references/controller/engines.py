@@ -29,7 +29,9 @@ OTHERS = {
     "cat": (b"", "on"),
 }
 # .. and why: there is no such file, or it is a folder.
-REASONS = {name: "no such file" for name in ("no_such_program", ODD_PROGRAM, LONG_PROGRAM)} | {"/": "not allowed"}
+REASONS = {name: "no such file" for name in ("no_such_program", ODD_PROGRAM, LONG_PROGRAM)} | {
+    "/": "not allowed"
+}
 
 
 class Other:
@@ -89,7 +91,12 @@ class Timed(Planned):
 
     def command(self, notes):
         """The words of its command."""
-        return ["timeout", "--foreground", str(self.seconds), *(word.replace("ends:124", "on") for word in super().command(notes))]
+        return [
+            "timeout",
+            "--foreground",
+            str(self.seconds),
+            *(word.replace("ends:124", "on") for word in super().command(notes)),
+        ]
 
 
 class Ours:
@@ -115,7 +122,9 @@ class Ours:
 
     def fresh(self):
         """The reference of it, under its fault."""
-        return Bent(reference.start(self.policy, self.seed, self.book.encode(), self.rule), self.fault)
+        return Bent(
+            reference.start(self.policy, self.seed, self.book.encode(), self.rule), self.fault
+        )
 
 
 class Remembering:

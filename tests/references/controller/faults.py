@@ -4,7 +4,14 @@ and what comes then, where it isn't `on`."""
 # ---- in place of any reply
 
 # It ends, or closes its output: before it replies, in the middle, or right after. K is drawn.
-ENDINGS = [("", "ends"), ("<reply:K>", "ends"), ("<reply>", "ends"), ("", "closes"), ("<reply:K>", "closes"), ("<reply>", "closes")]
+ENDINGS = [
+    ("", "ends"),
+    ("<reply:K>", "ends"),
+    ("<reply>", "ends"),
+    ("", "closes"),
+    ("<reply:K>", "closes"),
+    ("<reply>", "closes"),
+]
 # What is no reply.
 JUNK = [
     r"hello\n\n",
@@ -38,7 +45,11 @@ HARMLESS = [
     r"<reply>\n\n_\t\r\n",
 ]
 # Words after those that are due.
-WORDY = [r"=<id>_<text>_more_words\n\n", r"=<id>_<text>\nmore_lines\nof_it\n\n", r"=<id>_<text>_#_a_comment\n\n"]
+WORDY = [
+    r"=<id>_<text>_more_words\n\n",
+    r"=<id>_<text>\nmore_lines\nof_it\n\n",
+    r"=<id>_<text>_#_a_comment\n\n",
+]
 # Ids that are missing, or strange; now and then with more after it, which is of no account.
 STRANGE_IDS = [
     r"=<id+1>_<text>\n\n",
@@ -92,16 +103,42 @@ MORE = [
     r"<reply>\x01!",
 ]
 # A reply, and at once the front of another, which the next reply goes on.
-FRONTS = [r"<reply>=", r"<reply>?", r"<reply>=_x\n", r"<reply>=<id+1>", r"<reply>?<id+1>", r"<reply>=<id+1>_", r"<reply>_\n="]
+FRONTS = [
+    r"<reply>=",
+    r"<reply>?",
+    r"<reply>=_x\n",
+    r"<reply>=<id+1>",
+    r"<reply>?<id+1>",
+    r"<reply>=<id+1>_",
+    r"<reply>_\n=",
+]
 ANY = [JUNK, HARMLESS, WORDY, STRANGE_IDS, REFUSALS, LONG, MORE, FRONTS]
 
 # ---- in place of one reply
 
 # To a genmove.
 MOVES = [
-    *(r"=<id>_%s\n\n" % resigns for resigns in ["resign", "RESIGN", "Resign_", "rEsIgN", "resign_resign", "resigns"]),
+    *(
+        r"=<id>_%s\n\n" % resigns
+        for resigns in ["resign", "RESIGN", "Resign_", "rEsIgN", "resign_resign", "resigns"]
+    ),
     *(r"=<id>_%s\n\n" % passes for passes in ["pass", "PASS", "pAsS", "pass_pass", "<text>_#"]),
-    *(r"=<id>_%s\n\n" % vertex for vertex in ["<old>", "<old>", "<off>", "<fresh>", "a1", "Z25", "I5", "i1", "A0", "A01", "A26"]),
+    *(
+        r"=<id>_%s\n\n" % vertex
+        for vertex in [
+            "<old>",
+            "<old>",
+            "<off>",
+            "<fresh>",
+            "a1",
+            "Z25",
+            "I5",
+            "i1",
+            "A0",
+            "A01",
+            "A26",
+        ]
+    ),
     *(r"=<id>_%s\n\n" % words for words in ["A1_B2", r"A1\nB2", r"A1\x2c", "b_A1", r"_\t", "#"]),
     r"=<id>\n\n",
     r"=<id>A1\n\n",
@@ -126,18 +163,54 @@ REFUSED_AND_MORE = [
     (r"?<id>_no\n\n", "closes"),
 ]
 # The same, where the same read loses it.
-REFUSED_AND_LOST = [(r"?<id>_no\n\nhello", "on"), (r"?<id>_no\n\n=<id>\n\n", "on"), (r"\n?<id>\n\n_!", "on")]
+REFUSED_AND_LOST = [
+    (r"?<id>_no\n\nhello", "on"),
+    (r"?<id>_no\n\n=<id>\n\n", "on"),
+    (r"\n?<id>\n\n_!", "on"),
+]
 # To an undo, beside the endings.
 UNDOES = [
     *((refusal, "refuses") for refusal in REFUSALS),
-    *((template, "on") for template in [r"hello\n\n", r"<id>_ok\n\n", r"=<id-1>\n\n", r"=\n\n", r"?<id+1>_no\n\n", r"?_no\n\n"]),
-    *((template, "on") for template in [r"=<id>_as_you_like\n\n", r"\r\n_=00<id>\n\n", "<reply><reply>", "<reply>=", r"<8193*\n>"]),
+    *(
+        (template, "on")
+        for template in [
+            r"hello\n\n",
+            r"<id>_ok\n\n",
+            r"=<id-1>\n\n",
+            r"=\n\n",
+            r"?<id+1>_no\n\n",
+            r"?_no\n\n",
+        ]
+    ),
+    *(
+        (template, "on")
+        for template in [
+            r"=<id>_as_you_like\n\n",
+            r"\r\n_=00<id>\n\n",
+            "<reply><reply>",
+            "<reply>=",
+            r"<8193*\n>",
+        ]
+    ),
     SHUT,
 ]
 # To a handicap.
 STONES = [
-    *(r"=<id>_%s\n\n" % right for right in ["<reversed>", "<reversed>", "<lines>", "<lower>", r"_\t<text>_"]),
-    *(r"=<id>_%s\n\n" % wrong for wrong in ["<text>_A1", "<text>_<text>", "<text>_pass", r"<lines>\nC3", r"<text>\x2c", "<old>"]),
+    *(
+        r"=<id>_%s\n\n" % right
+        for right in ["<reversed>", "<reversed>", "<lines>", "<lower>", r"_\t<text>_"]
+    ),
+    *(
+        r"=<id>_%s\n\n" % wrong
+        for wrong in [
+            "<text>_A1",
+            "<text>_<text>",
+            "<text>_pass",
+            r"<lines>\nC3",
+            r"<text>\x2c",
+            "<old>",
+        ]
+    ),
     *(r"=<id>_%s\n\n" % other for other in ["C3_C3", "pass", "A1"]),
     r"=<id>\n\n",
     r"=<id><text>\n\n",
@@ -183,4 +256,9 @@ STYLES = [
     r"<reply>\n\n\n",
 ]
 # With bytes before and after each reply, as many as make the longer replies too long.
-LONG_STYLES = [r"<%d*\n><reply><%d*\n>", r"<%d*\x01><reply><%d*_>", r"<%d*_><reply><%d*\t>", r"<%d*\n><reply><%d*\x00>"]
+LONG_STYLES = [
+    r"<%d*\n><reply><%d*\n>",
+    r"<%d*\x01><reply><%d*_>",
+    r"<%d*_><reply><%d*\t>",
+    r"<%d*\n><reply><%d*\x00>",
+]

@@ -53,7 +53,11 @@ class Fault:
     def __init__(self, text):
         self.life, place, self.template, self.then = text.split("/")
         first, _, last = place[1:].partition("-")
-        self.places = [f"{place[0]}{number}" for number in range(int(first), int(last) + 1)] if last else [place]
+        self.places = (
+            [f"{place[0]}{number}" for number in range(int(first), int(last) + 1)]
+            if last
+            else [place]
+        )
 
 
 def read_plan(text):
@@ -71,8 +75,13 @@ def mixed(seed, number):
 
 def drawn_order(size, seed):
     """All points of a board as vertices, in an order that the seed draws."""
-    points = [b"%c%d" % (COLUMNS[column], row) for row in range(1, size + 1) for column in range(size)]
-    return [point for _, point in sorted((mixed(seed, place), point) for place, point in enumerate(points))]
+    points = [
+        b"%c%d" % (COLUMNS[column], row) for row in range(1, size + 1) for column in range(size)
+    ]
+    return [
+        point
+        for _, point in sorted((mixed(seed, place), point) for place, point in enumerate(points))
+    ]
 
 
 class Faulty:
@@ -85,10 +94,14 @@ class Faulty:
         self.seed, self.passes, self.style, self.life = seed, passes, style, life
         self.plan = read_plan(plan)
         self.size = 1
-        self.points = []  # of the board, in the order in which it plays there; None where that wasn't drawn yet
+        self.points = (
+            []
+        )  # of the board, in the order in which it plays there; None where that wasn't drawn yet
         self.named = []  # the vertices since the board was empty
         self.count = {}  # how many commands of each name there were, and of all
-        self.notes = "*" not in style  # is what it is sent next to be noted? Not where each reply may be too long.
+        self.notes = (
+            "*" not in style
+        )  # is what it is sent next to be noted? Not where each reply may be too long.
 
     def begins(self):
         """What it writes before its first command, and what it does then."""
@@ -100,7 +113,9 @@ class Faulty:
         words = line.split()
         number = words.pop(0) if words[0].isdigit() else b""
         fault = self.fault_at(self.places(words[0].decode()))
-        text = b"" if fault and fault.then in (FORGETS, REFUSES) else self.text_of(words[0], words[1:])
+        text = (
+            b"" if fault and fault.then in (FORGETS, REFUSES) else self.text_of(words[0], words[1:])
+        )
         if fault:
             return self.written(fault.template, number, text), fault.then
         return self.written(self.style, number, text), ENDS if words[0] == b"quit" else "on"
@@ -117,7 +132,9 @@ class Faulty:
     def fault_at(self, places):
         """The fault of the plan at one of these places, if there is one. From then on nothing is noted, unless it only refuses."""
         for fault in self.plan:
-            if fault.life in ("*", str(self.life)) and any(place in fault.places for place in places):
+            if fault.life in ("*", str(self.life)) and any(
+                place in fault.places for place in places
+            ):
                 self.notes = self.notes and fault.then == REFUSES
                 return fault
         return None
@@ -187,7 +204,9 @@ class Faulty:
             "lower": lambda: text.lower(),
             "lines": lambda: b"\n".join(text.split()),
             "reversed": lambda: b" ".join(reversed(text.split())),
-            "old": lambda: next((vertex for vertex in self.named if vertex not in (b"pass", text)), b"A1"),
+            "old": lambda: next(
+                (vertex for vertex in self.named if vertex not in (b"pass", text)), b"A1"
+            ),
             "fresh": lambda: self.fresh() or b"pass",
             "off": lambda: b"A%d" % (self.size + 1),
         }[name]()

@@ -61,7 +61,9 @@ class Process:
         self.has_ended = False
         self.has_closed = False  # its output
         self.has_shut = False  # its input
-        self.status = None  # with which it ends, where that isn't the engine's own; a signal is below zero
+        self.status = (
+            None  # with which it ends, where that isn't the engine's own; a signal is below zero
+        )
         self.writes = 0  # to it
         self.reading = 0  # the write of which it reads, or 0 before the first
         self.last = 0  # the one of which it read when it ended
@@ -176,7 +178,9 @@ def options(match):
 
 def command(match, notes):
     """The command of the program, whose engines note what they are sent in these files."""
-    sides = [[f"--{side}", " ".join(match.engines[side].command(str(notes[side])))] for side in SIDES]
+    sides = [
+        [f"--{side}", " ".join(match.engines[side].command(str(notes[side])))] for side in SIDES
+    ]
     return ["twogtp", *options(match), *sides[0], *sides[1]]
 
 
@@ -184,7 +188,12 @@ def play(match, timing=TIMINGS[0]):
     """What comes of a match."""
     wrong = mistake(match)
     if wrong:
-        return Result(2, b"", [[f"twogtp: {line}\n".encode()] for line in wrong[: 1 + match.why]], {BLACK: b"", WHITE: b""})
+        return Result(
+            2,
+            b"",
+            [[f"twogtp: {line}\n".encode()] for line in wrong[: 1 + match.why]],
+            {BLACK: b"", WHITE: b""},
+        )
     komi = values.read_komi(match.komi.encode())
     setup = Setup(match.size, komi, match.handicap, match.most_moves, match.restarts)
     starter = Starter(match.engines, timing)
@@ -210,7 +219,10 @@ def mistake(match):
     if values.read_komi(match.komi.encode()) is None:
         return "bad komi", KOMI_LIMITS
     if match.handicap and values.handicap_points(match.size, match.handicap) is None:
-        return "bad handicap", f"on size {match.size} the handicap may {allowed_handicaps(match.size)}"
+        return (
+            "bad handicap",
+            f"on size {match.size} the handicap may {allowed_handicaps(match.size)}",
+        )
     return None
 
 
@@ -242,7 +254,11 @@ def take_turn(controller, action, side, processes, starter):
             lose(controller, side, [why.not_started(*starter.reason(side))])
     elif action == SEND:
         if not processes[side].write(all_for(controller, side)):
-            lose(controller, side, broken(processes[side], why.WRITING_FAILED, controller.writes(side)[:1]))
+            lose(
+                controller,
+                side,
+                broken(processes[side], why.WRITING_FAILED, controller.writes(side)[:1]),
+            )
     else:
         hear(controller, side, processes[side])
 
@@ -308,20 +324,27 @@ def fits(result, wanted, may_owe_otherwise=False):
     if not isinstance(wanted, Result) or result._replace(errors=b"") != wanted._replace(errors=b""):
         return False
     lines = result.errors.splitlines(keepends=True)
-    return may_owe_otherwise or (len(lines) == len(wanted.errors) and all(map(list.__contains__, wanted.errors, lines)))
+    return may_owe_otherwise or (
+        len(lines) == len(wanted.errors) and all(map(list.__contains__, wanted.errors, lines))
+    )
 
 
 def has_too_many_lines(result, most_moves):
     """Does `--why` print more lines of a game than it may? Those of losses are at most the starts: the restarts of both sides and two
     more, which the game's own line has. Each move number has at most three retakes, counted from 1. So there are at most as many first
-    ones as moves are allowed, no more second ones than first ones, no more third ones than second ones, and no others."""
-    starts = {number: int(black) + int(white) + 2 for number, black, white in GAME_LINE.findall(result.output)}
+    ones as moves are allowed, no more second ones than first ones, no more third ones than second ones, and no others.
+    """
+    starts = {
+        number: int(black) + int(white) + 2
+        for number, black, white in GAME_LINE.findall(result.output)
+    }
     lines = Counter(WHY_LINE.findall(result.errors))
     retakes = {number: Counter() for number in lines}
     for number, count in RETAKE_LINE.findall(result.errors):
         retakes[number][int(count)] += 1
     return any(
-        count - sum(retakes[number].values()) > starts.get(number, 0) or not may_be_counted_so(retakes[number], most_moves)
+        count - sum(retakes[number].values()) > starts.get(number, 0)
+        or not may_be_counted_so(retakes[number], most_moves)
         for number, count in lines.items()
     )
 

@@ -41,7 +41,8 @@ def not_started(reason, program):
 
 def lost(unanswered, cause, data):
     """What is reported of a side that fails by what it wrote: with these commands unanswered, each a pair of its id and its text without a
-    newline, the oldest first; for this cause; and having written this since its last whole reply."""
+    newline, the oldest first; for this cause; and having written this since its last whole reply.
+    """
     return f"{owed(unanswered)}: {cause}; it wrote {quoted(data)}"
 
 
@@ -73,4 +74,6 @@ def quoted(data):
 
 def escaped(data):
     """These bytes as text of one line, from which they can be read again."""
-    return "".join(NAMED.get(byte) or (chr(byte) if 32 <= byte <= 126 else f"\\x{byte:02X}") for byte in data)
+    return "".join(
+        NAMED.get(byte) or (chr(byte) if 32 <= byte <= 126 else f"\\x{byte:02X}") for byte in data
+    )

@@ -66,7 +66,12 @@ def timed(place, seconds=2):
 
 def playing(vertices):
     """An engine that plays these vertices."""
-    return passing(",".join(rf"1/g{number}/=<id>_{vertex}\n\n/on" for number, vertex in enumerate(vertices.split(), 1)))
+    return passing(
+        ",".join(
+            rf"1/g{number}/=<id>_{vertex}\n\n/on"
+            for number, vertex in enumerate(vertices.split(), 1)
+        )
+    )
 
 
 def refusing(*places):
@@ -77,16 +82,48 @@ def refusing(*places):
 # ---- rows
 
 
-def match(black, white, size=9, komi="6.5", handicap=0, games=1, most_moves=1000, restarts=1, record=False, show=False, why=False):
+def match(
+    black,
+    white,
+    size=9,
+    komi="6.5",
+    handicap=0,
+    games=1,
+    most_moves=1000,
+    restarts=1,
+    record=False,
+    show=False,
+    why=False,
+):
     """A match, with some of the values that the program takes where nothing is said."""
-    return Match(size, komi, handicap, games, most_moves, restarts, record, show, why, {BLACK: black, WHITE: white})
+    return Match(
+        size,
+        komi,
+        handicap,
+        games,
+        most_moves,
+        restarts,
+        record,
+        show,
+        why,
+        {BLACK: black, WHITE: white},
+    )
 
 
 def game(line, black, white, *errors, why=False, sent=None, **values):
     """A match of one game that ends with this line. Where something is reported, it is played with `--why`."""
-    prefixed = [tuple(f"twogtp: game 1: {text}\n" for text in ([it] if isinstance(it, str) else it)) for it in errors]
+    prefixed = [
+        tuple(f"twogtp: game 1: {text}\n" for text in ([it] if isinstance(it, str) else it))
+        for it in errors
+    ]
     status = 1 if line.startswith(("abandoned", "unfit")) else 0
-    return Row(match(black, white, why=why or bool(errors), **values), status, f"game 1: {line}\n", prefixed, sent or {})
+    return Row(
+        match(black, white, why=why or bool(errors), **values),
+        status,
+        f"game 1: {line}\n",
+        prefixed,
+        sent or {},
+    )
 
 
 def both_sides(engine, other, black, white, **values):
@@ -100,10 +137,25 @@ def whole_games():
     yield game(PASSED, FIRST, FIRST, size=1)
     # Komi below zero is Black's: nobody has a point of the board, and so Black wins by it. The score comes before the limit of moves.
     yield game("B+3.5 moves 2 restarts 0 0", FIRST, FIRST, size=1, komi="-3.5")
-    yield game("B+999999999.5 moves 2 restarts 0 0", FIRST, FIRST, size=1, komi="-999999999.5", most_moves=2)
+    yield game(
+        "B+999999999.5 moves 2 restarts 0 0",
+        FIRST,
+        FIRST,
+        size=1,
+        komi="-999999999.5",
+        most_moves=2,
+    )
     yield game("0 moves 2 restarts 0 0\npass pass", passing(), book(""), komi="0", record=True)
     yield game("B+74.5 moves 2 restarts 0 0", book(""), book(""), handicap=2)
-    yield game("limit moves 2 restarts 0 0\npass B2", passing(), playing("B2"), size=2, komi="0", most_moves=2, record=True)
+    yield game(
+        "limit moves 2 restarts 0 0\npass B2",
+        passing(),
+        playing("B2"),
+        size=2,
+        komi="0",
+        most_moves=2,
+        record=True,
+    )
     # What is played where nothing is said: the board is empty, so White wins by the komi.
     yield game(f"{PASSED}\n{EMPTY_19}", book(""), book(""), size=19, restarts=2, show=True)
     yield game(PASSED, book(""), book(""), size=25, most_moves=2000, restarts=1000)
@@ -111,14 +163,18 @@ def whole_games():
     for record, show in ((True, True), (True, False), (False, True), (False, False)):
         ended = "limit moves 10 restarts 0 0" + record * TWO_RECORD + show * TWO_BOARD
         yield game(ended, FIRST, FIRST, record=record, show=show, **SMALL)
-    yield game(f"B+8.5 moves 7 restarts 0 0{WALL_BOARD}", wall(), wall(), size=3, komi="0.5", show=True)
+    yield game(
+        f"B+8.5 moves 7 restarts 0 0{WALL_BOARD}", wall(), wall(), size=3, komi="0.5", show=True
+    )
     for fault, restarts in (("none", 0), ("stop:5", 1)):
         line = f"B+4.5 moves 15 restarts {restarts} 0{DEMO_GAME}"
         yield game(line, book(DEMO, fault), book(DEMO), size=5, komi="0.5", record=True, show=True)
     # A record without moves is an empty line.
     yield game("W+R moves 0 restarts 0 0\n", book("resign"), FIRST, record=True)
     yield game("B+R moves 1 restarts 0 0\nA1", FIRST, book(",resign"), record=True)
-    yield Row(match(FIRST, FIRST, size=1, games=2), 0, f"game 1: {PASSED}\ngame 2: {PASSED}\n", [], {})
+    yield Row(
+        match(FIRST, FIRST, size=1, games=2), 0, f"game 1: {PASSED}\ngame 2: {PASSED}\n", [], {}
+    )
     line = "abandoned black moves 0 restarts 0 0\n"
     given_up = match(Other("no_such_program"), FIRST, games=2, restarts=0, record=True)
     yield Row(given_up, 1, f"game 1: {line}\ngame 2: {line}\n", [], {})
@@ -129,7 +185,10 @@ TWO_RECORD = "\nA1 B1 A2 B2 A1 A2 A1 B1 A2 B2"
 TWO_BOARD = "\n. O 2\n. O 1\nA B\ncaptures B 3 W 5\n"
 WALL_RECORD = "\nB1 pass B2 pass B3 pass pass"
 WALL_BOARD = "\n. X . 3\n. X . 2\n. X . 1\nA B C\ncaptures B 0 W 0\n"
-EMPTY_19 = "".join(f"{19 * '. '}{row}\n" for row in range(19, 0, -1)) + "A B C D E F G H J K L M N O P Q R S T\ncaptures B 0 W 0\n"
+EMPTY_19 = (
+    "".join(f"{19 * '. '}{row}\n" for row in range(19, 0, -1))
+    + "A B C D E F G H J K L M N O P Q R S T\ncaptures B 0 W 0\n"
+)
 DEMO = "C3,D3,C2,D2,C4,D4,C1,A1,B1,D1,A2,D5,C5"
 DEMO_GAME = """
 C3 D3 C2 D2 C4 D4 C1 A1 B1 D1 A2 D5 C5 pass pass
@@ -158,7 +217,9 @@ captures B 0 W 0
 """
 
 
-def walls(black, white, restarts, most=3, line="B+8.5 moves 7", moves=WALL_RECORD, board=WALL_BOARD):
+def walls(
+    black, white, restarts, most=3, line="B+8.5 moves 7", moves=WALL_RECORD, board=WALL_BOARD
+):
     """The game of both walls, in which Black moves at 1, 3, 5 and 7."""
     ended = f"{line} restarts {restarts}{moves}{board}"
     return game(ended, black, white, size=3, komi="0.5", restarts=most, record=True, show=True)
@@ -172,8 +233,18 @@ def broken_games():
         yield walls(wall(fault), wall(), "3 0")
         yield walls(wall(), wall(fault), "0 2")
         yield walls(wall(fault), wall(fault), "3 2")
-        yield walls(wall(fault), wall(), "2 0", 2, "abandoned black moves 6", WALL_RECORD[: -len(" pass")])
-    yield walls(wall("stop:1"), wall(), "2 0", 2, "abandoned black moves 0", "\n", WALL_BOARD.replace("X", "."))
+        yield walls(
+            wall(fault), wall(), "2 0", 2, "abandoned black moves 6", WALL_RECORD[: -len(" pass")]
+        )
+    yield walls(
+        wall("stop:1"),
+        wall(),
+        "2 0",
+        2,
+        "abandoned black moves 0",
+        "\n",
+        WALL_BOARD.replace("X", "."),
+    )
     yield walls(wall("stop:5"), wall(), "0 0")  # which doesn't come
     # Black's third genmove is for move 5. A new engine is asked for move 5, or is sent it where it was heard whole. The reply to its
     # fourth genmove ends the game, so nobody needs Black any longer.
@@ -181,18 +252,37 @@ def broken_games():
         yield walls(wall(fault), wall(), f"{restarts} 0")
     # With captures: of five genmoves the fourth is for move 7 of Black and move 8 of White; a new engine is asked for two more or one.
     game_of_two = {**SMALL, "record": True, "show": True}
-    yield game(f"limit moves 10 restarts 1 0{TWO_RECORD}{TWO_BOARD}", Ours("first", fault="stop:4"), FIRST, **game_of_two)
-    yield game(f"limit moves 10 restarts 0 1{TWO_RECORD}{TWO_BOARD}", FIRST, Ours("first", fault="cut:4:3"), **game_of_two)
+    yield game(
+        f"limit moves 10 restarts 1 0{TWO_RECORD}{TWO_BOARD}",
+        Ours("first", fault="stop:4"),
+        FIRST,
+        **game_of_two,
+    )
+    yield game(
+        f"limit moves 10 restarts 0 1{TWO_RECORD}{TWO_BOARD}",
+        FIRST,
+        Ours("first", fault="cut:4:3"),
+        **game_of_two,
+    )
     # With handicap.
     stones = {"handicap": 2, "record": True, "show": True}
-    yield game(f"W+6.5 moves 5 restarts 0 1{STONES_GAME}", book(""), book("E5,,E4", "stop:3"), **stones)
-    yield game(f"W+6.5 moves 5 restarts 1 0{STONES_GAME}", book("", "stop:2"), book("E5,,E4"), **stones)
+    yield game(
+        f"W+6.5 moves 5 restarts 0 1{STONES_GAME}", book(""), book("E5,,E4", "stop:3"), **stones
+    )
+    yield game(
+        f"W+6.5 moves 5 restarts 1 0{STONES_GAME}", book("", "stop:2"), book("E5,,E4"), **stones
+    )
 
 
 def going_down():
     """Engines that go down."""
     for name in ("no_such_program", "/", "true", "echo hello", "cat"):
-        yield from both_sides(Other(name), FIRST, "abandoned black moves 0 restarts 1 0", "abandoned white moves 0 restarts 0 1")
+        yield from both_sides(
+            Other(name),
+            FIRST,
+            "abandoned black moves 0 restarts 1 0",
+            "abandoned white moves 0 restarts 0 1",
+        )
     yield game("abandoned white moves 0 restarts 0 2", FIRST, Other("no_such_program"), restarts=2)
     # Their first reply, or the second, is none. They are started again, and then given up.
     given_up = [
@@ -205,7 +295,12 @@ def going_down():
     ]  # fmt: skip
     for plan in given_up:
         engine = passing(f"*/{plan}")
-        yield from both_sides(engine, FIRST, "abandoned black moves 0 restarts 1 0", "abandoned white moves 0 restarts 0 1")
+        yield from both_sides(
+            engine,
+            FIRST,
+            "abandoned black moves 0 restarts 1 0",
+            "abandoned white moves 0 restarts 0 1",
+        )
     yield game(PASSED, passing("1/c1/<fill:8192:_><reply>/on"), passing())
     # Black is brought into the game before White is, so it is Black that is given up. White was started all the same.
     for plan in ("*/0//ends", r"*/0/<1000*\n>/floods"):
@@ -213,16 +308,25 @@ def going_down():
     # At a move, again and again; before White is asked, Black has made one.
     for plan in ("g1//ends", "g1/<reply:5>/ends", r"g1/=<id>_pass\n/ends", "g1//closes"):
         engine = passing(f"*/{plan}")
-        yield from both_sides(engine, FIRST, "abandoned black moves 0 restarts 1 0", "abandoned white moves 1 restarts 0 1")
+        yield from both_sides(
+            engine,
+            FIRST,
+            "abandoned black moves 0 restarts 1 0",
+            "abandoned white moves 1 restarts 0 1",
+        )
     # The first reply is a move, the second puts the side down. As Black it passes, White plays A1, it passes as a new process, and is
     # given up. As White it passes after Black's A1 and after Black's second move. Where the other side passes too, the game is over
     # before Black would be needed again, and with White's first reply.
     twice = passing("*/g1/<reply><reply>/on")
-    yield from both_sides(twice, FIRST, "abandoned black moves 3 restarts 1 0", "abandoned white moves 4 restarts 0 1")
+    yield from both_sides(
+        twice, FIRST, "abandoned black moves 3 restarts 1 0", "abandoned white moves 4 restarts 0 1"
+    )
     yield from both_sides(twice, passing(), "W+6.5 moves 2 restarts 1 0", PASSED)
     # The write of White's move fails. Where White passes too, the game is over before.
     shut = passing("*/g1/<reply>/shuts")
-    yield from both_sides(shut, FIRST, "abandoned black moves 4 restarts 1 0", "abandoned white moves 5 restarts 0 1")
+    yield from both_sides(
+        shut, FIRST, "abandoned black moves 4 restarts 1 0", "abandoned white moves 5 restarts 0 1"
+    )
     yield game(PASSED, shut, passing())
     # It replies to the move that it is sent as it did to the genmove before: as Black after the moves 2 and 4, as White after 3 and 5.
     old = r"=<id-1>\n\n/on"
@@ -231,7 +335,9 @@ def going_down():
     # It goes down when it is sent a move, and is sent all moves again. As Black it has passed, and White has played A1; then its own pass
     # is the first move that it is sent.
     half = passing("*/p1/<reply:2>/ends")
-    yield from both_sides(half, FIRST, "abandoned black moves 2 restarts 1 0", "abandoned white moves 1 restarts 0 1")
+    yield from both_sides(
+        half, FIRST, "abandoned black moves 2 restarts 1 0", "abandoned white moves 1 restarts 0 1"
+    )
 
 
 def replies():
@@ -251,22 +357,46 @@ def replies():
         ("=<id>_rEsIgN_", "R"),
     ]:
         engine = passing(rf"1/g1/{reply}\n\n/on")
-        yield from both_sides(engine, FIRST, f"W+{end} moves 0 restarts 0 0", f"B+{end} moves 1 restarts 0 0", size=2)
+        yield from both_sides(
+            engine, FIRST, f"W+{end} moves 0 restarts 0 0", f"B+{end} moves 1 restarts 0 0", size=2
+        )
     # A1 is legal once. As Black it comes again after White's move, as White after Black's A1.
     always = passing(r"1/g1-2/=<id>_A1\n\n/on")
-    yield from both_sides(always, FIRST, "W+F(illegal move) moves 2 restarts 0 0", "B+F(illegal move) moves 1 restarts 0 0")
+    yield from both_sides(
+        always,
+        FIRST,
+        "W+F(illegal move) moves 2 restarts 0 0",
+        "B+F(illegal move) moves 1 restarts 0 0",
+    )
     for reply in ("=00<id>_pass", r"\r\n_\n=<id>\t_PaSs_\r", "=<id>pass", r"\x01=<id>_pa\x7fss"):
         yield game(PASSED, passing(rf"1/g1/{reply}\n\n/on"), passing(), size=2)
     for reply in (r"=<id>_\nA1", r"=<id>\nA1", "=00<id>_a1"):
-        yield game("limit moves 1 restarts 0 0\nA1", passing(rf"1/g1/{reply}\n\n/on"), passing(), size=2, most_moves=1, record=True)
+        yield game(
+            "limit moves 1 restarts 0 0\nA1",
+            passing(rf"1/g1/{reply}\n\n/on"),
+            passing(),
+            size=2,
+            most_moves=1,
+            record=True,
+        )
     # To the script. A handicap has to be answered by its points.
     no = passing(f"1/c1/{NO}/on")
-    yield from both_sides(no, FIRST, "unfit black moves 0 restarts 0 0", "unfit white moves 0 restarts 0 0", size=2)
+    yield from both_sides(
+        no, FIRST, "unfit black moves 0 restarts 0 0", "unfit white moves 0 restarts 0 0", size=2
+    )
     yield game(PASSED, passing(r"1/c1/=001_as_you_like\n\n/on"), passing(), size=2)
     for reply in ("=<id>_C3_C3", "=<id>", "=<id>_C7_G3"):
         engine = passing(rf"1/h/{reply}\n\n/on")
-        yield from both_sides(engine, passing(), "unfit black moves 0 restarts 0 0", "unfit white moves 0 restarts 0 0", handicap=2)
-    yield game("B+74.5 moves 2 restarts 0 0", passing(), passing(r"1/h/=<id>_g7\tC3\n\n/on"), handicap=2)
+        yield from both_sides(
+            engine,
+            passing(),
+            "unfit black moves 0 restarts 0 0",
+            "unfit white moves 0 restarts 0 0",
+            handicap=2,
+        )
+    yield game(
+        "B+74.5 moves 2 restarts 0 0", passing(), passing(r"1/h/=<id>_g7\tC3\n\n/on"), handicap=2
+    )
     # All replies: CR before LF; and what others seldom do, each byte by itself: blank lines before a reply, texts where none is due, ids
     # with zeros, tabs, the stones in another order.
     yield game(PASSED, passing(style=r"=<id>_<text>\r\n\r\n"), passing())
@@ -280,7 +410,16 @@ def replies():
 def at_the_end():
     """Engines that are asked to quit: the game is over by two passes, and stays what it is."""
     # It ends without a reply, or late; closes its output; replies and doesn't end, or is stopped; writes what is no reply, or without end.
-    for plan in ("/ends", "/late", "<reply>/late", "/closes", "<reply>/shuts", "<reply>/ends:-19", r"hello\n/on", r"<1000*\n>/floods"):
+    for plan in (
+        "/ends",
+        "/late",
+        "<reply>/late",
+        "/closes",
+        "<reply>/shuts",
+        "<reply>/ends:-19",
+        r"hello\n/on",
+        r"<1000*\n>/floods",
+    ):
         yield from both_sides(passing(f"*/q/{plan}"), book(""), PASSED, PASSED)
 
 
@@ -296,14 +435,30 @@ def waits():
     ):
         yield Row(match(engine, FIRST), WAITS, "", [], {BLACK: SETUP})
     asked_white = f"{SETUP}4 play b pass\n5 genmove w\n"
-    yield Row(match(passing("*/g1//on"), passing()), WAITS, "", [], {BLACK: f"{SETUP}4 genmove b\n"})
+    yield Row(
+        match(passing("*/g1//on"), passing()), WAITS, "", [], {BLACK: f"{SETUP}4 genmove b\n"}
+    )
     yield Row(match(passing(), passing("*/g1//on")), WAITS, "", [], {WHITE: asked_white})
     # What is written of a game is there while an engine is asked to quit, and while the next game is played.
     line = f"game 1: {PASSED}\n"
-    yield Row(match(passing("*/q//on"), passing()), WAITS, line, [], {BLACK: f"{SETUP}4 genmove b\nquit\n"})
-    yield Row(match(passing(), passing("*/q//on")), WAITS, line, [], {WHITE: f"{asked_white}quit\n"})
+    yield Row(
+        match(passing("*/q//on"), passing()),
+        WAITS,
+        line,
+        [],
+        {BLACK: f"{SETUP}4 genmove b\nquit\n"},
+    )
+    yield Row(
+        match(passing(), passing("*/q//on")), WAITS, line, [], {WHITE: f"{asked_white}quit\n"}
+    )
     later = passing("2/c1-9//refuses")
-    yield Row(match(later, book(""), games=2), WAITS, line, [], {BLACK: f"{SETUP}4 genmove b\nquit\n{SETUP}"})
+    yield Row(
+        match(later, book(""), games=2),
+        WAITS,
+        line,
+        [],
+        {BLACK: f"{SETUP}4 genmove b\nquit\n{SETUP}"},
+    )
 
 
 def behind_timeout():
@@ -324,7 +479,9 @@ def refusals():
     for places in (["1/p1"], ["1/p1-2"], ["1/p1-3"], ["1/p2-4"], ["1/p1-3", "1/p5-7", "1/p9-11"]):
         yield game("B+4 moves 7 restarts 0 0", FIRST, refusing(*places), **SMALL)
     yield game("B+F(refused play) moves 1 restarts 0 0", FIRST, refusing("1/p1-4"), **SMALL)
-    yield game("B+F(refused play) moves 3 restarts 0 0", FIRST, refusing("1/p4-7", "1/p1-2"), **SMALL)
+    yield game(
+        "B+F(refused play) moves 3 restarts 0 0", FIRST, refusing("1/p4-7", "1/p1-2"), **SMALL
+    )
     # It plays A1, is asked to take it back, and plays it once more: nothing else is on the board.
     shown = "B+F(refused play) moves 1 restarts 0 0\nA1\n. . 2\nX . 1\nA B\ncaptures B 0 W 0\n"
     yield game(shown, FIRST, refusing("1/p1-2000"), record=True, show=True, **SMALL)
@@ -332,10 +489,20 @@ def refusals():
     yield game("W+F(refused play) moves 2 restarts 0 0", refusing("1/p1-2000"), FIRST)
     # What both are sent.
     asked = "".join(f"{number} genmove b\n{number + 1} undo\n" for number in (4, 6, 8))
-    sent = {BLACK: f"{SETUP}{asked}10 genmove b\nquit\n", WHITE: SETUP + "".join(f"{number} play b pass\n" for number in (4, 5, 6, 7))}
+    sent = {
+        BLACK: f"{SETUP}{asked}10 genmove b\nquit\n",
+        WHITE: SETUP + "".join(f"{number} play b pass\n" for number in (4, 5, 6, 7)),
+    }
     yield game("B+F(refused play) moves 1 restarts 0 0", passing(), refusing("1/p1-4"), sent=sent)
-    asked = "4 genmove b\n5 play w C3\n6 genmove b\n" + "".join(f"{number} play w D4\n" for number in (7, 8, 9, 10))
-    yield game("W+F(refused play) moves 4 restarts 0 0", refusing("1/p2-5"), book(",C3,,D4"), sent={BLACK: SETUP + asked})
+    asked = "4 genmove b\n5 play w C3\n6 genmove b\n" + "".join(
+        f"{number} play w D4\n" for number in (7, 8, 9, 10)
+    )
+    yield game(
+        "W+F(refused play) moves 4 restarts 0 0",
+        refusing("1/p2-5"),
+        book(",C3,,D4"),
+        sent={BLACK: SETUP + asked},
+    )
     # It takes the move in the end: it has passed, is sent C3 and passes, and then the other side passes, which has the whole board.
     for places in ("1/p1", "1/p1-3"):
         yield game("W+87.5 moves 4 restarts 0 0", refusing(places), book(",C3"))
@@ -346,24 +513,66 @@ def refusals():
     yield game(shown, FIRST, POSITIONAL_FIRST, record=True, show=True, **SMALL)
     line = 'white: 1 unanswered, "{0} play b A1": the play was refused{1}; it wrote "?{0} illegal move\\n\\n"'
     retakes = [line.format(9 + count, f" (retake {count} of 3)") for count in (1, 2, 3)]
-    yield game("B+F(refused play) moves 7 restarts 0 0", FIRST, POSITIONAL_FIRST, *retakes, line.format(13, ""), **SMALL)
+    yield game(
+        "B+F(refused play) moves 7 restarts 0 0",
+        FIRST,
+        POSITIONAL_FIRST,
+        *retakes,
+        line.format(13, ""),
+        **SMALL,
+    )
     for white in (FIRST, POSITIONAL_FIRST):
         shown = "W+4 moves 8 restarts 0 0\nO O 2\n. O 1\nA B\ncaptures B 0 W 3\n"
         yield game(shown, POSITIONAL_FIRST, white, show=True, **SMALL)
     # The count of a number is kept when the side that refuses is started again, and when it takes the move in between.
-    yield game("B+F(refused play) moves 1 restarts 0 1", FIRST, passing(f"*/p1-2/{NO}/on,*/p3//ends"), **SMALL)
-    yield game("B+4 moves 7 restarts 0 1", FIRST, passing(f"1/p1-2/{NO}/on,1/p3//ends,2/p1/{NO}/on"), **SMALL)
-    yield game("B+F(refused play) moves 1 restarts 0 1", FIRST, passing(f"1/p1-3/{NO}/on,1/g1//ends,2/p1/{NO}/on"), **SMALL)
+    yield game(
+        "B+F(refused play) moves 1 restarts 0 1",
+        FIRST,
+        passing(f"*/p1-2/{NO}/on,*/p3//ends"),
+        **SMALL,
+    )
+    yield game(
+        "B+4 moves 7 restarts 0 1",
+        FIRST,
+        passing(f"1/p1-2/{NO}/on,1/p3//ends,2/p1/{NO}/on"),
+        **SMALL,
+    )
+    yield game(
+        "B+F(refused play) moves 1 restarts 0 1",
+        FIRST,
+        passing(f"1/p1-3/{NO}/on,1/g1//ends,2/p1/{NO}/on"),
+        **SMALL,
+    )
     # When it is sent the game again, it may refuse neither an earlier move of the other side nor one of its own.
-    yield game("B+F(refused play) moves 3 restarts 0 1", FIRST, passing(f"1/g2//ends,2/p1/{NO}/on"), **SMALL)
-    yield game("B+F(refused play) moves 3 restarts 0 1", FIRST, passing(f"1/g2//ends,2/p2/{NO}/on"), **SMALL)
+    yield game(
+        "B+F(refused play) moves 3 restarts 0 1",
+        FIRST,
+        passing(f"1/g2//ends,2/p1/{NO}/on"),
+        **SMALL,
+    )
+    yield game(
+        "B+F(refused play) moves 3 restarts 0 1",
+        FIRST,
+        passing(f"1/g2//ends,2/p2/{NO}/on"),
+        **SMALL,
+    )
     yield game("B+4 moves 7 restarts 0 1", FIRST, passing(f"1/g2//ends,2/p3/{NO}/on"), **SMALL)
-    yield game("W+F(refused play) moves 1 restarts 1 0", passing(f"1/g1/<reply><reply>/on,2/p1/{NO}/on"), FIRST, **SMALL)
+    yield game(
+        "W+F(refused play) moves 1 restarts 1 0",
+        passing(f"1/g1/<reply><reply>/on,2/p1/{NO}/on"),
+        FIRST,
+        **SMALL,
+    )
     # The side that made the move fails to take it back: the side that refused it forfeits.
     for reply in ("?<id>_no", "?<id>", "?0<id>_no"):
         undoes = passing(rf"1/u1/{reply}\n\n/on")
         yield game("B+F(refused play) moves 1 restarts 0 0", undoes, refusing("1/p1"), **SMALL)
-    yield game("W+F(refused play) moves 2 restarts 0 0", refusing("1/p1"), Planned(1, 0, "<reply>", f"1/u1/{NO}/on"), **SMALL)
+    yield game(
+        "W+F(refused play) moves 2 restarts 0 0",
+        refusing("1/p1"),
+        Planned(1, 0, "<reply>", f"1/u1/{NO}/on"),
+        **SMALL,
+    )
 
 
 def undoes_that_are_not_heard():
@@ -373,12 +582,21 @@ def undoes_that_are_not_heard():
         reply = plan + r"\n\n" if plan else plan
         then = "on" if plan else "ends"
         # The move leaves the record. Started again, Black passes again, and White takes it.
-        yield game("0 moves 2 restarts 1 0", passing(f"1/u1/{reply}/{then}"), refusing("1/p1"), **SMALL)
-        yield game("abandoned black moves 0 restarts 1 0", passing(f"*/u1/{reply}/{then}"), refusing("1/p1-2"), **SMALL)
+        yield game(
+            "0 moves 2 restarts 1 0", passing(f"1/u1/{reply}/{then}"), refusing("1/p1"), **SMALL
+        )
+        yield game(
+            "abandoned black moves 0 restarts 1 0",
+            passing(f"*/u1/{reply}/{then}"),
+            refusing("1/p1-2"),
+            **SMALL,
+        )
         white = Planned(1, 0, "<reply>", f"*/u1/{reply}/{then}")
         yield game("abandoned white moves 1 restarts 0 1", refusing("1/p1-2"), white, **SMALL)
     yield game("0 moves 2 restarts 1 0", passing("1/u1/<reply>/ends"), refusing("1/p1"), **SMALL)
-    yield game("0 moves 2 restarts 1 0", passing("1/u1/<reply><reply>/on"), refusing("1/p1"), **SMALL)
+    yield game(
+        "0 moves 2 restarts 1 0", passing("1/u1/<reply><reply>/on"), refusing("1/p1"), **SMALL
+    )
     # The move is taken when it comes again. For its next move that engine plays it too, which is illegal.
     white = passing(r"*/g1-9/=<id>_C3\n\n/on,*/u1//ends")
     yield game("B+F(illegal move) moves 3 restarts 0 1", refusing("1/p1"), white)
@@ -388,15 +606,24 @@ def undoes_that_are_not_heard():
     yield game("0 moves 2 restarts 0 1", passing(), falls, **SMALL)
     yield game("abandoned white moves 1 restarts 0 0", passing(), falls, restarts=0, **SMALL)
     yield game("B+F(refused play) moves 1 restarts 0 0", passing(f"1/u1/{NO}/on"), falls, **SMALL)
-    yield game("abandoned black moves 0 restarts 1 0", passing("*/u1//ends"), passing(f"1/p1/{NO}/on,1/p2/{NO}hello/on"), **SMALL)
+    yield game(
+        "abandoned black moves 0 restarts 1 0",
+        passing("*/u1//ends"),
+        passing(f"1/p1/{NO}/on,1/p2/{NO}hello/on"),
+        **SMALL,
+    )
     yield game("0 moves 2 restarts 1 1", passing("1/u1//ends"), falls, **SMALL)
     # White goes down after each of its moves. Black is sent the move before White's next engine is sent the game, so nothing
     # has to be taken back; the fourth refusal is a forfeit all the same.
     white = Planned(1, 0, "<reply>", "*/g1/<reply><reply>/on")
-    yield game("W+F(refused play) moves 2 restarts 0 4", refusing("1/p1-4"), white, restarts=4, **SMALL)
+    yield game(
+        "W+F(refused play) moves 2 restarts 0 4", refusing("1/p1-4"), white, restarts=4, **SMALL
+    )
     # Black's next engine is sent the game first, so it has the move, and takes it back; then it makes its own, and goes down.
     black = passing("*/g1/<reply><reply>/on")
-    yield game("B+F(refused play) moves 1 restarts 4 0", black, refusing("1/p1-4"), restarts=4, **SMALL)
+    yield game(
+        "B+F(refused play) moves 1 restarts 4 0", black, refusing("1/p1-4"), restarts=4, **SMALL
+    )
 
 
 def wrote(text, *following):
@@ -411,7 +638,10 @@ def answers(first, last):
 
 def lost(owed, cause, texts, side="black"):
     """The line of a side that is lost, owes this and wrote this, or one of these texts."""
-    return [f'{side}: {owed}: {cause}; it wrote "{text}"' for text in ([texts] if isinstance(texts, str) else texts)]
+    return [
+        f'{side}: {owed}: {cause}; it wrote "{text}"'
+        for text in ([texts] if isinstance(texts, str) else texts)
+    ]
 
 
 def unread(owed, how):
@@ -425,16 +655,20 @@ def starts():
     for name, reason in (("no_such_program", "no such file"), ("/", "not allowed")):
         for white in (FIRST, Other(name)):
             reported = f'black: not started: {reason}: "{name}"'
-            yield game("abandoned black moves 0 restarts 1 0", Other(name), white, reported, reported)
+            yield game(
+                "abandoned black moves 0 restarts 1 0", Other(name), white, reported, reported
+            )
         reported = f'white: not started: {reason}: "{name}"'
         yield game("abandoned white moves 0 restarts 0 0", FIRST, Other(name), reported, restarts=0)
     # The first word of a command is the program, whatever is in it but spaces; 80 bytes of it are shown.
     for command, shown in [
-        (ODD_PROGRAM, r'no_such\t\"program\"\\\n--mode\xC3\xA9'),
+        (ODD_PROGRAM, r"no_such\t\"program\"\\\n--mode\xC3\xA9"),
         (LONG_PROGRAM, "./no_such_program" + 63 * "x"),
     ]:
         reported = f'black: not started: no such file: "{shown}"'
-        yield game("abandoned black moves 0 restarts 0 0", Other(command), FIRST, reported, restarts=0)
+        yield game(
+            "abandoned black moves 0 restarts 0 0", Other(command), FIRST, reported, restarts=0
+        )
 
 
 def moves():
@@ -453,17 +687,54 @@ def moves():
         ("=<id>_C1", "illegal move", "an illegal move: off the board", "=4 C1"),
     ]:
         black = passing(rf"1/g1/{reply}\n\n/on")
-        yield game(f"W+F({verdict}) moves 0 restarts 0 0", black, FIRST, lost(GENMOVE, cause, rf"{shown}\n\n"), **SMALL)
-    yield game("W+R moves 0 restarts 0 0", passing(r"1/g1/=<id>_resign\n\n/on"), FIRST, why=True, **SMALL)
+        yield game(
+            f"W+F({verdict}) moves 0 restarts 0 0",
+            black,
+            FIRST,
+            lost(GENMOVE, cause, rf"{shown}\n\n"),
+            **SMALL,
+        )
+    yield game(
+        "W+R moves 0 restarts 0 0", passing(r"1/g1/=<id>_resign\n\n/on"), FIRST, why=True, **SMALL
+    )
     reported = lost(GENMOVE, NO_POINT, f"=4 {77 * 'x'}")  # 80 bytes
-    yield game("W+F(no vertex) moves 0 restarts 0 0", passing(r"1/g1/=<id>_<90*x>\n\n/on"), FIRST, reported, **SMALL)
-    reported = lost('1 unanswered, "5 genmove w"', "an illegal move: the point is occupied", r"=5 A1\n\n", "white")
-    yield game("B+F(illegal move) moves 1 restarts 0 0", FIRST, passing(r"1/g1/=<id>_A1\n\n/on"), reported, **SMALL)
+    yield game(
+        "W+F(no vertex) moves 0 restarts 0 0",
+        passing(r"1/g1/=<id>_<90*x>\n\n/on"),
+        FIRST,
+        reported,
+        **SMALL,
+    )
+    reported = lost(
+        '1 unanswered, "5 genmove w"',
+        "an illegal move: the point is occupied",
+        r"=5 A1\n\n",
+        "white",
+    )
+    yield game(
+        "B+F(illegal move) moves 1 restarts 0 0",
+        FIRST,
+        passing(r"1/g1/=<id>_A1\n\n/on"),
+        reported,
+        **SMALL,
+    )
     reported = lost('1 unanswered, "10 genmove b"', "an illegal move: suicide", r"=10 B2\n\n")
-    yield game("W+F(illegal move) moves 6 restarts 0 0", playing("A1 B1 A2 B2"), passing(), reported, **SMALL)
+    yield game(
+        "W+F(illegal move) moves 6 restarts 0 0",
+        playing("A1 B1 A2 B2"),
+        passing(),
+        reported,
+        **SMALL,
+    )
     # White's A1 takes B1.
     reported = lost('1 unanswered, "10 genmove b"', "an illegal move: ko", r"=10 B1\n\n")
-    yield game("W+F(illegal move) moves 6 restarts 0 0", playing("A2 B1 pass B1"), playing("B2 C1 A1"), reported, size=3)
+    yield game(
+        "W+F(illegal move) moves 6 restarts 0 0",
+        playing("A2 B1 pass B1"),
+        playing("B2 C1 A1"),
+        reported,
+        size=3,
+    )
 
 
 def no_replies():
@@ -472,7 +743,12 @@ def no_replies():
     # last command that was sent, after which nothing is written.
     for plan, owes, cause, shown in [
         ("c3/hello", '1 unanswered, "3 clear_board"', NO_REPLY, "hello"),
-        (r"c3/Welcome_to\tMyGo_1.0\r\n\n", '1 unanswered, "3 clear_board"', NO_REPLY, r"Welcome to\tMyGo 1.0\r\n\n"),
+        (
+            r"c3/Welcome_to\tMyGo_1.0\r\n\n",
+            '1 unanswered, "3 clear_board"',
+            NO_REPLY,
+            r"Welcome to\tMyGo 1.0\r\n\n",
+        ),
         (r"c3/\xff<reply>", '1 unanswered, "3 clear_board"', NO_REPLY, r"\xFF=3\n\n"),
         (r"g1/\n\n_<90*x>", GENMOVE, NO_REPLY, rf"\n\n {77 * 'x'}"),  # 80 bytes
         (r"g1/playouts_1000\n<reply>", GENMOVE, NO_REPLY, r"playouts 1000\n=4 pass\n\n"),
@@ -489,7 +765,14 @@ def no_replies():
     ]:
         reported = lost(owes, cause, shown)
         yield game("0 moves 2 restarts 1 0", passing(f"1/{plan}/on"), passing(), reported, **SMALL)
-        yield game("abandoned black moves 0 restarts 1 0", passing(f"*/{plan}/on"), passing(), reported, reported, **SMALL)
+        yield game(
+            "abandoned black moves 0 restarts 1 0",
+            passing(f"*/{plan}/on"),
+            passing(),
+            reported,
+            reported,
+            **SMALL,
+        )
     # A line after the answer to genmove comes with it: the move counts, and the side goes down.
     reported = lost("0 unanswered", NO_REPLY, r"playouts 1000\n")
     black = passing(r"*/g1/<reply>playouts_1000\n/on")
@@ -500,17 +783,40 @@ def no_replies():
     yield game("0 moves 2 restarts 1 0", black, passing(), reported, **SMALL)
     # Our engine's junk, and a program that repeats in one write what it was sent in one.
     reported = lost(GENMOVE, NO_REPLY, r"hello\n\n")
-    yield game("abandoned black moves 0 restarts 0 0", Ours("first", fault="junk:1"), FIRST, reported, restarts=0, **SMALL)
+    yield game(
+        "abandoned black moves 0 restarts 0 0",
+        Ours("first", fault="junk:1"),
+        FIRST,
+        reported,
+        restarts=0,
+        **SMALL,
+    )
     script = r"1 boardsize 2\n2 komi 0\n3 clear_board\n"
     reported = lost('3 unanswered, the first "1 boardsize 2"', NO_REPLY, script)
-    yield game("abandoned black moves 0 restarts 0 0", Other("cat"), FIRST, reported, restarts=0, **SMALL)
+    yield game(
+        "abandoned black moves 0 restarts 0 0", Other("cat"), FIRST, reported, restarts=0, **SMALL
+    )
     # What GNU Go 3.8 writes where no mode is named, and, in short, in the mode for a person.
     reported = lost(ALL, NO_REPLY, r"\x01\xA1\xA0\x80")
-    yield game("abandoned black moves 0 restarts 0 0", passing(r"*/0/\x01\xa1\xa0\x80/on,*/c1-3//on"), FIRST, reported, restarts=0)
+    yield game(
+        "abandoned black moves 0 restarts 0 0",
+        passing(r"*/0/\x01\xa1\xa0\x80/on,*/c1-3//on"),
+        FIRST,
+        reported,
+        restarts=0,
+    )
     years = ", ".join(str(year) for year in range(1999, 2009))
     reported = lost(ALL, NO_REPLY, rf"GNU Go 3.8\nCopyright {years}\n")  # 80 bytes
-    said = rf"GNU_Go_3.8\nCopyright_{years}\nand_2009\n\nBeginning_ASCII_mode_game.".replace(",", r"\x2c").replace(" ", "_")
-    yield game("abandoned black moves 0 restarts 0 0", passing(rf"*/0/{said}\n\nblack(1):_/on"), FIRST, reported, restarts=0)
+    said = rf"GNU_Go_3.8\nCopyright_{years}\nand_2009\n\nBeginning_ASCII_mode_game.".replace(
+        ",", r"\x2c"
+    ).replace(" ", "_")
+    yield game(
+        "abandoned black moves 0 restarts 0 0",
+        passing(rf"*/0/{said}\n\nblack(1):_/on"),
+        FIRST,
+        reported,
+        restarts=0,
+    )
 
 
 def no_replies_and_answers():
@@ -522,28 +828,74 @@ def no_replies_and_answers():
         (r"0/hello\n", ALL, wrote(r"hello\n", *answers(1, 3))),
         (r"c1/<76*x>", ALL, [76 * "x", 76 * "x" + r"=2\n\n"]),  # 80 bytes
         (r"c1/<77*x>", ALL, [77 * "x", 77 * "x" + r"=2\n"]),
-        (r"c1-9/playouts_1000\n<reply>", ALL, wrote(*(rf"playouts 1000\n={number}\n\n" for number in (1, 2, 3)))),
-        (r"c1-9/<reply>ready\n", ALL_BUT_ONE, wrote(r"ready\n", *(rf"={number}\n\nready\n" for number in (2, 3)))),
+        (
+            r"c1-9/playouts_1000\n<reply>",
+            ALL,
+            wrote(*(rf"playouts 1000\n={number}\n\n" for number in (1, 2, 3))),
+        ),
+        (
+            r"c1-9/<reply>ready\n",
+            ALL_BUT_ONE,
+            wrote(r"ready\n", *(rf"={number}\n\nready\n" for number in (2, 3))),
+        ),
     ]:
-        yield game("W+6.5 moves 2 restarts 1 0", passing(f"1/{plan}/on"), passing(), lost(owed, NO_REPLY, shown))
+        yield game(
+            "W+6.5 moves 2 restarts 1 0",
+            passing(f"1/{plan}/on"),
+            passing(),
+            lost(owed, NO_REPLY, shown),
+        )
     prompts = wrote("GTP> ", *(rf"={number}\n\nGTP> " for number in (1, 2, 3)))
     prompting = passing(r"1/0/GTP\x3e_/on", "<reply>GTP>_")
-    yield game("abandoned black moves 0 restarts 0 0", prompting, passing(), lost(ALL, NO_REPLY, prompts), restarts=0)
+    yield game(
+        "abandoned black moves 0 restarts 0 0",
+        prompting,
+        passing(),
+        lost(ALL, NO_REPLY, prompts),
+        restarts=0,
+    )
     # Black is started again after 10 moves: its script has 13 commands, of which eight are sent at once, and then as many as there were
     # replies in the read before. There are answers after it to no more commands than were sent.
     third = 'unanswered, the first "3 clear_board"'
     ended = "its output ended, exit status 0"
     for plan, reported in [
-        ("c3/hello/on", [line for sent in (8, 9, 10) for line in lost(f"{sent - 2} {third}", NO_REPLY, wrote("hello", *answers(4, sent)))]),
+        (
+            "c3/hello/on",
+            [
+                line
+                for sent in (8, 9, 10)
+                for line in lost(f"{sent - 2} {third}", NO_REPLY, wrote("hello", *answers(4, sent)))
+            ],
+        ),
         ("c13/hello/on", lost('1 unanswered, "13 play w pass"', NO_REPLY, "hello")),
-        (r"0/hello\n/on", lost('8 unanswered, the first "1 boardsize 9"', NO_REPLY, wrote(r"hello\n", *answers(1, 8)))),
+        (
+            r"0/hello\n/on",
+            lost(
+                '8 unanswered, the first "1 boardsize 9"',
+                NO_REPLY,
+                wrote(r"hello\n", *answers(1, 8)),
+            ),
+        ),
         ("c1//ends", lost('8 unanswered, the first "1 boardsize 9"', ended, "")),
         # The first read that brings a reply may be followed by a write, which may fail; or that write goes through.
-        ("c2//ends", [*lost('8 unanswered, the first "2 komi 6.5"', ended, ""), *unread('8 unanswered, the first "2 komi 6.5"', "exit status 0")]),
+        (
+            "c2//ends",
+            [
+                *lost('8 unanswered, the first "2 komi 6.5"', ended, ""),
+                *unread('8 unanswered, the first "2 komi 6.5"', "exit status 0"),
+            ],
+        ),
     ]:
         first = lost('1 unanswered, "14 genmove b"', ended, "")
         black = Planned(1, 0, "<reply>", f"1/g6//ends,2/{plan}")
-        yield game("abandoned black moves 10 restarts 1 0", black, passing(), first, reported, most_moves=11)
+        yield game(
+            "abandoned black moves 10 restarts 1 0",
+            black,
+            passing(),
+            first,
+            reported,
+            most_moves=11,
+        )
 
 
 def failed_commands():
@@ -554,12 +906,30 @@ def failed_commands():
         ("c2", "?<id>_no", ALL_BUT_ONE, r"?2 no\n\n", {}),
         ("h", "?<id>_no", '1 unanswered, "4 fixed_handicap 2"', r"?4 no\n\n", {"handicap": 2}),
         ("h", "=<id>", '1 unanswered, "4 fixed_handicap 2"', r"=4\n\n", {"handicap": 2}),
-        ("h", "=<id>_C7_G3", '1 unanswered, "4 fixed_handicap 2"', r"=4 C7 G3\n\n", {"handicap": 2}),
+        (
+            "h",
+            "=<id>_C7_G3",
+            '1 unanswered, "4 fixed_handicap 2"',
+            r"=4 C7 G3\n\n",
+            {"handicap": 2},
+        ),
     ]:
         engine = passing(rf"1/{place}/{reply}\n\n/on")
-        yield game("unfit black moves 0 restarts 0 0", engine, passing(), lost(owed, UNFIT, shown), **values)
+        yield game(
+            "unfit black moves 0 restarts 0 0",
+            engine,
+            passing(),
+            lost(owed, UNFIT, shown),
+            **values,
+        )
     reported = lost('1 unanswered, "4 fixed_handicap 2"', UNFIT, r"=4\n\n", "white")
-    yield game("unfit white moves 0 restarts 0 0", passing(), passing(r"1/h/=<id>\n\n/on"), reported, handicap=2)
+    yield game(
+        "unfit white moves 0 restarts 0 0",
+        passing(),
+        passing(r"1/h/=<id>\n\n/on"),
+        reported,
+        handicap=2,
+    )
 
 
 def broken_pipes():
@@ -570,15 +940,25 @@ def broken_pipes():
     white = passing(f"1/g2//ends,2/p1/{NO}/on")
     yield game("B+F(refused play) moves 3 restarts 0 1", FIRST, white, reported, more, **SMALL)
     owed = '2 unanswered, the first "2 komi 0"'
-    for plan, shown in (("c2//ends", ""), ("c2/<reply:2>/ends", "=2"), (r"c1/<reply>\n/on,1/c2//ends", r"\n")):
+    for plan, shown in (
+        ("c2//ends", ""),
+        ("c2/<reply:2>/ends", "=2"),
+        (r"c1/<reply>\n/on,1/c2//ends", r"\n"),
+    ):
         reported = lost(owed, "its output ended, exit status 0", shown)
         yield game("0 moves 2 restarts 1 0", passing(f"1/{plan}"), passing(), reported, **SMALL)
-    reported = lost('3 unanswered, the first "1 boardsize 2"', "its output ended, but it ran on", "=1")
-    yield game("0 moves 2 restarts 1 0", passing("1/c1/<reply:2>/closes"), passing(), reported, **SMALL)
+    reported = lost(
+        '3 unanswered, the first "1 boardsize 2"', "its output ended, but it ran on", "=1"
+    )
+    yield game(
+        "0 moves 2 restarts 1 0", passing("1/c1/<reply:2>/closes"), passing(), reported, **SMALL
+    )
     for fault, shown in (("stop:1", ""), ("cut:1:3", "=4 ")):
         reported = lost(GENMOVE, "its output ended, exit status 4", shown)
         black = Ours("first", fault=fault)
-        yield game("abandoned black moves 0 restarts 0 0", black, FIRST, reported, restarts=0, **SMALL)
+        yield game(
+            "abandoned black moves 0 restarts 0 0", black, FIRST, reported, restarts=0, **SMALL
+        )
     # It ends, or closes its output and may be about to end, for which it has some 200 milliseconds.
     for then, shown, how in [
         ("/ends", "", "exit status 0"),
@@ -590,33 +970,62 @@ def broken_pipes():
         ("/closes:-15", "", "signal 15"),
     ]:
         reported = lost(GENMOVE, f"its output ended, {how}", shown)
-        yield game("abandoned black moves 0 restarts 1 0", passing(f"*/g1/{then}"), FIRST, reported, reported)
+        yield game(
+            "abandoned black moves 0 restarts 1 0",
+            passing(f"*/g1/{then}"),
+            FIRST,
+            reported,
+            reported,
+        )
     # At its start, before it reads anything. It may have ended when it is sent something, or a moment later.
     reported = lost(ALL, "its output ended, but it ran on", "")
-    yield game("abandoned black moves 0 restarts 1 0", passing("*/0//closes"), FIRST, reported, reported)
+    yield game(
+        "abandoned black moves 0 restarts 1 0", passing("*/0//closes"), FIRST, reported, reported
+    )
     for black, how, said in [
         (Other("echo hello"), "exit status 0", lost(ALL, NO_REPLY, r"hello\n")),
-        (passing(r"*/0/usage:_mygo_[options]\n/ends"), "exit status 0", lost(ALL, NO_REPLY, r"usage: mygo [options]\n")),
-        (passing("*/0//ends:127"), "exit status 127", lost(ALL, "its output ended, exit status 127", "")),
+        (
+            passing(r"*/0/usage:_mygo_[options]\n/ends"),
+            "exit status 0",
+            lost(ALL, NO_REPLY, r"usage: mygo [options]\n"),
+        ),
+        (
+            passing("*/0//ends:127"),
+            "exit status 127",
+            lost(ALL, "its output ended, exit status 127", ""),
+        ),
         (passing("*/0//ends:-11"), "signal 11", lost(ALL, "its output ended, signal 11", "")),
     ]:
         reported = [*said, *unread(ALL, how)]
         yield game("abandoned black moves 0 restarts 1 0", black, passing(), reported, reported)
     # A write that fails: nothing is read after that. What was read since the last whole reply is shown.
-    for template, shown in (("<reply>", "nothing of it was read"), (r"<reply>\n_=", r'it wrote "\n ="')):
+    for template, shown in (
+        ("<reply>", "nothing of it was read"),
+        (r"<reply>\n_=", r'it wrote "\n ="'),
+    ):
         reported = f'black: 1 unanswered, "5 play w A1": writing failed, but it ran on; {shown}'
         black = passing(f"*/g1/{template}/shuts")
-        yield game("abandoned black moves 2 restarts 0 0", black, FIRST, reported, restarts=0, **SMALL)
+        yield game(
+            "abandoned black moves 2 restarts 0 0", black, FIRST, reported, restarts=0, **SMALL
+        )
     # As often as it may be started: none of White's A1, B1 and C1 can be written.
     reported = [
         f'black: 1 unanswered, "{number} play w {vertex}": writing failed, but it ran on; nothing of it was read'
         for number, vertex in ((5, "A1"), (7, "B1"), (9, "C1"))
     ]
-    yield game("abandoned black moves 6 restarts 2 0", passing("*/g1/<reply>/shuts"), FIRST, *reported, restarts=2)
+    yield game(
+        "abandoned black moves 6 restarts 2 0",
+        passing("*/g1/<reply>/shuts"),
+        FIRST,
+        *reported,
+        restarts=2,
+    )
     # The second process is that of the second game.
     reported = 'twogtp: game 2: black: 3 unanswered, the first "1 boardsize 9": its output ended, exit status 0; it wrote ""\n'
     games = "game 1: W+6.5 moves 2 restarts 0 0\ngame 2: W+6.5 moves 2 restarts 1 0\n"
-    yield Row(match(passing("2/c1//ends"), passing(), games=2, why=True), 0, games, [(reported,)], {})
+    yield Row(
+        match(passing("2/c1//ends"), passing(), games=2, why=True), 0, games, [(reported,)], {}
+    )
 
 
 def retaken(side, owed, count, number, shown=None):
@@ -633,14 +1042,32 @@ def retakes():
     yield game("B+4 moves 7 restarts 0 0", FIRST, refusing("1/p1-3"), one, two, three, **SMALL)
     # The fourth refusal is a loss, by White's seventh command.
     last = r'white: 1 unanswered, "7 play b A1": the play was refused; it wrote "?7 no\n\n"'
-    yield game("B+F(refused play) moves 1 restarts 0 0", FIRST, refusing("1/p1-4"), one, two, three, last, **SMALL)
+    yield game(
+        "B+F(refused play) moves 1 restarts 0 0",
+        FIRST,
+        refusing("1/p1-4"),
+        one,
+        two,
+        three,
+        last,
+        **SMALL,
+    )
     # Each number is counted by itself: after A1 White is asked for its move by the sixth command, and sent B1 by the seventh.
     black, white = playing("A1 A1 B1 B1"), refusing("1/p1", "1/p3")
     again = retaken("white", "play b B1", 1, 7)
-    yield game("limit moves 4 restarts 0 0", black, white, one, again, size=2, komi="0", most_moves=4)
+    yield game(
+        "limit moves 4 restarts 0 0", black, white, one, again, size=2, komi="0", most_moves=4
+    )
     # Another move takes the place of one that was refused: A1, then B1. It is the same number, and so its second retake. Then A2 stays.
     other = retaken("white", "play b B1", 2, 5)
-    yield game("B+4 moves 3 restarts 0 0", playing("A1 B1 A2 pass"), refusing("1/p1-2"), one, other, **SMALL)
+    yield game(
+        "B+4 moves 3 restarts 0 0",
+        playing("A1 B1 A2 pass"),
+        refusing("1/p1-2"),
+        one,
+        other,
+        **SMALL,
+    )
     # So with an engine that reads J as the tenth column, and refuses J3 and J8: Black plays D4 then, and both pass.
     columns = [retaken("white", "play b J3", 1, 4), retaken("white", "play b J8", 2, 5)]
     line = "B+74.5 moves 3 restarts 0 0\nD4 pass pass"
@@ -652,26 +1079,61 @@ def retakes():
     # Blank lines before the refusal are shown too, and 80 bytes of a long one.
     for reply, shown in ((r"\n_?<id>\n\n", r"\n ?4\n\n"), (r"?<id>_<90*x>\n\n", "?4 " + 77 * "x")):
         text = retaken("white", "play b A1", 1, 4, shown)
-        yield game("B+4 moves 7 restarts 0 0", FIRST, passing(f"1/p1/{reply}/refuses"), text, **SMALL)
+        yield game(
+            "B+4 moves 7 restarts 0 0", FIRST, passing(f"1/p1/{reply}/refuses"), text, **SMALL
+        )
     # The undo fails: Black fails by it, after White's retake.
     kept = lost('1 unanswered, "5 undo"', KEPT_MOVE, r"?5 no\n\n")
     first = retaken("white", "play b pass", 1, 4)
-    yield game("B+F(refused play) moves 1 restarts 0 0", passing(f"1/u1/{NO}/on"), refusing("1/p1"), first, kept, **SMALL)
+    yield game(
+        "B+F(refused play) moves 1 restarts 0 0",
+        passing(f"1/u1/{NO}/on"),
+        refusing("1/p1"),
+        first,
+        kept,
+        **SMALL,
+    )
     # A retake and a loss in one read: the retake comes first, also where no undo follows, since White has no start left.
     falls = passing(f"1/p1/{NO}hello/on")
     hello = lost("0 unanswered", NO_REPLY, "hello", "white")
     yield game("0 moves 2 restarts 0 1", passing(), falls, first, hello, **SMALL)
-    yield game("abandoned white moves 1 restarts 0 0", passing(), falls, first, hello, restarts=0, **SMALL)
+    yield game(
+        "abandoned white moves 1 restarts 0 0", passing(), falls, first, hello, restarts=0, **SMALL
+    )
     stray = lost("0 unanswered", UNASKED, r"?4 no\n\n", "white")
-    yield game("0 moves 2 restarts 0 1", passing(), passing(f"1/p1/{NO}{NO}/on"), first, stray, **SMALL)
-    texts = [text for count in (1, 2, 3) for text in (retaken("white", "play b A1", count, 4), hello)]
-    yield game("abandoned white moves 1 restarts 0 2", FIRST, passing(f"*/p1/{NO}hello/on"), *texts, restarts=2)
+    yield game(
+        "0 moves 2 restarts 0 1", passing(), passing(f"1/p1/{NO}{NO}/on"), first, stray, **SMALL
+    )
+    texts = [
+        text for count in (1, 2, 3) for text in (retaken("white", "play b A1", count, 4), hello)
+    ]
+    yield game(
+        "abandoned white moves 1 restarts 0 2",
+        FIRST,
+        passing(f"*/p1/{NO}hello/on"),
+        *texts,
+        restarts=2,
+    )
     # The maker is down: no undo follows. White goes down after each of its moves, which Black refuses: its pass as command 5, 6, 7, 8.
     down = lost("0 unanswered", UNASKED, r"=5 A1\n\n", "white")
     white = passing(r"*/g1/=<id>_A1\n\n=<id>_A1\n\n/on")
-    texts = [text for count in (1, 2, 3) for text in (down, retaken("black", "play w A1", count, count + 4))]
-    texts += [down, r'black: 1 unanswered, "8 play w A1": the play was refused; it wrote "?8 no\n\n"']
-    yield game("W+F(refused play) moves 2 restarts 0 4", refusing("1/p1-4"), white, *texts, restarts=4, **SMALL)
+    texts = [
+        text
+        for count in (1, 2, 3)
+        for text in (down, retaken("black", "play w A1", count, count + 4))
+    ]
+    texts += [
+        down,
+        r'black: 1 unanswered, "8 play w A1": the play was refused; it wrote "?8 no\n\n"',
+    ]
+    yield game(
+        "W+F(refused play) moves 2 restarts 0 4",
+        refusing("1/p1-4"),
+        white,
+        *texts,
+        restarts=4,
+        **SMALL,
+    )
 
 
 def mistakes():
@@ -689,7 +1151,9 @@ def mistakes():
     ]:
         for why in (False, True):
             lines = [(f"twogtp: {said}\n",), *[(allowed,)] * why]
-            yield Row(match(passing(), passing(), why=why, **values), 2, "", lines, {BLACK: "", WHITE: ""})
+            yield Row(
+                match(passing(), passing(), why=why, **values), 2, "", lines, {BLACK: "", WHITE: ""}
+            )
 
 
 # ---- all of them
@@ -700,7 +1164,11 @@ def engine_named(engine):
     if isinstance(engine, Other):
         return engine.name
     if isinstance(engine, Ours):
-        return " ".join(word for word in (engine.policy, engine.book, engine.rule, engine.fault) if word not in ("", "simple", "none"))
+        return " ".join(
+            word
+            for word in (engine.policy, engine.book, engine.rule, engine.fault)
+            if word not in ("", "simple", "none")
+        )
     return engine.plan if engine.style == "<reply>" else f"{engine.style} {engine.plan}"
 
 

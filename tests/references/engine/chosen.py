@@ -35,7 +35,11 @@ CHANGES = [
     (b"=1 pass", b"?1 pass"), (b"= pass", b"= A2"), (b"= pass\n\n", b""), (b"= pass\n\n", b"= pass\n\n\n"),
     (b"= pass\n\n", b"= pass\n\n= pass\n\n"), (b"?", b"="), (b"x e", b"x  e"),
 ]  # fmt: skip
-WRONG = [RIGHT[0].replace(*change) for change in CHANGES] + [RIGHT[0] + b"=\n\n", RIGHT[0][:-1], b""]
+WRONG = [RIGHT[0].replace(*change) for change in CHANGES] + [
+    RIGHT[0] + b"=\n\n",
+    RIGHT[0][:-1],
+    b"",
+]
 # Where eyes are allowed, Black may fill one, and White takes all by the other.
 EYES = [*RIGHT, b"=\n\n=\n\n=\n\n=1 A2\n\n= B1\n\n? syntax error\n\n"]
 
@@ -59,7 +63,9 @@ class Chosen:
         if choice is None:
             raise Wrong(f"a genmove is answered by {self.output[self.place:self.place + 40]!r}")
         if choice != RESIGN and not game.is_legal(colour, choice):
-            raise Wrong(f"{colour} chose {values.write_vertex(choice).decode()}, which isn't lawful")
+            raise Wrong(
+                f"{colour} chose {values.write_vertex(choice).decode()}, which isn't lawful"
+            )
         if not self.allowed(game, colour, choice):
             raise Wrong(f"{colour} chose {reply[1].decode()}, which the engine's own rule forbids")
         return choice
@@ -94,12 +100,15 @@ def examine(output, data, name, version, allowed):
 
 
 def heard(command, data, longest, r):
-    """What the engine writes that is given this input in pieces of at most `longest` bytes, or at once where that is 0.
-    """
+    """What the engine writes that is given this input in pieces of at most `longest` bytes, or at once where that is 0."""
     with tempfile.TemporaryFile() as output, tempfile.TemporaryFile() as errors:
-        process = subprocess.Popen(command, stdin=subprocess.PIPE, stdout=output, stderr=errors, bufsize=0)
+        process = subprocess.Popen(
+            command, stdin=subprocess.PIPE, stdout=output, stderr=errors, bufsize=0
+        )
         try:
-            with contextlib.suppress(BrokenPipeError):  # It may end before it has read what comes after a quit.
+            with contextlib.suppress(
+                BrokenPipeError
+            ):  # It may end before it has read what comes after a quit.
                 place = 0
                 while place < len(data):
                     piece = data[place : place + (r.randint(1, longest) if longest else len(data))]
@@ -122,7 +131,11 @@ def heard(command, data, longest, r):
 def misjudged():
     """What `examine` says wrongly of the worked outputs, a text each."""
     found = []
-    for allowed, right, outputs in [(no_own_eye, True, RIGHT), (no_own_eye, False, WRONG), (anything, True, EYES)]:
+    for allowed, right, outputs in [
+        (no_own_eye, True, RIGHT),
+        (no_own_eye, False, WRONG),
+        (anything, True, EYES),
+    ]:
         for output in outputs:
             try:
                 examine(output, SAID, "", "", allowed)
@@ -165,11 +178,15 @@ def say(what, wrong):
 def main():
     """Compares the command with the reference, a line a kind of conversation."""
     parser = argparse.ArgumentParser(description=__doc__.split("\n\n")[0])
-    parser.add_argument("--count", type=int, default=10, help="how many conversations of each kind; else 10")
+    parser.add_argument(
+        "--count", type=int, default=10, help="how many conversations of each kind; else 10"
+    )
     parser.add_argument("--seed", type=int, default=1, help="which conversations; else 1")
     parser.add_argument("--name", default="stepgo", help="what the engine answers to name")
     parser.add_argument("--version", default="1.0", help="what the engine answers to version")
-    parser.add_argument("--eyes", action="store_true", help="any lawful choice is allowed, also an own eye")
+    parser.add_argument(
+        "--eyes", action="store_true", help="any lawful choice is allowed, also an own eye"
+    )
     parser.add_argument("command", nargs="+", help="the engine's command, a word each")
     options = parser.parse_args()
     wrong = misjudged()

@@ -75,7 +75,11 @@ def colour_word(r, colour, odd=0.03):
 
 def vertex_word(r, vertex, odd=0.03):
     """A spelling of the vertex, or now and then something like one."""
-    return r.choice(NEARLY_VERTICES) if r.random() < odd else in_any_letters(r, values.write_vertex(vertex))
+    return (
+        r.choice(NEARLY_VERTICES)
+        if r.random() < odd
+        else in_any_letters(r, values.write_vertex(vertex))
+    )
 
 
 def komi_word(r):
@@ -83,7 +87,13 @@ def komi_word(r):
     if r.random() < 0.4:
         return r.choice(NEARLY_KOMIS)
     whole = b"".join(b"%d" % r.randint(0, 9) for _ in range(r.choice([0, 1, 1, 2, 8, 9, 10])))
-    fractions = [b"", b".", b"." + b"0" * r.randint(1, 10), b".5" + b"0" * r.randint(0, 9), b".%d" % r.randint(0, 10**9)]
+    fractions = [
+        b"",
+        b".",
+        b"." + b"0" * r.randint(1, 10),
+        b".5" + b"0" * r.randint(0, 9),
+        b".%d" % r.randint(0, 10**9),
+    ]
     return r.choice([b"", b"", b"+", b"-"]) + whole + r.choice(fractions)
 
 
@@ -95,11 +105,15 @@ def book_text(r, entries):
     for _ in range(entries):
         kind = r.random()
         if kind < odd:
-            words.append(r.choice([*NEARLY_VERTICES, b" ", b" A1", b"A1 ", b"resignn", b"A1;B2", b"A1\t"]))
+            words.append(
+                r.choice([*NEARLY_VERTICES, b" ", b" A1", b"A1 ", b"resignn", b"A1;B2", b"A1\t"])
+            )
         elif kind < 0.2:
             words.append(in_any_letters(r, r.choice([b"", b"", b"resign", b"pass"])))
         else:
-            words.append(in_any_letters(r, values.write_vertex((r.randint(1, widest), r.randint(1, widest)))))
+            words.append(
+                in_any_letters(r, values.write_vertex((r.randint(1, widest), r.randint(1, widest))))
+            )
     return b",".join(word for word in words if word.isascii())
 
 
@@ -191,13 +205,29 @@ def odd_line(r):
 
 def long_line(r):
     """A line whose words, joined by single spaces, have about 1,000 bytes, at times much more, and bytes that don't count."""
-    number = [b"0" * r.choice([0, 1, 9, 50, 980, 996]) + r.choice([b"7", b"0", b"2147483647", b"2147483648"])]
-    command = r.choice([b"known_command", b"name", b"quit", b"play b A1", b"komi", b"boardsize 9", b"boardsize " + b"0" * 900, b"x"])
+    number = [
+        b"0" * r.choice([0, 1, 9, 50, 980, 996])
+        + r.choice([b"7", b"0", b"2147483647", b"2147483648"])
+    ]
+    command = r.choice(
+        [
+            b"known_command",
+            b"name",
+            b"quit",
+            b"play b A1",
+            b"komi",
+            b"boardsize 9",
+            b"boardsize " + b"0" * 900,
+            b"x",
+        ]
+    )
     words = r.choice([[], number]) + [command]
     wanted = 1000 + r.choice([-2, -1, 0, 0, 1, 1, 2, 3, 500, 9000, r.randint(-30, 30)])
     while len(b" ".join(words)) + 1 < wanted:
         room = wanted - len(b" ".join(words)) - 1
-        words.append(r.choice([b"x", b"0", b"\xff"]) * r.choice([room, min(room, r.randint(1, 300))]))
+        words.append(
+            r.choice([b"x", b"0", b"\xff"]) * r.choice([room, min(room, r.randint(1, 300))])
+        )
     return noisy(r, words) if r.random() < 0.6 else b" ".join(words)
 
 
@@ -214,7 +244,9 @@ def other_command(r, talk, sizes):
             lambda: talk.say(b"clear_board"),
             lambda: talk.say(b"boardsize", b"%d" % r.choice(sizes)),
             lambda: talk.say(b"known_command", r.choice(NAMES + NEARLY_NAMES)),
-            lambda: talk.say(r.choice([b"name", b"version", b"protocol_version", b"list_commands"])),
+            lambda: talk.say(
+                r.choice([b"name", b"version", b"protocol_version", b"list_commands"])
+            ),
             lambda: talk.say(r.choice(NEARLY_NAMES)),
             lambda: talk.line(odd_line(r)),
         ],
@@ -236,7 +268,11 @@ def play_some(r, talk, size, steps, sizes):
         elif kind < talk.other + talk.generated:
             talk.say(b"genmove", colour_word(r, colour))
         else:
-            talk.say(b"play", colour_word(r, colour), vertex_word(r, aimed_vertex(r, talk.engine, talk.wild)))
+            talk.say(
+                b"play",
+                colour_word(r, colour),
+                vertex_word(r, aimed_vertex(r, talk.engine, talk.wild)),
+            )
     if r.random() < 0.3:
         for _ in range(r.randint(1, 40)):
             talk.say(b"undo")
@@ -261,7 +297,13 @@ def ko_fight(r, talk):
         talk.line(line)
     for _ in range(r.randint(5, 30)):
         colour = r.choice([first, second])
-        others = [b"play " + colour + b" pass", b"undo", b"genmove " + colour, b"showboard", play(colour, r.randint(1, size), size)]
+        others = [
+            b"play " + colour + b" pass",
+            b"undo",
+            b"genmove " + colour,
+            b"showboard",
+            play(colour, r.randint(1, size), size),
+        ]
         talk.line(r.choice([play(second, 1, 1), play(first, 2, 1), r.choice(others)]))
 
 
@@ -307,7 +349,9 @@ def spellings(r, talk):
             talk.line(b"clear_board")
             talk.say(b"fixed_handicap", int_word(r, 11))
         elif kind == 3:
-            talk.say(b"play", colour_word(r, colour, 0.3), vertex_word(r, r.choice([PASS, point]), 0.4))
+            talk.say(
+                b"play", colour_word(r, colour, 0.3), vertex_word(r, r.choice([PASS, point]), 0.4)
+            )
         else:
             talk.say(b"genmove", colour_word(r, colour, 0.5))
 
@@ -328,7 +372,9 @@ def quit_in_the_middle(r, talk):
     """Games on small boards with a quit, or what is nearly one, before their end."""
     small_boards(r, talk)
     long = [b"quit " + b"x" * 995, b"quit " + b"x" * 996]
-    ending = r.choice([b"quit", b"quit", b"7 quit now", b"qu\x00it#", b"\tquit\r", *long, b"QUIT", b"name quit"])
+    ending = r.choice(
+        [b"quit", b"quit", b"7 quit now", b"qu\x00it#", b"\tquit\r", *long, b"QUIT", b"name quit"]
+    )
     lines = talk.data.split(b"\n")
     lines.insert(r.randrange(len(lines)), ending)
     talk.data = b"\n".join(lines)
@@ -347,7 +393,16 @@ def full_records(r, talk):
             vertex = PASS if r.random() < 0.5 else r.choice(rules.points(size))
             talk.line(b"play " + colour + b" " + values.write_vertex(vertex))
     for _ in range(5):
-        for line in (b"genmove b", b"play w pass", b"play w Z25", b"genmove", b"play b", b"final_score", b"showboard", b"undo"):
+        for line in (
+            b"genmove b",
+            b"play w pass",
+            b"play w Z25",
+            b"genmove",
+            b"play b",
+            b"final_score",
+            b"showboard",
+            b"undo",
+        ):
             talk.line(line)
     for number in range(r.choice([10, 2001])):
         talk.line(b"undo")
@@ -371,11 +426,23 @@ def returning_boards(r, talk):
             colour = values.other(colour) if r.random() < 0.85 else colour
             own = b"b" if colour == BLACK else b"w"
             if r.random() < 0.75:
-                talk.line(b"play " + own + b" " + values.write_vertex(returning_move(r, talk.engine, colour)))
+                talk.line(
+                    b"play "
+                    + own
+                    + b" "
+                    + values.write_vertex(returning_move(r, talk.engine, colour))
+                )
             elif r.random() < talk.generated:
                 talk.line(b"genmove " + own)
             else:
-                others = [b"play " + own + b" pass", b"undo", b"showboard", b"komi 0.5", b"clear_board", b"boardsize %d" % size]
+                others = [
+                    b"play " + own + b" pass",
+                    b"undo",
+                    b"showboard",
+                    b"komi 0.5",
+                    b"clear_board",
+                    b"boardsize %d" % size,
+                ]
                 line = r.choices(others, [10, 16, 4, 2, 1, 1])[0]
                 for _ in range(r.choice([1, 1, 1, 2, 5, 12]) if line == b"undo" else 1):
                     talk.line(line)
@@ -405,7 +472,9 @@ def start_comes_back(r, talk, size, stones):
     stones = r.sample(stones, len(stones))
     free = [point for point in rules.points(size) if point not in stones]
     r.shuffle(free)
-    free.sort(key=lambda point: not any(abs(point[0] - x) + abs(point[1] - y) == 1 for x, y in stones))
+    free.sort(
+        key=lambda point: not any(abs(point[0] - x) + abs(point[1] - y) == 1 for x, y in stones)
+    )
     for point in free + stones[1:]:
         talk.line(b"play w " + values.write_vertex(point))
     for point in stones:
@@ -439,7 +508,15 @@ def taken_and_returned(r, talk, size, stone):
     for _ in range(r.randint(3, 25)):
         colour = r.choice([b"b", b"w"])
         away = play(colour, r.choice(rules.points(size)))
-        others = [play(colour, PASS), play(colour, PASS), away, b"undo", b"undo", b"genmove " + colour, b"showboard"]
+        others = [
+            play(colour, PASS),
+            play(colour, PASS),
+            away,
+            b"undo",
+            b"undo",
+            b"genmove " + colour,
+            b"showboard",
+        ]
         talk.line(r.choice([*fight, *plays["H"] * 3, r.choice(others), r.choice(others)]))
 
 
@@ -463,14 +540,23 @@ def conversation(kind, seed):
     """The conversation of this kind that this seed gives."""
     r = random.Random(seed)
     policy = "book" if kind == "books" else r.choice(["first", "random", "random", "book"])
-    number = r.choice([0, 1, 2, 7, 2147483648, 4294967295, r.randrange(2**32), r.randrange(2**32)])
+    number = r.choice(
+        [0, 1, 2, 7, 2147483648, 4294967295, r.randrange(2**32), r.randrange(2**32)]
+    )
     book = b""
     if policy == "book" or r.random() < 0.1:
-        book = book_text(r, r.choice([0, 1, 2, 3, 10, 10, 40, 40, 200]) if r.random() < 0.9 else r.choice([1999, 2000, 2001]))
+        book = book_text(
+            r,
+            r.choice([0, 1, 2, 3, 10, 10, 40, 40, 200])
+            if r.random() < 0.9
+            else r.choice([1999, 2000, 2001]),
+        )
     rule = KINDS[kind][3] or r.choice([SIMPLE, SIMPLE, SIMPLE, POSITIONAL])
     if engine.start(policy, number, book) is None:
         return Conversation(policy, number, book, b"name\nquit\n", rule)
     talk = Talk(r, policy, number, book, rule)
     KINDS[kind][1](r, talk)
-    unfinished = r.choice([b"", b"", b"", b"name", b"quit", b"play b A1\r", b"#", b"1", b" ", b"x" * 2000])
+    unfinished = r.choice(
+        [b"", b"", b"", b"name", b"quit", b"play b A1\r", b"#", b"1", b" ", b"x" * 2000]
+    )
     return Conversation(policy, number, book, talk.data + unfinished, rule)

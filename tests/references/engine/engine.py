@@ -68,7 +68,8 @@ class Engine(Game):
 
     def answer(self, line: str) -> str:
         """The reply to a line, given without its newline; nothing where it has no word and is passed over. (The standard,
-        preprocessing.) Joined by single spaces, the id's word included, the words have at most 1,000 bytes (own)."""
+        preprocessing.) Joined by single spaces, the id's word included, the words have at most 1,000 bytes (own).
+        """
         words = self.words(line)
         if not words:
             return ""
@@ -114,7 +115,9 @@ class Engine(Game):
 
     # ---- values
 
-    def argument(self, arguments: List[str], number: int, read: Callable[[str], Optional[Value]]) -> Value:
+    def argument(
+        self, arguments: List[str], number: int, read: Callable[[str], Optional[Value]]
+    ) -> Value:
         """The argument of this number, counted from 0, as `read` reads it; a syntax error where it is missing or can't be read. (The
         standard, standard error messages.)"""
         value = read(arguments[number]) if number < len(arguments) else None
@@ -222,7 +225,9 @@ class Engine(Game):
 
     def is_candidate(self, colour: Colour, point: Point) -> bool:
         """Is a play here legal, and has the point a neighbour which is empty or holds a stone of the other colour? (Own.)"""
-        return self.is_legal(colour, point) and any(self.board.get(near) != colour for near in self.near[point])
+        return self.is_legal(colour, point) and any(
+            self.board.get(near) != colour for near in self.near[point]
+        )
 
     def do_fixed_handicap(self, arguments: List[str]) -> str:
         """Places a handicap, where there is no stone and no move, and answers its points. (The points are own.)"""
@@ -277,7 +282,9 @@ def start(policy: str, seed: int, book: bytes, rule: str = SIMPLE) -> Optional[E
     return Engine(policies.Random(seed) if policy == "random" else policies.Book(entries), rule)
 
 
-def run(policy: str, seed: int, book: bytes, data: bytes, rule: str = SIMPLE) -> Tuple[int, bytes, bytes]:
+def run(
+    policy: str, seed: int, book: bytes, data: bytes, rule: str = SIMPLE
+) -> Tuple[int, bytes, bytes]:
     """What the program does with these options and this input: its status, its output, and what it writes to standard error. (Own.)"""
     engine = start(policy, seed, book, rule)
     if engine is None:

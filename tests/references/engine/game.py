@@ -204,7 +204,9 @@ class Game:
         """How many stones this colour's moves have taken: a play that takes none makes the board one stone richer."""
         return sum(
             len(before) + 1 - len(after)
-            for (mover, vertex), before, after in zip(self.moves, self.boards, [*self.boards[1:], self.board])
+            for (mover, vertex), before, after in zip(
+                self.moves, self.boards, [*self.boards[1:], self.board]
+            )
             if mover == colour and vertex != PASS
         )
 
@@ -220,7 +222,9 @@ class Game:
             if point not in self.board and point not in seen:
                 region = self.chain(self.board, point)
                 seen |= region
-                beside = {self.board.get(near) for place in region for near in self.near[place]} - {EMPTY}
+                beside = {self.board.get(near) for place in region for near in self.near[place]} - {
+                    EMPTY
+                }
                 if len(beside) == 1:
                     area[beside.pop()] += len(region)
         return 2 * (area[BLACK] - area[WHITE]) - self.komi
@@ -230,7 +234,10 @@ class Game:
         that each colour has taken."""
         marks = {EMPTY: ". ", BLACK: "X ", WHITE: "O "}
         columns = range(1, self.size + 1)
-        lines = ["".join(marks[self.board[column, row]] for column in columns) + str(row) for row in reversed(columns)]
+        lines = [
+            "".join(marks[self.board[column, row]] for column in columns) + str(row)
+            for row in reversed(columns)
+        ]
         lines.append(" ".join(values.COLUMNS.decode()[: self.size]))
         lines.append(f"captures B {self.captured(BLACK)} W {self.captured(WHITE)}")
         return "\n".join(lines)

@@ -28,7 +28,9 @@ class First:
     """The first candidate, or a pass where there is none."""
 
     def choose(self, game: "Engine", colour: Colour) -> Vertex:
-        return next((point for point in points(game.size) if game.is_candidate(colour, point)), PASS)
+        return next(
+            (point for point in points(game.size) if game.is_candidate(colour, point)), PASS
+        )
 
 
 class Random:
@@ -70,7 +72,9 @@ def read_book(text: bytes) -> Optional[List[Optional[Vertex]]]:
     """
     spelled = text.split(b",")
     entries = [read_entry(entry) for entry in spelled]
-    if len(entries) > MOST_ENTRIES or any(read is None and entry != b"" for entry, read in zip(spelled, entries)):
+    if len(entries) > MOST_ENTRIES or any(
+        read is None and entry != b"" for entry, read in zip(spelled, entries)
+    ):
         return None
     return entries
 
@@ -104,7 +108,8 @@ class Generator:
     @classmethod
     def of_seed(cls, seed: int) -> "Generator":
         """The generator of a seed. Rust's rand_core (seed_from_u64) spreads it into 32 bytes by eight words of a PCG of 32 bits, the
-        lowest byte of each first; the first 16 bytes are the state, the others the increment, each with its lowest byte first."""
+        lowest byte of each first; the first 16 bytes are the state, the others the increment, each with its lowest byte first.
+        """
         small = seed
         spread = b""
         for _ in range(8):

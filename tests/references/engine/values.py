@@ -115,4 +115,8 @@ def handicap(size: int, number: int, low: int) -> List[Point]:
 
 def handicap_points(size: int, number: int) -> Optional[List[Point]]:
     """The points of this many handicap stones in their order, or None where the size doesn't allow the number."""
-    return handicap(size, number, low_line(size)) if 2 <= number <= most_handicap_stones(size) else None
+    return (
+        handicap(size, number, low_line(size))
+        if 2 <= number <= most_handicap_stones(size)
+        else None
+    )

@@ -54,18 +54,41 @@ def computed() -> Iterator[Worked]:
     passes = b"play b pass\n" * 2000
     after = b"play b pass\nplay b Z25\ngenmove w\ngenmove\nundo\nplay b Z25\nplay b pass\n"
     replies = b"? record full\n\n" * 3 + b"? syntax error\n\n=\n\n? illegal move\n\n=\n\n"
-    yield Worked("a full record refuses before the board does", {}, passes + after, (0, b"=\n\n" * 2000 + replies, b""))
-    lengths = b"known_command %s\nknown_command %s\n7 known_command %s\n" % (b"x" * 986, b"x" * 987, b"x" * 985)
+    yield Worked(
+        "a full record refuses before the board does",
+        {},
+        passes + after,
+        (0, b"=\n\n" * 2000 + replies, b""),
+    )
+    lengths = b"known_command %s\nknown_command %s\n7 known_command %s\n" % (
+        b"x" * 986,
+        b"x" * 987,
+        b"x" * 985,
+    )
     refused = b"= false\n\n? syntax error\n\n? syntax error\n\n"
     yield Worked("the words of a line have at most 1,000 bytes", {}, lengths, (0, refused, b""))
-    for name, end in (("what doesn't count may be longer", b""), ("so may a comment", b"#" + b"x" * 5000)):
-        yield Worked(name, {}, b" " * 5000 + b"name" + b" " * 5000 + end + b"\n", (0, b"= stepgo\n\n", b""))
+    for name, end in (
+        ("what doesn't count may be longer", b""),
+        ("so may a comment", b"#" + b"x" * 5000),
+    ):
+        yield Worked(
+            name, {}, b" " * 5000 + b"name" + b" " * 5000 + end + b"\n", (0, b"= stepgo\n\n", b"")
+        )
     yield Worked("an unfinished first line is not executed", {}, b"name", (0, b"", b""))
-    yield Worked("an unfinished last line is not executed", {}, b"name\nquit", (0, b"= stepgo\n\n", b""))
+    yield Worked(
+        "an unfinished last line is not executed", {}, b"name\nquit", (0, b"= stepgo\n\n", b"")
+    )
     for text in ("C3,D44", " ", "I1", "C3, D4", "C3,,x", ",,,I5,", "resign,resigned", "," * 2000):
-        yield Worked(f"no book is {named(text)}", {"--book": text}, b"name\n", (2, b"", b"gtp_engine: bad book\n"))
+        yield Worked(
+            f"no book is {named(text)}",
+            {"--book": text},
+            b"name\n",
+            (2, b"", b"gtp_engine: bad book\n"),
+        )
     for text in ("", ",", "PASS", "ReSiGn,,z25", "C3,,resign", "," * 1999):
-        yield Worked(f"a book is {named(text)}", {"--book": text}, b"name\n", (0, b"= stepgo\n\n", b""))
+        yield Worked(
+            f"a book is {named(text)}", {"--book": text}, b"name\n", (0, b"= stepgo\n\n", b"")
+        )
 
 
 def named(book: str) -> str:

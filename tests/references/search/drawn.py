@@ -39,15 +39,26 @@ def drawn(number):
     """The drawn game of this number. Of twelve one is on a large board, one has a record that is all but full, and three stop at a ko."""
     draws = random.Random(number)
     is_long = number % 12 == 4
-    size = draws.choice(range(2, 5)) if is_long else draws.choice(LARGE if number % 12 == 5 else SMALL)
+    size = (
+        draws.choice(range(2, 5)) if is_long else draws.choice(LARGE if number % 12 == 5 else SMALL)
+    )
     game = begun(size, draws)
-    moves = draws.randrange(MOST_MOVES - 30, MOST_MOVES + 1) if is_long else draws.choice([0, draws.randrange(size * size)])
+    moves = (
+        draws.randrange(MOST_MOVES - 30, MOST_MOVES + 1)
+        if is_long
+        else draws.choice([0, draws.randrange(size * size)])
+    )
     colour = play_some(game, draws, moves, number % 4 == 2)
     for _ in range(draws.choice([0, 0, 0, 0, 0, 1, 1, 2])):
         if not game.is_full():
             game.play(colour, PASS)
     limit = draws.choice([NO_LIMIT, NO_LIMIT, NO_LIMIT, size * size // 2, draws.randrange(12), 0])
-    return Drawn(game, draws.choice([colour, other(colour)]), draws.choice([draws.randrange(2**64), draws.randrange(4)]), limit)
+    return Drawn(
+        game,
+        draws.choice([colour, other(colour)]),
+        draws.choice([draws.randrange(2**64), draws.randrange(4)]),
+        limit,
+    )
 
 
 def play_some(game, draws, moves, until_ko):
@@ -66,7 +77,11 @@ def surrounded(game, colour):
     """The empty points beside which there is nothing but stones of this colour: whoever takes there often makes a ko."""
     board, size = game.board, game.size
     empty = [point for point in points(size) if point not in board]
-    return [point for point in empty if all(board.get(near) == colour for near in neighbours(size, point))]
+    return [
+        point
+        for point in empty
+        if all(board.get(near) == colour for near in neighbours(size, point))
+    ]
 
 
 def begun(size, draws):
@@ -83,8 +98,14 @@ def begun(size, draws):
 def drawn_vertex(game, colour, draws, first):
     """A point that may be played, one of these if that can be, an own eye too. At times, and where ten draws find none, a pass."""
     board, size = game.board, game.size
-    tried = [(draws.randrange(1, size + 1), draws.randrange(1, size + 1)) for _ in range(10 if draws.randrange(30) else 0)]
-    return next((point for point in first + tried if point not in board and game.is_legal(colour, point)), PASS)
+    tried = [
+        (draws.randrange(1, size + 1), draws.randrange(1, size + 1))
+        for _ in range(10 if draws.randrange(30) else 0)
+    ]
+    return next(
+        (point for point in first + tried if point not in board and game.is_legal(colour, point)),
+        PASS,
+    )
 
 
 @lru_cache(maxsize=400)
@@ -102,7 +123,7 @@ def played(number):
 def kinds_of(number):
     """What a drawn game and its playout show, by the name of each kind."""
     of, after = played(number)
-    before, made = len(of.game.moves), after.moves[len(of.game.moves):]
+    before, made = len(of.game.moves), after.moves[len(of.game.moves) :]
     boards = [*after.boards[before:], after.board]
     asked = [(colour, point) for colour in (BLACK, WHITE) for point in points(of.game.size)]
     beside = [point for colour, point in asked if playouts.is_own_eye(of.game, colour, point)]

@@ -54,5 +54,7 @@ def seed_of(number):
     seed, state = b"", number
     while len(seed) < SEED_BYTES:
         state = (state * SEED_MULTIPLIER + SEED_INCREMENT) % 2**64
-        seed += rotated((state >> 18 ^ state) >> 27 & 2**32 - 1, state >> 59, 32).to_bytes(4, "little")
+        seed += rotated((state >> 18 ^ state) >> 27 & 2**32 - 1, state >> 59, 32).to_bytes(
+            4, "little"
+        )
     return seed

@@ -30,7 +30,11 @@ def chain_liberties(game, point):
 
 def chain(game, point):
     """How many stones and liberties the chain of the stone on this point has, or None where there is no stone."""
-    return (len(chain_points(game, point)), len(chain_liberties(game, point))) if point in game.board else None
+    return (
+        (len(chain_points(game, point)), len(chain_liberties(game, point)))
+        if point in game.board
+        else None
+    )
 
 
 def taken_by_last(game):
@@ -40,7 +44,9 @@ def taken_by_last(game):
 
 def ko_point(game, colour):
     """The empty point on which a play of this colour would bring back the board before the last move, or None."""
-    return next((point for point in taken_by_last(game) if game.put(colour, point) == game.boards[-1]), None)
+    return next(
+        (point for point in taken_by_last(game) if game.put(colour, point) == game.boards[-1]), None
+    )
 
 
 def is_own_eye(game, colour, point):
@@ -50,7 +56,11 @@ def is_own_eye(game, colour, point):
     other colour, and none of them where one of the four is off the board.
     """
     board, size = game.board, game.size
-    if not is_on(size, point) or point in board or any(board.get(near) != colour for near in neighbours(size, point)):
+    if (
+        not is_on(size, point)
+        or point in board
+        or any(board.get(near) != colour for near in neighbours(size, point))
+    ):
         return False
     column, row = point
     diagonal = [(column + right, row + up) for right in (-1, 1) for up in (-1, 1)]
@@ -90,7 +100,9 @@ class Playout:
 
     def is_finished(self):
         """Are the last two moves of the record passes?"""
-        return len(self.game.moves) > 1 and all(vertex == PASS for _, vertex in self.game.moves[-2:])
+        return len(self.game.moves) > 1 and all(
+            vertex == PASS for _, vertex in self.game.moves[-2:]
+        )
 
     def turn(self, colour):
         """Draws until a candidate comes, and plays it; passes where none is left. What is drawn in vain goes behind what is drawn from."""

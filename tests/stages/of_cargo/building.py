@@ -19,7 +19,10 @@ SHOWN = "go_base/struct.Size.html"  # a page of the documentation whose function
 
 def cargo(*words, workspace=TOP / "cargo/workspace"):
     """A call of cargo in the workspace, without a network. What it makes is in the workspace, where the checks look for it."""
-    return run(["cargo", words[0], "--offline", "--target-dir", workspace / "target", *words[1:]], workspace)
+    return run(
+        ["cargo", words[0], "--offline", "--target-dir", workspace / "target", *words[1:]],
+        workspace,
+    )
 
 
 def copy_of(folder, umask):
@@ -43,14 +46,20 @@ class Clones(checks.Case):
             clone = copy_of(room / name, umask)
             status, said = run([clone / "cargo/strip"], room)
             self.check(f"{name}: the workspace is written", 0, status)
-            made.append(files_below(clone / "cargo/workspace", "Cargo.lock", "target") if status == 0 else {"": said})
+            made.append(
+                files_below(clone / "cargo/workspace", "Cargo.lock", "target")
+                if status == 0
+                else {"": said}
+            )
         before = files_below(clone)
         status, said = run([clone / "cargo/strip", clone], room)
         wanted = f"strip: {clone} has files of others: name a folder that is empty, or that cargo/strip made\n"
         came = (status, said, files_below(clone) == before)
         self.check("a folder with files of others is left alone", (1, wanted, True), came)
         different = [name for name in made[0] if made[0][name] != made[1].get(name)]
-        self.check("two clones make the same workspace", ([], True), (different, len(made[0]) > 300))
+        self.check(
+            "two clones make the same workspace", ([], True), (different, len(made[0]) > 300)
+        )
 
 
 # ---- this clone
@@ -99,9 +108,18 @@ class Tests(OfWorkspace):
     def test_crates(self):
         """The crates' own tests pass, which look for overflows."""
         status, said = cargo("test", "--workspace", "--lib", "--quiet")
-        passed = sum(map(int, re.findall(r"^test result: ok\. ([0-9]+) passed; 0 failed; 0 ignored", said, re.M)))
+        passed = sum(
+            map(
+                int,
+                re.findall(r"^test result: ok\. ([0-9]+) passed; 0 failed; 0 ignored", said, re.M),
+            )
+        )
         came = (status, passed >= LEAST_TESTS)
-        self.check(f"{passed} tests of the crates", (0, True), came if came == (0, True) else (*came, said[-4000:]))
+        self.check(
+            f"{passed} tests of the crates",
+            (0, True),
+            came if came == (0, True) else (*came, said[-4000:]),
+        )
 
     def test_memory(self):
         """2 tests of the programs' allocator. The test that is ignored is the process that it has to end: another test runs it."""
@@ -125,7 +143,10 @@ class Clippy(OfWorkspace):
             self.check(f"clippy {number} finds nothing", (0, ""), (status, said[-4000:]))
             return
         found = len(re.findall(r"^(?:warning|error)", said, re.M))
-        self.skip("clippy finds nothing", f"clippy {number} has {found} lines of warnings; it has to be silent at {' and '.join(CLIPPY)}")
+        self.skip(
+            "clippy finds nothing",
+            f"clippy {number} has {found} lines of warnings; it has to be silent at {' and '.join(CLIPPY)}",
+        )
 
 
 class Documentation(OfWorkspace):

@@ -18,7 +18,9 @@ def environment():
 
 def run(command, folder=TOP, limit=LIMIT, **more):
     """The status of a command, and all that it writes."""
-    came = running.run(command, limit=limit, cwd=folder, env={**environment(), **more}, stderr=subprocess.STDOUT)
+    came = running.run(
+        command, limit=limit, cwd=folder, env={**environment(), **more}, stderr=subprocess.STDOUT
+    )
     return came.status, came.output
 
 

@@ -2,10 +2,22 @@
 
 # the name of the form, and a source that has it
 DIFFERING = [
-    ("clones of a map", "fn f(v: &[Text]) -> usize {\n    v.iter().map(|s| s.clone()).count()\n}\n"),
-    ("clones of a map", "fn f(v: &[Text]) {\n    let shown = v.iter().map(|it| it.name.clone());\n}\n"),
-    ("error of write!", "fn f(s: &mut String) -> Result<(), Fault> {\n    write!(s, \"{}\", g(1))?;\n    Ok(())\n}\n"),
-    ("error of write!", "fn f(s: &mut String) -> Text {\n    writeln!(s, \"a\").unwrap_err().to_string()\n}\n"),
+    (
+        "clones of a map",
+        "fn f(v: &[Text]) -> usize {\n    v.iter().map(|s| s.clone()).count()\n}\n",
+    ),
+    (
+        "clones of a map",
+        "fn f(v: &[Text]) {\n    let shown = v.iter().map(|it| it.name.clone());\n}\n",
+    ),
+    (
+        "error of write!",
+        'fn f(s: &mut String) -> Result<(), Fault> {\n    write!(s, "{}", g(1))?;\n    Ok(())\n}\n',
+    ),
+    (
+        "error of write!",
+        'fn f(s: &mut String) -> Text {\n    writeln!(s, "a").unwrap_err().to_string()\n}\n',
+    ),
     ("anyhow", "use anyhow::Error;\n"),
     ("thread", "use std::thread;\n\nfn f() {\n    thread::spawn(|| {});\n}\n"),
     ("thread", "fn f(it: std::thread::JoinHandle<u8>) {}\n"),
@@ -28,36 +40,84 @@ DIFFERING = [
     ("impl on all types", "impl<X: Sized + Debug> A for &X {}\n"),
     ("size of a value", "fn f<F: Fn()>(f: F) -> usize {\n    size_of_val(&f)\n}\n"),
     ("size of a value", "fn f() -> usize {\n    size_of::<fn(u8)>()\n}\n"),
-    ("array in a variant", "fn f(x: E, y: Option<u8>) {\n    if let (E::A([p, q]), Some(r)) = (x, y) {}\n}\n"),
-    ("array in a variant", "fn f(x: E) {\n    let E::A([p, q]) = x else {\n        return;\n    };\n}\n"),
+    (
+        "array in a variant",
+        "fn f(x: E, y: Option<u8>) {\n    if let (E::A([p, q]), Some(r)) = (x, y) {}\n}\n",
+    ),
+    (
+        "array in a variant",
+        "fn f(x: E) {\n    let E::A([p, q]) = x else {\n        return;\n    };\n}\n",
+    ),
     ("rest of an element", "fn f(v: &[S], i: usize) -> S {\n    S { a: 1, ..v[i] }\n}\n"),
     ("method of std", "trait Text {\n    fn to_string(&self) -> u8;\n}\n"),
-    ("method of std", "pub trait Source: Sized {\n    fn read(&mut self, to: &mut [u8]) -> usize;\n}\n"),
+    (
+        "method of std",
+        "pub trait Source: Sized {\n    fn read(&mut self, to: &mut [u8]) -> usize;\n}\n",
+    ),
     ("text of code", "fn f() -> &'static str {\n    stringify!(a + b)\n}\n"),
     ("text of code", "use std::stringify as shown;\n"),
-    ("clones of a map", "fn f(v: &[Text]) {\n    let n = v.iter().map(|s| { s.clone() }).count();\n}\n"),
-    ("clones of a map", "fn f(v: &[Text]) {\n    let n = v.iter().map(\n        |s| s.clone(),\n    ).count();\n}\n"),
-    ("clones of a map", "fn f(v: &[Text]) {\n    let n = v.iter().map(|s| (1, s.clone())).count();\n}\n"),
+    (
+        "clones of a map",
+        "fn f(v: &[Text]) {\n    let n = v.iter().map(|s| { s.clone() }).count();\n}\n",
+    ),
+    (
+        "clones of a map",
+        "fn f(v: &[Text]) {\n    let n = v.iter().map(\n        |s| s.clone(),\n    ).count();\n}\n",
+    ),
+    (
+        "clones of a map",
+        "fn f(v: &[Text]) {\n    let n = v.iter().map(|s| (1, s.clone())).count();\n}\n",
+    ),
     ("clones of a map", "fn f(v: &[Text]) {\n    let n = v.iter().map(Text::clone).count();\n}\n"),
-    ("clones of a map", "fn f(v: &[Text]) {\n    let n = v.iter().map(<Text as Clone>::clone).count();\n}\n"),
-    ("clones of a map", "fn f(v: &[Text]) {\n    let n = Iterator::map(v.iter(), |s| s.clone()).count();\n}\n"),
-    ("clones of a map", "fn f(v: &[Text]) {\n    let of = |s: &Text| s.clone();\n    v.iter().map(of).count();\n}\n"),
-    ("clones of a map", "fn f(v: &[Text]) {\n    let n = v.iter().filter_map(|s| Some(s.clone())).count();\n}\n"),
-    ("error of write!", "fn f(s: &mut String) {\n    let e = write!(s, \"a\");\n}\n"),
-    ("error of write!", "fn f(s: &mut String) -> Result<(), Fault> {\n    write![s, \"a\"]?;\n    Ok(())\n}\n"),
-    ("error of write!", "fn f(s: &mut String) -> Result<(), Fault> {\n    s.write_str(\"a\")?;\n    Ok(())\n}\n"),
+    (
+        "clones of a map",
+        "fn f(v: &[Text]) {\n    let n = v.iter().map(<Text as Clone>::clone).count();\n}\n",
+    ),
+    (
+        "clones of a map",
+        "fn f(v: &[Text]) {\n    let n = Iterator::map(v.iter(), |s| s.clone()).count();\n}\n",
+    ),
+    (
+        "clones of a map",
+        "fn f(v: &[Text]) {\n    let of = |s: &Text| s.clone();\n    v.iter().map(of).count();\n}\n",
+    ),
+    (
+        "clones of a map",
+        "fn f(v: &[Text]) {\n    let n = v.iter().filter_map(|s| Some(s.clone())).count();\n}\n",
+    ),
+    ("error of write!", 'fn f(s: &mut String) {\n    let e = write!(s, "a");\n}\n'),
+    (
+        "error of write!",
+        'fn f(s: &mut String) -> Result<(), Fault> {\n    write![s, "a"]?;\n    Ok(())\n}\n',
+    ),
+    (
+        "error of write!",
+        'fn f(s: &mut String) -> Result<(), Fault> {\n    s.write_str("a")?;\n    Ok(())\n}\n',
+    ),
     ("error of write!", "fn f(s: &mut String) -> bool {\n    s.write_fmt(a).is_ok()\n}\n"),
-    ("error of write!", "fn f(s: &mut String) -> Result<(), Fault> {\n    write!(s, \"{}\", g(h(i(1))))?;\n    Ok(())\n}\n"),
-    ("error of write!", "fn f(s: &mut String) -> Result<(), AllocError> {\n    write!(s, \"a\")\n}\n"),
-    ("error of write!", "fn fmt(s: &mut String) -> Result<(), AllocError> {\n    write!(s, \"a\")\n}\n"),
-    ("error of write!", "fn f(s: &mut String) {\n    if let Err(e) = writeln!(s, \"a\") {}\n}\n"),
+    (
+        "error of write!",
+        'fn f(s: &mut String) -> Result<(), Fault> {\n    write!(s, "{}", g(h(i(1))))?;\n    Ok(())\n}\n',
+    ),
+    (
+        "error of write!",
+        'fn f(s: &mut String) -> Result<(), AllocError> {\n    write!(s, "a")\n}\n',
+    ),
+    (
+        "error of write!",
+        'fn fmt(s: &mut String) -> Result<(), AllocError> {\n    write!(s, "a")\n}\n',
+    ),
+    ("error of write!", 'fn f(s: &mut String) {\n    if let Err(e) = writeln!(s, "a") {}\n}\n'),
     ("error of write!", "use std::write as w;\n"),
     ("thread", "use std::thread::*;\n"),
     ("thread", "use std::thread::{self as t, spawn};\n"),
     ("thread", "fn f() {\n    std::thread::Builder::new();\n}\n"),
     ("channel", "fn f(sender: &Sender<u8>) {\n    let sent = Sender::try_send(sender, 1);\n}\n"),
     ("range with no end", "fn f(&self) -> usize {\n    (self.first..).take(9).count()\n}\n"),
-    ("range with no end", "fn f(v: &[u8], t: (u8,)) {\n    for (a, b) in v.iter().zip(t.0..) {}\n}\n"),
+    (
+        "range with no end",
+        "fn f(v: &[u8], t: (u8,)) {\n    for (a, b) in v.iter().zip(t.0..) {}\n}\n",
+    ),
     ("range with no end", "fn f(n: u8) -> impl Iterator<Item = u8> {\n    n..\n}\n"),
     ("range with no end", "fn f(n: u8) {\n    let all = { n.. };\n}\n"),
     ("range with no end", "fn f() {\n    for r in [250u8..] {}\n}\n"),
@@ -101,17 +161,35 @@ DIFFERING = [
     ("impl on all types", "impl<X: Read + std::fmt::Debug> A\n    for X\n{\n}\n"),
     ("impl on all types", "impl<X: Clone> A for W<X> {}\n"),
     ("size of a value", "fn f<G: Fn()>(g: G) -> usize {\n    size_of::<G>()\n}\n"),
-    ("size of a value", "impl<G> S<G> {\n    fn f() -> usize {\n        std::mem::size_of::<W<G>>()\n    }\n}\n"),
-    ("size of a value", "impl T for F {\n    fn f() -> usize {\n        size_of::<Self>()\n    }\n}\n"),
+    (
+        "size of a value",
+        "impl<G> S<G> {\n    fn f() -> usize {\n        std::mem::size_of::<W<G>>()\n    }\n}\n",
+    ),
+    (
+        "size of a value",
+        "impl T for F {\n    fn f() -> usize {\n        size_of::<Self>()\n    }\n}\n",
+    ),
     ("size of a value", "fn f<G>() -> usize {\n    align_of::<G>()\n}\n"),
-    ("array in a variant", "fn f(x: E) {\n    if let (E::A { of: [p, q] }, Some(r)) = (x, y) {}\n}\n"),
-    ("array in a variant", "fn f(x: E) {\n    while let (E::A(B(1), ([p, q])), Some(r)) = (x, y) {}\n}\n"),
-    ("array in a variant", "fn f(x: E) {\n    let (E::A { of: [p, q] }, Some(r)) = (x, y) else {\n        return;\n    };\n}\n"),
+    (
+        "array in a variant",
+        "fn f(x: E) {\n    if let (E::A { of: [p, q] }, Some(r)) = (x, y) {}\n}\n",
+    ),
+    (
+        "array in a variant",
+        "fn f(x: E) {\n    while let (E::A(B(1), ([p, q])), Some(r)) = (x, y) {}\n}\n",
+    ),
+    (
+        "array in a variant",
+        "fn f(x: E) {\n    let (E::A { of: [p, q] }, Some(r)) = (x, y) else {\n        return;\n    };\n}\n",
+    ),
     ("array in a variant", "fn f(x: E) {\n    if a == b && let E::A([p, q]) = x {}\n}\n"),
     ("array in a variant", "fn f(x: E) {\n    if let E::A(0..=9, [p, q]) = x {}\n}\n"),
     ("rest of an element", "fn f(v: &[S]) -> S {\n    S { a: 1, ..v.of()[0] }\n}\n"),
     ("rest of an element", "fn f(v: &[S]) -> S {\n    S { a: 1, ..(v[0]) }\n}\n"),
-    ("rest of an element", "fn f(v: &[S]) -> S {\n    S {\n        a: 1,\n        ..*g(&v[0])\n    }\n}\n"),
+    (
+        "rest of an element",
+        "fn f(v: &[S]) -> S {\n    S {\n        a: 1,\n        ..*g(&v[0])\n    }\n}\n",
+    ),
     ("method of std", "trait Held {\n    fn is_empty(&self) -> bool;\n}\n"),
     ("method of std", "trait Held {\n    fn f(&self) {}\n    fn first(&self) -> u8;\n}\n"),
 ]
@@ -119,7 +197,15 @@ DIFFERING = [
 WITH_OUR_TRAITS = [
     ("byte_streams/src/streams.rt", "trait Incoming {\n    fn read(&mut self) -> u8;\n}\n", None),
     ("gtp_process/src/starter.rt", "trait Process {\n    fn flush(&mut self) -> u8;\n}\n", None),
-    ("gtp_process/src/starter.rt", "trait Incoming {\n    fn read(&mut self) -> u8;\n}\n", "method of std"),
-    ("gtp_wire/src/lines.rt", "trait Incoming {\n    fn read(&mut self) -> u8;\n}\n", "method of std"),
+    (
+        "gtp_process/src/starter.rt",
+        "trait Incoming {\n    fn read(&mut self) -> u8;\n}\n",
+        "method of std",
+    ),
+    (
+        "gtp_wire/src/lines.rt",
+        "trait Incoming {\n    fn read(&mut self) -> u8;\n}\n",
+        "method of std",
+    ),
     ("gtp_wire/src/lines.rt", "trait Starter {\n    fn start(&mut self) -> u8;\n}\n", None),
 ]

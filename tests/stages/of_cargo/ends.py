@@ -37,7 +37,12 @@ def closed(folder, _):
     end, start = os.pipe()
     os.close(end)
     try:
-        return ended([folder / "gtp_engine"], b"name\n", stdout=start, preexec_fn=lambda: signal.signal(signal.SIGPIPE, signal.SIG_DFL))
+        return ended(
+            [folder / "gtp_engine"],
+            b"name\n",
+            stdout=start,
+            preexec_fn=lambda: signal.signal(signal.SIGPIPE, signal.SIG_DFL),
+        )
     finally:
         os.close(start)
 
@@ -46,7 +51,19 @@ def match(folder, room, text, **how):
     """A match that a script plays."""
     (room / "engine").write_text(text)
     (room / "engine").chmod(0o755)
-    return ended([folder / "twogtp", "--black", room / "engine", "--white", room / "engine", "--restarts", "0", "--why"], **how)
+    return ended(
+        [
+            folder / "twogtp",
+            "--black",
+            room / "engine",
+            "--white",
+            room / "engine",
+            "--restarts",
+            "0",
+            "--why",
+        ],
+        **how,
+    )
 
 
 def hangs(folder, room):
@@ -65,12 +82,28 @@ def inherits(folder, room):
 
 def refused(folder, room):
     """The engine to which a request for memory is refused: some that it returns, and some that it doesn't."""
-    run(["cc", "-shared", "-fPIC", "-o", room / "refusing.so", TOP / "tests/shared/refusing.c", "-ldl"])
+    run(
+        [
+            "cc",
+            "-shared",
+            "-fPIC",
+            "-o",
+            room / "refusing.so",
+            TOP / "tests/shared/refusing.c",
+            "-ldl",
+        ]
+    )
     loaded = {**os.environ, "LD_PRELOAD": str(room / "refusing.so")}
-    return [ended([folder / "gtp_engine"], b"name\n", env={**loaded, "REFUSED": number}) for number in ("1", "5", "8")]
+    return [
+        ended([folder / "gtp_engine"], b"name\n", env={**loaded, "REFUSED": number})
+        for number in ("1", "5", "8")
+    ]
 
 
-@checks.table([full, no_input, closed, hangs, inherits, refused], lambda it: f"ends as the proved one: {it.__doc__.rstrip('.')}")
+@checks.table(
+    [full, no_input, closed, hangs, inherits, refused],
+    lambda it: f"ends as the proved one: {it.__doc__.rstrip('.')}",
+)
 class Ends(OfWorkspace):
     """Each ends as the proved one."""
 

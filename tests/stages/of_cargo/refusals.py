@@ -12,7 +12,6 @@ from .differing import DIFFERING, WITH_OUR_TRAITS
 # the name of the form, and a source that has it; those that Rust takes with another meaning are in differing.py
 REFUSED = [
     *DIFFERING,
-
     ("ghost", "fn f() {\n    let ghost_of = 1;\n    let requires = 2;\n}\n"),
     ("ghost", "fn f(«data»: u8) {}\n"),
     ("ghost", "fn f() -> u8\n    ensures result { }\n{\n    let forall = 1;\n    1\n}\n"),
@@ -29,22 +28,31 @@ REFUSED = [
     ("endless loop", "fn f(rt: &impl Wait) {\n    for _ in rt.forever() {}\n}\n"),
     ("macro", "macro_rules! m {\n    () => {};\n}\n"),
     ("attribute of the check", "#[tactic(auto, using((a)(b)(((c)))))]\nfn f() {}\n"),
-    ("right to end the program", "fn f(rt: &impl Abort) {\n    panic!(rt; \"it ends\");\n}\n"),
+    ("right to end the program", 'fn f(rt: &impl Abort) {\n    panic!(rt; "it ends");\n}\n'),
     ("open brace", "fn f()\n    ensures { a {\n{\n}\n"),
     ("open ghost", "struct S { ghost kept: 1"),
-    ("comment of a ghost", "struct S {\n    /// It is small.\n    ghost few: { n < 9 },\n    n: u8,\n}\n"),
+    (
+        "comment of a ghost",
+        "struct S {\n    /// It is small.\n    ghost few: { n < 9 },\n    n: u8,\n}\n",
+    ),
     ("comment of a ghost", "/** Held. */\nimpl Model for S {\n    a\n}\n"),
     ("comment of a ghost", "/// It is small.\n#[cycle(a)]\n// why\nghost use a::b;\nfn f() {}\n"),
     ("attribute of a ghost", "#[cfg(test)]\nghost use a::b;\nfn f() {}\n"),
-    ("attribute of a ghost", "struct S {\n    #[allow(dead_code)]\n    ghost few: { n < 9 },\n    n: u8,\n}\n"),
+    (
+        "attribute of a ghost",
+        "struct S {\n    #[allow(dead_code)]\n    ghost few: { n < 9 },\n    n: u8,\n}\n",
+    ),
     ("attribute of a ghost", "#[inline]\n#[tactic(auto)]\nimpl Model for S {\n    a\n}\n"),
-    ("clause of a closure", "fn f(n: u8) -> u8\n    requires { n < 9 }\n{\n    let g = |x: u8| requires { x < 9 } { x };\n    n\n}\n"),
+    (
+        "clause of a closure",
+        "fn f(n: u8) -> u8\n    requires { n < 9 }\n{\n    let g = |x: u8| requires { x < 9 } { x };\n    n\n}\n",
+    ),
     ("clause of a closure", "const G: F = |x: u8| -> u8 ensures { result < 9 } { x };\n"),
     ("clause of a closure", "fn f(g: impl Fn(u8) requires { a }) {}\n"),
     ("open comment", "fn f() {}\n/* a /* b */\n"),
-    ("open text", "fn f() {\n    g(\"a);\n}\n"),
-    ("open text", "fn f() {\n    g(r#\"a\");\n}\n"),
-    ("open text", "fn f()\n    requires { a \" }\n{\n}\n"),
+    ("open text", 'fn f() {\n    g("a);\n}\n'),
+    ("open text", 'fn f() {\n    g(r#"a");\n}\n'),
+    ("open text", 'fn f()\n    requires { a " }\n{\n}\n'),
     ("open brace", "fn f()\n    requires { a -- b }"),
     ("open ghost", "ghost use a::b\n"),
     ("comment of a term", "fn f()\n    requires { a /- } -/ b }\n{\n}\n"),
@@ -52,36 +60,63 @@ REFUSED = [
     ("model", "impl Model for S /* { */ {\n    fn f() {}\n}\n"),
     ("derive", "#[derive(Clone, /* why */ Drop)]\nstruct S;\n"),
     ("derive", "#[derive(std::clone::Clone, Drop)]\nstruct S;\n"),
-    ("slice of C", "pub extern \"C\" fn f(y: &'static [u8]) {}\n"),
-    ("slice of C", "pub extern \"C\" fn f(x: &[u8], mut y: &[u8]) {}\n"),
-    ("slice of C", "pub extern \"C\" fn f(z: &[a::B]) {}\n"),
-    ("slice of C", "pub extern \"C\" fn f(y: Option<&[u8]>) {}\n"),
-    ("slice of C", "pub extern \"C\" fn f(y: &str) {}\n"),
-    ("slice of C", "pub extern \"C\" fn f(y: &[[u8; 2]]) {}\n"),
-    ("slice of C", "pub extern \"C\" fn f(a: (u8, u8), y: &mut [(u8, u8)]) {}\n"),
+    ("slice of C", 'pub extern "C" fn f(y: &\'static [u8]) {}\n'),
+    ("slice of C", 'pub extern "C" fn f(x: &[u8], mut y: &[u8]) {}\n'),
+    ("slice of C", 'pub extern "C" fn f(z: &[a::B]) {}\n'),
+    ("slice of C", 'pub extern "C" fn f(y: Option<&[u8]>) {}\n'),
+    ("slice of C", 'pub extern "C" fn f(y: &str) {}\n'),
+    ("slice of C", 'pub extern "C" fn f(y: &[[u8; 2]]) {}\n'),
+    ("slice of C", 'pub extern "C" fn f(a: (u8, u8), y: &mut [(u8, u8)]) {}\n'),
     ("slice of C", "pub extern \"C\" fn f<'a>(y: &'a [u8]) {}\n"),
-    ("slice of C", "pub extern \"C\" fn f(y: u8) -> &[u8] {}\n"),
+    ("slice of C", 'pub extern "C" fn f(y: u8) -> &[u8] {}\n'),
     ("slice of C", "pub extern fn f(y: /* why */ &[u8]) {}\n"),
-    ("slice of C", "pub extern \"C\" fn /* why */ f(y: &[u8]) {}\n"),
-    ("slice of C", "unsafe extern \"C\" {\n    fn f(y: &[u8]);\n}\n"),
-    ("slice of C", "struct S {\n    call: extern \"C\" fn(&[u8]),\n}\n"),
-    ("code from elsewhere", "include!(\"x.rs\");\n"),
-    ("code from elsewhere", "#[path = \"x.rt\"]\nmod a;\n"),
+    ("slice of C", 'pub extern "C" fn /* why */ f(y: &[u8]) {}\n'),
+    ("slice of C", 'unsafe extern "C" {\n    fn f(y: &[u8]);\n}\n'),
+    ("slice of C", 'struct S {\n    call: extern "C" fn(&[u8]),\n}\n'),
+    ("code from elsewhere", 'include!("x.rs");\n'),
+    ("code from elsewhere", '#[path = "x.rt"]\nmod a;\n'),
 ]
 # sources that are taken, and the Rust that each becomes
 TAKEN = [
-    ("fn f(v: &[u8], it: &S) -> &[u8] {\n    b\"ab\"[it.n().min(2)..].g(&v.h()[it.used..], &v[1 + (2)..])\n}\n", None),
+    (
+        'fn f(v: &[u8], it: &S) -> &[u8] {\n    b"ab"[it.n().min(2)..].g(&v.h()[it.used..], &v[1 + (2)..])\n}\n',
+        None,
+    ),
     ("fn f(v: &[u8], at: &usize) {\n    v.get(*at..).is_some();\n    v.get_mut(1..);\n}\n", None),
-    ("fn f(x: E) {\n    match x {\n        S { a, .. } | T(..) | [a, ..] | U(a, ..) => {}\n    }\n}\n", None),
-    ("fn f(x: i32) {\n    match x {\n        ..0 => {}\n        0..=4 => {}\n        5.. => {}\n    }\n}\n", None),
-    ("fn f(v: &[u8]) {\n    for n in 0..v[..].len() {\n        g(&v[..n], &v[..=n], a..b, ..c);\n    }\n}\n", None),
-    ("fn f(w: &mut W) {\n    let a = write!(w, \"{}\", g(h(1))).map_err(fmt::Error::from);\n    let b = writeln!(w).is_err();\n}\n", None),
-    ("fn fmt(&self, f: &mut fmt::Formatter) -> fmt::Result {\n    g();\n    write!(f, \"{}\", 1)\n}\n", None),
-    ("fn fmt(&self, f: &mut fmt::Formatter) -> fmt::Result {\n    f.write_str(\"a\")\n}\n", None),
-    ("impl Write for S {\n    fn write_str(&mut self, text: &str) -> fmt::Result {\n        Ok(())\n    }\n}\n", None),
+    (
+        "fn f(x: E) {\n    match x {\n        S { a, .. } | T(..) | [a, ..] | U(a, ..) => {}\n    }\n}\n",
+        None,
+    ),
+    (
+        "fn f(x: i32) {\n    match x {\n        ..0 => {}\n        0..=4 => {}\n        5.. => {}\n    }\n}\n",
+        None,
+    ),
+    (
+        "fn f(v: &[u8]) {\n    for n in 0..v[..].len() {\n        g(&v[..n], &v[..=n], a..b, ..c);\n    }\n}\n",
+        None,
+    ),
+    (
+        'fn f(w: &mut W) {\n    let a = write!(w, "{}", g(h(1))).map_err(fmt::Error::from);\n    let b = writeln!(w).is_err();\n}\n',
+        None,
+    ),
+    (
+        'fn fmt(&self, f: &mut fmt::Formatter) -> fmt::Result {\n    g();\n    write!(f, "{}", 1)\n}\n',
+        None,
+    ),
+    ('fn fmt(&self, f: &mut fmt::Formatter) -> fmt::Result {\n    f.write_str("a")\n}\n', None),
+    (
+        "impl Write for S {\n    fn write_str(&mut self, text: &str) -> fmt::Result {\n        Ok(())\n    }\n}\n",
+        None,
+    ),
     ("fn f(a: &T) -> T {\n    let n = a.iter().map(|it| it.n).count();\n    a.clone()\n}\n", None),
-    ("use std::fmt::Write as _;\nuse std::iter::zip;\nuse std::thread::yield_now;\nuse gtp_check_judge::Board as Known;\n", None),
-    ("trait T {\n    fn f(&self, a: W<u8>, b: &Self) -> Result<Self, u8>;\n    fn g() -> Option<Self::Of>;\n}\n", None),
+    (
+        "use std::fmt::Write as _;\nuse std::iter::zip;\nuse std::thread::yield_now;\nuse gtp_check_judge::Board as Known;\n",
+        None,
+    ),
+    (
+        "trait T {\n    fn f(&self, a: W<u8>, b: &Self) -> Result<Self, u8>;\n    fn g() -> Option<Self::Of>;\n}\n",
+        None,
+    ),
     ("impl T for S {\n    fn f(w: W<&Self>) {}\n}\n", None),
     (
         "fn f(x: &[u8], y: E) {\n    let S { a: [p, q] } = y;\n    if let [Some(a), ..] | [a] = x {}\n"
@@ -96,29 +131,41 @@ TAKEN = [
     ("fn f() /* why */\n{\n    g();\n}\n", "fn f() /* why */ {\n    g();\n}\n"),
     ("impl<T /*> Model for x */> Tr for S {\n    fn f() {}\n}\n", None),
     ("impl Tr for S /* a Model for it */ {\n    fn f() {}\n}\n", None),
-    ("//! It is small.\n#![allow(a)]\n\nghost use a::b;\n\nfn f() {}\n", "//! It is small.\n#![allow(a)]\n\nfn f() {}\n"),
+    (
+        "//! It is small.\n#![allow(a)]\n\nghost use a::b;\n\nfn f() {}\n",
+        "//! It is small.\n#![allow(a)]\n\nfn f() {}\n",
+    ),
     ("#[cycle(a)]\n#[derive(Drop)]\nghost use a::b;\nfn f() {}\n", "fn f() {}\n"),
-    ("struct S {\n    ghost few: \"{\",\n    n: u8,\n}\n", "struct S {\n    n: u8,\n}\n"),
+    ('struct S {\n    ghost few: "{",\n    n: u8,\n}\n', "struct S {\n    n: u8,\n}\n"),
     (
         "fn f(h: fn (u8) -> u8)\n    requires { a }\n{\n}\n",
         "/// # Contract\n///\n/// ```text\n/// requires { a }\n/// ```\nfn f(h: fn (u8) -> u8) {\n}\n",
     ),
     (
-        "pub unsafe extern \"C\" fn f(a: (u8, u8), x: &[u8]) {\n}\n",
-        "pub unsafe extern \"C\" fn f(a: (u8, u8), x: *const u8, x_len: usize) {\n    let x = unsafe { kit_ffi::slice(x, x_len) };\n}\n",
+        'pub unsafe extern "C" fn f(a: (u8, u8), x: &[u8]) {\n}\n',
+        'pub unsafe extern "C" fn f(a: (u8, u8), x: *const u8, x_len: usize) {\n    let x = unsafe { kit_ffi::slice(x, x_len) };\n}\n',
     ),
     ("fn f(text: &[u8], done: usize) -> &[u8] {\n    &text[done..]\n}\n", None),
     ("fn f(it: &S) -> bool {\n    matches!(it, S { a: 1, .. } | S { a: 2, .. })\n}\n", None),
     ("fn f(v: &[u8]) -> Option<&[u8]> {\n    v.get(1..)\n}\n", None),
-    ("fn f(w: &mut W) -> bool {\n    write!(w, \"a\").is_ok()\n}\n", None),
+    ('fn f(w: &mut W) -> bool {\n    write!(w, "a").is_ok()\n}\n', None),
     ("fn f(x: &[u8]) {\n    if let [a, b] = x {}\n}\n", None),
-    ("/// requires and ensures: a ghost in a comment\nfn f() -> &'static str {\n    \"ghost ≤\"\n}\n", None),
+    (
+        '/// requires and ensures: a ghost in a comment\nfn f() -> &\'static str {\n    "ghost ≤"\n}\n',
+        None,
+    ),
     ("impl<T: Read> ReadOnce for T {}\n", None),
     ("impl<M: Maker> Seated for M {}\n", None),
     ("impl<'r, R: Processes + Clock> Starter for SystemStarter<'r, R> {}\n", None),
-    ("#[derive(Clone, Drop)]\nstruct S;\n\n#[derive(Drop)]\nstruct R;\n", "#[derive(Clone)]\nstruct S;\n\nstruct R;\n"),
+    (
+        "#[derive(Clone, Drop)]\nstruct S;\n\n#[derive(Drop)]\nstruct R;\n",
+        "#[derive(Clone)]\nstruct S;\n\nstruct R;\n",
+    ),
     ("fn f<T: Drop, U: Ord + Drop>(it: T) {}\n", "fn f<T, U: Ord>(it: T) {}\n"),
-    ("struct S {\n    n: u8,\n    // It is small.\n    ghost few: { n < 9 },\n}\n", "struct S {\n    n: u8,\n}\n"),
+    (
+        "struct S {\n    n: u8,\n    // It is small.\n    ghost few: { n < 9 },\n}\n",
+        "struct S {\n    n: u8,\n}\n",
+    ),
     ("use a::b;\nghost use c::{d};\n\nfn f() {}\n", "use a::b;\n\nfn f() {}\n"),
     (
         "/// Adds.\n#[inline]\npub fn f(n: u8) -> u8\n    requires { n < 9 }\n"
@@ -128,10 +175,10 @@ TAKEN = [
         "/// ```\n#[inline]\npub fn f(n: u8) -> u8 {\n    n + 1\n}\n",
     ),
     (
-        "#[unsafe(no_mangle)]\npub extern \"C\" fn f(at: &mut S, to: &mut [u8], from: &[u8]) -> usize {\n    0\n}\n",
+        '#[unsafe(no_mangle)]\npub extern "C" fn f(at: &mut S, to: &mut [u8], from: &[u8]) -> usize {\n    0\n}\n',
         "///\n/// # Safety\n///\n/// Each pointer is that of as many items as the length behind it says, or the length is 0.\n"
         "#[unsafe(no_mangle)]\n"
-        "pub unsafe extern \"C\" fn f(at: &mut S, to: *mut u8, to_len: usize, from: *const u8, from_len: usize) -> usize {\n"
+        'pub unsafe extern "C" fn f(at: &mut S, to: *mut u8, to_len: usize, from: *const u8, from_len: usize) -> usize {\n'
         "    let to = unsafe { kit_ffi::slice_mut(to, to_len) };\n    let from = unsafe { kit_ffi::slice(from, from_len) };\n    0\n}\n",
     ),
 ]
@@ -151,7 +198,11 @@ class Refusals(checks.Case):
 
     def test_refused(self):
         """Sources are refused."""
-        wrong = [(name, refused_as(source), source) for name, source in REFUSED if refused_as(source) != name]
+        wrong = [
+            (name, refused_as(source), source)
+            for name, source in REFUSED
+            if refused_as(source) != name
+        ]
         self.check(f"{len(REFUSED)} sources are refused, each as what it is", [], wrong)
 
     def test_forms(self):
@@ -160,7 +211,9 @@ class Refusals(checks.Case):
         self.same(set(), names - {name for name, _ in REFUSED})
 
 
-@checks.table(WITH_OUR_TRAITS, lambda it: f"a trait in {it[0] or 'a file'}: {it[1].splitlines()[0]}")
+@checks.table(
+    WITH_OUR_TRAITS, lambda it: f"a trait in {it[0] or 'a file'}: {it[1].splitlines()[0]}"
+)
 class Traits(checks.Case):
     """Three traits of ours may name a method as std does."""
 
@@ -190,7 +243,9 @@ class Inlined(checks.Case):
         """no other one is."""
         marked = "    #[inline(always)]\n    fn f() {\n        g();\n    }\n"
         longer = "fn f() {\n" + "    g();\n" * 8 + "}\n"
-        declared = "trait T {\n    fn f(&self) -> [u8; 2];\n\n    fn g(\n        &self,\n    );\n}\n"
+        declared = (
+            "trait T {\n    fn f(&self) -> [u8; 2];\n\n    fn g(\n        &self,\n    );\n}\n"
+        )
         self.same(marked + longer + declared, inlined(marked + longer + declared))
 
 
@@ -213,7 +268,9 @@ class Files(checks.Case):
     def test_files(self):
         """the files of a crate."""
         found = {str(path): is_test for path, is_test in files_of(self.crate).items()}
-        self.same({"lib.rt": False, "code.rt": False, "tests.rt": True, "tests/row.rt": True}, found)
+        self.same(
+            {"lib.rt": False, "code.rt": False, "tests.rt": True, "tests/row.rt": True}, found
+        )
 
     def test_lost(self):
         """a file of no module is refused."""
@@ -235,6 +292,12 @@ class Message(checks.Case):
         copy = copy_of(self.room() / "refused", 0o022)
         source = copy / "crates/go_base/src/sizes.rt"
         line = source.read_text().count("\n") + 2
-        source.write_text(source.read_text() + "\nmacro_rules! m { () => {}; }\nfn f() -> u8 { (0u8..).take(3).sum() }\n")
+        source.write_text(
+            source.read_text()
+            + "\nmacro_rules! m { () => {}; }\nfn f() -> u8 { (0u8..).take(3).sum() }\n"
+        )
         wanted = f"strip: crates/go_base/src/sizes.rt:{line + 1}: range with no end: it overflows in Rust, and ends in the kit\n"
-        self.same((1, "", wanted), running.run([copy / "cargo/strip", "--others", "debian", copy.parent / "nowhere"]))
+        self.same(
+            (1, "", wanted),
+            running.run([copy / "cargo/strip", "--others", "debian", copy.parent / "nowhere"]),
+        )

@@ -124,13 +124,20 @@ MOVES = {
 # what stands before the engine in some rows, and what it writes on standard error for each start
 LIMITED = {
     "silent, under timeout": ("timeout 2 ", ""),
-    "silent, under patience": (f"{TOP}/tournament/patience 2 ", "patience: no answer in time to '1 name'\n"),
+    "silent, under patience": (
+        f"{TOP}/tournament/patience 2 ",
+        "patience: no answer in time to '1 name'\n",
+    ),
 }
 
 
 def command(kind, folder):
     """The command of an engine of this kind, whose processes are noted."""
-    return " ".join(Planned(1, 1, STYLES.get(kind, "<reply>"), PLANS.get(kind, "-")).command(f"{folder}/started"))
+    return " ".join(
+        Planned(1, 1, STYLES.get(kind, "<reply>"), PLANS.get(kind, "-")).command(
+            f"{folder}/started"
+        )
+    )
 
 
 def rows():
@@ -148,10 +155,20 @@ def rows():
     yield "play_half", START, "play_half", ("10 play b E5", WITHIN + "exit status 0", 1, 10)
     for kind, (line, fault, counts) in MOVES.items():
         # What is found is shown as it was asked.
-        yield f"{kind}, at its move", (*OWN, "--trials", "0"), kind, (line, fault, len(counts), sum(counts))
+        yield f"{kind}, at its move", (*OWN, "--trials", "0"), kind, (
+            line,
+            fault,
+            len(counts),
+            sum(counts),
+        )
     # No answer comes: the program waits, and what stands before the engine ends it. Its status is 124 then.
     yield "silent, under timeout", (*KOMI[:-1],), "silent", (NAME, ENDED + "exit status 124", 3, 15)
-    yield "silent, under patience", (*KOMI[:-1],), "silent", (NAME, ENDED + "exit status 124", 3, 15)
+    yield "silent, under patience", (*KOMI[:-1],), "silent", (
+        NAME,
+        ENDED + "exit status 124",
+        3,
+        15,
+    )
     # It refuses the name, and in each of 16 parts each size from 5 on, and 5 again, which an engine may. So no pass is earned.
     yield "refuses", ("--only", "komi", "--restarts", "3"), "refuses", (None, None, 1, 5 + 16 * 22)
 
@@ -169,9 +186,25 @@ def faults(row):
     first = report.complaints[0].command if report.complaints else None
     # From the second start on the board is another one, and so may be the point.
     others = {(it.command.split()[1], it.fault) for it in report.complaints}
-    got = (result.status, first, others, report.starts, report.commands, report.count, result.errors)
+    got = (
+        result.status,
+        first,
+        others,
+        report.starts,
+        report.commands,
+        report.count,
+        result.errors,
+    )
     complaints = 0 if line is None else starts
-    wanted = (1 if complaints else 4, line, {(line.split()[1], fault)} if line else set(), starts, commands, complaints, starts * errors)
+    wanted = (
+        1 if complaints else 4,
+        line,
+        {(line.split()[1], fault)} if line else set(),
+        starts,
+        commands,
+        complaints,
+        starts * errors,
+    )
     if got != wanted or started != starts:
         return f"wanted {wanted}, got {got}, {started} processes:\n{result.output[:3000]}"
     return None
@@ -181,8 +214,14 @@ def faults(row):
 
 # the engine, and what is reported of it
 NO_ENGINES = {
-    "no such program": ("./no_such_engine", 'gtp_check: not started: no such file: "./no_such_engine"\n'),
-    "a file that is no program": ("./README.md", 'gtp_check: not started: not allowed: "./README.md"\n'),
+    "no such program": (
+        "./no_such_engine",
+        'gtp_check: not started: no such file: "./no_such_engine"\n',
+    ),
+    "a file that is no program": (
+        "./README.md",
+        'gtp_check: not started: not allowed: "./README.md"\n',
+    ),
     "a path with a space": ("my engines/engine", 'gtp_check: not started: no such file: "my"\n'),
 }
 
@@ -225,7 +264,9 @@ def gone_after_its_first_start(folder):
     last = result.output.splitlines()[-3:]
     wanted = [f'check: the engine was not started: no such file: "{str(once)[:80]}"',
               "check: not asked, or not to their end, for that: start"]  # fmt: skip
-    same = (result.status, last[:2], result.errors) == (4, wanted, "") and last[2].endswith(", 1 start, 0 complaints")
+    same = (result.status, last[:2], result.errors) == (4, wanted, "") and last[2].endswith(
+        ", 1 start, 0 complaints"
+    )
     return None if same else result
 
 
@@ -235,15 +276,24 @@ def refusing(kind):
     start, one for each part of a lesson, and in those that seek the size of scenes 21 more."""
     parts = dict(start=4, sizes=25, ko=6 * 16, captures=8 * 16, suicide=5 * 16, joining=4 * 16, handicaps=25 * 12, komi=16, drawn=11,
                  record=3, genmoves=9, games=5, restarts=5)  # fmt: skip
-    commands = 3 * 5 + sum(count if lesson in ("sizes", "handicaps") else 22 * count for lesson, count in parts.items())
-    unasked = "".join(f"check: {lesson}: no play and no genmove was answered rightly on any board of it\n" for lesson in parts)
+    commands = 3 * 5 + sum(
+        count if lesson in ("sizes", "handicaps") else 22 * count for lesson, count in parts.items()
+    )
+    unasked = "".join(
+        f"check: {lesson}: no play and no genmove was answered rightly on any board of it\n"
+        for lesson in parts
+    )
     sizes = " ".join(map(str, [*range(5, 26), *range(1, 5)]))
     wanted = f"{unasked}check: it refuses the sizes {sizes}\ncheck: {commands} commands, 3 starts, 1 complaint\n"
     with tempfile.TemporaryDirectory() as folder:
         result = checked(("--trials", "0"), command(kind, folder), folder=folder)
     report = read(result.output)
     found = [(it.command, it.fault) for it in getattr(report, "complaints", ())]
-    same = (result.status, found, result.errors) == (1, [("50 list_commands", "it was refused")], "")
+    same = (result.status, found, result.errors) == (
+        1,
+        [("50 list_commands", "it was refused")],
+        "",
+    )
     return None if same and result.output.endswith(f"\n{wanted}") else result
 
 

@@ -25,17 +25,27 @@ from tests.stages.of_gtp_check import wrong  # noqa: E402
 from tests.stages.of_gtp_check.running import PROGRAM, environment  # noqa: E402
 from tests.stages.of_gtp_check.table import UNNOTICED, WAITING, lessons_of  # noqa: E402
 
-FEW, MANY = 40, 200  # nine of ten should have fewer lines than the first; more than the second want a reason
+FEW, MANY = (
+    40,
+    200,
+)  # nine of ten should have fewer lines than the first; more than the second want a reason
 
 
 def options():
     """What the words say."""
-    parser = argparse.ArgumentParser(description=__doc__, formatter_class=argparse.RawDescriptionHelpFormatter)
+    parser = argparse.ArgumentParser(
+        description=__doc__, formatter_class=argparse.RawDescriptionHelpFormatter
+    )
     parser.add_argument("names", metavar="NAME", nargs="*", help="the bugs (all that are noticed)")
     parser.add_argument("--whole", action="store_true", help="ask the whole course")
     parser.add_argument("--program", default=PROGRAM, help="the gtp_check that is run")
     parser.add_argument("--each", action="store_true", help="print a line for each bug")
-    parser.add_argument("--beside", metavar="FILE", type=Path, help="an output with --each that this one is compared with")
+    parser.add_argument(
+        "--beside",
+        metavar="FILE",
+        type=Path,
+        help="an output with --each that this one is compared with",
+    )
     parser.add_argument("--limit", type=float, default=600, help="seconds for each first complaint")
     parser.add_argument("--jobs", type=int, default=2, help="checks at once")
     return parser.parse_args()
@@ -44,8 +54,18 @@ def options():
 def words_of(name, given):
     """The check of a wrong engine, as words."""
     bug = wrong.BUGS[name]
-    only = [] if given.whole else [word for lesson in lessons_of(name, bug.subject) for word in ("--only", lesson)]
-    engine = [*(["timeout", "1"] if name in WAITING else []), wrong.ENGINE, *bug.options, "--bug", name]
+    only = (
+        []
+        if given.whole
+        else [word for lesson in lessons_of(name, bug.subject) for word in ("--only", lesson)]
+    )
+    engine = [
+        *(["timeout", "1"] if name in WAITING else []),
+        wrong.ENGINE,
+        *bug.options,
+        "--bug",
+        name,
+    ]
     return [given.program, *wrong.rule_of(bug), *only, " ".join(engine)]
 
 
@@ -96,19 +116,34 @@ def main():
         found = dict(zip(names, pool.map(lambda name: first_block(name, given), names)))
     for name, (block, seconds) in found.items():
         if given.each:
-            print(f"\t{name} {asked(block)} {len(block)} {seconds:.1f}" if block else f"\t{name} - - {seconds:.1f}")
+            print(
+                f"\t{name} {asked(block)} {len(block)} {seconds:.1f}"
+                if block
+                else f"\t{name} - - {seconds:.1f}"
+            )
     lines = {name: asked(block) for name, (block, _) in found.items() if block}
     if lines:
         summary("lines of the conversation", list(lines.values()))
         summary("lines of the block", [len(block) for block, _ in found.values() if block])
-    listed(f"over {MANY}", [f"{name} {lines[name]}" for name in sorted(lines, key=lambda it: -lines[it]) if lines[name] > MANY])
+    listed(
+        f"over {MANY}",
+        [
+            f"{name} {lines[name]}"
+            for name in sorted(lines, key=lambda it: -lines[it])
+            if lines[name] > MANY
+        ],
+    )
     listed("without a complaint", [name for name in names if name not in lines])
     if given.beside:
         before = figures_in(given.beside)
         longer = [name for name in lines if lines[name] > before.get(name, lines[name])]
-        listed("longer than before", [f"{name} {lines[name]} (was {before[name]})" for name in longer])
+        listed(
+            "longer than before", [f"{name} {lines[name]} (was {before[name]})" for name in longer]
+        )
     seconds = [it for _, it in found.values()]
-    print(f"seconds up to the first complaint: median {statistics.median(seconds):.1f}, most {max(seconds):.1f}")
+    print(
+        f"seconds up to the first complaint: median {statistics.median(seconds):.1f}, most {max(seconds):.1f}"
+    )
 
 
 if __name__ == "__main__":

@@ -93,16 +93,17 @@ OTHERS = {
         # After a full board with three gaps these are filled, and a move is asked for: the one that was right before is on a stone.
         "choice_of_the_game_before",
     ),
-    ("record",): (
-        "two_passes_end_the_game",
-    ),
+    ("record",): ("two_passes_end_the_game",),
     ("restarts",): (
         "ko_is_compared_by_is",
         # a genmove after 60 drawn moves on 5x5
         "points_twice",
     ),
     # scores before and after a handicap
-    ("games",): ("ends_at_the_third_game colour_of_the_first_genmove", "handicap_sets_komi points_for_a_handicap_stay"),
+    ("games",): (
+        "ends_at_the_third_game colour_of_the_first_genmove",
+        "handicap_sets_komi points_for_a_handicap_stay",
+    ),
     # games that are drawn: long chains and play between them, two boards with equal counts, more than eight boards, a board with other
     # colours, a probe after 100 moves; of their sizes the second is smaller than the first
     ("drawn",): (
@@ -124,7 +125,12 @@ CHANCE = {
     # drawn meets White's stones where Black's should be.
     ("genmoves",): ("empty_points_are_listed_twice", "handicap_makes_the_engine_white"),
 }
-SHOWN = {name: lessons for rows in (OTHERS, CHANCE) for lessons, names in rows.items() for name in " ".join(names).split()}
+SHOWN = {
+    name: lessons
+    for rows in (OTHERS, CHANCE)
+    for lessons, names in rows.items()
+    for name in " ".join(names).split()
+}
 
 NOT_SENT = "no command is written in that form"
 NOT_ASKED = "this command isn't asked"
@@ -175,14 +181,25 @@ UNNOTICED = {
 }
 
 # They wait for more input before they answer, so `timeout` has to end them.
-WAITING = {"one_newline", "one_newline_where_there_is_no_text", "second_line_of_a_read_is_lost", "first_read_is_lost"}
+WAITING = {
+    "one_newline",
+    "one_newline_where_there_is_no_text",
+    "second_line_of_a_read_is_lost",
+    "first_read_is_lost",
+}
 WAITING |= {"replies_are_held"}
 
 # What they answer hangs on how the commands are cut, or on what earlier processes have left: pasted into one more process their
 # conversation may have right answers. Those that wait have answered more commands than the conversation has.
 ANEW = {*WAITING, "reads_of_sixty_four", "trial_is_over"}
 ANEW |= {"note_after_a_crash"}
-ANEW |= {"old_game_is_a_book", "old_game_comes_back", "old_board_comes_back_at_undo", "old_moves_are_undone", "old_ko_stays"}
+ANEW |= {
+    "old_game_is_a_book",
+    "old_game_comes_back",
+    "old_board_comes_back_at_undo",
+    "old_moves_are_undone",
+    "old_ko_stays",
+}
 ANEW |= {"eleventh_start_fails", "id_of_the_last_line_of_a_read", "last_line_of_a_read_is_first"}
 ANEW |= {"game_is_resumed_at_its_first_move", "old_colour_stays", "book_has_no_sizes"}
 

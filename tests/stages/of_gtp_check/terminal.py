@@ -36,8 +36,15 @@ def held(options, engine, folder, limit=60, output_too=False):
         except OSError:  # nobody has the other end any more
             pass
 
-    how = dict(stdin=subprocess.DEVNULL, stdout=slave if output_too else subprocess.PIPE, stderr=slave, start_new_session=True)
-    process = subprocess.Popen([PROGRAM, *options, engine], cwd=TOP, env=environment(folder), encoding="latin-1", **how)
+    how = dict(
+        stdin=subprocess.DEVNULL,
+        stdout=slave if output_too else subprocess.PIPE,
+        stderr=slave,
+        start_new_session=True,
+    )
+    process = subprocess.Popen(
+        [PROGRAM, *options, engine], cwd=TOP, env=environment(folder), encoding="latin-1", **how
+    )
     os.close(slave)
     listener = threading.Thread(target=hear)
     listener.start()
@@ -75,8 +82,17 @@ def odd_lines(sent):
     first, *texts = sent.split("\r")
     ends = [it for it in texts if not it.endswith(CLEAR)]
     texts = [it.removesuffix(CLEAR) for it in texts]
-    odd = [it for it in texts if it not in ("", LOOKS) and not (WAITS.fullmatch(it) or len(it) == COLUMNS and it.startswith("waits for"))]
-    return [first, *ends, *odd] if first or ends or odd or any(len(it) > COLUMNS for it in texts) else []
+    odd = [
+        it
+        for it in texts
+        if it not in ("", LOOKS)
+        and not (WAITS.fullmatch(it) or len(it) == COLUMNS and it.startswith("waits for"))
+    ]
+    return (
+        [first, *ends, *odd]
+        if first or ends or odd or any(len(it) > COLUMNS for it in texts)
+        else []
+    )
 
 
 def is_same(options, engine):
@@ -85,7 +101,12 @@ def is_same(options, engine):
         plain = checked(options, engine, folder=one)
         status, output, sent = held(options, engine, other)
         same = (plain.status, plain.output, plain.errors) == (status, output, "")
-        if not same or odd_lines(sent) or not sent.endswith("\r" + CLEAR) or sent.count("waits for") < 10:
+        if (
+            not same
+            or odd_lines(sent)
+            or not sent.endswith("\r" + CLEAR)
+            or sent.count("waits for") < 10
+        ):
             return f"{plain}\n---\n{status}, {output}\n---\n{odd_lines(sent)} of {sent[:2000]!r}"
         if LOOKS not in sent and "# " in output:
             return "nothing is said before a complaint"
@@ -100,7 +121,9 @@ def is_waiting():
     with tempfile.TemporaryDirectory() as folder:
         status, output, sent = held(START, command("silent", folder), folder, limit=3)
     wanted = f'\rwaits for "1 name", start (1 of 1), 1 command, 1 start{CLEAR}'
-    return None if (status, output, sent) == (None, "", wanted) else f"{status}, {output!r}, {sent!r}"
+    return (
+        None if (status, output, sent) == (None, "", wanted) else f"{status}, {output!r}, {sent!r}"
+    )
 
 
 def is_not_started():
@@ -108,14 +131,21 @@ def is_not_started():
     gone = checked(("--only", "start"), "./no_such_engine")
     with tempfile.TemporaryDirectory() as folder:
         status, output, sent = held(("--only", "start"), "./no_such_engine", folder)
-    same = (status, output, sent) == (gone.status, gone.output, "\r" + CLEAR + gone.errors.replace("\n", "\r\n"))
+    same = (status, output, sent) == (
+        gone.status,
+        gone.output,
+        "\r" + CLEAR + gone.errors.replace("\n", "\r\n"),
+    )
     return None if same else f"{status}, {output}, {sent!r}"
 
 
 # each check's name, and what says what is odd about it
 CHECKS = {
     "a right engine": lambda: is_same(("--quick", "--seed", "5"), RIGHT),
-    "a wrong engine": lambda: is_same(("--seed", "5", "--restarts", "1", "--only", "komi", "--singly"), f"{ENGINE} --bug sign_is_lost"),
+    "a wrong engine": lambda: is_same(
+        ("--seed", "5", "--restarts", "1", "--only", "komi", "--singly"),
+        f"{ENGINE} --bug sign_is_lost",
+    ),
     "silent, which is waited for": is_waiting,
     "an engine that isn't started": is_not_started,
 }

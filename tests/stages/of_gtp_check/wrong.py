@@ -17,14 +17,27 @@ PIECES = PYTHON + " tests/engines/wrong/pieces"
 LATE = PYTHON + " tests/engines/wrong/late"
 UNENDED = PYTHON + " tests/engines/wrong/unended"
 # which answers end by one newline, and a lesson in which one does that more is asked after
-UNENDED_IN = [(kind, lesson) for kind in ("failures", "refusal") for lesson in ("start", "ko", "captures", "suicide", "drawn")]
+UNENDED_IN = [
+    (kind, lesson)
+    for kind in ("failures", "refusal")
+    for lesson in ("start", "ko", "captures", "suicide", "drawn")
+]
 FEW = 30  # commands that are shown of such a lesson at most, in place of hundreds
 # lessons of which a command is the first that is answered wrongly, by its id, and whether its last game alone is shown: of more than forty
 LATELY = (("ko", 40, False), ("ko", 41, True), ("games", 300, True), ("genmoves", 90, True))
 # how many commands a conversation has that no shorter one shows, and how often engines are started at least and at most. Of twelve none is
 # left out. Of 150 at most 149 are tried at once: each of these can't be left out alone within 20,000, and 134 trials have 19,852 at least.
 TRIED = ((12, 1, 1), (13, 2, 1001), (150, 135, 1001))
-QUICKLY = ("--only", "start", "--only", "komi", "--only", "games", "--only", "restarts")  # for the unnoticed ones, where not all are tried
+QUICKLY = (
+    "--only",
+    "start",
+    "--only",
+    "komi",
+    "--only",
+    "games",
+    "--only",
+    "restarts",
+)  # for the unnoticed ones, where not all are tried
 
 
 def chosen(is_all):
@@ -35,7 +48,9 @@ def chosen(is_all):
     subjects = {}
     for name in noticed:
         subjects.setdefault(BUGS[name].subject, []).append(name)
-    return [name for names in subjects.values() for name in names[:: -(-len(names) // OF_A_SUBJECT)]], list(UNNOTICED)[::3]
+    return [
+        name for names in subjects.values() for name in names[:: -(-len(names) // OF_A_SUBJECT)]
+    ], list(UNNOTICED)[::3]
 
 
 def rule_of(bug):
@@ -88,7 +103,11 @@ def is_real(complaint, name, folder):
         return f"pasted, the engine writes {wrote!r} and ends by {ending(status)}"
     if any("genmove" in line for line in complaint.lines[:-1]):
         return None  # the right engine may choose another move
-    is_again = complaint.fault == "it was refused" and complaint.command.split()[1] == "play" and is_in_a_row(words, complaint.lines)
+    is_again = (
+        complaint.fault == "it was refused"
+        and complaint.command.split()[1] == "play"
+        and is_in_a_row(words, complaint.lines)
+    )
     if complaint.in_a_row != is_again:
         return f"{complaint.in_a_row} is said of whether the last move had the same colour, and not {is_again}"
     if complaint.fault == "a score that doesn't differ from its others as the komis do":
@@ -114,7 +133,9 @@ def noticed(name):
     bug = BUGS[name]
     lessons = lessons_of(name, bug.subject)
     only = [word for lesson in lessons for word in ("--only", lesson)]
-    command = " ".join([*(["timeout", "1"] if name in WAITING else []), ENGINE, *bug.options, "--bug", name])
+    command = " ".join(
+        [*(["timeout", "1"] if name in WAITING else []), ENGINE, *bug.options, "--bug", name]
+    )
     how = ["--restarts", "12", *rule_of(bug), *only]
     with tempfile.TemporaryDirectory() as folder:
         # few trials, since some of these conversations are long, and the engines slow
@@ -127,17 +148,30 @@ def noticed(name):
         if any(it.left_out for it in found):
             # what is left out is looked for where each conversation is whole
             whole = read(checked(["--trials", "0", *how], command, folder=folder).output)
-            found = whole if isinstance(whole, str) else [of_whole(it, whole.complaints) if it.left_out else it for it in found]
+            found = (
+                whole
+                if isinstance(whole, str)
+                else [of_whole(it, whole.complaints) if it.left_out else it for it in found]
+            )
         if isinstance(found, str) or None in found:
             return f"without trials others are found: {found}"
-        unreal = [f"complaint {it.number}: {odd}" for it in found if (odd := is_real(it, name, folder))]
+        unreal = [
+            f"complaint {it.number}: {odd}" for it in found if (odd := is_real(it, name, folder))
+        ]
     return "\n".join(unreal) or None
 
 
 def of_whole(shown, complaints):
     """The one of these complaints that is the same, with the whole conversation."""
     of_it = lambda it: (it.number, it.lesson, it.command, it.fault)  # noqa: E731
-    return next((it for it in complaints if of_it(it) == of_it(shown) and set(shown.lines) <= set(it.lines)), None)
+    return next(
+        (
+            it
+            for it in complaints
+            if of_it(it) == of_it(shown) and set(shown.lines) <= set(it.lines)
+        ),
+        None,
+    )
 
 
 def unnoticed(name, is_all):
@@ -145,12 +179,18 @@ def unnoticed(name, is_all):
     bug = BUGS[name]
     options = () if is_all else QUICKLY
     # some of them write a file at each move
-    result = checked([*rule_of(bug), *options], " ".join([ENGINE, *bug.options, "--bug", name]), limit=5 * LIMIT)
+    result = checked(
+        [*rule_of(bug), *options], " ".join([ENGINE, *bug.options, "--bug", name]), limit=5 * LIMIT
+    )
     report = read(result.output)
     if isinstance(report, str):
         return f"{report}: {result}"
     is_noticed = (result.status, report.count) != (0, 0)
-    return f"it is noticed: of_gtp_check/table.py is to be changed\n{result.output[:1500]}" if is_noticed else None
+    return (
+        f"it is noticed: of_gtp_check/table.py is to be changed\n{result.output[:1500]}"
+        if is_noticed
+        else None
+    )
 
 
 def pieces():
@@ -159,10 +199,19 @@ def pieces():
     result = checked(("--only", "start"), PIECES)
     report = read(result.output)
     others = checked(("--quick", "--skip", "start"), PIECES)
-    if isinstance(report, str) or (result.status, result.errors, others.status, others.errors) != (1, "", 0, ""):
+    if isinstance(report, str) or (result.status, result.errors, others.status, others.errors) != (
+        1,
+        "",
+        0,
+        "",
+    ):
         return f"{report}: {result}, {others}"
     found = [(it.lesson, it.fault, it.in_pieces) for it in report.complaints]
-    return None if found == [("start", "a reply without the id of the command", True)] else f"{found}: {result.output}"
+    return (
+        None
+        if found == [("start", "a reply without the id of the command", True)]
+        else f"{found}: {result.output}"
+    )
 
 
 def unended(row):
@@ -172,18 +221,29 @@ def unended(row):
     command = f"{UNENDED} {kind}"
     result = checked(("--only", lesson, "--restarts", "0"), command)
     report = read(result.output)
-    if isinstance(report, str) or (result.status, result.errors, len(report.complaints)) != (1, "", 1):
+    if isinstance(report, str) or (result.status, result.errors, len(report.complaints)) != (
+        1,
+        "",
+        1,
+    ):
         return f"{report}: {result}"
     (found,) = report.complaints
     if not found.ran_on or found.left_out or len(found.lines) > FEW:
         return f"{found}"
     how = dict(cwd=TOP, env=environment(tempfile.gettempdir()), capture_output=True, timeout=LIMIT)
     lines = "".join(f"{it}\n" for it in (*found.lines, *found.ahead)).encode()
-    wrong, right = (subprocess.run(it.split(), input=lines, **how).stdout.decode("latin-1") for it in (command, ENGINE))
+    wrong, right = (
+        subprocess.run(it.split(), input=lines, **how).stdout.decode("latin-1")
+        for it in (command, ENGINE)
+    )
     wrote = "\n\n".join(wrong.split("\n\n")[len(found.lines) - 1 :])
     if not wrote.startswith(found.wrote):
         return f"pasted, the engine writes {wrote!r}, and not {found.wrote!r}"
-    return None if right.count("\n\n") == len(found.lines) + len(found.ahead) else f"the right engine writes {right!r}"
+    return (
+        None
+        if right.count("\n\n") == len(found.lines) + len(found.ahead)
+        else f"the right engine writes {right!r}"
+    )
 
 
 def answers(lines, words=ENGINE.split()):
@@ -197,7 +257,10 @@ def answers(lines, words=ENGINE.split()):
 def last_game(lines):
     """The last game of a conversation in whose lesson no size is refused, after the lines that set its size and komi."""
     start = max(at for at, it in enumerate(lines) if it.endswith(" clear_board"))
-    settings = {max(at for at, it in enumerate(lines[:start]) if f" {name} " in it) for name in ("boardsize", "komi")}
+    settings = {
+        max(at for at, it in enumerate(lines[:start]) if f" {name} " in it)
+        for name in ("boardsize", "komi")
+    }
     return [*(lines[at] for at in sorted(settings)), *lines[start:]]
 
 
@@ -214,7 +277,14 @@ def late(row):
     wanted = last_game(whole.lines) if is_alone else list(whole.lines)
     right = answers(whole.lines)
     chosen = tuple((it, right[it]) for it in wanted[:-1] if " genmove " in it) if is_alone else ()
-    found = (list(shown.lines), shown.left_out, shown.chosen, shown.command, shown.fault, shown.wrote)
+    found = (
+        list(shown.lines),
+        shown.left_out,
+        shown.chosen,
+        shown.command,
+        shown.fault,
+        shown.wrote,
+    )
     same = (wanted, len(whole.lines) - len(wanted), chosen, whole.command, whole.fault, whole.wrote)
     return None if found == same else f"{found}, and not {same}"
 
@@ -222,7 +292,9 @@ def late(row):
 def tried(row):
     """What is odd about how many engines are started for a mistake that no shorter conversation shows."""
     first, least, most = row
-    report = read(checked(("--only", "ko", "--restarts", "0", "--trials", "1000"), f"{LATE} {first}").output)
+    report = read(
+        checked(("--only", "ko", "--restarts", "0", "--trials", "1000"), f"{LATE} {first}").output
+    )
     same = not isinstance(report, str) and report.count == 1 and least <= report.starts <= most
     return None if same else report
 
@@ -230,4 +302,6 @@ def tried(row):
 def odd_table():
     """What is odd about the table: a name that is no bug, or a bug that is in both lists."""
     names = {*SHOWN, *UNNOTICED, *WAITING, *ANEW}
-    return [name for name in names if name not in BUGS] + [name for name in UNNOTICED if name in SHOWN]
+    return [name for name in names if name not in BUGS] + [
+        name for name in UNNOTICED if name in SHOWN
+    ]

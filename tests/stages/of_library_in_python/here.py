@@ -19,7 +19,9 @@ LIBRARY = TOP / "bin/libvintsaky.so.1"
 
 def setUpModule():
     """All processes take the package from the tree, and this library."""
-    changed = dict(VINTSAKY_LIBRARY=str(LIBRARY), PYTHONPATH=str(PACKAGE), PYTHONDONTWRITEBYTECODE="1")
+    changed = dict(
+        VINTSAKY_LIBRARY=str(LIBRARY), PYTHONPATH=str(PACKAGE), PYTHONDONTWRITEBYTECODE="1"
+    )
     patch = mock.patch.dict(os.environ, changed)
     patch.start()
     unittest.addModuleCleanup(patch.stop)

@@ -27,7 +27,9 @@ class Program:
     @contextlib.contextmanager
     def playing(self, port):
         """It plays."""
-        with connected(port) as connection, running.started(self.command.split(), LIMIT, stdin=connection, stdout=connection):
+        with connected(port) as connection, running.started(
+            self.command.split(), LIMIT, stdin=connection, stdout=connection
+        ):
             yield
 
 
@@ -70,8 +72,16 @@ def served(black, white, seconds):
 ENDS = {
     "a late Black": (Failing(3, False), Program(OURS), "game 1: W+T moves 0 restarts 0 0\n"),
     "a late White": (Program(OURS), Failing(4, False), "game 1: B+T moves 1 restarts 0 0\n"),
-    "a Black that closes": (Failing(3, True), Program(OURS), "game 1: abandoned black moves 0 restarts 0 0\n"),
-    "a White that closes": (Program(OURS), Failing(1, True), "game 1: abandoned white moves 0 restarts 0 0\n"),
+    "a Black that closes": (
+        Failing(3, True),
+        Program(OURS),
+        "game 1: abandoned black moves 0 restarts 0 0\n",
+    ),
+    "a White that closes": (
+        Program(OURS),
+        Failing(1, True),
+        "game 1: abandoned white moves 0 restarts 0 0\n",
+    ),
 }
 SERVER_MISTAKES = ("", "9", "9 0", "x 0 1", "9 0 soon", "26 0 1", f"9 {2**32} 1")
 
@@ -86,7 +96,9 @@ class Served(Needing):
 
     def test_whole(self):
         """the server plays a whole match as twogtp does."""
-        self.same((by_twogtp(SERVED), "", 0), served(Program(SERVED.black), Program(SERVED.white), 60))
+        self.same(
+            (by_twogtp(SERVED), "", 0), served(Program(SERVED.black), Program(SERVED.white), 60)
+        )
 
     def test_mistakes(self):
         """the server ends with a line where its arguments have a mistake."""

@@ -8,7 +8,10 @@ from tests.shared import checks
 
 from .here import PACKAGE, ROOM, Needing, run, setUpModule  # noqa: F401
 
-TOOLS = {"mypy": ["--cache-dir", os.devnull, "--no-incremental"], "ruff": ["check", "--no-cache", "vintsaky", "examples"]}
+TOOLS = {
+    "mypy": ["--cache-dir", os.devnull, "--no-incremental"],
+    "ruff": ["check", "--no-cache", "vintsaky", "examples"],
+}
 
 
 @checks.table(TOOLS, lambda tool: f"{tool} finds nothing")
@@ -43,7 +46,11 @@ class Typed(Needing):
         if not shutil.which("mypy"):
             self.skipTest("there is no mypy")
         environment = {**os.environ, "MYPYPATH": str(PACKAGE)}
-        return run(["mypy", "--strict", "--cache-dir", os.devnull, "--no-incremental", *words], cwd=ROOM, env=environment)
+        return run(
+            ["mypy", "--strict", "--cache-dir", os.devnull, "--no-incremental", *words],
+            cwd=ROOM,
+            env=environment,
+        )
 
     def test_right(self):
         """mypy --strict takes a user's program, in which no vertex of the library is a resignation."""
@@ -53,8 +60,19 @@ class Typed(Needing):
     def test_wrong(self):
         """mypy refuses each line that is wrong."""
         program = ROOM / "wrongly_typed.py"
-        program.write_text("from vintsaky import RESIGN, Game, Point, Steps\n" + "".join(f"{line}\n" for line in MISTAKES_OF_TYPES))
+        program.write_text(
+            "from vintsaky import RESIGN, Game, Point, Steps\n"
+            + "".join(f"{line}\n" for line in MISTAKES_OF_TYPES)
+        )
         _, output, _ = self.told(program)
         for number, (line, text) in enumerate(MISTAKES_OF_TYPES.items(), 2):
-            said = [it for it in output.splitlines() if it.startswith(f"wrongly_typed.py:{number}: error: ")]
-            self.check(f"mypy refuses `{line}`", (True, ""), (bool(said), "" if any(text in it for it in said) else output))
+            said = [
+                it
+                for it in output.splitlines()
+                if it.startswith(f"wrongly_typed.py:{number}: error: ")
+            ]
+            self.check(
+                f"mypy refuses `{line}`",
+                (True, ""),
+                (bool(said), "" if any(text in it for it in said) else output),
+            )

@@ -104,7 +104,10 @@ class Clone:
 
     def how(self, cache="cache", **environment):
         """How a command is run there: where it keeps what it makes, and what else its environment has."""
-        return {"cwd": self.at, "env": {**os.environ, "XDG_CACHE_HOME": str(room() / cache), **environment}}
+        return {
+            "cwd": self.at,
+            "env": {**os.environ, "XDG_CACHE_HOME": str(room() / cache), **environment},
+        }
 
     def run(self, *words, limit=LIMIT, **more):
         """Runs a command there: its status, its output, and its standard error."""
@@ -118,7 +121,11 @@ class Clone:
     def gate(self):
         """What `rt ci` says there: which files no check reads, its last line, and its status."""
         status, output = self.said("rt", "ci")
-        return re.findall("^rt: no check reads.*", output, re.MULTILINE), output.splitlines()[-1:], status
+        return (
+            re.findall("^rt: no check reads.*", output, re.MULTILINE),
+            output.splitlines()[-1:],
+            status,
+        )
 
     def sum_of(self, name):
         """The sum of a file."""
@@ -141,4 +148,6 @@ def last_of(output):
 
 def path_without_kit():
     """A search path on which no rt is."""
-    return os.pathsep.join(it for it in os.environ["PATH"].split(os.pathsep) if not os.access(Path(it) / "rt", os.X_OK))
+    return os.pathsep.join(
+        it for it in os.environ["PATH"].split(os.pathsep) if not os.access(Path(it) / "rt", os.X_OK)
+    )

@@ -11,14 +11,19 @@ from tests.shared import pages
 from .commands import PROGRAMS, TOP, beside, pages_of, run, sum_of
 from .making import GATE, OfReleases, object_of
 
-SCRIPTS = {"archive": "share/tournament", "package": "usr/share/vintsaky/tournament"}  # where the scripts for tournaments lie
+SCRIPTS = {
+    "archive": "share/tournament",
+    "package": "usr/share/vintsaky/tournament",
+}  # where the scripts for tournaments lie
 
 
 def starts_without_help(program):
     """Does a program ask for no interpreter?"""
     head = program.read_bytes()
     at, size, count = struct.unpack_from("<Q", head, 32)[0], *struct.unpack_from("<HH", head, 54)
-    return all(struct.unpack_from("<I", head, at + size * number)[0] != 3 for number in range(count))
+    return all(
+        struct.unpack_from("<I", head, at + size * number)[0] != 3 for number in range(count)
+    )
 
 
 def way_into(root):
@@ -34,25 +39,73 @@ def way_into(root):
 def first_conversation():
     """The first conversation of README: the engine's command, what it is sent, and what is shown."""
     readme = (TOP / "README.md").read_text()
-    block = re.search(r"^\$ (printf '[^']*') \| (bin/gtp_engine[^\n]*)\n(.*?)^```", readme, re.MULTILINE | re.DOTALL)
+    block = re.search(
+        r"^\$ (printf '[^']*') \| (bin/gtp_engine[^\n]*)\n(.*?)^```",
+        readme,
+        re.MULTILINE | re.DOTALL,
+    )
     return block[2].split(), run(["bash", "-c", block[1]]).output, block[3]
 
 
 def matches():
     """Command lines with what they are sent: the demo's matches, and what shows mistakes and losses."""
     book = re.search(r"engine='(bin/gtp_engine [^']*)'", (TOP / "demo").read_text())[1]
-    shown = ["bin/twogtp", "--size", "5", "--komi", "0.5", "--record", "--show", "--white", book, "--black"]
+    shown = [
+        "bin/twogtp",
+        "--size",
+        "5",
+        "--komi",
+        "0.5",
+        "--record",
+        "--show",
+        "--white",
+        book,
+        "--black",
+    ]
     drawn = "bin/gtp_engine --policy random --seed "
     yield "the demo's match", [*shown, book], ""
     yield "the demo's match, in which Black dies", [*shown, f"{book} --fault stop:5"], ""
-    yield "three drawn games", ["bin/twogtp", "--black", f"{drawn}1", "--white", f"{drawn}2", "--games", "3", "--record"], ""
-    yield "an engine that isn't there", ["bin/twogtp", "--black", "bin/mygo", "--white", "bin/gtp_engine", "--why"], ""
-    yield "an engine that floods", ["bin/twogtp", "--black", "bin/gtp_engine --fault flood:1", "--white", drawn + "3", "--why"], ""
+    yield "three drawn games", [
+        "bin/twogtp",
+        "--black",
+        f"{drawn}1",
+        "--white",
+        f"{drawn}2",
+        "--games",
+        "3",
+        "--record",
+    ], ""
+    yield "an engine that isn't there", [
+        "bin/twogtp",
+        "--black",
+        "bin/mygo",
+        "--white",
+        "bin/gtp_engine",
+        "--why",
+    ], ""
+    yield "an engine that floods", [
+        "bin/twogtp",
+        "--black",
+        "bin/gtp_engine --fault flood:1",
+        "--white",
+        drawn + "3",
+        "--why",
+    ], ""
     yield "a mistake in the options", ["bin/twogtp", "--black", "x"], ""
-    yield "the engine's end at a fault", ["bin/gtp_engine", "--fault", "cut:2:3"], "genmove b\ngenmove w\nname\n"
+    yield "the engine's end at a fault", [
+        "bin/gtp_engine",
+        "--fault",
+        "cut:2:3",
+    ], "genmove b\ngenmove w\nname\n"
     yield "a bad book", ["bin/gtp_engine", "--book", "x"], "name\n"
     yield "a check", ["bin/gtp_check", "--quick", "bin/gtp_engine"], ""
-    yield "a check that finds something", ["bin/gtp_check", "--singly", "--only", "ko", "bin/gtp_engine --ko positional"], ""
+    yield "a check that finds something", [
+        "bin/gtp_check",
+        "--singly",
+        "--only",
+        "ko",
+        "bin/gtp_engine --ko positional",
+    ], ""
     yield "a check of an engine that isn't there", ["bin/gtp_check", "bin/mygo"], ""
     for program in PROGRAMS:
         yield f"the help of {program}", [f"bin/{program}", "--help"], ""
@@ -61,7 +114,10 @@ def matches():
 
 def examples_of(page):
     """The examples of a page: of each its command, and what is shown under it."""
-    found = [re.match(r"\$ ([^\n]*)\n(.*)", block, re.DOTALL) for block in pages.blocks_of(page.read_text())]
+    found = [
+        re.match(r"\$ ([^\n]*)\n(.*)", block, re.DOTALL)
+        for block in pages.blocks_of(page.read_text())
+    ]
     return [(it[1], it[2]) for it in found if it]
 
 
@@ -75,7 +131,11 @@ class OfBoth(OfReleases):
         found = [str(it) for it in files if any(path in it.read_bytes() for path in paths)]
         self.check(f"{what}: no file has a path of whoever built it", [], found)
         names = {it.name for it in files}
-        self.check(f"{what}: the notices are there", True, {"README", "clap-LICENSE-MIT", "libc6-dev-copyright"} <= names)
+        self.check(
+            f"{what}: the notices are there",
+            True,
+            {"README", "clap-LICENSE-MIT", "libc6-dev-copyright"} <= names,
+        )
         programs = [starts_without_help(it) for it in files if it.name in PROGRAMS]
         self.check(f"{what}: no program asks for an interpreter", [True] * len(PROGRAMS), programs)
 
@@ -94,15 +154,35 @@ class OfBoth(OfReleases):
     def check_tournament(self, what, scripts, engine, **how):
         """The scripts find twogtp from where they lie, and play."""
         engines = ["--engine", f"a={engine}", "--engine", f"b={engine} --policy random --seed %s"]
-        words = ["play", self.room() / "all", *engines, "--seeds", "1", "--", "--size", "3", "--max-moves", "4"]
+        words = [
+            "play",
+            self.room() / "all",
+            *engines,
+            "--seeds",
+            "1",
+            "--",
+            "--size",
+            "3",
+            "--max-moves",
+            "4",
+        ]
         status, output, errors = run(["env", scripts / "tournament", *words], **how)
         came = (status, output.splitlines()[-1:], errors)
-        self.check(f"{what}: its script plays a tournament of two games", (0, ["2 of 2 games have a result"], ""), came)
+        self.check(
+            f"{what}: its script plays a tournament of two games",
+            (0, ["2 of 2 games have a result"], ""),
+            came,
+        )
 
     def check_pages(self, what, root):
         """Each link of the pages below this folder leads to what is there, and no mark is left in them."""
         found = pages_of(root)
-        self.check(f"{what}: it has pages", True, {"README.md", "CHANGELOG.md", "library.md", "tournaments.md"} <= {it.name for it in found})
+        self.check(
+            f"{what}: it has pages",
+            True,
+            {"README.md", "CHANGELOG.md", "library.md", "tournaments.md"}
+            <= {it.name for it in found},
+        )
         lost = [it for page in found for it in pages.lost_links(page)]
         self.check(f"{what}: each link of its pages leads to a file and a heading in it", [], lost)
         marks = [it.name for it in found if re.search(r"<!--|@[A-Z]+@", it.read_text())]
@@ -111,7 +191,11 @@ class OfBoth(OfReleases):
     def check_example(self, what, command, shown, **how):
         """Runs an example of a README, where what it needs is there."""
         what = f"{what}, as its README shows: {command}"
-        lost = [it for it in re.findall(r"/usr/games/(?!gtp_engine)\w+", command) if not os.access(it, os.X_OK)]
+        lost = [
+            it
+            for it in re.findall(r"/usr/games/(?!gtp_engine)\w+", command)
+            if not os.access(it, os.X_OK)
+        ]
         if lost:
             self.skip(what, f"there is no {lost[0]} (apt-get install {Path(lost[0]).name})")
             return
@@ -130,23 +214,55 @@ class Provenance(OfReleases):
         """What PROVENANCE says."""
         version, trees = self.four.version, [tree for _, tree in self.four.unpacked]
         kit = run(["rt", "version"]).output.strip()
-        known = [f"commit   {self.four.commit}", f"kit      {kit}", f"version  {version}, as the programs print it"]
-        one, third, final = said = [(tree / "PROVENANCE").read_text().splitlines() for tree in trees]
+        known = [
+            f"commit   {self.four.commit}",
+            f"kit      {kit}",
+            f"version  {version}, as the programs print it",
+        ]
+        one, third, final = said = [
+            (tree / "PROVENANCE").read_text().splitlines() for tree in trees
+        ]
         for tree, lines, name in zip(trees, said, (self.four.name, self.four.name, version)):
             wanted = [f"Vintsaky {name}, for Linux on x86-64 processors", *known]
-            self.check(f"PROVENANCE of {tree.parent.name}: {wanted}", [], [it for it in wanted if it not in lines])
-        of_commit = f"release  of this commit, and not final: ./release --final alone names one {version}"
-        self.check("PROVENANCE says that a release is not final", [True, True, False], [of_commit in it for it in said])
+            self.check(
+                f"PROVENANCE of {tree.parent.name}: {wanted}",
+                [],
+                [it for it in wanted if it not in lines],
+            )
+        of_commit = (
+            f"release  of this commit, and not final: ./release --final alone names one {version}"
+        )
+        self.check(
+            "PROVENANCE says that a release is not final",
+            [True, True, False],
+            [of_commit in it for it in said],
+        )
         of_version = f"release  final: by ./release --final, {version} is this commit and no other"
-        self.check("PROVENANCE says that a release is final", [False, False, True], [of_version in it for it in said])
+        self.check(
+            "PROVENANCE says that a release is final",
+            [False, False, True],
+            [of_version in it for it in said],
+        )
         unknown = any(it.startswith("gate     not run, or not known") for it in one)
         self.check("PROVENANCE doesn't make up what the gate said", True, unknown)
-        self.check("PROVENANCE says what the gate said where it is known", True, f"gate     {GATE}" in third)
+        self.check(
+            "PROVENANCE says what the gate said where it is known",
+            True,
+            f"gate     {GATE}" in third,
+        )
         again = [next(it for it in lines if it.startswith("    ./release")) for lines in said]
-        commands = ["    ./release", f"    ./release --gate '{GATE}'", f"    ./release --final --gate '{GATE}'"]
+        commands = [
+            "    ./release",
+            f"    ./release --gate '{GATE}'",
+            f"    ./release --final --gate '{GATE}'",
+        ]
         self.check("PROVENANCE has the command that made it", commands, again)
         differ = [it for it in third if it not in one]
-        self.check("of one commit the word of the gate alone differs", [f"gate     {GATE}", again[1]], differ)
+        self.check(
+            "of one commit the word of the gate alone differs",
+            [f"gate     {GATE}", again[1]],
+            differ,
+        )
 
 
 class Archive(OfBoth):
@@ -164,8 +280,17 @@ class Archive(OfBoth):
         tree = self.four.tree
         text = (tree / "PROVENANCE").read_text()
         for program in PROGRAMS:
-            sums = [sum_of(it) for it in (object_of(program), self.four.one / "bin" / program, tree / "bin" / program)]
-            self.check(f"PROVENANCE has the sums of {program}", [], [it for it in sums if it not in text])
+            sums = [
+                sum_of(it)
+                for it in (
+                    object_of(program),
+                    self.four.one / "bin" / program,
+                    tree / "bin" / program,
+                )
+            ]
+            self.check(
+                f"PROVENANCE has the sums of {program}", [], [it for it in sums if it not in text]
+            )
             linked = self.room() / program
             run(["cc", "-static-pie", "-o", linked, tree / "objects" / f"{program}.o"])
             versions = [run([it, "--version"]) for it in (tree / "bin" / program, linked)]
@@ -180,15 +305,29 @@ class Archive(OfBoth):
             self.check_example("the archive", command, shown, cwd=tree)
         self.check_tournament("the archive", tree / SCRIPTS["archive"], tree / "bin/gtp_engine")
         readme = (tree / "README.md").read_text()
-        wanted = ["share/man/man1/twogtp.1", "share/man/man1/gtp_check.1", "share/man/man6/gtp_engine.6"]
-        self.check("the archive: its README names the manual pages", wanted, re.findall(r"`man -l ([^`]*)`", readme))
+        wanted = [
+            "share/man/man1/twogtp.1",
+            "share/man/man1/gtp_check.1",
+            "share/man/man6/gtp_engine.6",
+        ]
+        self.check(
+            "the archive: its README names the manual pages",
+            wanted,
+            re.findall(r"`man -l ([^`]*)`", readme),
+        )
         command = re.search(r"`(cp -r [^`]*) /usr/local/`", readme)
         prefix = self.room()
         came = run(["bash", "-c", f'{command[1]} "$0"' if command else "exit 1", prefix], cwd=tree)
         self.check("the archive is installed as its README says", (0, "", ""), came)
         wanted += [f"bin/{it}" for it in PROGRAMS]
-        self.check("its files lie where programs look for them", [], [it for it in wanted if not (prefix / it).is_file()])
-        self.check_tournament("the archive, installed so", prefix / SCRIPTS["archive"], prefix / "bin/gtp_engine")
+        self.check(
+            "its files lie where programs look for them",
+            [],
+            [it for it in wanted if not (prefix / it).is_file()],
+        )
+        self.check_tournament(
+            "the archive, installed so", prefix / SCRIPTS["archive"], prefix / "bin/gtp_engine"
+        )
 
 
 class EmptyRoot(OfReleases):
@@ -200,19 +339,38 @@ class EmptyRoot(OfReleases):
         shutil.copytree(self.four.tree / "bin", root / "bin")
         into = way_into(root)
         if into is None:
-            self.skip("the programs run in an empty root", "neither chroot nor unshare may make one here")
+            self.skip(
+                "the programs run in an empty root", "neither chroot nor unshare may make one here"
+            )
             return
         found = sorted(str(it.relative_to(root)) for it in root.rglob("*"))
-        self.check("the empty root has the programs alone", sorted(["bin", *(f"bin/{it}" for it in PROGRAMS)]), found)
+        self.check(
+            "the empty root has the programs alone",
+            sorted(["bin", *(f"bin/{it}" for it in PROGRAMS)]),
+            found,
+        )
         engine, lines, shown = first_conversation()
-        self.check("README's first conversation, in an empty root", (0, shown, ""), run([*into, *engine], lines))
+        self.check(
+            "README's first conversation, in an empty root",
+            (0, shown, ""),
+            run([*into, *engine], lines),
+        )
         for what, words, lines in matches():
             built, came = run(words, lines, cwd=beside()), run([*into, *words], lines)
-            self.check(f"as by the built program, in an empty root: {what}, status {built.status}", built, came)
+            self.check(
+                f"as by the built program, in an empty root: {what}, status {built.status}",
+                built,
+                came,
+            )
         for program in PROGRAMS:
             with open("/dev/full", "wb") as full:
-                runs = [run([*at, f"bin/{program}", "--help"], cwd=beside(), stdout=full) for at in ([], into)]
-            self.check(f"as by the built program, in an empty root: {program} with a full output", *runs)
+                runs = [
+                    run([*at, f"bin/{program}", "--help"], cwd=beside(), stdout=full)
+                    for at in ([], into)
+                ]
+            self.check(
+                f"as by the built program, in an empty root: {program} with a full output", *runs
+            )
 
 
 class Readme(OfReleases):
@@ -220,11 +378,15 @@ class Readme(OfReleases):
 
     def test_way(self):
         """README's way to a release."""
-        block = re.search(r"^```\n(tar -xf .*?)^```$", (TOP / "README.md").read_text(), re.MULTILINE | re.DOTALL)
+        block = re.search(
+            r"^```\n(tar -xf .*?)^```$", (TOP / "README.md").read_text(), re.MULTILINE | re.DOTALL
+        )
         for at in (self.four.one, self.four.final):
             folder = self.room() / "dist"
             shutil.copytree(at / "dist", folder)
-            status, output, errors = run(["bash", "-ec", block[1] if block else "exit 1"], cwd=folder)
+            status, output, errors = run(
+                ["bash", "-ec", block[1] if block else "exit 1"], cwd=folder
+            )
             lines = [it.partition(" ")[0] for it in output.splitlines()[-1:]]
             what = f"README's way to a release, {at.name}, ends with the line of a game"
             self.check(what, (0, ["game"], ""), (status, lines, errors))

@@ -21,13 +21,21 @@ game = vintsaky.Game(9)
 game.play("b", "A1")
 print(vintsaky.version(), game.legal("w", "A1"), game.legal("w", "B1"))
 """
-DEPENDS = {"shared": "", "header": "libvintsaky1 (= {0})", "python": "libvintsaky1 (>= {0}), python3 (>= 3.9)"}
+DEPENDS = {
+    "shared": "",
+    "header": "libvintsaky1 (= {0})",
+    "python": "libvintsaky1 (>= {0}), python3 (>= 3.9)",
+}
 PACKAGES = {"shared": "libvintsaky1", "header": "libvintsaky-dev", "python": "python3-vintsaky"}
 
 
 def sums_below(folder):
     """The sums of all files in a folder and below it, but for those that Git leaves out."""
-    files = [it for it in folder.rglob("*") if it.is_file() and not {"target", "__pycache__"} & set(it.parts)]
+    files = [
+        it
+        for it in folder.rglob("*")
+        if it.is_file() and not {"target", "__pycache__"} & set(it.parts)
+    ]
     return {str(it.relative_to(folder)): sum_of(it) for it in files}
 
 
@@ -50,7 +58,10 @@ class InC(checks.Case):
     def flags_of(self, what, folder):
         """What pkg-config finds in this folder, or None where there is none."""
         if not shutil.which("pkg-config"):
-            self.skip(f"{what}: what pkg-config finds", "there is no pkg-config (apt-get install pkg-config)")
+            self.skip(
+                f"{what}: what pkg-config finds",
+                "there is no pkg-config (apt-get install pkg-config)",
+            )
             return None
         names = {f"PKG_CONFIG_ALLOW_SYSTEM_{it}": "1" for it in ("CFLAGS", "LIBS")}
         names["PKG_CONFIG_LIBDIR"] = str(folder)
@@ -75,7 +86,12 @@ class InPython(checks.Case):
 
     def check_called(self, what, folder, **environment):
         """Calls the library by the package in this folder."""
-        names = {**os.environ, "PYTHONPATH": str(folder), "PYTHONDONTWRITEBYTECODE": "1", **environment}
+        names = {
+            **os.environ,
+            "PYTHONPATH": str(folder),
+            "PYTHONDONTWRITEBYTECODE": "1",
+            **environment,
+        }
         came = run([sys.executable, "-c", CALLED], env=names)
         self.check(f"{what}: Python calls the library", (0, "(1, 0, 0) False True\n", ""), came)
 
@@ -87,7 +103,9 @@ class LibraryOfArchive(OfReleases, InC, InPython):
         """The files of the library."""
         tree = self.four.tree
         files = {f"lib/{it}": TOP / "bin" / it for it in LIBRARY}
-        self.check_files("the archive", tree, {"include/vintsaky.h": TOP / "library/vintsaky.h", **files})
+        self.check_files(
+            "the archive", tree, {"include/vintsaky.h": TOP / "library/vintsaky.h", **files}
+        )
         self.check_link("the archive", tree / "lib")
         text, notices = (tree / "PROVENANCE").read_text(), (tree / "notices/README").read_text()
         lost = [it for it in LIBRARY if sum_of(TOP / "bin" / it) not in text]
@@ -122,7 +140,11 @@ class LibraryOfArchive(OfReleases, InC, InPython):
             with zipfile.ZipFile(wheel) as file:
                 file.extractall(folder)
             libraries = [sum_of(it) for it in folder.rglob("libvintsaky.so.1")]
-            self.check("the wheel has the shared library", [sum_of(TOP / "bin/libvintsaky.so.1")], libraries)
+            self.check(
+                "the wheel has the shared library",
+                [sum_of(TOP / "bin/libvintsaky.so.1")],
+                libraries,
+            )
             self.check_called("the wheel", folder)
 
 
@@ -133,29 +155,54 @@ class Packages(OfReleases, InC, InPython):
     def setUpClass(cls):
         super().setUpClass()
         cls.root = cls.room_of_all()
-        cls.packages = {what: cls.four.one / "dist" / cls.four.files[what] for what in PACKAGES if what in cls.four.files}
-        cls.unpacked = {what: run(["dpkg-deb", "-x", at, cls.root]).status for what, at in cls.packages.items()}
+        cls.packages = {
+            what: cls.four.one / "dist" / cls.four.files[what]
+            for what in PACKAGES
+            if what in cls.four.files
+        }
+        cls.unpacked = {
+            what: run(["dpkg-deb", "-x", at, cls.root]).status for what, at in cls.packages.items()
+        }
 
     def test_control(self):
         """What Debian reads of each."""
         for what, package in self.packages.items():
             self.check(f"{PACKAGES[what]} is unpacked", 0, self.unpacked[what])
             name, version, processor = package.stem.split("_")
-            fields = {"Package": PACKAGES[what], "Version": version, "Depends": DEPENDS[what].format(version)}
-            for field, wanted in {**fields, "Source": "vintsaky", "Architecture": processor}.items():
-                self.check(f"{name}: its {field}", wanted, run(["dpkg-deb", "-f", package, field]).output.strip())
+            fields = {
+                "Package": PACKAGES[what],
+                "Version": version,
+                "Depends": DEPENDS[what].format(version),
+            }
+            for field, wanted in {
+                **fields,
+                "Source": "vintsaky",
+                "Architecture": processor,
+            }.items():
+                self.check(
+                    f"{name}: its {field}",
+                    wanted,
+                    run(["dpkg-deb", "-f", package, field]).output.strip(),
+                )
             if shutil.which("lintian"):
                 found = run(["lintian", "--fail-on", "error,warning", package])[:2]
                 self.check(f"lintian finds nothing in {name}", (0, ""), found)
             else:
-                self.skip(f"lintian finds nothing in {name}", "there is no lintian (apt-get install lintian)")
+                self.skip(
+                    f"lintian finds nothing in {name}",
+                    "there is no lintian (apt-get install lintian)",
+                )
 
     def test_docs(self):
         """The pages that each has for itself."""
         for name in [PACKAGES[what] for what in self.packages]:
             docs = self.root / "usr/share/doc" / name
             rights = (docs / "copyright").read_text()
-            found = (NO_LICENCE in rights, "Whose code the library holds" in rights, "libc6" in rights)
+            found = (
+                NO_LICENCE in rights,
+                "Whose code the library holds" in rights,
+                "libc6" in rights,
+            )
             self.check(f"{name}: its page on rights", (True, True, False), found)
             changelog = run(["zcat", docs / "changelog.gz"]).output
             self.check(f"{name}: its changelog", True, changelog.startswith("vintsaky ("))
@@ -165,17 +212,30 @@ class Packages(OfReleases, InC, InPython):
         folder, package = self.room() / "control", self.packages["shared"]
         run(["dpkg-deb", "-e", package, folder])
         version = package.name.split("_")[1].partition("+")[0]
-        wanted = {"triggers": "activate-noawait ldconfig\n", "shlibs": f"libvintsaky 1 libvintsaky1 (>= {version})\n"}
-        found = {it: (folder / it).read_text() if (folder / it).is_file() else None for it in wanted}
+        wanted = {
+            "triggers": "activate-noawait ldconfig\n",
+            "shlibs": f"libvintsaky 1 libvintsaky1 (>= {version})\n",
+        }
+        found = {
+            it: (folder / it).read_text() if (folder / it).is_file() else None for it in wanted
+        }
         self.check("libvintsaky1: its triggers and shlibs", wanted, found)
 
     def test_files(self):
         """The files of the packages."""
         files = {f"{LIBRARIES}/{it}": TOP / "bin" / it for it in LIBRARY}
-        self.check_files("the packages", self.root, {"usr/include/vintsaky.h": TOP / "library/vintsaky.h", **files})
+        self.check_files(
+            "the packages",
+            self.root,
+            {"usr/include/vintsaky.h": TOP / "library/vintsaky.h", **files},
+        )
         self.check_link("the packages", self.root / LIBRARIES)
         paths = [str(it).encode() for it in [*self.four.copies, TOP]]
-        found = [it for it in self.root.rglob("*") if it.is_file() and any(path in it.read_bytes() for path in paths)]
+        found = [
+            it
+            for it in self.root.rglob("*")
+            if it.is_file() and any(path in it.read_bytes() for path in paths)
+        ]
         self.check("the packages: no file has a path of whoever built it", [], found)
 
     def test_compiled(self):
@@ -190,6 +250,15 @@ class Packages(OfReleases, InC, InPython):
     def test_modules(self):
         """The package for Python."""
         if "python" in self.packages:
-            wanted, modules = sums_below(self.four.one / "library/python/vintsaky"), self.root / MODULES
-            self.check("python3-vintsaky: its modules are those of the commit", wanted, sums_below(modules / "vintsaky"))
-            self.check_called("python3-vintsaky", modules, LD_LIBRARY_PATH=str(self.root / LIBRARIES))
+            wanted, modules = (
+                sums_below(self.four.one / "library/python/vintsaky"),
+                self.root / MODULES,
+            )
+            self.check(
+                "python3-vintsaky: its modules are those of the commit",
+                wanted,
+                sums_below(modules / "vintsaky"),
+            )
+            self.check_called(
+                "python3-vintsaky", modules, LD_LIBRARY_PATH=str(self.root / LIBRARIES)
+            )

@@ -24,7 +24,17 @@ def object_of(program, folder=TOP):
 
 def is_of(program):
     """Is it there, and of the program in bin/?"""
-    return run([TOP / "packaging/link", object_of(program), TOP / "bin" / program, room_of_all() / program]).status == 0
+    return (
+        run(
+            [
+                TOP / "packaging/link",
+                object_of(program),
+                TOP / "bin" / program,
+                room_of_all() / program,
+            ]
+        ).status
+        == 0
+    )
 
 
 def git(folder, *words, **environment):
@@ -50,7 +60,9 @@ def copy_of(folder):
         (folder / name).parent.mkdir(parents=True, exist_ok=True)
         shutil.copy(TOP / name, folder / name, follow_symlinks=False)
     # nothing is to be proved here
-    (folder / "build").write_text(f'#!/bin/bash\n[ "$*" = "--needed --proved {" ".join(PROGRAMS)} library" ]\n')
+    (folder / "build").write_text(
+        f'#!/bin/bash\n[ "$*" = "--needed --proved {" ".join(PROGRAMS)} library" ]\n'
+    )
     git(folder, "init", "-q")
     commit(folder, "What is released")
     (folder / "bin/built").mkdir(parents=True)
@@ -71,15 +83,28 @@ def release(folder, *words, umask=0o022, **environment):
 
 def made(folder):
     """The names in dist/."""
-    return sorted(it.name for it in (folder / "dist").iterdir()) if (folder / "dist").is_dir() else []
+    return (
+        sorted(it.name for it in (folder / "dist").iterdir()) if (folder / "dist").is_dir() else []
+    )
 
 
 def files_of(name):
     """What lies in dist/ after a release of this name, by what it is."""
-    files = {"sums": "SHA256SUMS", "archive": f"vintsaky-{name}-linux-x86_64.tar.gz", "programs": f"vintsaky_{name}_amd64.deb"}
+    files = {
+        "sums": "SHA256SUMS",
+        "archive": f"vintsaky-{name}-linux-x86_64.tar.gz",
+        "programs": f"vintsaky_{name}_amd64.deb",
+    }
     files |= {"sources": f"vintsaky-{name}-src.tar.gz"}
-    files |= {"shared": f"libvintsaky1_{name}_amd64.deb", "header": f"libvintsaky-dev_{name}_amd64.deb"}
-    return files | ({"python": f"python3-vintsaky_{name}_all.deb"} if (TOP / "library/python/vintsaky").is_dir() else {})
+    files |= {
+        "shared": f"libvintsaky1_{name}_amd64.deb",
+        "header": f"libvintsaky-dev_{name}_amd64.deb",
+    }
+    return files | (
+        {"python": f"python3-vintsaky_{name}_all.deb"}
+        if (TOP / "library/python/vintsaky").is_dir()
+        else {}
+    )
 
 
 def version_of(program):
@@ -90,7 +115,9 @@ def version_of(program):
 @lru_cache(maxsize=None)
 def missing_tools():
     """What a release needs and isn't there."""
-    missing = [f"there is no {name} (apt-get install {of})" for name, of in TOOLS if not shutil.which(name)]
+    missing = [
+        f"there is no {name} (apt-get install {of})" for name, of in TOOLS if not shutil.which(name)
+    ]
     # ./build of the programs leaves the library as it is, which cargo may have made
     status, _, errors = run([TOP / "build", "--proved", "--is-built", "library"])
     missing += [errors.strip()] if status else []
@@ -99,7 +126,10 @@ def missing_tools():
         missing += [errors.strip()] if status else []
     if not missing:
         lost = [program for program in PROGRAMS if not is_of(program)]
-        missing += [f"no object file of {it} is kept: rt ci took the program from what it kept; ./build {it} keeps one" for it in lost]
+        missing += [
+            f"no object file of {it} is kept: rt ci took the program from what it kept; ./build {it} keeps one"
+            for it in lost
+        ]
     return missing
 
 
@@ -108,22 +138,34 @@ class Releases:
 
     def __init__(self, room):
         self.room = room
-        self.copies = [copy_of(room / name) for name in ("one", "another_folder", "deeper/third", "final")]
+        self.copies = [
+            copy_of(room / name) for name in ("one", "another_folder", "deeper/third", "final")
+        ]
         self.one, self.other, self.third, self.final = self.copies
         self.version = version_of(self.one / "bin/twogtp")
         self.commit = git(self.one, "rev-parse", "HEAD").strip()
         self.name = f"{self.version}+git.{self.commit[:12]}"
         self.ran = self.run()
         self.made = [made(at) for at in self.copies]
-        self.sums = [{name: sum_of(at / "dist" / name) for name in made(at)} for at in (self.one, self.other)]
+        self.sums = [
+            {name: sum_of(at / "dist" / name) for name in made(at)} for at in (self.one, self.other)
+        ]
         self.files = files_of(self.name)
         self.other_commit = self.release_other_commit()
 
     def run(self):
         """Makes all four at once: what comes of each."""
         git(self.final, "tag", f"v{self.version}")
-        rustup = os.environ.get("RUSTUP_HOME", str(Path.home() / ".rustup"))  # where cargo may be from
-        elsewhere = {"TZ": "Asia/Tokyo", "LC_ALL": "C.UTF-8", "LANGUAGE": "de", "HOME": str(self.other), "RUSTUP_HOME": rustup}
+        rustup = os.environ.get(
+            "RUSTUP_HOME", str(Path.home() / ".rustup")
+        )  # where cargo may be from
+        elsewhere = {
+            "TZ": "Asia/Tokyo",
+            "LC_ALL": "C.UTF-8",
+            "LANGUAGE": "de",
+            "HOME": str(self.other),
+            "RUSTUP_HOME": rustup,
+        }
         with ThreadPoolExecutor(4) as pool:
             runs = [
                 pool.submit(release, self.one),
@@ -154,7 +196,10 @@ class Releases:
     def unpacked(self):
         """The archives of the first, the third and the final one, unpacked: the status, and the one folder of each."""
         named = ((self.one, self.name), (self.third, self.name), (self.final, self.version))
-        return [unpacked(at / "dist" / files_of(name)["archive"], self.room / f"archive-{at.name}") for at, name in named]
+        return [
+            unpacked(at / "dist" / files_of(name)["archive"], self.room / f"archive-{at.name}")
+            for at, name in named
+        ]
 
     @property
     def tree(self):
@@ -165,13 +210,19 @@ class Releases:
     def package(self):
         """The package of the programs, unpacked: the status, and the folder."""
         folder = self.room / "package"
-        return run(["dpkg-deb", "-x", self.one / "dist" / self.files["programs"], folder]).status, folder
+        return (
+            run(["dpkg-deb", "-x", self.one / "dist" / self.files["programs"], folder]).status,
+            folder,
+        )
 
     @cached_property
     def sources(self):
         """The source archives of the first and of the final one, unpacked: the status and the folder of each."""
         named = ((self.one, self.name), (self.final, self.version))
-        return [unpacked(at / "dist" / files_of(name)["sources"], self.room / f"sources-{name}") for at, name in named]
+        return [
+            unpacked(at / "dist" / files_of(name)["sources"], self.room / f"sources-{name}")
+            for at, name in named
+        ]
 
 
 def unpacked(archive, folder):
@@ -214,7 +265,9 @@ class Making(OfReleases):
 
     def test_sums(self):
         """The sums of the files."""
-        status = run(["sha256sum", "--check", "--strict", "SHA256SUMS"], cwd=self.four.one / "dist").status
+        status = run(
+            ["sha256sum", "--check", "--strict", "SHA256SUMS"], cwd=self.four.one / "dist"
+        ).status
         self.check("the sums are those of the files", 0, status)
         what = "two folders with other names, umask, time zone and language give the same files to the byte"
         self.check(what, *self.four.sums)
@@ -232,4 +285,8 @@ class Making(OfReleases):
         name, version = self.four.name, self.four.version
         later = re.sub(r"\d+$", lambda it: str(int(it[0]) + 1), version)
         for words in ([name, "gt", version], [name, "lt", f"{version}.1"], [name, "lt", later]):
-            self.check(f"Debian's order: {' '.join(words)}", 0, run(["dpkg", "--compare-versions", *words]).status)
+            self.check(
+                f"Debian's order: {' '.join(words)}",
+                0,
+                run(["dpkg", "--compare-versions", *words]).status,
+            )

@@ -10,7 +10,11 @@ from tests.shared import checks
 from .commands import PROGRAMS, TOP, beside, run, with_path
 from .making import OfReleases
 
-MANUALS = {"twogtp": "packaging/twogtp.1", "gtp_engine": "packaging/gtp_engine.6", "gtp_check": "packaging/gtp_check.1"}
+MANUALS = {
+    "twogtp": "packaging/twogtp.1",
+    "gtp_engine": "packaging/gtp_engine.6",
+    "gtp_check": "packaging/gtp_check.1",
+}
 # the limits and the names that the engine's options take
 ENGINE_VALUES = {
     "policy": ["first", "random", "book"],
@@ -35,7 +39,13 @@ def plain(text):
         line = re.sub(r"^\.(Bl|El|Bd|Ed|Pp)\b.*", "", line)
         line = re.sub(r"^\.(It|Li|Ar|Dl|Pa|Ev|Nm|Fl|Pq|Ql) ?", "", line)
         words.append(line)
-    text = " ".join(words).replace(r"\(aq", "'").replace(r"\-", "-").replace(r"\e", "\\").replace(r"\&", "")
+    text = (
+        " ".join(words)
+        .replace(r"\(aq", "'")
+        .replace(r"\-", "-")
+        .replace(r"\e", "\\")
+        .replace(r"\&", "")
+    )
     return re.sub(r" +([.,;:)])", r"\1", re.sub(r"\s+", " ", text)).strip()
 
 
@@ -80,7 +90,9 @@ def default_in_help(words):
 
 def values_in_help(words):
     """The limits, and the values by their names, that `--help` names."""
-    limits = re.findall(r"\d+(?: or \d+)? to \d+|at most \d+|-?\d+\.5\b", re.sub(r"\[.*", "", words))
+    limits = re.findall(
+        r"\d+(?: or \d+)? to \d+|at most \d+|-?\d+\.5\b", re.sub(r"\[.*", "", words)
+    )
     names = re.search(r": ((?:[\w:]+, )*[\w:]+ or [\w:]+) \[", words)
     return limits + (re.split(", | or ", names[1]) if names else [])
 
@@ -125,18 +137,31 @@ class WithExamples(checks.Case):
 
     def check_examples(self, program, page, folder):
         """Do the examples of a manual page print what it shows?"""
-        blocks = re.findall(r"^\.Bd -literal[^\n]*\n(.*?)^\.Ed", section_of(page, "EXAMPLES"), re.MULTILINE | re.DOTALL)
+        blocks = re.findall(
+            r"^\.Bd -literal[^\n]*\n(.*?)^\.Ed",
+            section_of(page, "EXAMPLES"),
+            re.MULTILINE | re.DOTALL,
+        )
         self.check(f"{program}: the manual page has its examples", SHOWN[program], len(blocks))
         for block in blocks:
-            block = block.replace(r"\(aq", "'").replace(r"\-", "-").replace(r"\e", "\\").replace("/usr/games/gtp_engine", "gtp_engine")
+            block = (
+                block.replace(r"\(aq", "'")
+                .replace(r"\-", "-")
+                .replace(r"\e", "\\")
+                .replace("/usr/games/gtp_engine", "gtp_engine")
+            )
             commands = "\n".join(re.findall(r"^\$ (.*)$", block, re.MULTILINE))
             shown = re.sub(r"^\$ .*\n", "", block, flags=re.MULTILINE)
             what = f"{program}, as its manual page shows: " + commands.replace("\n", "; ")
-            missing = [it for it in re.findall(r"/usr/games/\w+", commands) if not os.access(it, os.X_OK)]
+            missing = [
+                it for it in re.findall(r"/usr/games/\w+", commands) if not os.access(it, os.X_OK)
+            ]
             if missing:
                 self.skip(what, f"there is no {missing[0]}")
                 continue
-            came = run(["bash", "-c", f"exec 2>&1; {commands}"], cwd=folder, env=with_path(folder / "bin"))
+            came = run(
+                ["bash", "-c", f"exec 2>&1; {commands}"], cwd=folder, env=with_path(folder / "bin")
+            )
             self.check(what, shown, came.output)
 
 
@@ -146,10 +171,16 @@ class Help(checks.Case):
 
     def row(self, program):
         text = help_of(program)
-        self.check(f"{program}: --help fits 80 columns", [], [line for line in text.splitlines() if len(line) > 80])
+        self.check(
+            f"{program}: --help fits 80 columns",
+            [],
+            [line for line in text.splitlines() if len(line) > 80],
+        )
         command = re.search(r"^Example:\n  (.*)$", text, re.MULTILINE)[1]
         command = re.sub("'gnugo .*'", "gtp_engine", command)  # somebody else's program
-        status, output, errors = run(["bash", "-c", command], cwd=beside(), env=with_path(beside() / "bin"))
+        status, output, errors = run(
+            ["bash", "-c", command], cwd=beside(), env=with_path(beside() / "bin")
+        )
         came = (status, re.fullmatch(EXAMPLES[program], output) is not None, errors)
         self.check(f"{program}, as --help shows: {command}", (0, True, ""), came)
 
@@ -161,17 +192,33 @@ class Manuals(WithExamples):
     def row(self, program):
         page = manual_of(program)
         named, helped = manual_options(page), help_options(help_of(program))
-        self.check(f"{program}: the manual page has the options of --help, in its order", list(helped), list(named))
+        self.check(
+            f"{program}: the manual page has the options of --help, in its order",
+            list(helped),
+            list(named),
+        )
         usage = re.search(r"^Usage: (.*)$", help_of(program), re.MULTILINE)[1]
         synopsis = section_of(page, "SYNOPSIS")
         for name in [it for it in helped if it in named]:
             (takes, words), (takes_here, words_here) = helped[name], named[name]
             self.check(f"{program}: --{name} takes a value or none", takes, takes_here)
-            self.check(f"{program}: the default of --{name}", default_in_help(words), default_in_manual(words_here))
-            self.check(f"{program}: --{name} has to be given or not", f"--{name}" in usage, "It has to be given." in words_here)
+            self.check(
+                f"{program}: the default of --{name}",
+                default_in_help(words),
+                default_in_manual(words_here),
+            )
+            self.check(
+                f"{program}: --{name} has to be given or not",
+                f"--{name}" in usage,
+                "It has to be given." in words_here,
+            )
             is_there = re.search(rf"Fl (?:\w \| )?-{name}( |$)", synopsis, re.MULTILINE) is not None
             self.check(f"{program}: --{name} is in the synopsis", True, is_there)
-            self.check(f"{program}: the values of --{name}", [], [it for it in values_in_help(words) if it not in words_here])
+            self.check(
+                f"{program}: the values of --{name}",
+                [],
+                [it for it in values_in_help(words) if it not in words_here],
+            )
         self.check_examples(program, page, beside())
 
 
@@ -181,14 +228,21 @@ class Statuses(checks.Case):
     def test_values(self):
         """gtp_engine: the values of --help."""
         options = help_options(help_of("gtp_engine"))
-        self.same(ENGINE_VALUES, {name: values_in_help(words) for name, (takes, words) in options.items() if takes})
+        self.same(
+            ENGINE_VALUES,
+            {name: values_in_help(words) for name, (takes, words) in options.items() if takes},
+        )
 
     def test_statuses(self):
         """The statuses of --help."""
         for program in ("twogtp", "gtp_check"):
             rows = items_of(section_of(manual_of(program), "EXIT STATUS"))
             named = {number: letters(plain(words)) for number, words in rows}
-            self.check(f"{program}: the statuses of --help, with their words", statuses_in_help(help_of(program)), named)
+            self.check(
+                f"{program}: the statuses of --help, with their words",
+                statuses_in_help(help_of(program)),
+                named,
+            )
 
     def test_verdicts(self):
         """The verdicts of --help."""
@@ -196,7 +250,12 @@ class Statuses(checks.Case):
         verdicts = [it.strip() for it in re.findall(r"^  (\S.*?)  +\S", table, re.MULTILINE)]
         description = section_of(manual_of("twogtp"), "DESCRIPTION")
         heads = " ".join(plain(head) for head, _ in items_of(description))
-        words = [it for verdict in verdicts for it in verdict.replace("CAUSE", "cause").split(", ") if ".." not in it]
+        words = [
+            it
+            for verdict in verdicts
+            for it in verdict.replace("CAUSE", "cause").split(", ")
+            if ".." not in it
+        ]
         self.check("twogtp: the verdicts of --help", [], [it for it in words if it not in heads])
         self.check("twogtp: --help has verdicts", True, len(words) > 5)
         causes = re.sub(r"\s+", " ", re.search(r"CAUSE is ([^.]*?)\n *unfit ", table, re.DOTALL)[1])
@@ -206,7 +265,10 @@ class Statuses(checks.Case):
     def test_engine(self):
         """The statuses of the engine."""
         wanted = statuses_in_page("gtp_engine", (TOP / "docs/protocol.md").read_text())
-        named = {number: plain(words) for number, words in items_of(section_of(manual_of("gtp_engine"), "EXIT STATUS"))}
+        named = {
+            number: plain(words)
+            for number, words in items_of(section_of(manual_of("gtp_engine"), "EXIT STATUS"))
+        }
         self.check("gtp_engine: the statuses of its page", list(wanted), list(named))
         for number, texts in wanted.items():
             lost = [it for it in texts if it not in named.get(number, "")]
@@ -222,8 +284,16 @@ class ArchiveManuals(OfReleases, WithExamples):
         file = self.four.tree / f"share/man/man{name[-1]}/{Path(name).name}"
         self.check_rendered(file)
         examples = section_of(file.read_text(), "EXAMPLES")
-        lost = re.findall(r"/usr/games/gtp_engine|^\$ (?:twogtp|gtp_check)|(?<!bin/)\bgtp_engine", examples, re.MULTILINE)
-        self.check(f"{program}: the archive's manual page names the programs as they lie in its folder", [], lost)
+        lost = re.findall(
+            r"/usr/games/gtp_engine|^\$ (?:twogtp|gtp_check)|(?<!bin/)\bgtp_engine",
+            examples,
+            re.MULTILINE,
+        )
+        self.check(
+            f"{program}: the archive's manual page names the programs as they lie in its folder",
+            [],
+            lost,
+        )
         self.check_examples(program, file.read_text(), self.four.tree)
 
     def check_rendered(self, file):
@@ -236,10 +306,19 @@ class ArchiveManuals(OfReleases, WithExamples):
             self.check(f"mandoc finds nothing in {file.name}", [], found)
             rendered = run(["mandoc", "-T", "ascii", file])
         elif shutil.which("man"):
-            self.skip(f"mandoc finds nothing in {file.name}", "there is no mandoc (apt-get install mandoc)")
+            self.skip(
+                f"mandoc finds nothing in {file.name}",
+                "there is no mandoc (apt-get install mandoc)",
+            )
             rendered = run(["man", "--local-file", file])
         else:
-            self.skip(f"{file.name} is rendered", "there is no mandoc and no man (apt-get install mandoc)")
+            self.skip(
+                f"{file.name} is rendered", "there is no mandoc and no man (apt-get install mandoc)"
+            )
             return
         text = re.sub(".\b", "", rendered.output)
-        self.check(f"{file.name} is rendered", (0, True, True), (rendered.status, "EXIT STATUS" in text, "Vintsaky" in text))
+        self.check(
+            f"{file.name} is rendered",
+            (0, True, True),
+            (rendered.status, "EXIT STATUS" in text, "Vintsaky" in text),
+        )

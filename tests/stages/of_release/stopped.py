@@ -67,7 +67,11 @@ class OfStops(OfReleases):
 
     def check_stopped(self, what, came, wanted, folder=None):
         """Did ./release stop with this on its standard error, and leave nothing?"""
-        self.check(f"{what}: status 1, and nothing in dist/", (1, []), (came.status, made(folder or self.folder)))
+        self.check(
+            f"{what}: status 1, and nothing in dist/",
+            (1, []),
+            (came.status, made(folder or self.folder)),
+        )
         self.check(f"{what}: it is reported, by {wanted}", True, wanted in came.errors)
 
 
@@ -79,12 +83,21 @@ class OtherCommit(OfStops):
         other, version = self.four.other, self.four.version
         self.check("another commit is released too", (0, ""), self.four.other_commit.result()[::2])
         found = [it for it in made(other) if it in self.four.files.values()]
-        self.check("of its files none has the name of one of the first commit", ["SHA256SUMS"], found)
+        self.check(
+            "of its files none has the name of one of the first commit", ["SHA256SUMS"], found
+        )
         came = release(other, "--final")
-        self.check_stopped("a final release without a tag", came, f"there is no tag v{version}: git tag v{version}", other)
+        self.check_stopped(
+            "a final release without a tag",
+            came,
+            f"there is no tag v{version}: git tag v{version}",
+            other,
+        )
         git(other, "tag", f"v{version}", "HEAD~1")
         what = "a final release where another commit is tagged"
-        self.check_stopped(what, release(other, "--final"), f"the tag v{version} names another commit", other)
+        self.check_stopped(
+            what, release(other, "--final"), f"the tag v{version} names another commit", other
+        )
 
 
 class Changed(OfStops):
@@ -103,7 +116,9 @@ class Changed(OfStops):
         """An object file that is not that of the program."""
         with changed(object_of("twogtp", self.folder), object_of("gtp_engine").read_bytes()):
             # the program would be built again, which the copy's ./build refuses
-            self.check_stopped("another program's object file", release(self.folder), "twogtp is not built")
+            self.check_stopped(
+                "another program's object file", release(self.folder), "twogtp is not built"
+            )
 
     def test_library(self):
         """A shared library that was not linked from the archive."""
@@ -125,11 +140,19 @@ class Missing(OfStops):
         came = release(folder, PATH=path_without("cargo", room / "no-cargo"))
         self.check_stopped("no cargo", came, "there is no cargo (cargo-web)")
         came = release(folder, PATH=path_with(OLD, room / "old"))
-        self.check_stopped("an old cargo", came, "packaging/source: cargo 1.86.0 (x) is too old: 1.87 or later is needed")
+        self.check_stopped(
+            "an old cargo",
+            came,
+            "packaging/source: cargo 1.86.0 (x) is too old: 1.87 or later is needed",
+        )
         said = "packaging/source: there is no librust-arrayvec-dev (apt-get install librust-arrayvec-dev librust-thiserror-dev "
         self.check_stopped("no crates of Debian either, which is reported at once", came, said)
         came = release(folder, PATH=path_with(NO_LIBRARY, room / "cc"))
-        self.check_stopped("no static C library", came, "no static C library: rcrt1.o is not there (apt-get install gcc libc6-dev)")
+        self.check_stopped(
+            "no static C library",
+            came,
+            "no static C library: rcrt1.o is not there (apt-get install gcc libc6-dev)",
+        )
 
 
 # releases on a disk of some size
@@ -153,11 +176,17 @@ class Full(OfStops):
         (self.folder / "dist").mkdir(exist_ok=True)
         for size in ("1m", "5m", "8m", "28m"):
             root = [] if os.geteuid() == 0 else ["--map-root-user"]
-            status, output, errors = run(["unshare", "--mount", *root, "bash", "-c", ON_DISK.format(size)], cwd=self.folder)
+            status, output, errors = run(
+                ["unshare", "--mount", *root, "bash", "-c", ON_DISK.format(size)], cwd=self.folder
+            )
             if status == 77 or "unshare failed" in errors:
                 self.skip(f"a disk of {size}", f"nothing can be mounted here: {errors.strip()}")
                 continue
-            self.check(f"a disk of {size}: status 1, and nothing in dist/", (1, "left: \n"), (status, output))
+            self.check(
+                f"a disk of {size}: status 1, and nothing in dist/",
+                (1, "left: \n"),
+                (status, output),
+            )
             lines = [it for it in errors.splitlines() if it.startswith("release: ")]
             came = (len(lines), "No space left on device" in errors)
             self.check(f"a disk of {size}: one line reports it: {' '.join(lines)}", (1, True), came)
@@ -171,11 +200,17 @@ class Ended(OfStops):
         unseen = {"stdout": subprocess.DEVNULL, "stderr": subprocess.DEVNULL}
         with running.started(["./release"], 2 * LIMIT, cwd=self.folder, **unseen) as process:
             late = time.monotonic() + LIMIT
-            while not (self.folder / "dist/.making/notices").exists() and process.poll() is None and time.monotonic() < late:
+            while (
+                not (self.folder / "dist/.making/notices").exists()
+                and process.poll() is None
+                and time.monotonic() < late
+            ):
                 time.sleep(0.01)
             other = release(self.folder)
             said = "release: another ./release runs in this clone\n"
-            self.check("another release beside it: status 1, and it is reported", (1, said), other[::2])
+            self.check(
+                "another release beside it: status 1, and it is reported", (1, said), other[::2]
+            )
             process.send_signal(signal.SIGTERM)
             came = (process.wait(LIMIT), made(self.folder))
             self.check("a release that is ended: its status, and nothing in dist/", (143, []), came)
@@ -211,10 +246,20 @@ class Pages(OfStops):
         page = self.folder / "docs/rules.md"
         for mark, said in MARKS.items():
             with committed(page, page.read_text() + f"\nA {mark}.\n"):
-                self.check_stopped(f"a page with {mark}", release(self.folder), f"packaging/page: docs/rules.md: {said}")
+                self.check_stopped(
+                    f"a page with {mark}",
+                    release(self.folder),
+                    f"packaging/page: docs/rules.md: {said}",
+                )
 
     def test_version(self):
         """A version of which the changelog has nothing."""
         page = self.folder / "CHANGELOG.md"
-        with committed(page, re.sub(r"^## \[\d.*\]", "## [0.0]", page.read_text(), flags=re.MULTILINE)):
-            self.check_stopped("a version that CHANGELOG.md hasn't", release(self.folder), "CHANGELOG.md has no section")
+        with committed(
+            page, re.sub(r"^## \[\d.*\]", "## [0.0]", page.read_text(), flags=re.MULTILINE)
+        ):
+            self.check_stopped(
+                "a version that CHANGELOG.md hasn't",
+                release(self.folder),
+                "CHANGELOG.md has no section",
+            )

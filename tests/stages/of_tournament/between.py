@@ -37,12 +37,16 @@ class Alone:
     def run(self, text="", words=(*QUICK, "black")):
         """What comes of it where it is given this text, after which its input isn't ended."""
         reads, writes = os.pipe()
-        with running.started(words, stdin=reads, encoding="utf-8", env=self.here.environment) as process:
+        with running.started(
+            words, stdin=reads, encoding="utf-8", env=self.here.environment
+        ) as process:
             os.close(reads)
             with open(writes, "wb", buffering=0) as given:
                 with suppress(BrokenPipeError):  # what starts nothing may have ended before
                     given.write(text.encode())
-                return running.Came(process.wait(LIMIT), process.stdout.read(), process.stderr.read())
+                return running.Came(
+                    process.wait(LIMIT), process.stdout.read(), process.stderr.read()
+                )
 
     def lines(self):
         """The notes, without the seconds in them."""
@@ -51,7 +55,10 @@ class Alone:
 
 def without_seconds(line):
     """A line of the notes without its seconds."""
-    return " ".join("S" + word[len(word.rstrip(":,")):] if is_seconds(word) else word for word in line.split(" "))
+    return " ".join(
+        "S" + word[len(word.rstrip(":,")) :] if is_seconds(word) else word
+        for word in line.split(" ")
+    )
 
 
 def is_seconds(word):
@@ -70,7 +77,9 @@ class Passing(Case):
             self.check("a conversation that ends", alone, Alone(here, "gtp_engine").run(TALK))
             Alone(here, "gtp_engine")
             came = running.run([*QUICK, "black"], TALK.replace("quit\n", ""), env=here.environment)
-            self.check("a conversation without quit", alone._replace(output=alone.output[:-3]), came)
+            self.check(
+                "a conversation without quit", alone._replace(output=alone.output[:-3]), came
+            )
 
     def test_many_bytes(self):
         """A long answer and a long command go through it whole."""
@@ -84,30 +93,53 @@ class Passing(Case):
         """How an engine ends is how it ends, and is noted where an answer was due."""
         ends = {
             "a status": (["sh", "-c", "read x; exit 3"], 3, "ended S: 1 name: exit status 3"),
-            "a signal": (["sh", "-c", "read x; kill -SEGV $$"], -signal.SIGSEGV, "ended S: 1 name: signal 11"),
-            "KILL": (["sh", "-c", "read x; kill -KILL $$"], -signal.SIGKILL, "ended S: 1 name: signal 9"),
-            "no such program": (["/nowhere/engine"], 127, "not started: /nowhere/engine: No such file or directory"),
+            "a signal": (
+                ["sh", "-c", "read x; kill -SEGV $$"],
+                -signal.SIGSEGV,
+                "ended S: 1 name: signal 11",
+            ),
+            "KILL": (
+                ["sh", "-c", "read x; kill -KILL $$"],
+                -signal.SIGKILL,
+                "ended S: 1 name: signal 9",
+            ),
+            "no such program": (
+                ["/nowhere/engine"],
+                127,
+                "not started: /nowhere/engine: No such file or directory",
+            ),
             "no program": (["/"], 126, "not started: /: Permission denied"),
         }
         for what, (command, status, noted) in ends.items():
             with room() as here:
                 alone = Alone(here, *command)
                 came = alone.run("1 name\n")
-                self.check(f"an engine's end: {what}", (status, [f"0 black {noted}"]), (came.status, alone.lines()))
+                self.check(
+                    f"an engine's end: {what}",
+                    (status, [f"0 black {noted}"]),
+                    (came.status, alone.lines()),
+                )
 
     def test_folder(self):
         """No folder to start in is noted, and so is no command."""
         with room() as here:
             alone = Alone(here, "gtp_engine")
-            alone.game.write_text(alone.game.read_text().replace(f"folder {here.at}", "folder /no/where"))
+            alone.game.write_text(
+                alone.game.read_text().replace(f"folder {here.at}", "folder /no/where")
+            )
             came = alone.run("1 name\n")
-            self.same((127, ["0 black not started: /no/where: No such file or directory"]), (came.status, alone.lines()))
+            self.same(
+                (127, ["0 black not started: /no/where: No such file or directory"]),
+                (came.status, alone.lines()),
+            )
 
     def test_closed(self):
         """Where an engine closes its output and goes on, that ends here at once."""
         with room() as here:
             alone = Alone(here, "sh", "-c", "exec 1>&-; sleep 90")
-            with running.started([*QUICK, "black"], stdin=subprocess.PIPE, env=here.environment) as between:
+            with running.started(
+                [*QUICK, "black"], stdin=subprocess.PIPE, env=here.environment
+            ) as between:
                 between.stdin.write(b"1 name\n")
                 between.stdin.flush()
                 output = between.stdout.read()
@@ -117,8 +149,15 @@ class Passing(Case):
     def test_killed(self):
         """The engine ends with it, also one that ignores TERM."""
         with room() as here:
-            alone = Alone(here, "sh", "-c", "trap '' TERM; echo $$ > pid; printf '=\\n\\n'; sleep 90; sleep 90")
-            with running.started([*QUICK, "black"], stdin=subprocess.PIPE, env=here.environment) as between:
+            alone = Alone(
+                here,
+                "sh",
+                "-c",
+                "trap '' TERM; echo $$ > pid; printf '=\\n\\n'; sleep 90; sleep 90",
+            )
+            with running.started(
+                [*QUICK, "black"], stdin=subprocess.PIPE, env=here.environment
+            ) as between:
                 between.stdin.write(b"name\n")
                 between.stdin.flush()
                 self.check("it answers", b"=\n\n", between.stdout.read(3))
@@ -127,10 +166,18 @@ class Passing(Case):
                     between.send_signal(number)
                 time.sleep(0.1)
                 here.until(alone.lines, 60)
-                self.check("who asks a game to end asks twogtp and the engine, and it goes on", None, between.poll())
+                self.check(
+                    "who asks a game to end asks twogtp and the engine, and it goes on",
+                    None,
+                    between.poll(),
+                )
                 between.kill()
                 gone = here.until(lambda: not running_state(engine), 60)
-            self.check("the engine ends with what stands between", (True, ["0 black started S"]), (gone, alone.lines()))
+            self.check(
+                "the engine ends with what stands between",
+                (True, ["0 black started S"]),
+                (gone, alone.lines()),
+            )
 
     def test_game_ends(self):
         """Where the game's process has ended, the engine is ended at once with all that it started, whatever twogtp does."""
@@ -139,48 +186,89 @@ class Passing(Case):
         for what, text in engines.items():
             with room() as here:
                 held, holds = os.pipe()
-                alone = Alone(here, "sh", "-c", text, held=f"/proc/{os.getpid()}/fd/{held} {os.fstat(held).st_ino}")
-                with running.started([*QUICK, "black"], stdin=subprocess.PIPE, env=here.environment) as between:
+                alone = Alone(
+                    here,
+                    "sh",
+                    "-c",
+                    text,
+                    held=f"/proc/{os.getpid()}/fd/{held} {os.fstat(held).st_ino}",
+                )
+                with running.started(
+                    [*QUICK, "black"], stdin=subprocess.PIPE, env=here.environment
+                ) as between:
                     between.stdin.write(b"name\n")
                     between.stdin.flush()
-                    self.check(f"the game's process lives, {what}: it answers", b"=\n\n", between.stdout.read(3))
-                    goes_on = here.until(lambda: any("sleep 9" in line for line in here.left())) and not wait_for(between, 0.5)
+                    self.check(
+                        f"the game's process lives, {what}: it answers",
+                        b"=\n\n",
+                        between.stdout.read(3),
+                    )
+                    goes_on = here.until(
+                        lambda: any("sleep 9" in line for line in here.left())
+                    ) and not wait_for(between, 0.5)
                     os.close(holds)
                     came = (goes_on, wait_for(between, 15), between.poll(), here.left())
-                    self.check(f"the game's process has ended, {what}: so does all", (True, True, 125, []), came)
+                    self.check(
+                        f"the game's process has ended, {what}: so does all",
+                        (True, True, 125, []),
+                        came,
+                    )
                 os.close(held)
                 came = alone.run("name\n")
                 said = "between: black: the game is over\n"
-                self.check(f"the game's process has ended, {what}: nothing is started", (125, "", said), came)
+                self.check(
+                    f"the game's process has ended, {what}: nothing is started",
+                    (125, "", said),
+                    came,
+                )
 
     def test_another_game(self):
         """A pipe of another process with the number of the game's isn't the game's."""
         with room() as here:
             held, holds = os.pipe()
-            alone = Alone(here, "touch", "started", held=f"/proc/{os.getpid()}/fd/{held} {os.fstat(held).st_ino + 1}")
+            alone = Alone(
+                here,
+                "touch",
+                "started",
+                held=f"/proc/{os.getpid()}/fd/{held} {os.fstat(held).st_ino + 1}",
+            )
             came = alone.run("name\n")
             for end in (held, holds):
                 os.close(end)
-            self.same((125, "between: black: the game is over\n", False), (came.status, came.errors, (here.at / "started").exists()))
+            self.same(
+                (125, "between: black: the game is over\n", False),
+                (came.status, came.errors, (here.at / "started").exists()),
+            )
 
     def test_input_ends(self):
         """Where twogtp ends, the engine has the end of its input, and may end by itself."""
         with room() as here:
-            alone = Alone(here, "sh", "-c", "read x; printf '=\\n\\n'; read x; read x; sleep 0.3; echo over > over")
-            with running.started([*QUICK, "black"], stdin=subprocess.PIPE, env=here.environment) as between:
+            alone = Alone(
+                here,
+                "sh",
+                "-c",
+                "read x; printf '=\\n\\n'; read x; read x; sleep 0.3; echo over > over",
+            )
+            with running.started(
+                [*QUICK, "black"], stdin=subprocess.PIPE, env=here.environment
+            ) as between:
                 between.stdin.write(b"1 name\n2 genmove b\n")
                 between.stdin.flush()
                 answer = between.stdout.read(3)
                 between.stdin.close()
                 status = between.wait(LIMIT)
             came = (answer, status, (here.at / "over").read_text(), alone.lines())
-        self.same((b"=\n\n", 0, "over\n", ["0 black started S", "1 black waited S: 2 genmove b"]), came)
+        self.same(
+            (b"=\n\n", 0, "over\n", ["0 black started S", "1 black waited S: 2 genmove b"]), came
+        )
 
     def test_stopped(self):
         """Where both the engine and twogtp are asked to end, it is noted who was waited for, whichever ends first."""
         with room() as here:
             alone = Alone(here, "sh", "-c", "read x; echo > asked; kill -TERM $$")
-            with running.started([*QUICK, "black"], stdin=subprocess.PIPE, env=here.environment) as between:
+            with running.started(
+                [*QUICK, "black"], stdin=subprocess.PIPE, env=here.environment
+            ) as between:
                 between.stdin.write(b"1 name\n")
                 between.stdin.flush()
                 here.until((here.at / "asked").exists)
@@ -194,9 +282,13 @@ class Passing(Case):
         with room() as here:
             alone = Alone(here, "sh", "-c", "while read x; do printf '=\\n\\n'; done; sleep 90")
             alone.notes.write_text("x" * 1023)
-            came = alone.run("name\n" * 9, ["bash", "-c", 'ulimit -f 1; "$@" | cat', "-", *QUICK, "black"])
+            came = alone.run(
+                "name\n" * 9, ["bash", "-c", 'ulimit -f 1; "$@" | cat', "-", *QUICK, "black"]
+            )
             said = f"between: black: {alone.notes} can't be written"
-            self.check("notes that can't be written", (said, ""), (came.errors[: len(said)], came.output))
+            self.check(
+                "notes that can't be written", (said, ""), (came.errors[: len(said)], came.output)
+            )
             self.check("they are removed", False, alone.notes.exists())
             self.check("then nothing is started", "", alone.run("name\n").output)
 
@@ -206,7 +298,10 @@ class Passing(Case):
             alone = Alone(here, "touch", "started")
             alone.game.unlink()
             came = alone.run()
-            self.same((1, "between: the game is over\n", False), (came.status, came.errors, (here.at / "started").exists()))
+            self.same(
+                (1, "between: the game is over\n", False),
+                (came.status, came.errors, (here.at / "started").exists()),
+            )
 
 
 def wait_for(process, seconds):
@@ -230,10 +325,25 @@ def running_state(process):
 # what is asked, the limits of an answer and of a genmove, and what is noted
 LIMITS = {
     "the first answer": ("1 boardsize 60\n", "1", None, ["0 black late S: 1 boardsize 60"]),
-    "the answer to a play": ("name\n2 play b 60\n", "1", "40", ["0 black started S", "1 black late S: 2 play b 60"]),
-    "a move": ("name\n2 genmove b 60\n", "40", "1", ["0 black started S", "1 black thinks", "1 black late S: 2 genmove b 60"]),
+    "the answer to a play": (
+        "name\n2 play b 60\n",
+        "1",
+        "40",
+        ["0 black started S", "1 black late S: 2 play b 60"],
+    ),
+    "a move": (
+        "name\n2 genmove b 60\n",
+        "40",
+        "1",
+        ["0 black started S", "1 black thinks", "1 black late S: 2 genmove b 60"],
+    ),
     "quit": ("name\nquit 60\n", "1", None, ["0 black started S", "1 black late S: quit 60"]),
-    "the second of two": ("0.1\nname 60\n", "1", None, ["0 black started S", "1 black late S: name 60"]),
+    "the second of two": (
+        "0.1\nname 60\n",
+        "1",
+        None,
+        ["0 black started S", "1 black late S: name 60"],
+    ),
 }
 
 
@@ -246,19 +356,42 @@ class Late(Case):
         with room() as here:
             here.script("waits.py", WAITS)
             more = {"move_limit": move_limit} if move_limit else {}
-            alone = Alone(here, "sh", "-c", f"echo >> starts; exec '{sys.executable}' waits.py", limit=limit, **more)
+            alone = Alone(
+                here,
+                "sh",
+                "-c",
+                f"echo >> starts; exec '{sys.executable}' waits.py",
+                limit=limit,
+                **more,
+            )
             came = alone.run(text)
             command = text.splitlines()[-1]
             said = f"between: black: no answer in time to '{command}'\n"
-            self.check(f"{row} is late: the status, and what is said", (124, said), (came.status, came.errors))
+            self.check(
+                f"{row} is late: the status, and what is said",
+                (124, said),
+                (came.status, came.errors),
+            )
             self.check(f"{row} is late: the notes", noted, alone.lines())
             seconds = float(alone.notes.read_text().splitlines()[-1].split()[3].rstrip(":"))
-            self.check(f"{row} is late: after the seconds of its limit, which are 1", True, 1 <= seconds < 20)
+            self.check(
+                f"{row} is late: after the seconds of its limit, which are 1",
+                True,
+                1 <= seconds < 20,
+            )
             again = alone.run(text)
             said = "between: black: it was late, and isn't started again\n"
-            self.check(f"{row} is late: another start ends at once, and says why", (124, "", said), again)
-            self.check(f"{row} is late: so do the notes", [*noted, "0 black stays ended"], alone.lines())
-            self.check(f"{row} is late: the engine was started once", "\n", (here.at / "starts").read_text())
+            self.check(
+                f"{row} is late: another start ends at once, and says why", (124, "", said), again
+            )
+            self.check(
+                f"{row} is late: so do the notes", [*noted, "0 black stays ended"], alone.lines()
+            )
+            self.check(
+                f"{row} is late: the engine was started once",
+                "\n",
+                (here.at / "starts").read_text(),
+            )
 
 
 class InTime(Case):
@@ -269,7 +402,9 @@ class InTime(Case):
         with room() as here:
             here.script("waits.py", WAITS)
             alone = Alone(here, sys.executable, "waits.py", limit="1.5", move_limit="1.5")
-            with running.started([*QUICK, "black"], stdin=subprocess.PIPE, env=here.environment) as between:
+            with running.started(
+                [*QUICK, "black"], stdin=subprocess.PIPE, env=here.environment
+            ) as between:
                 between.stdin.write(b"1 a 0.8\n2 b 0.8\n3 c 0.8\n4 genmove 0.8\n")
                 between.stdin.flush()
                 answers = between.stdout.read(16)
@@ -279,7 +414,11 @@ class InTime(Case):
                 answers += between.stdout.read(4)
                 came = (answers, *between.communicate(), between.returncode)
             self.check("none is late", (b"=1\n\n=2\n\n=3\n\n=4\n\n=5\n\n", b"", b"", 0), came)
-            self.check("the notes", ["0 black started S", "1 black thinks", "1 black no-vertex S"], alone.lines())
+            self.check(
+                "the notes",
+                ["0 black started S", "1 black thinks", "1 black no-vertex S"],
+                alone.lines(),
+            )
 
     def test_nothing_is_left(self):
         """Nothing is left of a late engine that ignores TERM, nor of what it started in other sessions."""

@@ -59,7 +59,18 @@ class OneGame(Case):
     def started_by(self, here, *words):
         """How many processes a command starts; None where they can't be counted."""
         for more in ([], ["--user", "--map-root-user"]):
-            came = here.run("unshare", *more, "--pid", "--fork", "--mount-proc", "bash", "-c", COUNT, "bash", *words)
+            came = here.run(
+                "unshare",
+                *more,
+                "--pid",
+                "--fork",
+                "--mount-proc",
+                "bash",
+                "-c",
+                COUNT,
+                "bash",
+                *words,
+            )
             if came.status == 0:
                 return int(came.output)
         return None
@@ -67,14 +78,28 @@ class OneGame(Case):
 
 def make_results(here, count):
     """Makes a tournament of two engines that has so many results, in the directory `all`."""
-    words = ["--engine", "one=gtp_engine", "--engine", "two=gtp_engine", "--seeds", str(count // 2), "--", "--size", "9", "--max-moves", "30"]
+    words = [
+        "--engine",
+        "one=gtp_engine",
+        "--engine",
+        "two=gtp_engine",
+        "--seeds",
+        str(count // 2),
+        "--",
+        "--size",
+        "9",
+        "--max-moves",
+        "30",
+    ]
     here.run("tournament", "plan", "all", *words)
     place = here.at / "all/games"
     for seed in range(1, count // 2 + 1):
         winner = "BW"[seed % 2]
         one = here.at / f"{winner}{seed // 2 % 8 + 1}"  # one of 16 files, which have many names
         if not one.exists():
-            one.write_text(f"game 1: {winner}+6.5 moves 30 restarts 0 0\n{'D4 ' * 29}C{one.name[1]}\n")
+            one.write_text(
+                f"game 1: {winner}+6.5 moves 30 restarts 0 0\n{'D4 ' * 29}C{one.name[1]}\n"
+            )
         for name in ("one_two", "two_one"):
             os.link(one, place / f"{seed}_{name}")
 
@@ -90,13 +115,22 @@ class Filled(Case):
 
     def compare(self, what, few, many):
         """Checks that a command takes no longer with many results than in proportion: what it took with few, and with ten times as many."""
-        self.check(f"{what}: at most {LONGER} times as long with ten times the results: {many / few:.1f}", True, many <= LONGER * few)
+        self.check(
+            f"{what}: at most {LONGER} times as long with ten times the results: {many / few:.1f}",
+            True,
+            many <= LONGER * few,
+        )
 
 
 class Many(Filled):
     """A directory of which four results are missing: nothing takes long in it."""
 
-    COMMANDS = ("tournament list all", "tally all", "tournament play all", "tournament list all --all")
+    COMMANDS = (
+        "tournament list all",
+        "tally all",
+        "tournament play all",
+        "tournament list all --all",
+    )
 
     def test_many(self):
         """Each command in a directory with many results."""
@@ -106,7 +140,9 @@ class Many(Filled):
             with room() as here:
                 make_results(here, count)
                 self.look_at(here, count)
-                spent[count] = {words: least_seconds(here, *words.split()) for words in self.COMMANDS}
+                spent[count] = {
+                    words: least_seconds(here, *words.split()) for words in self.COMMANDS
+                }
         for words in self.COMMANDS:
             self.compare(words, spent[few][words], spent[many][words])
 
@@ -116,14 +152,20 @@ class Many(Filled):
         for name in lost:
             (here.at / "all/games" / name).unlink()
         listed, tally, played = (here.run(*words.split()) for words in self.COMMANDS[:3])
-        self.check("the list has what is missing", (0, lost, ""), (listed.status, listed.output.splitlines(), listed.errors))
+        self.check(
+            "the list has what is missing",
+            (0, lost, ""),
+            (listed.status, listed.output.splitlines(), listed.errors),
+        )
         said = f"{many - 4} of {many} games have a result, {many - 4} have a winner"
         self.check("the tally counts all", (1, said), (tally.status, tally.output.splitlines()[0]))
         won = re.findall(r"^(one|two) +(\d+)", tally.output, re.MULTILINE)
         # each engine won a game of each seed, Black's with even seeds and White's with odd ones: `two` won the first that is missing,
         # and `one` the others
         self.check("and who won", [("two", str(many // 2 - 1)), ("one", str(many // 2 - 3))], won)
-        self.check("play plays what is missing", (0, 5), (played.status, len(played.output.splitlines())))
+        self.check(
+            "play plays what is missing", (0, 5), (played.status, len(played.output.splitlines()))
+        )
 
 
 class Dear(Filled):
@@ -140,7 +182,10 @@ class Dear(Filled):
             here.run("tournament", "plan", *TWO, "--seeds", str(count // 2), "--", "--size", "9")
             line = "abandoned black moves 60 restarts 2 0"
             moves = "".join(f"{at} {('white', 'black')[at % 2]} D4 0.123\n" for at in range(1, 61))
-            ends = ("61 black late 5.000: 12 genmove b\n0 black stays ended\n0 black stays ended\n", "61 black ended 0.1: 12 genmove b: signal 11\n")
+            ends = (
+                "61 black late 5.000: 12 genmove b\n0 black stays ended\n0 black stays ended\n",
+                "61 black ended 0.1: 12 genmove b: signal 11\n",
+            )
             for seed in range(1, count // 2 + 1):
                 written = {"games": f"game 1: {line}\n{'D4 ' * 59}{'ABCDEFGH'[seed // 2 % 8]}1\n",
                            "notes": f"1_one_two on here\n{moves}{ends[seed % 2]}thought: black 1.0, white 1.0\nresult: {line}\n"}  # fmt: skip
@@ -165,9 +210,14 @@ class Dear(Filled):
             names = [f"e{it}" for it in range(1, many + 1)]
             count = len(names) * (len(names) - 1)
             (here.at / "all/games").mkdir(parents=True)
-            (here.at / "all/plan").write_text("".join(f"engine {it} x\n" for it in names) + "option --size\noption 9\nseeds 1\nlimit 600\n")
+            (here.at / "all/plan").write_text(
+                "".join(f"engine {it} x\n" for it in names)
+                + "option --size\noption 9\nseeds 1\nlimit 600\n"
+            )
             for at, one in enumerate(names):
-                result = here.at / f"one{at // 100}"  # of four, since a file can't have so many names
+                result = (
+                    here.at / f"one{at // 100}"
+                )  # of four, since a file can't have so many names
                 if not result.exists():
                     result.write_text(f"game 1: B+6.5 moves 30 restarts 0 0\n{'D4 ' * 29}D4\n")
                 for other in names[:at] + names[at + 1 :]:
@@ -179,7 +229,13 @@ class Dear(Filled):
         """What the tally says, in its first line and in the one that begins with the first of these parts, and the time that it takes."""
         came = here.run("tally", "all")
         said = [line for line in came.output.splitlines() if line.startswith(parts[0])]
-        are_there = len(said) == max(1, len(parts) - 1) and all(part in line for part, line in zip(parts[1:], said))
+        are_there = len(said) == max(1, len(parts) - 1) and all(
+            part in line for part, line in zip(parts[1:], said)
+        )
         wanted = (0, first, True, "")
-        self.check(f"{first.partition(' ')[0]} results {what}: the tally", wanted, (came.status, came.output.split("\n")[0], are_there, came.errors))
+        self.check(
+            f"{first.partition(' ')[0]} results {what}: the tally",
+            wanted,
+            (came.status, came.output.split("\n")[0], are_there, came.errors),
+        )
         return least_seconds(here, "tally", "all")

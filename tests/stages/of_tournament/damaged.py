@@ -26,7 +26,9 @@ DAMAGES = {
     "another game's number": lambda text: text.replace(b"game 1:", b"game 2:"),
     "no such verdict": lambda text: re.sub(rb"game 1: \S+", b"game 1: B+X", text),
     "a reason with a digit": lambda text: re.sub(rb"game 1: \S+", b"game 1: B+F(late 2)", text),
-    "a reason of 21 letters": lambda text: re.sub(rb"game 1: \S+", b"game 1: B+F(aaaaaaaaaaaaaaaaaaaaa)", text),
+    "a reason of 21 letters": lambda text: re.sub(
+        rb"game 1: \S+", b"game 1: B+F(aaaaaaaaaaaaaaaaaaaaa)", text
+    ),
     "a forfeit without a reason": lambda text: re.sub(rb"game 1: \S+", b"game 1: B+F()", text),
     "a score that 2x2 can't have": lambda text: re.sub(rb"game 1: \S+", b"game 1: B+0.5", text),
     "a move off the board": lambda text: re.sub(rb" \S+\n\Z", b" C1\n", text),
@@ -41,14 +43,32 @@ NO_PLAN = {"--size x": "size 'x'", "--size 26": "size '26'", "--size": "size ''"
 
 def scores_of(size, komi):
     """The scores that a board can have, by the points of both colours."""
-    every = {black - white - komi for black in range(size**2 + 1) for white in range(size**2 + 1 - black)}
-    return {f"{'B' if it > 0 else 'W'}+{f'{abs(it):.1f}'.replace('.0', '')}" if it else "0" for it in every}
+    every = {
+        black - white - komi
+        for black in range(size**2 + 1)
+        for white in range(size**2 + 1 - black)
+    }
+    return {
+        f"{'B' if it > 0 else 'W'}+{f'{abs(it):.1f}'.replace('.0', '')}" if it else "0"
+        for it in every
+    }
 
 
 def made_of(here, folder, text, files, options=TINY, how=()):
     """A folder whose plan has a seed for each of these files, and two games with each: the first has the file, the other this text."""
     seeds = len(files)
-    words = [folder, "--engine", f"one={RANDOM} 1", "--engine", f"two={RANDOM} 2", "--seeds", str(seeds), *how, "--", *options]
+    words = [
+        folder,
+        "--engine",
+        f"one={RANDOM} 1",
+        "--engine",
+        f"two={RANDOM} 2",
+        "--seeds",
+        str(seeds),
+        *how,
+        "--",
+        *options,
+    ]
     here.run("tournament", "plan", *words)
     for seed, file in enumerate(files, 1):
         (here.at / folder / f"games/{seed}_one_two").write_bytes(file)
@@ -57,12 +77,26 @@ def made_of(here, folder, text, files, options=TINY, how=()):
 
 def first_of(here, folder, options):
     """The result of a game, as it is written."""
-    here.run("tournament", "plan", folder, "--engine", f"one={RANDOM} 1", "--engine", f"two={RANDOM} 2", "--seeds", "1", "--", *options)
+    here.run(
+        "tournament",
+        "plan",
+        folder,
+        "--engine",
+        f"one={RANDOM} 1",
+        "--engine",
+        f"two={RANDOM} 2",
+        "--seeds",
+        "1",
+        "--",
+        *options,
+    )
     here.run("tournament", "game", folder, "1_one_two")
     return (here.at / folder / "games/1_one_two").read_bytes()
 
 
-@checks.table([[], ["--show"]], lambda it: f"results cut at each byte{' with --show' if it else ''}")
+@checks.table(
+    [[], ["--show"]], lambda it: f"results cut at each byte{' with --show' if it else ''}"
+)
 class Cut(Case):
     """A result that is cut at any byte is none: `list` has its game, `tally` says so, `play` reports it and plays it again."""
 
@@ -72,20 +106,44 @@ class Cut(Case):
             text = first_of(here, "one", options)
             files = [text[:count] for count in range(len(text))]
             self.check(f"{what}: there are many", True, len(files) > (60 if show else 40))
-            made_of(here, "all", text, files, options, ["--direct"])  # so that a game takes little time
+            made_of(
+                here, "all", text, files, options, ["--direct"]
+            )  # so that a game takes little time
             names = [f"{seed}_one_two" for seed in range(1, len(files) + 1)]
-            self.check(f"{what}: the list has each", (0, names), as_lines(here.run("tournament", "list", "all")))
+            self.check(
+                f"{what}: the list has each",
+                (0, names),
+                as_lines(here.run("tournament", "list", "all")),
+            )
             status, tally, _ = here.run("tally", "all")
             counted = f"{len(files)} of {2 * len(files)} games have a result"
-            self.check(f"{what}: the tally's first line, and its status", (1, counted), (status, tally[: len(counted)]))
+            self.check(
+                f"{what}: the tally's first line, and its status",
+                (1, counted),
+                (status, tally[: len(counted)]),
+            )
             said = [f"  {name}: its file is damaged" for name in names]
-            self.check(f"{what}: the tally says so of each", said, tally[tally.index("no result:") :].splitlines()[1:])
+            self.check(
+                f"{what}: the tally says so of each",
+                said,
+                tally[tally.index("no result:") :].splitlines()[1:],
+            )
             came = here.run("tournament", "play", "all", "--jobs", "2")
-            self.check(f"{what}: all are played again", (0, {text.decode()}), (came.status, set(here.games("all").values())))
-            reported = [f"tournament: {name}: its file is damaged, and it is played again" for name in names]
+            self.check(
+                f"{what}: all are played again",
+                (0, {text.decode()}),
+                (came.status, set(here.games("all").values())),
+            )
+            reported = [
+                f"tournament: {name}: its file is damaged, and it is played again" for name in names
+            ]
             self.check(f"{what}: each is reported", sorted(reported), lines(came.errors))
             self.check(f"{what}: no other is played", len(files) + 1, len(came.output.splitlines()))
-            self.check(f"{what}: then the list is empty", (0, []), as_lines(here.run("tournament", "list", "all")))
+            self.check(
+                f"{what}: then the list is empty",
+                (0, []),
+                as_lines(here.run("tournament", "list", "all")),
+            )
 
 
 def as_lines(came):
@@ -107,25 +165,52 @@ class Damages(Case):
             for name, what in zip(names, DAMAGES):
                 found = (name in listed, tally.count(f"  {name}: its file is damaged\n"))
                 self.check(f"{what}: it is in the list, and in the tally", (True, 1), found)
-                line, said = f"{name}: limit moves 3 restarts 0 0\n", f"tournament: {name}: its file is damaged, and it is played again\n"
-                self.check(f"{what}: game plays it", (0, line, said), here.run("tournament", "game", "all", name))
-                self.check(f"{what}: then it is whole", text, (here.at / "all/games" / name).read_bytes())
-            self.check("then nothing is in the list", names[len(DAMAGES) :], here.run("tournament", "list", "all").output.splitlines())
+                line, said = (
+                    f"{name}: limit moves 3 restarts 0 0\n",
+                    f"tournament: {name}: its file is damaged, and it is played again\n",
+                )
+                self.check(
+                    f"{what}: game plays it",
+                    (0, line, said),
+                    here.run("tournament", "game", "all", name),
+                )
+                self.check(
+                    f"{what}: then it is whole", text, (here.at / "all/games" / name).read_bytes()
+                )
+            self.check(
+                "then nothing is in the list",
+                names[len(DAMAGES) :],
+                here.run("tournament", "list", "all").output.splitlines(),
+            )
 
     def test_board(self):
         """A board is there where it was asked for, and only there."""
         with room() as here:
-            texts = {what: first_of(here, f"one{len(show)}", [*TINY, *show]) for what, show in (("with", ["--show"]), ("without", []))}
+            texts = {
+                what: first_of(here, f"one{len(show)}", [*TINY, *show])
+                for what, show in (("with", ["--show"]), ("without", []))
+            }
             made_of(here, "with", texts["with"], [texts["without"]], [*TINY, "--show"])
             made_of(here, "without", texts["without"], [texts["with"]], TINY)
             for what in texts:
                 listed = here.run("tournament", "list", what).output
-                self.check(f"a result {what} a board alone is one where that was asked for", "1_one_two\n", listed)
+                self.check(
+                    f"a result {what} a board alone is one where that was asked for",
+                    "1_one_two\n",
+                    listed,
+                )
 
     def test_lost(self):
         """What isn't a result is none for --again and the status either."""
         with room() as here:
-            engines = ["--engine", "one=gtp_engine --fault stop:1", "--engine", "two=gtp_engine", "--seeds", "1"]
+            engines = [
+                "--engine",
+                "one=gtp_engine --fault stop:1",
+                "--engine",
+                "two=gtp_engine",
+                "--seeds",
+                "1",
+            ]
             here.run("tournament", "play", "all", *engines, "--", "--size", "2")
             cut = here.at / "all/games/1_one_two"
             cut.write_bytes(cut.read_bytes()[:-1])
@@ -133,9 +218,17 @@ class Damages(Case):
             unable = "tournament: one: it ended at 'genmove b': exit status 4"
             tried = f"{unable}; tried before: to try again, remove all/tried/{os.uname().nodename}/passed"
             said = [tried, "tournament: 1_one_two: its file is damaged, and it is played again"]
-            self.check("a cut game with an abandoned side is played again", (1, 2, said), (status, len(output.splitlines()), errors.splitlines()))
+            self.check(
+                "a cut game with an abandoned side is played again",
+                (1, 2, said),
+                (status, len(output.splitlines()), errors.splitlines()),
+            )
             came = here.run("tournament", "play", "all", "--again")
-            self.check("--again plays both", (1, 3, f"{unable}\n"), (came.status, len(came.output.splitlines()), came.errors))
+            self.check(
+                "--again plays both",
+                (1, 3, f"{unable}\n"),
+                (came.status, len(came.output.splitlines()), came.errors),
+            )
 
 
 class Spelled(checks.Case):
@@ -144,28 +237,60 @@ class Spelled(checks.Case):
     def test_scores(self):
         """All scores of a board, and others beside them."""
         for (size, komi), written in BOARDS.items():
-            near = {f"{it}{half / 2:.1f}".replace(".0", "") for it in ("B+", "W+") for half in range(int(2 * (size**2 + abs(komi))) + 9)} | {"0", "00"}
+            near = {
+                f"{it}{half / 2:.1f}".replace(".0", "")
+                for it in ("B+", "W+")
+                for half in range(int(2 * (size**2 + abs(komi))) + 9)
+            } | {"0", "00"}
             for text in (f"{komi:g}", *written):
                 rule = rule_of(f"--size {size} --komi={text}")
-                found = {it for it in near if rule.parts_of(f"game 1: {it} moves 2 restarts 0 0\npass pass\n".encode())}
-                self.check(f"the scores of {size}x{size} with komi {text}", scores_of(size, komi), found)
+                found = {
+                    it
+                    for it in near
+                    if rule.parts_of(f"game 1: {it} moves 2 restarts 0 0\npass pass\n".encode())
+                }
+                self.check(
+                    f"the scores of {size}x{size} with komi {text}", scores_of(size, komi), found
+                )
 
     def test_moves(self):
         """All points of a board, and others beside them."""
         for size in (1, 2, 8, 9, 10, 11, 19, 20, 25):
             columns, rule = "ABCDEFGHJKLMNOPQRSTUVWXYZ"[:size], rule_of(f"--size {size}")
-            near = [f"{column}{row}" for column in "ABCDEFGHIJKLMNOPQRSTUVWXYZ@[ab" for row in (*range(32), "01", "", "1x")]
+            near = [
+                f"{column}{row}"
+                for column in "ABCDEFGHIJKLMNOPQRSTUVWXYZ@[ab"
+                for row in (*range(32), "01", "", "1x")
+            ]
             near += ["pass", "PASS", "Pass", "resign", "", "pass1", "-"]
-            wanted = {"pass", *(f"{column}{row}" for column in columns for row in range(1, size + 1))}
+            wanted = {
+                "pass",
+                *(f"{column}{row}" for column in columns for row in range(1, size + 1)),
+            }
             for place in ("{} pass A1", "A1 {} A1", "pass pass {}"):
-                found = {it for it in near if rule.parts_of(f"game 1: limit moves 3 restarts 0 0\n{place.format(it)}\n".encode())}
+                found = {
+                    it
+                    for it in near
+                    if rule.parts_of(
+                        f"game 1: limit moves 3 restarts 0 0\n{place.format(it)}\n".encode()
+                    )
+                }
                 self.check(f"the moves of {size}x{size}, as in '{place}'", wanted, found)
 
     def test_numbers(self):
         """Numbers that nobody writes, which int doesn't read."""
         rule, many = rule_of(""), "0" * 5000
-        for line in (f"moves 1{many} restarts 0 0", f"moves 1 restarts 1{many} 0", f"moves 1 restarts 0 1{many}", f"moves {many}1 restarts 0 0"):
-            self.check(f"{line[:20]}..: it is none", None, rule.parts_of(f"game 1: limit {line}\nA1\n".encode()))
+        for line in (
+            f"moves 1{many} restarts 0 0",
+            f"moves 1 restarts 1{many} 0",
+            f"moves 1 restarts 0 1{many}",
+            f"moves {many}1 restarts 0 0",
+        ):
+            self.check(
+                f"{line[:20]}..: it is none",
+                None,
+                rule.parts_of(f"game 1: limit {line}\nA1\n".encode()),
+            )
 
     def test_plans(self):
         """A plan that somebody changed."""
@@ -173,9 +298,18 @@ class Spelled(checks.Case):
             (here.at / "all/games").mkdir(parents=True)
             for option, said in NO_PLAN.items():
                 lines_of = "".join(f"option {word}\n" for word in option.split(" "))
-                (here.at / "all/plan").write_text(f"folder /\nengine a x\nengine b x\nseeds 1\nlimit 9\n{lines_of}")
+                (here.at / "all/plan").write_text(
+                    f"folder /\nengine a x\nengine b x\nseeds 1\nlimit 9\n{lines_of}"
+                )
                 came = here.run("tournament", "export", "all", "--sgf", "records")
-                self.check(f"{option}: export says so", (2, "", True), (*came[:2], came.errors.startswith(f"tournament: the plan has --{said}: it is ")))
+                self.check(
+                    f"{option}: export says so",
+                    (2, "", True),
+                    (
+                        *came[:2],
+                        came.errors.startswith(f"tournament: the plan has --{said}: it is "),
+                    ),
+                )
             self.check("no record is made", False, (here.at / "records").exists())
 
 
@@ -195,12 +329,18 @@ class Copied(Case):
             text = b"game 1: W+6.5 moves 4 restarts 0 0\nE5 J9 pass pass\n"
             made_of(here, "all", text, [text] * 2, ["--size", "7", "--komi", "0.5"])
             names = [f"{seed}_{it}" for seed in (1, 2) for it in ("one_two", "two_one")]
-            self.check("the list has all", (0, names), as_lines(here.run("tournament", "list", "all")))
+            self.check(
+                "the list has all", (0, names), as_lines(here.run("tournament", "list", "all"))
+            )
             self.check("the tally has none", "0 of 4 games", here.run("tally", "all").output[:12])
             for words in (["--csv"], ["--jsonl"], ["--pgn"], ["--sgf", "records"]):
                 came = here.run("tournament", "export", "all", *words)
                 said = "tournament: without a result, and so not exported: 4 of 4 games\n"
-                self.check(f"{words[0]}: none is exported", (0, len(words) == 1 and words[0] == "--csv", said), (came.status, came.output != "", came.errors))
+                self.check(
+                    f"{words[0]}: none is exported",
+                    (0, len(words) == 1 and words[0] == "--csv", said),
+                    (came.status, came.output != "", came.errors),
+                )
             self.check("no record is written", [], list((here.at / "records").iterdir()))
 
 
@@ -217,24 +357,52 @@ class Unread(Case):
             (here.at / "all/games/1_one_two").symlink_to("1_one_two")
             (here.at / "all/games/2_one_two").mkdir()
             why = {"1_one_two": "Too many levels of symbolic links", "2_one_two": "Is a directory"}
-            said = [f": all/games/{name} can't be read, and so is no result: {it}" for name, it in why.items()]
+            said = [
+                f": all/games/{name} can't be read, and so is no result: {it}"
+                for name, it in why.items()
+            ]
             status, output, errors = here.run("tournament", "list", "all")
             wanted = (0, [*why], [f"tournament{it}" for it in said])
-            self.check("list has both games, and names the files", wanted, (status, output.splitlines(), lines(errors)))
+            self.check(
+                "list has both games, and names the files",
+                wanted,
+                (status, output.splitlines(), lines(errors)),
+            )
             status, output, errors = here.run("tally", "all")
-            wanted = (1, ["no result: 2", *(f"  {name}: its file can't be read: {it}" for name, it in why.items())], [f"tally{it}" for it in said])
-            self.check("tally counts the others", wanted, (status, output.splitlines()[-3:], lines(errors)))
+            wanted = (
+                1,
+                [
+                    "no result: 2",
+                    *(f"  {name}: its file can't be read: {it}" for name, it in why.items()),
+                ],
+                [f"tally{it}" for it in said],
+            )
+            self.check(
+                "tally counts the others", wanted, (status, output.splitlines()[-3:], lines(errors))
+            )
             status, output, errors = here.run("tournament", "export", "all", "--csv")
             missing = "tournament: without a result, and so not exported: 2 of 6 games"
             wanted = (0, 5, sorted([*(f"tournament{it}" for it in said), missing]))
-            self.check("export writes the others", wanted, (status, len(output.splitlines()), lines(errors)))
+            self.check(
+                "export writes the others",
+                wanted,
+                (status, len(output.splitlines()), lines(errors)),
+            )
             in_the_way = f"tournament: 2_one_two: no result: {here.at}/all/games/2_one_two can't be read, nor be replaced: Is a directory"
             again = f"tournament: 1_one_two: its file can't be read: {why['1_one_two']}, and it is played again"
             status, output, errors = here.run("tournament", "play", "all")
             wanted = (1, "5 of 6 games have a result", [again, in_the_way])
-            self.check("play plays the one again that it can replace", wanted, (status, output.splitlines()[-1], lines(errors)))
+            self.check(
+                "play plays the one again that it can replace",
+                wanted,
+                (status, output.splitlines()[-1], lines(errors)),
+            )
             self.check("then that is whole", text, (here.at / "all/games/1_one_two").read_bytes())
-            self.check("game says the same of the other", (1, "", f"{in_the_way}\n"), here.run("tournament", "game", "all", "2_one_two"))
+            self.check(
+                "game says the same of the other",
+                (1, "", f"{in_the_way}\n"),
+                here.run("tournament", "game", "all", "2_one_two"),
+            )
             self.check("nothing is left beside", [], list((here.at / "all/running").iterdir()))
 
     def test_many(self):
@@ -245,12 +413,21 @@ class Unread(Case):
                 place.unlink()
                 place.mkdir()
             said = here.run("tournament", "list", "all").errors.splitlines()
-            self.same((11, "tournament: files in all/games that can't be read: 12"), (len(said), said[-1]))
+            self.same(
+                (11, "tournament: files in all/games that can't be read: 12"), (len(said), said[-1])
+            )
 
     def test_beside(self):
         """Notes and logs that can't be read are as none."""
         with room() as here:
-            engines = ["--engine", "one=gtp_engine --fault stop:1", "--engine", "two=gtp_engine", "--seeds", "1"]
+            engines = [
+                "--engine",
+                "one=gtp_engine --fault stop:1",
+                "--engine",
+                "two=gtp_engine",
+                "--seeds",
+                "1",
+            ]
             here.run("tournament", "play", "all", *engines, "--", "--size", "2")
             (here.at / "all/games/1_one_two").unlink()
             for kind in ("notes", "logs"):
@@ -347,13 +524,31 @@ class Old(Case):
             self.left_by_old(here)
             before = (here.at / "all/games/1_one_two").stat().st_mtime_ns
             listed = lines(here.run("tournament", "list", "all").output)
-            self.check("an old folder: its list", sorted(set(results()) - {"1_one_two", "1_two_one"}), listed)
-            came = here.run("tournament", "play", *two_engines("all"), "--", "--size", "5", "--komi", "0.5")
-            self.check("an old folder is gone on with", (0, "", results()), (*came[::2], here.games("all")))
+            self.check(
+                "an old folder: its list",
+                sorted(set(results()) - {"1_one_two", "1_two_one"}),
+                listed,
+            )
+            came = here.run(
+                "tournament", "play", *two_engines("all"), "--", "--size", "5", "--komi", "0.5"
+            )
+            self.check(
+                "an old folder is gone on with", (0, "", results()), (*came[::2], here.games("all"))
+            )
             after = (here.at / "all/games/1_one_two").stat().st_mtime_ns
-            self.check("an old folder: what has a result isn't played", (before, 7), (after, len(came.output.splitlines())))
-            self.check("an old folder: its plan stays", OLD_PLAN, (here.at / "all/plan").read_text())
-            self.check("an old folder: nothing is left beside", [], list((here.at / "all/running").iterdir()))
+            self.check(
+                "an old folder: what has a result isn't played",
+                (before, 7),
+                (after, len(came.output.splitlines())),
+            )
+            self.check(
+                "an old folder: its plan stays", OLD_PLAN, (here.at / "all/plan").read_text()
+            )
+            self.check(
+                "an old folder: nothing is left beside",
+                [],
+                list((here.at / "all/running").iterdir()),
+            )
 
     def test_locks(self):
         """Each side keeps the other from a game."""
@@ -365,31 +560,65 @@ class Old(Case):
             here.until(lock.exists)
             here.until(lambda: here.run("flock", "-n", str(lock), "true").status)
             said = "tournament: 2_one_two: another process plays it\n"
-            self.check("an old script's game isn't begun, which isn't a failure", (0, "", said), here.run("tournament", "game", "all", "2_one_two"))
+            self.check(
+                "an old script's game isn't begun, which isn't a failure",
+                (0, "", said),
+                here.run("tournament", "game", "all", "2_one_two"),
+            )
             status, output, errors = here.run("tournament", "play", "all")
             came = (status, output.splitlines()[-1], errors)
-            self.check("nor by play", (1, "7 of 8 games have a result", "tournament: games that another process plays: 1\n"), came)
+            self.check(
+                "nor by play",
+                (
+                    1,
+                    "7 of 8 games have a result",
+                    "tournament: games that another process plays: 1\n",
+                ),
+                came,
+            )
             self.check("nor is its folder removed", True, lock.exists())
             here.end()
             process.wait()
-            self.check("once it is killed it is played", (0, ""), here.run("tournament", "play", "all")[::2])
+            self.check(
+                "once it is killed it is played",
+                (0, ""),
+                here.run("tournament", "play", "all")[::2],
+            )
             self.check("then the results are the same", results(), here.games("all"))
-            here.run("tournament", "plan", "other", "--engine", "one=sleep 1000", "--engine", "two=cat", "--seeds", "1")
+            here.run(
+                "tournament",
+                "plan",
+                "other",
+                "--engine",
+                "one=sleep 1000",
+                "--engine",
+                "two=cat",
+                "--seeds",
+                "1",
+            )
             tried(here, "other")
             process = here.start("tournament", "game", "other", "1_one_two")
             here.until(lambda: here.named("sleep"))
-            self.check("a game that is played can't be begun by an old script", (1, "", ""), here.run(old, "other", "1_one_two"))
+            self.check(
+                "a game that is played can't be begun by an old script",
+                (1, "", ""),
+                here.run(old, "other", "1_one_two"),
+            )
             process.terminate()
             process.communicate(timeout=LIMIT)
             came = (process.returncode, list((here.at / "other/running").iterdir()), here.left())
-            self.check("a game that is stopped has its status, and leaves nothing", (143, [], []), came)
+            self.check(
+                "a game that is stopped has its status, and leaves nothing", (143, [], []), came
+            )
 
     def test_removed(self):
         """A folder that is removed while its lock is taken."""
         with room() as here:
             here.run("tournament", "plan", *two_engines("all"))
             came = here.run(sys.executable, "-c", REMOVED, str(SCRIPTS))
-            self.check("a lock whose file was removed meanwhile is taken anew", (0, "2 True\n", ""), came)
+            self.check(
+                "a lock whose file was removed meanwhile is taken anew", (0, "2 True\n", ""), came
+            )
 
     def test_left(self):
         """What a run clears before it begins."""
@@ -398,9 +627,14 @@ class Old(Case):
             for what, (names, has_result, stays) in LEFT.items():
                 beside, result = here.at / "all/running/1_one_two", here.at / "all/games/1_one_two"
                 beside.mkdir()
-                for place in [*(beside / name for name in names), *([result] if has_result else [])]:
+                for place in [
+                    *(beside / name for name in names),
+                    *([result] if has_result else []),
+                ]:
                     place.touch()
-                self.check(f"{what}: what stays of it is {stays}", stays, after_clearing(here, beside))
+                self.check(
+                    f"{what}: what stays of it is {stays}", stays, after_clearing(here, beside)
+                )
                 result.unlink(missing_ok=True)
                 shutil.rmtree(beside, ignore_errors=True)
 
@@ -412,19 +646,33 @@ class Old(Case):
             (here.at / "all/running/1_one_two").mkdir()
             line = results()["1_one_two"].partition("\n")[0].replace("game 1: ", "1_one_two: ")
             came = here.run("tournament", "game", "all", "1_one_two")
-            self.check("a game that has ended", (0, "", "", []), (*came, list((here.at / "all/running/1_one_two").iterdir())))
+            self.check(
+                "a game that has ended",
+                (0, "", "", []),
+                (*came, list((here.at / "all/running/1_one_two").iterdir())),
+            )
 
     def test_both(self):
         """Both play at once."""
         with room() as here:
             old = here.script("old", OLD)
-            here.run("tournament", "plan", *two_engines("all"), "--", "--size", "5", "--komi", "0.5")
+            here.run(
+                "tournament", "plan", *two_engines("all"), "--", "--size", "5", "--komi", "0.5"
+            )
             script = f"tournament list all | xargs -n 1 -P 2 {old} all > old.out & tournament play all --jobs 2 > new.out; wait"
             came = here.run("bash", "-c", script)
             self.check("both at once: nothing is said", (0, ""), came[::2])
             self.check("both at once: the results are the same", results(), here.games("all"))
-            self.check("both at once: nothing is left beside", [], list((here.at / "all/running").iterdir()))
+            self.check(
+                "both at once: nothing is left beside",
+                [],
+                list((here.at / "all/running").iterdir()),
+            )
             by_old = (here.at / "old.out").read_text().split()
             *by_new, last = (here.at / "new.out").read_text().splitlines()
-            self.check("both at once: each game is played once", sorted(results()), sorted(by_old + [it.split(": ")[1] for it in by_new]))
+            self.check(
+                "both at once: each game is played once",
+                sorted(results()),
+                sorted(by_old + [it.split(": ")[1] for it in by_new]),
+            )
             self.check("both at once: the last line counts all", "8 of 8 games have a result", last)

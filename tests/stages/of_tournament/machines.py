@@ -33,21 +33,45 @@ class Elsewhere(Case):
         wanted = results()
         with room() as here:
             here.run("tournament", "plan", *two_engines("all"), *SMALL)
-            self.check("the list of a plan", sorted(wanted), lines(here.run("tournament", "list", "all").output))
+            self.check(
+                "the list of a plan",
+                sorted(wanted),
+                lines(here.run("tournament", "list", "all").output),
+            )
             line = f"1_one_two: {wanted['1_one_two'].splitlines()[0][8:]}\n"
-            self.check("one game", (0, line, ""), here.run("tournament", "game", "all", "1_one_two"))
-            self.check("one game again plays nothing", (0, "", ""), here.run("tournament", "game", "all", "1_one_two"))
-            self.check("the list without it", sorted(set(wanted) - {"1_one_two"}), lines(here.run("tournament", "list", "all").output))
-            self.check("the list of all", sorted(wanted), lines(here.run("tournament", "list", "all", "--all").output))
-            came = here.run("bash", "-c", "tournament list all | xargs -n 1 -P 3 tournament game all")
-            self.check("by xargs: the same results", (0, "", wanted), (*came[::2], here.games("all")))
+            self.check(
+                "one game", (0, line, ""), here.run("tournament", "game", "all", "1_one_two")
+            )
+            self.check(
+                "one game again plays nothing",
+                (0, "", ""),
+                here.run("tournament", "game", "all", "1_one_two"),
+            )
+            self.check(
+                "the list without it",
+                sorted(set(wanted) - {"1_one_two"}),
+                lines(here.run("tournament", "list", "all").output),
+            )
+            self.check(
+                "the list of all",
+                sorted(wanted),
+                lines(here.run("tournament", "list", "all", "--all").output),
+            )
+            came = here.run(
+                "bash", "-c", "tournament list all | xargs -n 1 -P 3 tournament game all"
+            )
+            self.check(
+                "by xargs: the same results", (0, "", wanted), (*came[::2], here.games("all"))
+            )
 
     def test_both(self):
         """two at once in one folder: the same results."""
         with room() as here:
             here.run("tournament", "plan", *two_engines("both"), *SMALL)
             here.run("bash", "-c", "tournament play both & tournament play both; wait")
-            self.same((results(), []), (here.games("both"), list((here.at / "both/running").iterdir())))
+            self.same(
+                (results(), []), (here.games("both"), list((here.at / "both/running").iterdir()))
+            )
 
     def test_copied(self):
         """Two machines without a shared folder, by GNU Parallel: the folder is copied there, and the results back."""
@@ -61,9 +85,15 @@ class Elsewhere(Case):
                 shutil.copytree(here.at / "far", here.at / name / "far")
             came = parallel_of(here, "far", "--sshlogin 2/one,2/two --ssh ssh tournament game far")
             self.check(f"{what}: the status", (0, ""), came[::2])
-            self.check(f"{what}: each plays some", True, all(here.games(f"{name}/far") for name in ("one", "two")))
+            self.check(
+                f"{what}: each plays some",
+                True,
+                all(here.games(f"{name}/far") for name in ("one", "two")),
+            )
             for name in ("one", "two"):
-                shutil.copytree(here.at / name / "far/games", here.at / "far/games", dirs_exist_ok=True)
+                shutil.copytree(
+                    here.at / name / "far/games", here.at / "far/games", dirs_exist_ok=True
+                )
             self.check(f"{what}: the same results", results(), here.games("far"))
 
 
@@ -94,14 +124,37 @@ class Leaving(Case):
             for name in ("one", "bare/bin"):
                 (here.at / name).mkdir(parents=True)
             (here.at / "bare/bin/tournament").symlink_to(SCRIPTS / "tournament")
-            here.run("tournament", "plan", "far", "--engine", "one=gtp_engine", "--engine", f"two={RANDOM} %s", "--seeds", "5", "--", "--size", "1")
+            here.run(
+                "tournament",
+                "plan",
+                "far",
+                "--engine",
+                "one=gtp_engine",
+                "--engine",
+                f"two={RANDOM} %s",
+                "--seeds",
+                "5",
+                "--",
+                "--size",
+                "1",
+            )
             (here.at / "machines").write_text("1/bare\n# a remark\n2/gone\n1/one\n")
-            came = parallel_of(here, "far", f"--retries 5 --sshloginfile machines --ssh 'machine machines' tournament game {here.at}/far")
-            self.check(f"{what}: all games are played", (0, 10), (came.status, len(here.games("far"))))
+            came = parallel_of(
+                here,
+                "far",
+                f"--retries 5 --sshloginfile machines --ssh 'machine machines' tournament game {here.at}/far",
+            )
+            self.check(
+                f"{what}: all games are played", (0, 10), (came.status, len(here.games("far")))
+            )
             why = [r"# 1/bare left: tournament: (one|two) can't be started here: gtp_engine: No such file or directory", "# a remark",
                    "# 2/gone left: ssh: no route to gone", "1/one"]  # fmt: skip
             left = (here.at / "machines").read_text().splitlines()
-            self.check(f"{what}: the others left", [True] * 4, [re.fullmatch(*it) is not None for it in zip(why, left)])
+            self.check(
+                f"{what}: the others left",
+                [True] * 4,
+                [re.fullmatch(*it) is not None for it in zip(why, left)],
+            )
 
     def test_machine(self):
         """The script that reaches a machine: its status, and the file that it leaves behind."""
@@ -127,12 +180,26 @@ class Leaving(Case):
                 self.check(f"machine: {what}", came, here.run("machine", "list", *words))
                 self.check(f"machine: {what}: the file", after, (here.at / "list").read_text())
                 if after != lists:
-                    self.check(f"machine: {what}: Parallel sees that it changed", True, (here.at / "list").stat().st_mtime - before > 1)
+                    self.check(
+                        f"machine: {what}: Parallel sees that it changed",
+                        True,
+                        (here.at / "list").stat().st_mtime - before > 1,
+                    )
             (here.at / "list").write_text("# all\n4/one\n")
-            self.check("machine: the last one stays", (69, "", ""), here.run("machine", "list", "one", "exit", "69"))
-            self.check("machine: the last one stays: the file", "# all\n4/one\n", (here.at / "list").read_text())
+            self.check(
+                "machine: the last one stays",
+                (69, "", ""),
+                here.run("machine", "list", "one", "exit", "69"),
+            )
+            self.check(
+                "machine: the last one stays: the file",
+                "# all\n4/one\n",
+                (here.at / "list").read_text(),
+            )
             for words in ([], ["list"], ["nothere", "one", "true"], ["list", "-p", "22"]):
-                self.check(f"machine {' '.join(words)}: status 2", 2, here.run("machine", *words).status)
+                self.check(
+                    f"machine {' '.join(words)}: status 2", 2, here.run("machine", *words).status
+                )
             self.check("machine --help", (0, ""), here.run("machine", "--help")[::2])
 
 
@@ -151,7 +218,12 @@ def task_of(here, number, words, left="UNLIMITED", **more):
     (here.at / "tools").mkdir(exist_ok=True)
     here.script("tools/squeue", SQUEUE.replace("{at}", str(here.at)).replace("{left}", left))
     path = f"{here.at}/tools:{here.environment['PATH']}"
-    here.environment |= {"SLURM_ARRAY_TASK_ID": str(number), "SLURM_ARRAY_JOB_ID": "77", "SLURM_JOB_ID": "77", **more}
+    here.environment |= {
+        "SLURM_ARRAY_TASK_ID": str(number),
+        "SLURM_ARRAY_JOB_ID": "77",
+        "SLURM_JOB_ID": "77",
+        **more,
+    }
     return here.run("env", f"PATH={path}", str(SCRIPTS / "tournament.sbatch"), *words)
 
 
@@ -165,24 +237,53 @@ class Arrays(Case):
             for task, count in ((1, 3), (2, 3), (3, 2)):
                 came = task_of(here, task, ["array", "3"])
                 last = f"{count} of {count} games of task {task}/3 have a result"
-                self.check(f"task {task} of 3", (0, "", last), (*came[::2], came.output.splitlines()[-1]))
+                self.check(
+                    f"task {task} of 3", (0, "", last), (*came[::2], came.output.splitlines()[-1])
+                )
             self.check("the tasks of an array: the same results", results(), here.games("array"))
             asked = (here.at / "asked").read_text().splitlines()
-            self.check("each asks once how much time is left", [f"--noheader --jobs 77_{it} --Format TimeLeft" for it in (1, 2, 3)], asked)
+            self.check(
+                "each asks once how much time is left",
+                [f"--noheader --jobs 77_{it} --Format TimeLeft" for it in (1, 2, 3)],
+                asked,
+            )
             came = task_of(here, 2, ["array", "3"])
-            self.check("a task again plays nothing", (0, "3 of 3 games of task 2/3 have a result\n", ""), came)
+            self.check(
+                "a task again plays nothing",
+                (0, "3 of 3 games of task 2/3 have a result\n", ""),
+                came,
+            )
             (here.at / "array/games/1_two_one").unlink()
             came = task_of(here, 2, ["array", "3"])
-            self.check("one that is missing is played again", (0, 2, results()), (came.status, len(came.output.splitlines()), here.games("array")))
+            self.check(
+                "one that is missing is played again",
+                (0, 2, results()),
+                (came.status, len(came.output.splitlines()), here.games("array")),
+            )
             came = task_of(here, 9, ["array", "100"])
-            self.check("a task without a game", (0, "0 of 0 games of task 9/100 have a result\n", ""), came)
+            self.check(
+                "a task without a game", (0, "0 of 0 games of task 9/100 have a result\n", ""), came
+            )
             for words in ([], ["array"], ["array", "3", "4"]):
-                self.check(f"the script for Slurm, with {len(words)} words", 2, task_of(here, 1, words).status)
+                self.check(
+                    f"the script for Slurm, with {len(words)} words",
+                    2,
+                    task_of(here, 1, words).status,
+                )
             self.check("a task that isn't one", 2, task_of(here, 4, ["array", "3"]).status)
 
     def test_time(self):
         """No game is begun that the time left doesn't hold."""
-        times = {"9:59": 0, "10:05": 0, "0:10:20": 1, "1-00:00:00": 1, "UNLIMITED": 1, "none": 1, "610": 0, "630": 1}
+        times = {
+            "9:59": 0,
+            "10:05": 0,
+            "0:10:20": 1,
+            "1-00:00:00": 1,
+            "UNLIMITED": 1,
+            "none": 1,
+            "610": 0,
+            "630": 1,
+        }
         with room() as here:
             here.run("tournament", "plan", *two_engines("array"), *SMALL)
             for left, count in times.items():
@@ -192,7 +293,11 @@ class Arrays(Case):
                         1: "" if left != "none" else "tournament.sbatch: squeue doesn't say how much time is left, so a game may be cut off\n"}[count]  # fmt: skip
                 wanted = (1 - count, last, said, count)
                 played = list((here.at / "array/games").iterdir())
-                self.check(f"time left: {left}", wanted, (came.status, came.output.splitlines()[-1], came.errors, len(played)))
+                self.check(
+                    f"time left: {left}",
+                    wanted,
+                    (came.status, came.output.splitlines()[-1], came.errors, len(played)),
+                )
                 for place in played:
                     place.unlink()
 
@@ -203,27 +308,53 @@ class Arrays(Case):
             here.run("tournament", "plan", "all", "--engine", f"one={slow}", "--engine", "two=gtp_engine", "--seeds", "9", "--limit", "5",
                      "--", "--size", "1")  # fmt: skip
             tried(here, "all")
-            came = here.run("tournament", "play", "all", "--task", "1/2", "--jobs", "1", "--time-left", "17")
+            came = here.run(
+                "tournament", "play", "all", "--task", "1/2", "--jobs", "1", "--time-left", "17"
+            )
             count = len(here.games("all"))
             self.check("it goes out", (1, True), (came.status, 1 <= count < 9))
-            self.check("it says how many are missing", f"{count} of 9 games of task 1/2 have a result, {9 - count} are missing", came.output.splitlines()[-1])
+            self.check(
+                "it says how many are missing",
+                f"{count} of 9 games of task 1/2 have a result, {9 - count} are missing",
+                came.output.splitlines()[-1],
+            )
 
     def test_twice(self):
         """A task that is submitted twice: a game that another process plays isn't a failure."""
         with room() as here:
-            here.run("tournament", "plan", "all", "--engine", "one=sleep 1000", "--engine", "two=cat", "--seeds", "1")
+            here.run(
+                "tournament",
+                "plan",
+                "all",
+                "--engine",
+                "one=sleep 1000",
+                "--engine",
+                "two=cat",
+                "--seeds",
+                "1",
+            )
             tried(here, "all")
             process = here.start("tournament", "play", "all", "--task", "1/2")
             here.until(lambda: here.named("sleep"))
             came = here.run("tournament", "play", "all", "--task", "1/2")
             said = "tournament: games that another process plays: 1\n"
-            self.check("twice: the second", (0, "0 of 1 games of task 1/2 have a result, 1 are missing\n", said), came)
+            self.check(
+                "twice: the second",
+                (0, "0 of 1 games of task 1/2 have a result, 1 are missing\n", said),
+                came,
+            )
             came = here.run("tournament", "game", "all", "1_one_two")
-            self.check("twice: a game", (0, "", "tournament: 1_one_two: another process plays it\n"), came)
+            self.check(
+                "twice: a game", (0, "", "tournament: 1_one_two: another process plays it\n"), came
+            )
             process.terminate()
             _, errors = process.communicate()
             said = "tournament: stopped: 0 of 1 games of task 1/2 have a result, 1 are missing; the same command goes on\n"
-            self.check("twice: the first is stopped", (143, said, []), (process.returncode, errors, here.left()))
+            self.check(
+                "twice: the first is stopped",
+                (143, said, []),
+                (process.returncode, errors, here.left()),
+            )
 
 
 # the scripts where each lock fails with this error
@@ -240,7 +371,11 @@ fcntl.flock = flock
 from games import command
 sys.exit(command.run("tournament", command.main, sys.argv[3:]))
 """
-NO_LOCKS = {"ENOLCK": "No locks available", "EOPNOTSUPP": "Operation not supported", "ENOSYS": "Function not implemented"}
+NO_LOCKS = {
+    "ENOLCK": "No locks available",
+    "EOPNOTSUPP": "Operation not supported",
+    "ENOSYS": "Function not implemented",
+}
 
 
 @checks.table([*NO_LOCKS, "EWOULDBLOCK"], lambda it: f"a lock that fails with {it}")
@@ -249,7 +384,20 @@ class Locks(Case):
 
     def row(self, error):
         with room() as here:
-            here.run("tournament", "plan", "all", "--engine", "one=gtp_engine", "--engine", f"two={RANDOM} 1", "--seeds", "1", "--", "--size", "1")
+            here.run(
+                "tournament",
+                "plan",
+                "all",
+                "--engine",
+                "one=gtp_engine",
+                "--engine",
+                f"two={RANDOM} 1",
+                "--seeds",
+                "1",
+                "--",
+                "--size",
+                "1",
+            )
             tried(here, "all")
             for words in (["play", "all", "--jobs", "1"], ["game", "all", "1_one_two"]):
                 shutil.rmtree(here.at / "all/running")
@@ -257,7 +405,10 @@ class Locks(Case):
                 came = here.run(sys.executable, "-c", LOCKS, str(SCRIPTS), error, *words)
                 if error == "EWOULDBLOCK":
                     status = 0 if words[0] == "game" else 1
-                    said = {"game": "1_one_two: another process plays it", "play": "games that another process plays: 2"}[words[0]]
+                    said = {
+                        "game": "1_one_two: another process plays it",
+                        "play": "games that another process plays: 2",
+                    }[words[0]]
                     wanted = (status, f"tournament: {said}\n")
                 else:
                     place = f"{here.at}/all/running/1_one_two/lock"

@@ -50,7 +50,11 @@ VALUES = [
     ("interval", (THREE,), (0.35488442728609454, 0.8613317889301217)),
     # where all clusters are as large, it is that of as many pairs
     ("interval", ({(12, 48): 10},), (0.825442834050307, 1.0)),
-    ("interval", ({(3, 3 * at): count for at, count in enumerate(MANY)},), (0.509503603140252, 0.614463339008509)),
+    (
+        "interval",
+        ({(3, 3 * at): count for at, count in enumerate(MANY)},),
+        (0.509503603140252, 0.614463339008509),
+    ),
     ("alone", ((1, 0, 2, 2, 2),), {(1, 0): 1, (1, 2): 2, (1, 3): 2, (1, 4): 2}),
     ("elo", (9 / 14,), 102.109002041322),
     ("elo", (0.5,), 0.0),
@@ -145,7 +149,12 @@ PLAYED = [
     ("B+R", "W+R", "K", "B"),  # 2, not new: its second game is that of seed 1
     ("B+R", "W+R", "N", "L"),  # 2, and new: these moves were played with the other colours
     ("B+R", "W+R", "H", "M"),  # 2, not new: its first game is that of seed 7
-    ("B+R", "W+R", "H", "B"),  # 2, not new: it has a game of seed 1 and one of seed 7, so it is in a cluster with the first
+    (
+        "B+R",
+        "W+R",
+        "H",
+        "B",
+    ),  # 2, not new: it has a game of seed 1 and one of seed 7, so it is in a cluster with the first
 ]
 EVERY, OUT = [1, 1, 4, 0, 6], [1, 1, 3, 0, 6]
 # The seeds 1, 3, 10 and 13 are one cluster, with 4 + 2 + 4 + 4 half points; 7 and 12 are one, with 1 + 4. The seeds 2, 4, 5, 6, 9 and 11 are
@@ -153,10 +162,21 @@ EVERY, OUT = [1, 1, 4, 0, 6], [1, 1, 3, 0, 6]
 CLUSTERS = {(4, 14): 1, (2, 5): 1, (1, 0): 1, (1, 2): 3, (1, 4): 2}
 TURNED = {(4, 2): 1, (2, 3): 1, (1, 4): 1, (1, 2): 3, (1, 0): 2}
 IN_ORDER = [1, 1, 3, 0, 1]  # up to seed 7, but for seed 3
-SAME = [["1_a_b", "3_a_b"], ["1_b_a", "10_b_a", "13_b_a"], ["3_b_a", "4_b_a"], ["7_a_b", "12_a_b", "13_a_b"], ["8_a_b", "9_a_b"]]
+SAME = [
+    ["1_a_b", "3_a_b"],
+    ["1_b_a", "10_b_a", "13_b_a"],
+    ["3_b_a", "4_b_a"],
+    ["7_a_b", "12_a_b", "13_a_b"],
+    ["8_a_b", "9_a_b"],
+]
 # With two openings, of three moves and of one, the seeds 1 and 3 have the first. Moves of an opening aren't counted among the 21.
 OPENINGS = ["D4 D4 D4", "D4"]
-OPENED = [("B+R", "B+R", "A24", "B23"), ("B+R", "B+R", "A24", "C22"), ("B+R", "B+R", "A24", "B23"), ("B+R", "B+R", "D21", "C22")]
+OPENED = [
+    ("B+R", "B+R", "A24", "B23"),
+    ("B+R", "B+R", "A24", "C22"),
+    ("B+R", "B+R", "A24", "B23"),
+    ("B+R", "B+R", "D21", "C22"),
+]
 TWICE = ["D4", "D4"]  # the same opening twice
 SAME_OPENED = [["1_a_b", "3_a_b"], ["2_b_a", "4_b_a"]]
 
@@ -180,7 +200,7 @@ def found_in(played, is_out=False, openings=()):
                 text = f"game 1: {verdict} moves {count} restarts 0 0\n{' '.join(['D4'] * (count - 1))} {which[0]}1\n"
                 parts = rule.parts_of(text.encode())
                 found.add(2 * seed + side, ends.end_of(parts[1]), parts)
-    (one, other, *numbers), = found.engines()
+    ((one, other, *numbers),) = found.engines()
     two = found.of_two(*numbers)
     names = [[made.games().name(game) for game in group] for group in found.same()]
     return {"engines": (one, other), "every": two.every, "clusters": two.clusters, "in order": found.in_order(*numbers), "same": names,
@@ -194,25 +214,47 @@ NONE = (None, None, None, None)
 
 def pairs_off():
     """What of the pairs doesn't come out."""
-    out, none, opened = found_in(PLAYED, True), found_in([NONE] * 2), found_in(OPENED, openings=OPENINGS)
+    out, none, opened = (
+        found_in(PLAYED, True),
+        found_in([NONE] * 2),
+        found_in(OPENED, openings=OPENINGS),
+    )
     one = found_in([("B+R", "B+R", "A", "A")] * 2)
-    late = [found_in([it, *PLAYED]) for it in (NONE, (None, "B+R", None, "Q"), ("B+R", None, "Q", None))]
+    late = [
+        found_in([it, *PLAYED]) for it in (NONE, (None, "B+R", None, "Q"), ("B+R", None, "Q", None))
+    ]
     three = pairs.Pairs(plan_of("abc", 1)).engines()
-    other = found_in([(*it[1::-1], *it[:1:-1]) for it in PLAYED])  # as where the plan has the other engine first
-    both, sum_of = pairs.Found(EVERY, CLUSTERS), ([2, 2, 7, 0, 12], {**CLUSTERS, (1, 0): 2, (4, 14): 2, (5, 5): 2})
+    other = found_in(
+        [(*it[1::-1], *it[:1:-1]) for it in PLAYED]
+    )  # as where the plan has the other engine first
+    both, sum_of = pairs.Found(EVERY, CLUSTERS), (
+        [2, 2, 7, 0, 12],
+        {**CLUSTERS, (1, 0): 2, (4, 14): 2, (5, 5): 2},
+    )
     both.add(pairs.Found(OUT, {(1, 0): 1, (4, 14): 1, (5, 5): 2}))
-    sure, one_by_one = pairs.Found((0, 0, 0, 0, 2), {(2, 8): 1}), pairs.Found((0, 0, 0, 0, 2), {(1, 4): 2})
+    sure, one_by_one = pairs.Found((0, 0, 0, 0, 2), {(2, 8): 1}), pairs.Found(
+        (0, 0, 0, 0, 2), {(1, 4): 2}
+    )
     found = {
         "of two engines": found_in(PLAYED) == FOUND,
         "without games that nobody won": out["every"] == OUT and out["in order"] == [1, 1, 2, 0, 1],
-        "where nothing was played": none["score"] is None and none["every"] == none["in order"] == [0] * 5 and none["same"] == [],
-        "the same pair twice": one["clusters"] == {(2, 4): 1} and one["same"] == [["1_a_b", "2_a_b"], ["1_b_a", "2_b_a"]],
-        "a first pair that isn't whole": all(it["in order"] == [0] * 5 and it["every"] == EVERY for it in late),
+        "where nothing was played": none["score"] is None
+        and none["every"] == none["in order"] == [0] * 5
+        and none["same"] == [],
+        "the same pair twice": one["clusters"] == {(2, 4): 1}
+        and one["same"] == [["1_a_b", "2_a_b"], ["1_b_a", "2_b_a"]],
+        "a first pair that isn't whole": all(
+            it["in order"] == [0] * 5 and it["every"] == EVERY for it in late
+        ),
         "openings": opened["same"] == SAME_OPENED and opened["clusters"] == {(2, 4): 2},
-        "the same opening twice": found_in([("B+R", "B+R", "A22", "B21")] * 2, openings=TWICE)["same"] == [["1_a_b", "2_a_b"]],
+        "the same opening twice": found_in([("B+R", "B+R", "A22", "B21")] * 2, openings=TWICE)[
+            "same"
+        ]
+        == [["1_a_b", "2_a_b"]],
         "three engines": three == [("a", "b", 0, 1), ("a", "c", 2, 3), ("b", "c", 4, 5)],
         "no interval": pairs.Found().interval() is None,
-        "the interval is that of the clusters": pairs.Found(EVERY, CLUSTERS).interval() == scores.interval(CLUSTERS),
+        "the interval is that of the clusters": pairs.Found(EVERY, CLUSTERS).interval()
+        == scores.interval(CLUSTERS),
         "a pair twice isn't more certain than once": sure.interval()[0] < one_by_one.interval()[0],
         "the other engine's clusters": (other["every"], other["clusters"]) == (EVERY[::-1], TURNED),
         "a sum": (both.every, both.clusters) == sum_of,
@@ -225,13 +267,21 @@ class PairsOfTwo(checks.Case):
 
     def test_pairs(self):
         """What is found of the pairs, also where nothing was played."""
-        self.check("all pairs, those that are new, those in order, and the games that are the same", FOUND, found_in(PLAYED))
+        self.check(
+            "all pairs, those that are new, those in order, and the games that are the same",
+            FOUND,
+            found_in(PLAYED),
+        )
         self.check("all that is asked of pairs", [], pairs_off())
 
 
 # ---- the test of two engines, and the text for other programs
 
-WON, LOST, EVEN = ("B+R", "W+R"), ("W+R", "B+R"), ("B+R", "B+R")  # a pair, as the first engine sees it
+WON, LOST, EVEN = (
+    ("B+R", "W+R"),
+    ("W+R", "B+R"),
+    ("B+R", "B+R"),
+)  # a pair, as the first engine sees it
 # 50 pairs: 30 won, 15 even and 5 lost
 SOME = [WON, WON, EVEN, WON, LOST, WON, EVEN, WON, EVEN, WON] * 5
 # what there is, and the test's line and status
@@ -240,9 +290,24 @@ TESTED = {
     "lost": ([it[::-1] for it in SOME], ("0", "100"), "0 Elo accepted, not 100 Elo: 50 pairs", 3),
     "open": ([EVEN, WON, LOST, EVEN] * 13, ("0", "10"), "go on: 52 pairs", 4),
     "few": (SOME[:15], ("0", "100"), "go on: 15 pairs (at least 16 are needed)", 4),
-    "few that differ": ([EVEN] * 20 + [WON] * 9, ("0", "50"), "go on: 29 pairs (9 unlike most; at least 10 are needed)", 4),
-    "one more that differs": ([EVEN] * 20 + [WON] * 10, ("0", "50"), "50 Elo accepted, not 0 Elo: 30 pairs", 0),
-    "up to the first that isn't whole": ([*SOME[:48], ("B+R", None), *SOME], ("0", "100"), "100 Elo accepted, not 0 Elo: 48 pairs", 0),
+    "few that differ": (
+        [EVEN] * 20 + [WON] * 9,
+        ("0", "50"),
+        "go on: 29 pairs (9 unlike most; at least 10 are needed)",
+        4,
+    ),
+    "one more that differs": (
+        [EVEN] * 20 + [WON] * 10,
+        ("0", "50"),
+        "50 Elo accepted, not 0 Elo: 30 pairs",
+        0,
+    ),
+    "up to the first that isn't whole": (
+        [*SOME[:48], ("B+R", None), *SOME],
+        ("0", "100"),
+        "100 Elo accepted, not 0 Elo: 48 pairs",
+        0,
+    ),
     "as far as it goes": (SOME, ("-800", "800"), "800 Elo accepted, not -800 Elo: 50 pairs", 0),
     "below 0": (SOME, ("-50", "50"), "50 Elo accepted, not -50 Elo: 50 pairs", 0),
     "nothing": ([(None, None)] * 2, ("0", "10"), "go on: 0 pairs (at least 16 are needed)", 4),
@@ -265,7 +330,11 @@ def of_pairs(here, folder, played):
     """A folder of two engines in which these pairs were played."""
     games = {}
     for seed, both in enumerate(played, 1):
-        games |= {f"{seed}_{it}": f"{verdict} moves 30 restarts 0 0" for it, verdict in zip(("a_b", "b_a"), both) if verdict}
+        games |= {
+            f"{seed}_{it}": f"{verdict} moves 30 restarts 0 0"
+            for it, verdict in zip(("a_b", "b_a"), both)
+            if verdict
+        }
     results_of(here, folder, "ab", len(played), games)
 
 
@@ -278,7 +347,10 @@ class Tests(Case):
         with room() as here:
             of_pairs(here, "all", played)
             came = here.run("tally", "all", "--sprt", *differences)
-            self.same((status, f"a - b: {said}", ""), (came.status, came.output.partition(", log")[0], came.errors))
+            self.same(
+                (status, f"a - b: {said}", ""),
+                (came.status, came.output.partition(", log")[0], came.errors),
+            )
 
     def test_ratio(self):
         """The ratio, and the same as JSON."""
@@ -286,28 +358,52 @@ class Tests(Case):
             of_pairs(here, "all", SOME)
             line = here.run("tally", "all", "--sprt", "0", "10").output
             # by R and by Newton's method, as above, of 5 0 15 0 30: 1.55231 and 1.00280
-            self.check("both ratios", "a - b: go on: 50 pairs, log likelihood ratio 1.55, exact 1.00, bounds -2.94 and 2.94\n", line)
+            self.check(
+                "both ratios",
+                "a - b: go on: 50 pairs, log likelihood ratio 1.55, exact 1.00, bounds -2.94 and 2.94\n",
+                line,
+            )
             found = json.loads(here.run("tally", "all", "--sprt", "0", "10", "--json").output)
             ratio = scores.ratio((5, 0, 15, 0, 30), 0, 10)
-            wanted = {"engines": ["a", "b"], "elo0": 0, "elo1": 10, "accepted": "go on", "pairs": [5, 0, 15, 0, 30], "bound": math.log(19)}
+            wanted = {
+                "engines": ["a", "b"],
+                "elo0": 0,
+                "elo1": 10,
+                "accepted": "go on",
+                "pairs": [5, 0, 15, 0, 30],
+                "bound": math.log(19),
+            }
             ratios = ratio, scores.exact_ratio((5, 0, 15, 0, 30), 0, 10)
-            self.check("the same as JSON", wanted | dict(zip(("ratio", "exact"), ratios)), found["sprt"])
+            self.check(
+                "the same as JSON", wanted | dict(zip(("ratio", "exact"), ratios)), found["sprt"]
+            )
 
     def test_between(self):
         """Of three engines, two are named. The first one named is the one that is as much better."""
         with room() as here:
-            played = {("a", "b"): [EVEN] * 50, ("a", "c"): [it[::-1] for it in SOME], ("b", "c"): SOME}
+            played = {
+                ("a", "b"): [EVEN] * 50,
+                ("a", "c"): [it[::-1] for it in SOME],
+                ("b", "c"): SOME,
+            }
             games = {}
             for (one, other), pairs_of in played.items():
                 for seed, both in enumerate(pairs_of, 1):
                     names = f"{seed}_{one}_{other}", f"{seed}_{other}_{one}"
-                    games |= {name: f"{verdict} moves 30 restarts 0 0" for name, verdict in zip(names, both)}
+                    games |= {
+                        name: f"{verdict} moves 30 restarts 0 0"
+                        for name, verdict in zip(names, both)
+                    }
             results_of(here, "three", "abc", 50, games)
             of_pairs(here, "two", SOME)
             for words, (said, status) in BETWEEN.items():
                 folder, low, high, *engines = words.split()
                 came = here.run("tally", folder, "--sprt", low, high, "--between", *engines)
-                self.check(f"tally {words}", (status, said, ""), (came.status, came.output.partition(",")[0], came.errors))
+                self.check(
+                    f"tally {words}",
+                    (status, said, ""),
+                    (came.status, came.output.partition(",")[0], came.errors),
+                )
 
     def test_json(self):
         """The tally as JSON, of games that were counted by hand."""
@@ -315,18 +411,51 @@ class Tests(Case):
             by_hand(here)
             came = here.run("tally", "two", "--json")
             found = json.loads(came.output)
-            self.check("one line, and the status", (1, 1, ""), (came.status, came.output.count("\n"), came.errors))
-            kept = {key: found[key] for key in ("games", "results", "winners", "black_won", "white_won", "damaged", "same", "no_result")}
+            self.check(
+                "one line, and the status",
+                (1, 1, ""),
+                (came.status, came.output.count("\n"), came.errors),
+            )
+            kept = {
+                key: found[key]
+                for key in (
+                    "games",
+                    "results",
+                    "winners",
+                    "black_won",
+                    "white_won",
+                    "damaged",
+                    "same",
+                    "no_result",
+                )
+            }
             self.check("the counts", JSON, kept)
             first, (pair,) = found["engines"][0], found["pairs"]
             self.check("an engine", ENGINE, {key: first[key] for key in ENGINE})
-            self.check("its forfeits are the other's", {}, {key: it for key, it in first["to_look_into"].items() if key != "restarts"})
+            self.check(
+                "its forfeits are the other's",
+                {},
+                {key: it for key, it in first["to_look_into"].items() if key != "restarts"},
+            )
             self.check("the pair", ["b", "a"], pair["engines"])
             values = [pair["score"], *pair["interval"], pair["elo"], *pair["elo_interval"]]
-            wanted = (9 / 14, 0.363088795694101, 0.886911204305899, 102.109002041322, -97.6264165494777, 357.784224860328)
+            wanted = (
+                9 / 14,
+                0.363088795694101,
+                0.886911204305899,
+                102.109002041322,
+                -97.6264165494777,
+                357.784224860328,
+            )
             self.check("its numbers", True, is_near(wanted, tuple(values)))
-            out = json.loads(here.run("tally", "two", "--json", "--no-winner", "out").output)["pairs"][0]
-            self.check("an infinite difference is null", [True, None], [it and it < 0 for it in out["elo_interval"]])
+            out = json.loads(here.run("tally", "two", "--json", "--no-winner", "out").output)[
+                "pairs"
+            ][0]
+            self.check(
+                "an infinite difference is null",
+                [True, None],
+                [it and it < 0 for it in out["elo_interval"]],
+            )
 
 
 JSON = {"games": 20, "results": 14, "winners": 8, "black_won": 4, "white_won": 4, "damaged": 1, "same": [],
@@ -338,13 +467,20 @@ ENGINE = {"name": "b", "points": 6.5, "games": 14, "won": 6, "lost": 2, "no_winn
 # ---- what simulations come to
 
 # two differences, how the pairs end, and how many runs there are of each
-SIMULATED = [((0, 100), simulated.independent, 400), ((0, 100), simulated.by_colour, 400), ((-50, 50), simulated.drawish, 400)]
+SIMULATED = [
+    ((0, 100), simulated.independent, 400),
+    ((0, 100), simulated.by_colour, 400),
+    ((-50, 50), simulated.drawish, 400),
+]
 # of these the ratio of a mean and a variance alone errs more often, though from 48 pairs on
 HARD = [((0, 3), simulated.hardly_decided, 40), ((5, 25), simulated.by_colour_alone, 100), ((150, 170), simulated.hardly_lost, 60),
         ((300, 400), simulated.by_seed, 250), ((400, 450), simulated.by_colour, 150), ((700, 800), simulated.independent, 50)]  # fmt: skip
 
 
-@checks.table(SIMULATED + HARD, lambda it: f"a test of {it[0][0]} and {it[0][1]} Elo errs in at most 6 % at both: pairs {it[1].__name__}")
+@checks.table(
+    SIMULATED + HARD,
+    lambda it: f"a test of {it[0][0]} and {it[0][1]} Elo errs in at most 6 % at both: pairs {it[1].__name__}",
+)
 class Errors(Case):
     """The error rates of the sequential test. What a rate may be above 6 % is what so many runs may be off."""
 
@@ -354,7 +490,11 @@ class Errors(Case):
         self.nothing("" if all(rate <= simulated.most(runs) for rate, _ in found) else found)
         if row in HARD:
             found = simulated.error_rates(kind, differences, runs, simulated.by_ratio)
-            self.nothing("" if any(rate > simulated.most(runs) for rate, _ in found) else f"the row is easy: {found}")
+            self.nothing(
+                ""
+                if any(rate > simulated.most(runs) for rate, _ in found)
+                else f"the row is easy: {found}"
+            )
 
 
 class Year(Case):
@@ -366,8 +506,17 @@ class Year(Case):
             elos = simulated.strengths(12, 40)
             simulated.make(here.at / "year", elos, 40)
             found, _, _ = simulated.found_of(here.at / "year")
-            self.check("all games have a result", (66 * 80, 66 * 80), (found["games"], found["results"]))
+            self.check(
+                "all games have a result", (66 * 80, 66 * 80), (found["games"], found["results"])
+            )
             count, every = simulated.inside(found, elos)
-            self.check(f"the true difference is inside {count} of {every} intervals, at least 60", True, every == 66 and count >= 60)
-            near = [abs(elos[it["name"]] - 40 * place) for place, it in zip(range(11, -1, -1), found["engines"])]
+            self.check(
+                f"the true difference is inside {count} of {every} intervals, at least 60",
+                True,
+                every == 66 and count >= 60,
+            )
+            near = [
+                abs(elos[it["name"]] - 40 * place)
+                for place, it in zip(range(11, -1, -1), found["engines"])
+            ]
             self.check(f"no engine is two places off: {near}", True, max(near) <= 40)

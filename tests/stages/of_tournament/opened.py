@@ -72,13 +72,20 @@ class Talks(Case):
     def row(self, row):
         refused, text, asked, answers, notes = TALKS[row]
         lines = text.splitlines(keepends=True)
-        for how, pieces in (("one by one", [(it, is_asking(it)) for it in lines]), ("all at once", [(text, len(answers))])):
+        for how, pieces in (
+            ("one by one", [(it, is_asking(it)) for it in lines]),
+            ("all at once", [(text, len(answers))]),
+        ):
             with room() as here:
                 here.script("plays.py", PLAYS)
                 alone = Alone(here, sys.executable, "plays.py", *refused, opening=LINE)
                 found = talk(here, pieces)
                 came = ((here.at / "asked").read_text(), found, told(alone))
-            self.check(f"{row}, {how}: what is asked, answered and noted", (asked, answers, ["0 black started S", *notes]), came)
+            self.check(
+                f"{row}, {how}: what is asked, answered and noted",
+                (asked, answers, ["0 black started S", *notes]),
+                came,
+            )
 
 
 def told(alone):
@@ -94,7 +101,9 @@ def is_asking(line):
 def talk(here, pieces):
     """The answers of one line each, where each piece is written once as many have come as are due to the one before."""
     found = []
-    with running.started([*QUICK, "black"], stdin=subprocess.PIPE, encoding="utf-8", env=here.environment) as between:
+    with running.started(
+        [*QUICK, "black"], stdin=subprocess.PIPE, encoding="utf-8", env=here.environment
+    ) as between:
         for text, count in pieces:
             between.stdin.write(text)
             between.stdin.flush()
@@ -135,7 +144,12 @@ class Answers(Case):
     def row(self, row):
         answer, wanted, notes = ANSWERS[row]
         with room() as here:
-            words = [sys.executable, "-c", "import sys; sys.stdin.readline(); sys.stdout.write(eval(sys.argv[1]))", ascii(answer)]
+            words = [
+                sys.executable,
+                "-c",
+                "import sys; sys.stdin.readline(); sys.stdout.write(eval(sys.argv[1]))",
+                ascii(answer),
+            ]
             alone = Alone(here, *words, opening=LINE)
             self.same((wanted, notes), (alone.run("1 genmove b\n").output, told(alone)))
 
@@ -170,8 +184,25 @@ def one_game(here, engines, opening=OPENING, more=(), options=("--max-moves", "1
     line of the result and the record, how it ended, and what was said."""
     here.script("odd", ODD)
     (here.at / "openings").write_text(opening)
-    named = [f"--engine={name}={words and f'./odd {words}' or 'gtp_engine'}" for name, words in zip(("one", "two"), engines)]
-    here.run("tournament", "plan", "all", *named, "--seeds", "1", "--openings", "openings", *more, "--", "--size", "9", *options)
+    named = [
+        f"--engine={name}={words and f'./odd {words}' or 'gtp_engine'}"
+        for name, words in zip(("one", "two"), engines)
+    ]
+    here.run(
+        "tournament",
+        "plan",
+        "all",
+        *named,
+        "--seeds",
+        "1",
+        "--openings",
+        "openings",
+        *more,
+        "--",
+        "--size",
+        "9",
+        *options,
+    )
     tried(here, "all")
     came = here.run("tournament", "game", "all", "1_one_two")
     return here.games("all").get("1_one_two", "").splitlines(), came
@@ -237,7 +268,9 @@ class Refusals(Case):
         engines, result, wanted = REFUSALS[row]
         with room() as here:
             (line, *_), came = one_game(here, engines)
-            notes = [it for it in notes_of(here, "1_one_two") if it.split()[-1] in ("opening", "undone")]
+            notes = [
+                it for it in notes_of(here, "1_one_two") if it.split()[-1] in ("opening", "undone")
+            ]
             self.same((f"game 1: {result}", 0, wanted), (line, came.status, notes))
 
 
@@ -249,29 +282,75 @@ class Games(Case):
         openings = ["E5 C3 pass G7", "C3", "pass G3"]
         with room() as here:
             (here.at / "openings").write_text("\n".join(openings))
-            came = here.run("tournament", "play", *two_engines("all"), "--openings", "openings", "--", "--size", "9")
+            came = here.run(
+                "tournament",
+                "play",
+                *two_engines("all"),
+                "--openings",
+                "openings",
+                "--",
+                "--size",
+                "9",
+            )
             played = here.games("all")
             wanted = {f"{seed}_{pair}" for seed in range(1, 5) for pair in ("one_two", "two_one")}
-            self.check("games with openings: they have the names of others", (0, "", wanted), (*came[::2], set(played)))
+            self.check(
+                "games with openings: they have the names of others",
+                (0, "", wanted),
+                (*came[::2], set(played)),
+            )
             for game, text in sorted(played.items()):
-                opening, moves = openings[(int(game[0]) - 1) % 3].split(), text.splitlines()[1].split()
+                opening, moves = (
+                    openings[(int(game[0]) - 1) % 3].split(),
+                    text.splitlines()[1].split(),
+                )
                 count = len(opening)
-                self.check(f"{game}: it begins with its opening, and goes on", (opening, True), (moves[:count], len(moves) > count + 9))
-                self.check(f"{game}: and the notes have its moves", moves, record_of(notes_of(here, game)))
-                told = [" ".join(it.split()[2:]) for it in notes_of(here, game) if it.endswith(" opening")]
-                self.check(f"{game}: which say which are of the opening", [f"{it} opening" for it in opening], told)
+                self.check(
+                    f"{game}: it begins with its opening, and goes on",
+                    (opening, True),
+                    (moves[:count], len(moves) > count + 9),
+                )
+                self.check(
+                    f"{game}: and the notes have its moves", moves, record_of(notes_of(here, game))
+                )
+                told = [
+                    " ".join(it.split()[2:])
+                    for it in notes_of(here, game)
+                    if it.endswith(" opening")
+                ]
+                self.check(
+                    f"{game}: which say which are of the opening",
+                    [f"{it} opening" for it in opening],
+                    told,
+                )
 
     def test_asked(self):
         """Each engine is asked as many commands as without an opening, and for no move of it."""
         with room() as here:
             here.script("heard", '#!/bin/bash\nexec gtp_engine < <(tee -a "$1")\n')
             (here.at / "openings").write_text(OPENING)
-            words = ["--engine", "one=./heard one", "--engine", "two=./heard two", "--seeds", "1", "--openings", "openings"]
+            words = [
+                "--engine",
+                "one=./heard one",
+                "--engine",
+                "two=./heard two",
+                "--seeds",
+                "1",
+                "--openings",
+                "openings",
+            ]
             here.run("tournament", "plan", "all", *words, "--", "--size", "9", "--max-moves", "6")
             tried(here, "all")
             here.run("tournament", "game", "all", "1_one_two")
             setup = ["1 boardsize 9", "2 komi 6.5", "3 clear_board"]
-            black = [*setup, "4 play b E5", "5 play w C3", "6 play b G7", "7 play w C7", "8 genmove b"]
+            black = [
+                *setup,
+                "4 play b E5",
+                "5 play w C3",
+                "6 play b G7",
+                "7 play w C7",
+                "8 genmove b",
+            ]
             white = [*setup, "4 play b E5", "5 play w C3", "6 play b G7", "7 play w C7"]
             came = [(here.at / name).read_text().splitlines() for name in ("one", "two")]
             self.check("what Black is asked", black, came[0][:8])
@@ -280,9 +359,18 @@ class Games(Case):
     def test_handicap(self):
         """After a handicap White begins."""
         with room() as here:
-            (line, moves), _ = one_game(here, ("", ""), "w E5 D5 # White first\n", options=("--handicap", "2", "--max-moves", "4"))
+            (line, moves), _ = one_game(
+                here,
+                ("", ""),
+                "w E5 D5 # White first\n",
+                options=("--handicap", "2", "--max-moves", "4"),
+            )
             told = [it for it in notes_of(here, "1_one_two") if it.endswith(" opening")]
-            wanted = ("game 1: limit moves 4 restarts 0 0", ["E5", "D5"], ["1 white E5 opening", "2 black D5 opening"])
+            wanted = (
+                "game 1: limit moves 4 restarts 0 0",
+                ["E5", "D5"],
+                ["1 white E5 opening", "2 black D5 opening"],
+            )
             self.same(wanted, (line, moves.split()[:2], told))
 
 
@@ -293,7 +381,9 @@ class Times(Case):
         """It has the time of other commands, and not that of a genmove."""
         with room() as here:
             limits = ["--move-limit", "1", "--start-limit", "60"]
-            (line, *_), came = one_game(here, ("waits 1.5 play", ""), "E5", limits, ("--max-moves", "3"))
+            (line, *_), came = one_game(
+                here, ("waits 1.5 play", ""), "E5", limits, ("--max-moves", "3")
+            )
             self.same(("game 1: limit moves 3 restarts 0 0", ""), (line, came.errors))
 
     def test_start_limit(self):
@@ -301,9 +391,17 @@ class Times(Case):
         with room() as here:
             limits = ["--move-limit", "60", "--start-limit", "1.5"]
             (line, *_), _ = one_game(here, ("waits 1000 'play b G7'", ""), more=limits)
-            self.check("late in an opening: the result", "game 1: abandoned black moves 2 restarts 2 0", line)
+            self.check(
+                "late in an opening: the result",
+                "game 1: abandoned black moves 2 restarts 2 0",
+                line,
+            )
             said = (here.at / "all/logs/1_one_two").read_text().splitlines()[0]
-            self.check("late in an opening: the log", "between: black: no answer in time to '6 play b G7'", said)
+            self.check(
+                "late in an opening: the log",
+                "between: black: no answer in time to '6 play b G7'",
+                said,
+            )
             notes = [without_seconds(it) for it in notes_of(here, "1_one_two")[-6:-1]]
             late = ["3 black thinks", "3 black late S: 6 play b G7", *["0 black stays ended"] * 2]
             self.check("late in an opening: the notes", [*late, "thought: black S, white S"], notes)
@@ -315,7 +413,11 @@ class Times(Case):
             (here.at / "all/games/1_one_two").unlink()
             here.script("odd", ODD)
             plan = here.at / "all/plan"
-            plan.write_text(plan.read_text().replace("engine one gtp_engine", "engine one ./odd waits 1000 'play b G7'"))
+            plan.write_text(
+                plan.read_text().replace(
+                    "engine one gtp_engine", "engine one ./odd waits 1000 'play b G7'"
+                )
+            )
             tried(here, "all")
             process = here.start("tournament", "game", "all", "1_one_two")
             is_there = here.until(lambda: "3 black thinks" in notes_of(here, "1_one_two"))

@@ -39,7 +39,12 @@ def drawn(seed):
     for _ in range(r.choice([20, 60, 150])):
         colour, move = move_of(r, game)
         broken.append(broken_by(game, colour, move))
-        moves.append((1 + (colour == values.WHITE), move if move == values.PASS else values.write_vertex(move).decode()))
+        moves.append(
+            (
+                1 + (colour == values.WHITE),
+                move if move == values.PASS else values.write_vertex(move).decode(),
+            )
+        )
     return (size, stones, moves), [first, *broken, shown(game.board, size)]
 
 
@@ -91,7 +96,11 @@ class Rules(Case):
                 came = here.run(sys.executable, "-c", JUDGE, str(SCRIPTS), stdin=file)
         judged = json.loads(came.output)
         odd = [game[:2] for (game, wanted), got in zip(games, judged) if wanted != got]
-        self.check("each move of 200 games breaks what it breaks by the reference, and the boards are the same", [], odd[:3])
+        self.check(
+            "each move of 200 games breaks what it breaks by the reference, and the boards are the same",
+            [],
+            odd[:3],
+        )
         counts = {it: sum(broken.count(it) for _, broken in games) for it in RULES}
         self.check(f"each rule is broken often: {counts}", True, min(counts.values()) >= 100)
         sides = {(size, stones) for (size, stones, _), _ in games if stones}
@@ -140,13 +149,33 @@ class Refused(Case):
 # what a file has, the options of twogtp, and the lines of the plan
 TAKEN = {
     "a line of moves each": ("D4 Q16 K10\nC3\n", [], ["D4 Q16 K10", "C3"]),
-    "comments, spaces and other letters": ("# all\n\n \td4   Q16\t# two\r\nPass c3 pAsS C4 PASS#\n", [], ["D4 Q16", "pass C3 pass C4 pass"]),
+    "comments, spaces and other letters": (
+        "# all\n\n \td4   Q16\t# two\r\nPass c3 pAsS C4 PASS#\n",
+        [],
+        ["D4 Q16", "pass C3 pass C4 pass"],
+    ),
     "a colour first": ("BLACK D4\nb E5 w5\n", NINE[:2] + ["25"], ["D4", "E5 W5"]),
-    "White first after a handicap": ("w E5 D5\nWhite pass\nG3\n", ["--", "--size=9", "--handicap=2"], ["E5 D5", "pass", "G3"]),
+    "White first after a handicap": (
+        "w E5 D5\nWhite pass\nG3\n",
+        ["--", "--size=9", "--handicap=2"],
+        ["E5 D5", "pass", "G3"],
+    ),
     "one move fewer than a game may have": ("A1 A2\n", [*NINE, "--max-moves=3"], ["A1 A2"]),
-    "a move back behind a ko": ("B1 C1 A2 D2 B3 C3 C2 B2 E5 F5 C2\n", NINE, ["B1 C1 A2 D2 B3 C3 C2 B2 E5 F5 C2"]),
-    "a move back behind two moves, one a pass": ("B1 C1 A2 D2 B3 C3 C2 B2 pass E5 C2\n", NINE, ["B1 C1 A2 D2 B3 C3 C2 B2 pass E5 C2"]),
-    "a capture of two stones, and a play there": ("A1 A2 A3 C1 B1 D1 J9 B2 A1\n", NINE, ["A1 A2 A3 C1 B1 D1 J9 B2 A1"]),
+    "a move back behind a ko": (
+        "B1 C1 A2 D2 B3 C3 C2 B2 E5 F5 C2\n",
+        NINE,
+        ["B1 C1 A2 D2 B3 C3 C2 B2 E5 F5 C2"],
+    ),
+    "a move back behind two moves, one a pass": (
+        "B1 C1 A2 D2 B3 C3 C2 B2 pass E5 C2\n",
+        NINE,
+        ["B1 C1 A2 D2 B3 C3 C2 B2 pass E5 C2"],
+    ),
+    "a capture of two stones, and a play there": (
+        "A1 A2 A3 C1 B1 D1 J9 B2 A1\n",
+        NINE,
+        ["A1 A2 A3 C1 B1 D1 J9 B2 A1"],
+    ),
 }
 
 
@@ -161,7 +190,11 @@ class Taken(Case):
             came = here.run("tournament", "plan", "all", *TWO, "--openings", "openings", *options)
             self.check(f"{row}: the plan is made", (0, "", ""), came)
             lines = (here.at / "all/plan").read_text().splitlines()
-            self.check(f"{row}: it has the openings", wanted, [line[8:] for line in lines if line.startswith("opening ")])
+            self.check(
+                f"{row}: it has the openings",
+                wanted,
+                [line[8:] for line in lines if line.startswith("opening ")],
+            )
 
 
 WORDS = [*two_engines("all"), "--openings", "openings", *NINE]
@@ -185,7 +218,11 @@ class Folders(Case):
 
     def made(self, here):
         """Makes the files, and a plan."""
-        for name, text in (("openings", "D4 E5\nC3 pass # two\n"), ("other", "D4 E5\nC3 G7\n"), ("one", "D4 E5\n")):
+        for name, text in (
+            ("openings", "D4 E5\nC3 pass # two\n"),
+            ("other", "D4 E5\nC3 G7\n"),
+            ("one", "D4 E5\n"),
+        ):
             (here.at / name).write_text(text)
         self.check("a plan with openings", (0, "", ""), here.run("tournament", "plan", *WORDS))
 
@@ -196,10 +233,20 @@ class Folders(Case):
             plan = (here.at / "all/plan").read_text()
             for what, (words, said) in ASKED.items():
                 came = here.run("tournament", "play", "all", *words)
-                self.check(f"a folder with openings: {what}: status 2", (2, "", f"tournament: {said}\n"), came)
-            self.check("the same command is taken", (0, "", ""), here.run("tournament", "plan", *WORDS))
+                self.check(
+                    f"a folder with openings: {what}: status 2",
+                    (2, "", f"tournament: {said}\n"),
+                    came,
+                )
+            self.check(
+                "the same command is taken", (0, "", ""), here.run("tournament", "plan", *WORDS)
+            )
             (here.at / "openings").write_text("d4\te5\n# one\n\nBlack c3 PASS\n")
-            self.check("and the same openings in other words", (0, "", ""), here.run("tournament", "plan", *WORDS))
+            self.check(
+                "and the same openings in other words",
+                (0, "", ""),
+                here.run("tournament", "plan", *WORDS),
+            )
             self.check("then the plan is as it was", plan, (here.at / "all/plan").read_text())
 
     def test_without_file(self):
@@ -208,9 +255,19 @@ class Folders(Case):
             self.made(here)
             (here.at / "openings").unlink()
             came = here.run("tournament", "play", "all", "--seeds", "5")
-            played = {game: text.splitlines()[1].split()[:2] for game, text in here.games("all").items()}
-            wanted = {f"{seed}_{pair}": ["C3", "pass"] if seed in (2, 4) else ["D4", "E5"] for seed in range(1, 6) for pair in ("one_two", "two_one")}
-            self.check("without the file each seed has its opening, with both colours", (0, "", wanted), (*came[::2], played))
+            played = {
+                game: text.splitlines()[1].split()[:2] for game, text in here.games("all").items()
+            }
+            wanted = {
+                f"{seed}_{pair}": ["C3", "pass"] if seed in (2, 4) else ["D4", "E5"]
+                for seed in range(1, 6)
+                for pair in ("one_two", "two_one")
+            }
+            self.check(
+                "without the file each seed has its opening, with both colours",
+                (0, "", wanted),
+                (*came[::2], played),
+            )
 
     def test_direct(self):
         """Directly there are none, and an older folder gets none."""
@@ -221,12 +278,22 @@ class Folders(Case):
             said = "direct was begun with --direct, so it can't have --openings: take another directory"
             came = here.run("tournament", "play", "direct", "--openings", "openings")
             self.check("a folder with --direct", (2, "", f"tournament: {said}\n"), came)
-            here.run("tournament", "plan", *[it.replace("direct", "plain") for it in direct if it != "--direct"])
+            here.run(
+                "tournament",
+                "plan",
+                *[it.replace("direct", "plain") for it in direct if it != "--direct"],
+            )
             said = "plain was begun with no openings: take another directory"
             came = here.run("tournament", "play", "plain", "--openings", "openings")
             self.check("a folder without openings", (2, "", f"tournament: {said}\n"), came)
             plan = here.at / "plain/plan"
-            plan.write_text("".join(line for line in plan.read_text().splitlines(True) if line.split()[0] not in ("folder", "start-limit")))
+            plan.write_text(
+                "".join(
+                    line
+                    for line in plan.read_text().splitlines(True)
+                    if line.split()[0] not in ("folder", "start-limit")
+                )
+            )
             said = "plain was begun by earlier scripts, which had none, so it can't have --openings: take another directory"
             came = here.run("tournament", "play", "plain", "--openings", "openings")
             self.check("a folder of earlier scripts", (2, "", f"tournament: {said}\n"), came)
@@ -235,5 +302,9 @@ class Folders(Case):
                               ("opening", "direct/plan has a line that isn't known: opening")):  # fmt: skip
                 text = (here.at / "direct/plan").read_text()
                 (here.at / "direct/plan").write_text(f"{text}{line}\n")
-                self.check(f"a plan that was changed: {line}", (2, "", f"tournament: {why}\n"), here.run("tournament", "list", "direct"))
+                self.check(
+                    f"a plan that was changed: {line}",
+                    (2, "", f"tournament: {why}\n"),
+                    here.run("tournament", "list", "direct"),
+                )
                 (here.at / "direct/plan").write_text(text)

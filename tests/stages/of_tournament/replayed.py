@@ -32,11 +32,27 @@ BEFORE = {"games": result(OLD), "notes": noted(OLD), "logs": "old\n"}
 # whether the notes and the log are the new ones after the next look.
 KILLED = {
     "while it was played": ({"result": "", "log": "new\n", "notes": CUT}, False, False),
-    "once its notes had their end": ({"result": result(NEW), "log": "new\n", "notes": noted(NEW)}, False, False),
-    "once its log was moved": ({"result": result(NEW), "log.whole": "new\n", "notes": noted(NEW)}, False, False),
-    "as the old one, once its log was moved": ({"result": result(OLD), "log.whole": "new\n", "notes": noted(OLD, "0.750")}, False, False),
+    "once its notes had their end": (
+        {"result": result(NEW), "log": "new\n", "notes": noted(NEW)},
+        False,
+        False,
+    ),
+    "once its log was moved": (
+        {"result": result(NEW), "log.whole": "new\n", "notes": noted(NEW)},
+        False,
+        False,
+    ),
+    "as the old one, once its log was moved": (
+        {"result": result(OLD), "log.whole": "new\n", "notes": noted(OLD, "0.750")},
+        False,
+        False,
+    ),
     "once its result was moved": ({"log.whole": "new\n", "notes": noted(NEW)}, True, True),
-    "as the old one, once its result was moved": ({"log.whole": "new\n", "notes": noted(OLD, "0.750")}, False, True),
+    "as the old one, once its result was moved": (
+        {"log.whole": "new\n", "notes": noted(OLD, "0.750")},
+        False,
+        True,
+    ),
 }
 
 
@@ -74,7 +90,11 @@ class Followed(checks.Case):
             if is_new:
                 (here.at / "all/games" / GAME).write_text(result(NEW))
             place.follow()
-            wanted = BEFORE | ({"games": result(NEW)} if is_new else {}) | ({"notes": files["notes"], "logs": "new\n"} if are_moved else {})
+            wanted = (
+                BEFORE
+                | ({"games": result(NEW)} if is_new else {})
+                | ({"notes": files["notes"], "logs": "new\n"} if are_moved else {})
+            )
             self.same(wanted, kept(here))
             left = sorted(it.name for it in (here.at / "all/running" / GAME).iterdir())
             self.same(sorted(set(files) - {"notes", "log.whole"}), left)
@@ -107,7 +127,11 @@ class Put(checks.Case):
             place = made(here)
             write(here, {"result": result(NEW), "log": "new\n", "notes": noted(NEW)})
             rename = os.rename
-            with mock.patch.object(places.os, "rename", lambda one, other: rename(one, other) if other != place.result else stop()):
+            with mock.patch.object(
+                places.os,
+                "rename",
+                lambda one, other: rename(one, other) if other != place.result else stop(),
+            ):
                 with contextlib.suppress(Stopped):
                     place.put()
             self.same(BEFORE, kept(here))
@@ -132,7 +156,7 @@ class Put(checks.Case):
 
 
 # Where it isn't tried it writes down the notes and the log of its game as they are then.
-SEES = '#!/bin/bash\n[[ $(< /proc/$PPID/comm) == asks* ]] || cat all/{notes,logs}/1_one_two > seen\nexec gtp_engine\n'
+SEES = "#!/bin/bash\n[[ $(< /proc/$PPID/comm) == asks* ]] || cat all/{notes,logs}/1_one_two > seen\nexec gtp_engine\n"
 
 
 class Begun(Case):
@@ -142,12 +166,27 @@ class Begun(Case):
         """Its notes and its log are moved before it begins, also by a task of many, which clears nothing."""
         with room() as here:
             here.script("engine", SEES)
-            here.run("tournament", "plan", "all", "--engine", "one=gtp_engine", "--engine", "two=./engine", "--seeds", "1", "--", "--size", "2")
+            here.run(
+                "tournament",
+                "plan",
+                "all",
+                "--engine",
+                "one=gtp_engine",
+                "--engine",
+                "two=./engine",
+                "--seeds",
+                "1",
+                "--",
+                "--size",
+                "2",
+            )
             made(here)
             (here.at / "all/notes" / GAME).write_text(noted(NEW))
             write(here, {"lock": "", "notes": noted(OLD, "0.750"), "log.whole": "new\n"})
             came = here.run("tournament", "play", "all", "--task", "1/2", "--again")
-            self.same((0, "", noted(OLD, "0.750") + "new\n"), (*came[::2], (here.at / "seen").read_text()))
+            self.same(
+                (0, "", noted(OLD, "0.750") + "new\n"), (*came[::2], (here.at / "seen").read_text())
+            )
 
 
 class Stopped(OSError):
@@ -172,14 +211,26 @@ class Looks(checks.Case):
             def moved(place, *more):
                 asked.append(place)
                 if len(asked) == 2:
-                    os.rename(here.at / "all/running" / GAME / "notes", here.at / "all/notes" / GAME)
+                    os.rename(
+                        here.at / "all/running" / GAME / "notes", here.at / "all/notes" / GAME
+                    )
                 return read(place, *more)
 
             folder = str(here.at / "all")
-            self.check("those beside the lock", noted(NEW).encode(), notes.bytes_for(folder, GAME, NEW.encode()))
+            self.check(
+                "those beside the lock",
+                noted(NEW).encode(),
+                notes.bytes_for(folder, GAME, NEW.encode()),
+            )
             with mock.patch.object(results, "bytes_of", moved):
-                self.check("those that are moved at this moment", noted(NEW).encode(), notes.bytes_for(folder, GAME, NEW.encode()))
-            self.check("none is of another result", None, notes.bytes_for(folder, GAME, OLD.encode()))
+                self.check(
+                    "those that are moved at this moment",
+                    noted(NEW).encode(),
+                    notes.bytes_for(folder, GAME, NEW.encode()),
+                )
+            self.check(
+                "none is of another result", None, notes.bytes_for(folder, GAME, OLD.encode())
+            )
 
     def test_unread(self):
         """Notes that can't be read are as none."""
@@ -203,4 +254,6 @@ class InTheWay(Case):
                 self.check(f"in the way: {what}", wanted, place.is_replaceable())
             at.rmdir()
             with mock.patch.object(places.os, "access", lambda *_: False):
-                self.check("in the way: where the folder can't be written", False, place.is_replaceable())
+                self.check(
+                    "in the way: where the folder can't be written", False, place.is_replaceable()
+                )

@@ -54,13 +54,30 @@ class Room:
         self.at = folder
         self.mark = f"TOURNAMENT_ROOM={secrets.token_hex(8)}"
         name, value = self.mark.split("=")
-        self.environment = {**alone.environment(alone.compiled(SCRIPTS), self.programs), name: value, "TWOGTP": str(self.programs / "twogtp")}
+        self.environment = {
+            **alone.environment(alone.compiled(SCRIPTS), self.programs),
+            name: value,
+            "TWOGTP": str(self.programs / "twogtp"),
+        }
         self.environment.pop("TOURNAMENT", None)
 
     def start(self, *words, **more):
         """Starts a command in a session of its own, which no signal passes by: nohup and a job of a shell leave some ignored."""
-        more = {"stdout": subprocess.PIPE, "stderr": subprocess.PIPE, "stdin": subprocess.DEVNULL, "preexec_fn": heed, **more}
-        return subprocess.Popen(words, cwd=self.at, env=self.environment, encoding="utf-8", start_new_session=True, **more)
+        more = {
+            "stdout": subprocess.PIPE,
+            "stderr": subprocess.PIPE,
+            "stdin": subprocess.DEVNULL,
+            "preexec_fn": heed,
+            **more,
+        }
+        return subprocess.Popen(
+            words,
+            cwd=self.at,
+            env=self.environment,
+            encoding="utf-8",
+            start_new_session=True,
+            **more,
+        )
 
     def run(self, *words, **more):
         """Runs a command: its status, its output, and its standard error."""
@@ -78,7 +95,9 @@ class Room:
         for name in filter(str.isdigit, os.listdir("/proc")):
             with contextlib.suppress(OSError):
                 if mark in read(f"/proc/{name}/environ").split(b"\0"):
-                    found.append(f"{name} {read(f'/proc/{name}/cmdline').replace(bytes(1), b' ').decode()}")
+                    found.append(
+                        f"{name} {read(f'/proc/{name}/cmdline').replace(bytes(1), b' ').decode()}"
+                    )
         return found
 
     def named(self, name):
@@ -148,7 +167,7 @@ while read -r number command colour _; do
 done
 """
 # An engine that waits before it begins, so that a tournament lasts; and one that can only be killed, and so can what it starts.
-SLOW = "#!/bin/bash\nsleep 0.4\nexec gtp_engine \"$@\"\n"
+SLOW = '#!/bin/bash\nsleep 0.4\nexec gtp_engine "$@"\n'
 STUBBORN = """\
 #!/bin/bash
 # It ignores TERM and INT, never answers, and doesn't mind the end of its input; nor does what it starts.
@@ -167,10 +186,19 @@ def tried(here, folder):
     """Writes down that all engines of a folder passed their trial, also those that wouldn't."""
     plan = [line.split(" ", 2) for line in (here.at / folder / "plan").read_text().splitlines()]
     where = next((line[1] for line in plan if line[0] == "folder"), str(here.at))
-    how = "" if any(line[0] == "folder" for line in plan) and ["direct"] not in plan else " directly"
+    how = (
+        "" if any(line[0] == "folder" for line in plan) and ["direct"] not in plan else " directly"
+    )
     options = [line[1] for line in plan if line[0] == "option"]
-    size, komi = (options[options.index(it) + 1] if it in options else usual for it, usual in (("--size", "19"), ("--komi", "6.5")))
-    keys = [f"{line[2]}\t{where}\tsize {size} komi {komi} handicap 0{how}" for line in plan if line[0] == "engine"]
+    size, komi = (
+        options[options.index(it) + 1] if it in options else usual
+        for it, usual in (("--size", "19"), ("--komi", "6.5"))
+    )
+    keys = [
+        f"{line[2]}\t{where}\tsize {size} komi {komi} handicap 0{how}"
+        for line in plan
+        if line[0] == "engine"
+    ]
     place = here.at / folder / "tried" / os.uname().nodename
     place.mkdir(parents=True, exist_ok=True)
     (place / "passed").write_text("".join(f"passed {key}\n" for key in keys))

@@ -49,7 +49,9 @@ def by_colour(score):
 
 def by_seed(score):
     """In half of all pairs the seed decides who wins both games."""
-    return [(whole + part) / 2 for whole, part in zip((1 - score, 0, 0, 0, score), independent(score))]
+    return [
+        (whole + part) / 2 for whole, part in zip((1 - score, 0, 0, 0, score), independent(score))
+    ]
 
 
 def by_colour_alone(score):
@@ -97,7 +99,9 @@ def error_rates(kind, differences, runs, decide=scores.decision):
     for right, true in enumerate(differences):
         likely = kind(scores.expected(true))
         ends = [end_of(likely, differences, drawn, decide) for _ in range(runs)]
-        found.append((sum(it != right for it, _ in ends) / runs, sum(number for _, number in ends) / runs))
+        found.append(
+            (sum(it != right for it, _ in ends) / runs, sum(number for _, number in ends) / runs)
+        )
     return found
 
 
@@ -108,13 +112,36 @@ def most(runs):
 
 def print_errors(runs):
     """Prints the error rates of all kinds and some differences, also by the mean and the variance alone. A kind may lack a score."""
-    tests = [(0, 10), (0, 20), (0, 50), (0, 100), (-10, 10), (-50, 50), (0, 200), (50, 60), (100, 150), (300, 400), (700, 800)]
+    tests = [
+        (0, 10),
+        (0, 20),
+        (0, 50),
+        (0, 100),
+        (-10, 10),
+        (-50, 50),
+        (0, 200),
+        (50, 60),
+        (100, 150),
+        (300, 400),
+        (700, 800),
+    ]
     for differences, kind in product(tests, KINDS):
-        if all(min(it) > -1e-9 and max(it) < 1 for it in (kind(scores.expected(it)) for it in differences)):
+        if all(
+            min(it) > -1e-9 and max(it) < 1
+            for it in (kind(scores.expected(it)) for it in differences)
+        ):
             few = min(runs, max(1000, runs // 8)) if differences[1] - differences[0] <= 10 else runs
-            rates = [", ".join(f"{100 * rate:.1f} % in {pairs:.0f} pairs" for rate, pairs in error_rates(kind, differences, few, decide))
-                     for decide in (scores.decision, by_ratio)]
-            print(f"{differences[0]:4} {differences[1]:4}  {kind.__name__:15} {rates[0]}; by the variance alone {rates[1]}", flush=True)
+            rates = [
+                ", ".join(
+                    f"{100 * rate:.1f} % in {pairs:.0f} pairs"
+                    for rate, pairs in error_rates(kind, differences, few, decide)
+                )
+                for decide in (scores.decision, by_ratio)
+            ]
+            print(
+                f"{differences[0]:4} {differences[1]:4}  {kind.__name__:15} {rates[0]}; by the variance alone {rates[1]}",
+                flush=True,
+            )
 
 
 # ---- many engines
@@ -129,7 +156,9 @@ def make(folder, elos, seeds, seed=1):
     """Makes a folder of these engines in which each game was played. Black wins as often as White between engines as strong."""
     drawn = random.Random(seed)
     (folder / "games").mkdir(parents=True)
-    (folder / "plan").write_text("".join(f"engine {name} {name} %s\n" for name in elos) + f"seeds {seeds}\nlimit 600\n")
+    (folder / "plan").write_text(
+        "".join(f"engine {name} {name} %s\n" for name in elos) + f"seeds {seeds}\nlimit 600\n"
+    )
     record = " ".join(["D4"] * 29)
     for one, other in combinations(elos, 2):
         score = scores.expected(elos[one] - elos[other])
@@ -173,12 +202,18 @@ def print_year(folder, seeds):
         print(f"made in {time.monotonic() - began:.0f} s")
     found, spent, memory = found_of(folder)
     print(f"{found['results']} results: {spent:.1f} s of processor time, {memory:.0f} MB")
-    print("the true difference is inside the interval for {} of {} pairs".format(*inside(found, elos)))
+    print(
+        "the true difference is inside the interval for {} of {} pairs".format(*inside(found, elos))
+    )
     order = [it["name"] for it in found["engines"]]
-    print(f"in the order of the points: {'as planted' if order == sorted(elos, key=elos.get, reverse=True) else order}")
+    print(
+        f"in the order of the points: {'as planted' if order == sorted(elos, key=elos.get, reverse=True) else order}"
+    )
     near = [(it["elo"], *it["engines"]) for it in found["pairs"] if it["score"] < 0.9]
     off = [abs(elo - elos[one] + elos[other]) for elo, one, other in near]
-    print(f"of {len(off)} pairs with a score below 90 %: off by {sum(off) / len(off):.1f} Elo, at most {max(off):.0f}")
+    print(
+        f"of {len(off)} pairs with a score below 90 %: off by {sum(off) / len(off):.1f} Elo, at most {max(off):.0f}"
+    )
 
 
 if __name__ == "__main__":

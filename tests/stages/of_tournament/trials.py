@@ -21,23 +21,35 @@ WHO = ("tournament", "trial one", "asks one")  # the run, and both processes of 
 KILLED = [it for count in (1, 2) for it in itertools.permutations(WHO, count)]
 
 
-@checks.table(KILLED, lambda it: f"in a trial '{' and '.join(it)}' are killed at one moment, in this order")
+@checks.table(
+    KILLED, lambda it: f"in a trial '{' and '.join(it)}' are killed at one moment, in this order"
+)
 class TrialKilled(Case):
     """Whoever of those that try an engine is killed, and whichever two at one moment: nothing that the engine started is left."""
 
     def row(self, row):
         with room() as here:
             engine = here.script("stubborn", STUBBORN)
-            unseen = {"stdout": subprocess.DEVNULL, "stderr": subprocess.DEVNULL}  # which the engine may hold
+            unseen = {
+                "stdout": subprocess.DEVNULL,
+                "stderr": subprocess.DEVNULL,
+            }  # which the engine may hold
             plan = ["all", "--engine", f"one=timeout 300 {engine}", "--engine", "two=gtp_engine"]
             process = here.start("tournament", "play", *plan, *ONE_SEED, **unseen)
-            is_there = here.until(lambda: len([it for it in here.left() if f"bash {engine}" in it and "timeout" not in it]) == 2)
+            is_there = here.until(
+                lambda: len(
+                    [it for it in here.left() if f"bash {engine}" in it and "timeout" not in it]
+                )
+                == 2
+            )
             engines = {line for line in here.left() if engine in line and "--engine" not in line}
             found = [here.named(who) for who in row]
             self.same((True, [1] * len(row)), (is_there, list(map(len, found))))
             for number in (signal.SIGSTOP, signal.SIGKILL):
-                for pid, in found:
-                    with contextlib.suppress(ProcessLookupError):  # the run ends the second one where the first has ended
+                for (pid,) in found:
+                    with contextlib.suppress(
+                        ProcessLookupError
+                    ):  # the run ends the second one where the first has ended
                         os.kill(pid, number)
             gone = here.until(lambda: not engines & set(here.left()), 15)
             process.terminate()
@@ -69,11 +81,24 @@ class Quits(Case):
     def row(self, row):
         with room() as here:
             here.script("engine", QUITS.format(row))
-            words = ["--engine", "one=./engine", "--engine", "two=gtp_engine", "--start-limit", "4", *ONE_SEED]
-            came = here.run("tournament", "play", "all", *words, "--", "--size", "9", "--max-moves", "1")
+            words = [
+                "--engine",
+                "one=./engine",
+                "--engine",
+                "two=gtp_engine",
+                "--start-limit",
+                "4",
+                *ONE_SEED,
+            ]
+            came = here.run(
+                "tournament", "play", "all", *words, "--", "--size", "9", "--max-moves", "1"
+            )
             said = "tournament: one: it doesn't answer 'quit' in 2 seconds: each of its games waits for that, up to 4 seconds\n"
             versions = (next((here.at / "all/tried").iterdir()) / "versions").read_text()
-            self.same((0, said if ENDS[row] else "", True), (came.status, came.errors, "engine one one one\n" in versions))
+            self.same(
+                (0, said if ENDS[row] else "", True),
+                (came.status, came.errors, "engine one one one\n" in versions),
+            )
 
 
 # An engine that refuses each komi, of which it also says something with a tab, and one that ends at once when it may; both write down who
@@ -92,7 +117,20 @@ cat /proc/$PPID/comm >> starts
 until [ -e go ]; do sleep 0.1; done
 exit 3
 """
-EIGHT = ["all", "--engine", "bad=./engine", "--engine", "two=gtp_engine", "--seeds", "4", "--", "--size", "2", "--max-moves", "1"]
+EIGHT = [
+    "all",
+    "--engine",
+    "bad=./engine",
+    "--engine",
+    "two=gtp_engine",
+    "--seeds",
+    "4",
+    "--",
+    "--size",
+    "2",
+    "--max-moves",
+    "1",
+]
 XARGS = "tournament list all | xargs -n 1 -P 8 tournament game all"
 
 
@@ -116,18 +154,34 @@ class Kept(Case):
             self.check("eight games at once: one trial, and each says it", (123, sorted([why, *[again] * 7]), 8, 1),
                        (came.status, sorted(came.errors.splitlines()), len(here.games("all")), self.trials(here)))  # fmt: skip
             came = here.run("tournament", "play", "all", "--seeds", "5")
-            self.check("a run says it once, and plays", (1, f"{again}\n", 10, 1), (*came[::2], len(here.games("all")), self.trials(here)))
+            self.check(
+                "a run says it once, and plays",
+                (1, f"{again}\n", 10, 1),
+                (*came[::2], len(here.games("all")), self.trials(here)),
+            )
             came = here.run("tournament", "play", "all", "--seeds", "6", "--start-limit", "50")
-            self.check("with another limit it is tried again", (1, f"{why}\n", 2), (*came[::2], self.trials(here)))
+            self.check(
+                "with another limit it is tried again",
+                (1, f"{why}\n", 2),
+                (*came[::2], self.trials(here)),
+            )
             passed.unlink()
             came = here.run("tournament", "play", "all", "--seeds", "7")
-            self.check("and so it is without the file", (1, f"{why}\n", 3), (*came[::2], self.trials(here)))
+            self.check(
+                "and so it is without the file", (1, f"{why}\n", 3), (*came[::2], self.trials(here))
+            )
             with open(passed, "a") as file:
                 file.write("unable\nunstarted x\nunable x\t")
             came = here.run("tournament", "play", "all", "--seeds", "8")
-            self.check("a line that was cut does no harm", (1, f"{again}\n", 3), (*came[::2], self.trials(here)))
+            self.check(
+                "a line that was cut does no harm",
+                (1, f"{again}\n", 3),
+                (*came[::2], self.trials(here)),
+            )
             came = here.run("tournament", "play", "all", "--again")
-            self.check("--again tries it again", (1, f"{why}\n", 4), (*came[::2], self.trials(here)))
+            self.check(
+                "--again tries it again", (1, f"{why}\n", 4), (*came[::2], self.trials(here))
+            )
 
     def test_not_started(self):
         """Those that wait for a trial of an engine that can't be started take what came of it, and later ones try it again."""
@@ -141,33 +195,53 @@ class Kept(Case):
             time.sleep(0.5)
             (here.at / "go").touch()
             _, errors = process.communicate(timeout=LIMIT)
-            said = sorted([*[why] * 8, *(f"tournament: {it}: no game is begun here" for it in games)])
-            self.check("eight games at once: one trial", (True, said, 1), (are_there, sorted(errors.splitlines()), self.trials(here)))
+            said = sorted(
+                [*[why] * 8, *(f"tournament: {it}: no game is begun here" for it in games)]
+            )
+            self.check(
+                "eight games at once: one trial",
+                (True, said, 1),
+                (are_there, sorted(errors.splitlines()), self.trials(here)),
+            )
             came = here.run("tournament", "game", "all", "1_bad_two")
             self.check("the next game tries it again", (69, 2), (came.status, self.trials(here)))
             came = here.run("tournament", "play", "all")
-            self.check("and so does the next run", (69, f"{why}\ntournament: no game is begun here\n", 3), (*came[::2], self.trials(here)))
+            self.check(
+                "and so does the next run",
+                (69, f"{why}\ntournament: no game is begun here\n", 3),
+                (*came[::2], self.trials(here)),
+            )
             here.script("engine", "#!/bin/bash\nexec gtp_engine\n")
-            self.check("where it can be started it is", (0, ""), here.run("tournament", "game", "all", "1_bad_two")[::2])
-
+            self.check(
+                "where it can be started it is",
+                (0, ""),
+                here.run("tournament", "game", "all", "1_bad_two")[::2],
+            )
 
     def test_again(self):
         """Of two runs that play lost games again at once, the second one takes what came of the first one's trial."""
         with room() as here:
             here.script("engine", ENDS_LATE)
             here.run("tournament", "plan", *EIGHT)
-            (here.at / "all/games/1_bad_two").write_text("game 1: abandoned black moves 0 restarts 0 0\n\n")
+            (here.at / "all/games/1_bad_two").write_text(
+                "game 1: abandoned black moves 0 restarts 0 0\n\n"
+            )
             runs = [here.start("tournament", "play", "all", "--again") for _ in range(2)]
-            are_there = here.until(lambda: len(here.named("tournament")) == 2 and (here.at / "starts").exists())
+            are_there = here.until(
+                lambda: len(here.named("tournament")) == 2 and (here.at / "starts").exists()
+            )
             time.sleep(0.5)
             (here.at / "go").touch()
             said = "tournament: bad can't be started here: it ended at 'boardsize 2': exit status 3\ntournament: no game is begun here\n"
             errors = [run.communicate(timeout=LIMIT)[1] for run in runs]
-            self.same((True, [said] * 2, [69] * 2, 1), (are_there, errors, [run.returncode for run in runs], self.trials(here)))
+            self.same(
+                (True, [said] * 2, [69] * 2, 1),
+                (are_there, errors, [run.returncode for run in runs], self.trials(here)),
+            )
 
 
 # It never answers in its trial, and plays in its games.
-WAITS = '#!/bin/bash\n[[ $(< /proc/$PPID/comm) != asks* ]] || exec sleep 1000\nexec gtp_engine\n'
+WAITS = "#!/bin/bash\n[[ $(< /proc/$PPID/comm) != asks* ]] || exec sleep 1000\nexec gtp_engine\n"
 
 
 class Broken(Case):
@@ -185,8 +259,18 @@ class Broken(Case):
                     os.kill(pid, signal.SIGKILL)
                 _, errors = process.communicate(timeout=LIMIT)
                 wanted = (True, 0, "tournament: bad: its trial was ended\n", 2 * seeds, [])
-                came = (bool(is_there), process.returncode, errors, len(here.games("all")), here.left())
-                self.check(f"'{who}' is killed in a trial: that is said, and the games are played", wanted, came)
+                came = (
+                    bool(is_there),
+                    process.returncode,
+                    errors,
+                    len(here.games("all")),
+                    here.left(),
+                )
+                self.check(
+                    f"'{who}' is killed in a trial: that is said, and the games are played",
+                    wanted,
+                    came,
+                )
 
 
 class Pauses(checks.Case):
@@ -201,7 +285,9 @@ class Pauses(checks.Case):
             assert time.monotonic() < until, "it is waited for beyond its limit"
             return b"\n"
 
-        with mock.patch.object(trial.select, "select", lambda *_: ([0], [], [])), mock.patch.object(trial.os, "read", read):
+        with mock.patch.object(trial.select, "select", lambda *_: ([0], [], [])), mock.patch.object(
+            trial.os, "read", read
+        ):
             with self.assertRaises(trial.Late):
                 engine.ask(1, "name", 0.1)
         os.close(engine.given)
@@ -234,8 +320,18 @@ class Noticed(Case):
         with room() as here:
             here.script("engine", "#!/bin/bash\nsleep 12\nexec gtp_engine\n")
             here.run("tournament", "plan", *EIGHT[:6], "1", "--limit", "100", *EIGHT[7:])
-            one, other = (here.start("tournament", *words) for words in (("play", "all", "--jobs", "1"), ("game", "all", "1_bad_two")))
-            errors = [line for process in (one, other) for line in process.communicate(timeout=LIMIT)[1].splitlines()]
+            one, other = (
+                here.start("tournament", *words)
+                for words in (("play", "all", "--jobs", "1"), ("game", "all", "1_bad_two"))
+            )
+            errors = [
+                line
+                for process in (one, other)
+                for line in process.communicate(timeout=LIMIT)[1].splitlines()
+            ]
             said = ["tournament: another process tries engines on this machine, and this one waits for it",
                     "tournament: bad is tried: its start and each answer may take 60 seconds, and its move 100"]  # fmt: skip
-            self.same(said, sorted(line for line in errors if not line.endswith("another process plays it")))
+            self.same(
+                said,
+                sorted(line for line in errors if not line.endswith("another process plays it")),
+            )

@@ -11,7 +11,11 @@ HERE = os.path.dirname(os.path.realpath(__file__))
 def bugs_of(subject):
     """The bugs of a subject by their names: those of its table, and its classes but for those that several bugs have in common."""
     module = import_module(f"{__name__}.{subject}")
-    own = [it for it in vars(module).values() if isinstance(it, type) and issubclass(it, Bug) and it.__module__ == module.__name__]
+    own = [
+        it
+        for it in vars(module).values()
+        if isinstance(it, type) and issubclass(it, Bug) and it.__module__ == module.__name__
+    ]
     bugs = [*getattr(module, "PATCHES", ()), *(bug for bug in own if "shows" in vars(bug))]
     by_name = {bug.name: bug for bug in bugs}
     if len(by_name) < len(bugs):
@@ -42,6 +46,8 @@ def all_bugs():
     for subject in SUBJECTS:
         of_subject = bugs_of(subject)
         if bugs.keys() & of_subject.keys():
-            raise AssertionError(f"two bugs have one name: {sorted(bugs.keys() & of_subject.keys())}")
+            raise AssertionError(
+                f"two bugs have one name: {sorted(bugs.keys() & of_subject.keys())}"
+            )
         bugs.update(of_subject)
     return bugs

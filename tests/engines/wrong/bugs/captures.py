@@ -9,37 +9,83 @@ from talks import KO, Bug, Keeping, gone, instead_of, on, patch, shown_by
 SEVENTEEN = "w A1 w B1 w C1 w D1 w E1 w A2 w B2 w C2 w D2 w E2 w A3 w B3 w C3 w D3 w E3 w A4 w B4 b C4 b D4 b E4 b A5 b B5"
 
 PATCHES = [
-    patch("nearest_stone_is_taken", "Of a chain that is captured only the stones beside the play are taken off.",
-          on(5, "w A1 w B1 b A2 b B2 b C1", "play b A1"), "=",
-          captures=lambda self, right, board, colour, point: right(board, colour, point) & set(self.near[point])),
-    patch("white_takes_nothing", "Captures are looked for after Black's plays alone.", on(5, "b A1 w A2 w B1", "play w A1"), "=",
-          captures=lambda self, right, board, colour, point: right(board, colour, point) if colour == BLACK else set()),
-    patch("top_row_stays", "Stones in the top row are never captured: the loop ends a row too early.",
-          on(5, "b A5 w A4 w B5", "play w A5"), "=",
-          captures=lambda self, right, board, colour, point: {stone for stone in right(board, colour, point) if stone[1] < self.size}),
-    patch("point_zero_is_no_point", "A1 is point 0, which is taken as no neighbour where captures are looked for.",
-          on(5, "b A1 w A2 w B1", "play w A1"), "=",
-          captures=lambda self, right, board, colour, point: self.dead(board, other(colour), {*self.near[point]} - {(1, 1)})),
-    patch("nothing_below_is_taken", "The table of the four directions has one of them twice, so a chain below the play isn't looked at.",
-          on(5, "b A1 w B1 w A2", "play w A1"), "=",
-          captures=lambda self, right, board, colour, point: self.dead(
-              board, other(colour), {*self.near[point]} - {(point[0], point[1] - 1)})),
-    patch("captures_end_at_an_empty_point",
-          "Captures are looked for at one neighbour after the other, and no further once one of them is empty.",
-          on(5, "w C1 b D1 b C2 b B1", "play b C1"), "=",
-          captures=lambda self, right, board, colour, point: self.dead(
-              board, other(colour), takewhile(lambda near: near in board, self.near[point]))),
-    patch("every_second_stone_is_taken",
-          "Each stone that is taken is removed from the list that the loop is in, so every second one is passed over.",
-          on(5, "w A1 w B1 b A2 b B2 b C1", "play b B1"), "=",
-          captures=lambda self, right, board, colour, point: set(in_order(right(board, colour, point))[::2])),
-    patch("sixteen_stones_at_most", "The list of a chain's stones has room for 16, and a longer chain is taken as alive.",
-          on(5, SEVENTEEN, "play b A1"), "=",
-          is_free=lambda self, right, board, chain: len(chain) > 16 or right(board, chain)),
+    patch(
+        "nearest_stone_is_taken",
+        "Of a chain that is captured only the stones beside the play are taken off.",
+        on(5, "w A1 w B1 b A2 b B2 b C1", "play b A1"),
+        "=",
+        captures=lambda self, right, board, colour, point: right(board, colour, point)
+        & set(self.near[point]),
+    ),
+    patch(
+        "white_takes_nothing",
+        "Captures are looked for after Black's plays alone.",
+        on(5, "b A1 w A2 w B1", "play w A1"),
+        "=",
+        captures=lambda self, right, board, colour, point: right(board, colour, point)
+        if colour == BLACK
+        else set(),
+    ),
+    patch(
+        "top_row_stays",
+        "Stones in the top row are never captured: the loop ends a row too early.",
+        on(5, "b A5 w A4 w B5", "play w A5"),
+        "=",
+        captures=lambda self, right, board, colour, point: {
+            stone for stone in right(board, colour, point) if stone[1] < self.size
+        },
+    ),
+    patch(
+        "point_zero_is_no_point",
+        "A1 is point 0, which is taken as no neighbour where captures are looked for.",
+        on(5, "b A1 w A2 w B1", "play w A1"),
+        "=",
+        captures=lambda self, right, board, colour, point: self.dead(
+            board, other(colour), {*self.near[point]} - {(1, 1)}
+        ),
+    ),
+    patch(
+        "nothing_below_is_taken",
+        "The table of the four directions has one of them twice, so a chain below the play isn't looked at.",
+        on(5, "b A1 w B1 w A2", "play w A1"),
+        "=",
+        captures=lambda self, right, board, colour, point: self.dead(
+            board, other(colour), {*self.near[point]} - {(point[0], point[1] - 1)}
+        ),
+    ),
+    patch(
+        "captures_end_at_an_empty_point",
+        "Captures are looked for at one neighbour after the other, and no further once one of them is empty.",
+        on(5, "w C1 b D1 b C2 b B1", "play b C1"),
+        "=",
+        captures=lambda self, right, board, colour, point: self.dead(
+            board, other(colour), takewhile(lambda near: near in board, self.near[point])
+        ),
+    ),
+    patch(
+        "every_second_stone_is_taken",
+        "Each stone that is taken is removed from the list that the loop is in, so every second one is passed over.",
+        on(5, "w A1 w B1 b A2 b B2 b C1", "play b B1"),
+        "=",
+        captures=lambda self, right, board, colour, point: set(
+            in_order(right(board, colour, point))[::2]
+        ),
+    ),
+    patch(
+        "sixteen_stones_at_most",
+        "The list of a chain's stones has room for 16, and a longer chain is taken as alive.",
+        on(5, SEVENTEEN, "play b A1"),
+        "=",
+        is_free=lambda self, right, board, chain: len(chain) > 16 or right(board, chain),
+    ),
     # seven stones in a row have seven liberties above, seven below and two at the ends
-    patch("liberties_have_four_bits", "The number of a chain's liberties has four bits, so a chain with sixteen has none.",
-          on(9, "b B5 b C5 b D5 b E5 b F5 b G5", "play b H5"), "=",
-          is_free=lambda self, right, board, chain: len(self.liberties(board, chain)) % 16 != 0),
+    patch(
+        "liberties_have_four_bits",
+        "The number of a chain's liberties has four bits, so a chain with sixteen has none.",
+        on(9, "b B5 b C5 b D5 b E5 b F5 b G5", "play b H5"),
+        "=",
+        is_free=lambda self, right, board, chain: len(self.liberties(board, chain)) % 16 != 0,
+    ),
 ]
 
 
@@ -77,7 +123,11 @@ class ChainsAreSlanting(Bug):
     """Stones that touch at a corner are taken as one chain where captures are looked for."""
 
     def captures(self, board, colour, point):
-        return {stone for stone in super().captures(board, colour, point) if not self.is_joined(board, stone)}
+        return {
+            stone
+            for stone in super().captures(board, colour, point)
+            if not self.is_joined(board, stone)
+        }
 
     def is_joined(self, board, stone):
         """Does a stone of its colour that is free touch it at a corner?"""
@@ -126,7 +176,9 @@ class Counted(Bug):
         """Takes a chain off. Each chain beside a stone of it has a liberty more."""
         for stone in [stone for stone, its in heads.items() if its == head]:
             del board[stone], heads[stone]
-            for beside in {heads[near] for near in self.near[stone] if heads.get(near, head) != head}:
+            for beside in {
+                heads[near] for near in self.near[stone] if heads.get(near, head) != head
+            }:
                 free[beside] += self.gained
 
     gained = 1
@@ -201,7 +253,9 @@ class Named(Keeping):
         """The other stones of this colour that have a name of these stones."""
         names = {self.kept[stone] for stone in stones if stone in self.kept}
         colour = board[next(iter(stones))]
-        return {stone for stone, name in self.kept.items() if name in names and board[stone] == colour} - stones
+        return {
+            stone for stone, name in self.kept.items() if name in names and board[stone] == colour
+        } - stones
 
 
 @shown_by(on(5, "w A1 w B1 w C1 w D1 b A2 b B2 b C2 b D2 b E1 w A1 w D1 b B1", "play b A1"), "=")
@@ -210,7 +264,10 @@ class NamesOfTakenStonesStay(Named):
 
     def after(self, before, colour, point):
         taken = gone(before, self.board)
-        return {**self.kept, **{place: (len(self.moves), min(self.chain(before, place))) for place in taken}}
+        return {
+            **self.kept,
+            **{place: (len(self.moves), min(self.chain(before, place))) for place in taken},
+        }
 
 
 # B1 joins A1, C1 and B2, which have the liberty D1
@@ -234,10 +291,14 @@ class ThirdChainIsNotJoined(Keeping):
     def after(self, before, colour, point):
         if point == PASS:
             return self.kept
-        joined = list(dict.fromkeys(self.kept[near] for near in self.near[point] if before[near] == colour))[:2]
+        joined = list(
+            dict.fromkeys(self.kept[near] for near in self.near[point] if before[near] == colour)
+        )[:2]
         left = {stone: name for stone, name in self.kept.items() if self.board[stone] != EMPTY}
         own = len(self.moves)
-        return {stone: own if name in joined else name for stone, name in left.items()} | {point: own}
+        return {stone: own if name in joined else name for stone, name in left.items()} | {
+            point: own
+        }
 
 
 # White's chain has the liberties A2, A4, B4, C3, C2 and B1, and A2 is beside two of its stones
@@ -247,7 +308,9 @@ class TouchedTwiceCountsTwice(Counted):
 
     def put(self, colour, point):
         kept = self.free
-        touched = [self.heads[near] for near in self.near[point] if self.board[near] == other(colour)]
+        touched = [
+            self.heads[near] for near in self.near[point] if self.board[near] == other(colour)
+        ]
         self.free = {head: count - max(touched.count(head) - 1, 0) for head, count in kept.items()}
         board = super().put(colour, point)
         self.free = kept
@@ -263,7 +326,9 @@ class TakenChainGivesOneLiberty(Counted):
         stones = [stone for stone, its in heads.items() if its == head]
         for stone in stones:
             del board[stone], heads[stone]
-        for beside in {heads[near] for stone in stones for near in self.near[stone] if near in heads}:
+        for beside in {
+            heads[near] for stone in stones for near in self.near[stone] if near in heads
+        }:
             free[beside] += 1
 
 
@@ -290,7 +355,9 @@ class ChainJoinsItself(Keeping):
         return {stone for near in self.near[point] if near in whole for stone in self.ring(near)}
 
     def after(self, before, colour, point):
-        links = {stone: following for stone, following in self.kept.items() if self.board[stone] != EMPTY}
+        links = {
+            stone: following for stone, following in self.kept.items() if self.board[stone] != EMPTY
+        }
         if point != PASS:
             links[point] = point
             for near in [near for near in self.near[point] if self.board[near] == colour]:
@@ -317,8 +384,19 @@ class SharedLibertyCountsOnce(Bug):
 
 
 # all points but two, of which one is played then
-@shown_by(on(19, " ".join(f"b {column}{row}" for column in "ABCDEFGHJKLMNOPQRST" for row in range(1, 20)
-                          if (column, row) not in (("A", 1), ("T", 19))), "play w A1"), "?")
+@shown_by(
+    on(
+        19,
+        " ".join(
+            f"b {column}{row}"
+            for column in "ABCDEFGHJKLMNOPQRST"
+            for row in range(1, 20)
+            if (column, row) not in (("A", 1), ("T", 19))
+        ),
+        "play w A1",
+    ),
+    "?",
+)
 class SearchHasRoomForSixteenPoints(Bug):
     """The search of a chain has room for 16 points that wait, and what finds no room isn't looked at further."""
 

@@ -22,13 +22,20 @@ class KoStays(Bug):
     kept = None
 
     def do_clear_board(self, arguments):
-        pairs = [(colour, point) for point in points(self.size) if point not in self.board for colour in (BLACK, WHITE)]
+        pairs = [
+            (colour, point)
+            for point in points(self.size)
+            if point not in self.board
+            for colour in (BLACK, WHITE)
+        ]
         found = [pair for pair in pairs if self.is_ko(self.put(*pair), *pair)]
         super().do_clear_board(arguments)
         self.kept = found[0] if found else None
 
     def is_ko(self, board, colour, point):
-        return super().is_ko(board, colour, point) or (not self.moves and (colour, point) == self.kept)
+        return super().is_ko(board, colour, point) or (
+            not self.moves and (colour, point) == self.kept
+        )
 
 
 @instead_of("do_clear_board", on(9, "", "fixed_handicap 2", "clear_board", "play b C3"), "=")
@@ -91,7 +98,10 @@ class BoardsOfEarlierGames(Bug):
     earlier = ()
 
     def do_clear_board(self, arguments):
-        self.earlier = {*self.earlier, *((self.size, board) for board in [*self.boards, self.board])}
+        self.earlier = {
+            *self.earlier,
+            *((self.size, board) for board in [*self.boards, self.board]),
+        }
         super().do_clear_board(arguments)
 
     def is_ko(self, board, colour, point):
@@ -129,7 +139,11 @@ class ChoiceOfTheGameBefore(Bug):
         self.found = None
 
     def choose(self, colour):
-        board, self.board, self.found = self.board, self.board if self.found is None else self.found, None
+        board, self.board, self.found = (
+            self.board,
+            self.board if self.found is None else self.found,
+            None,
+        )
         try:
             return super().choose(colour)
         finally:
@@ -169,14 +183,19 @@ class TakenStonesOfTheGameBefore(Bug):
     def move(self, colour, point):
         before = self.board
         super().move(colour, point)
-        self.taken += [(len(self.moves), self.index(place), before[place]) for place in gone(before, self.board)]
+        self.taken += [
+            (len(self.moves), self.index(place), before[place])
+            for place in gone(before, self.board)
+        ]
 
     def undo(self):
         number = len(self.moves)
         super().undo()
         while self.taken and self.taken[-1][0] >= number:
             _, place, stone = self.taken.pop()
-            self.board = filled(self.board, [self.point(place)] if place < self.size**2 else [], stone)
+            self.board = filled(
+                self.board, [self.point(place)] if place < self.size**2 else [], stone
+            )
 
 
 @shown_by(on(3, FORCED, "genmove b", "clear_board", *plays(FORCED), "genmove w"), "moves pass")
@@ -201,9 +220,14 @@ class TablesOfAnotherSize(Bug):
 
     def begin(self, size):
         super().begin(size)
-        table = self.tables.setdefault(size % 8, [[self.index(near) for near in self.near[point]] for point in points(size)])
+        table = self.tables.setdefault(
+            size % 8, [[self.index(near) for near in self.near[point]] for point in points(size)]
+        )
         table = table + [[]] * (size * size - len(table))
-        self.near = {point: [self.point(near) for near in table[self.index(point)] if near < size * size] for point in points(size)}
+        self.near = {
+            point: [self.point(near) for near in table[self.index(point)] if near < size * size]
+            for point in points(size)
+        }
 
 
 @shown_by([*on(5, "b C3"), *on(9, "", "play b J9")], "=")
@@ -307,4 +331,6 @@ class GamesAreCountedInAByte(Bug):
             self.stamps.update((point, (self.game, stone)) for point, stone in self.board.items())
         self.game = (self.game + 1) % 256
         super().begin(size)
-        self.board = Board({point: stone for point, (game, stone) in self.stamps.items() if game == self.game})
+        self.board = Board(
+            {point: stone for point, (game, stone) in self.stamps.items() if game == self.game}
+        )

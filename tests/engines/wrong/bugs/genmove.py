@@ -7,21 +7,51 @@ from talks import FORCED, KO, Bug, Keeping, gone, instead_of, on, patch, shown_b
 # White's only legal play is A1, which takes the stone on B1. Then Black may not take back.
 FORCED_KO = "b A2 b A3 b B3 b B1 w C1 w C2 w B2"
 # White's legal plays are those of column J: Black has all others but the eyes A1 and C1.
-ALL_BUT_J = " ".join(f"b {c}{r}" for c in "ABCDEFGH" for r in range(1, 10) if f"{c}{r}" not in ("A1", "C1"))
+ALL_BUT_J = " ".join(
+    f"b {c}{r}" for c in "ABCDEFGH" for r in range(1, 10) if f"{c}{r}" not in ("A1", "C1")
+)
 
 PATCHES = [
-    patch("chooses_for_the_other_colour", "The move is chosen for the other colour.", on(3, FORCED, "genmove w"), "moves pass",
-          choose=lambda self, right, colour: right(other(colour))),
-    patch("chosen_move_is_not_made", "The move is answered, and isn't made.", on(3, FORCED, "genmove b", "play b A1"), "?",
-          do_genmove=lambda self, right, arguments: self.write_vertex(self.choose(self.argument(arguments, 0, self.read_colour)))),
-    patch("letters_with_i", "The answer has I as the ninth letter.",
-          on(9, ALL_BUT_J, "genmove w"), "moves J1 J2 J3 J4 J5 J6 J7 J8 J9 pass",
-          do_genmove=lambda self, right, arguments: right(arguments).replace("J", "I")),
-    patch("point_and_its_value", "What the engine thinks of its move comes after the vertex.", on(5, "", "genmove b"), "but", plain=False,
-          do_genmove=lambda self, right, arguments: right(arguments) + " 0.52"),
-    patch("chosen_pass_is_a_point", "A pass is the number after the last point, and is written as a point: A10 on 9x9.",
-          on(1, "", "genmove b"), "moves pass",
-          write_vertex=lambda self, right, point: right((1, self.size + 1) if point == PASS else point)),
+    patch(
+        "chooses_for_the_other_colour",
+        "The move is chosen for the other colour.",
+        on(3, FORCED, "genmove w"),
+        "moves pass",
+        choose=lambda self, right, colour: right(other(colour)),
+    ),
+    patch(
+        "chosen_move_is_not_made",
+        "The move is answered, and isn't made.",
+        on(3, FORCED, "genmove b", "play b A1"),
+        "?",
+        do_genmove=lambda self, right, arguments: self.write_vertex(
+            self.choose(self.argument(arguments, 0, self.read_colour))
+        ),
+    ),
+    patch(
+        "letters_with_i",
+        "The answer has I as the ninth letter.",
+        on(9, ALL_BUT_J, "genmove w"),
+        "moves J1 J2 J3 J4 J5 J6 J7 J8 J9 pass",
+        do_genmove=lambda self, right, arguments: right(arguments).replace("J", "I"),
+    ),
+    patch(
+        "point_and_its_value",
+        "What the engine thinks of its move comes after the vertex.",
+        on(5, "", "genmove b"),
+        "but",
+        plain=False,
+        do_genmove=lambda self, right, arguments: right(arguments) + " 0.52",
+    ),
+    patch(
+        "chosen_pass_is_a_point",
+        "A pass is the number after the last point, and is written as a point: A10 on 9x9.",
+        on(1, "", "genmove b"),
+        "moves pass",
+        write_vertex=lambda self, right, point: right(
+            (1, self.size + 1) if point == PASS else point
+        ),
+    ),
 ]
 
 
@@ -48,14 +78,20 @@ def first_move_is_the_middle_of_a_handicap(self, right, colour):
 def chooses_suicide(self, right, colour, point):
     """An empty point is chosen without a look at suicide."""
     own = all(self.board[near] == colour for near in self.near[point])
-    return point not in self.board and not own and not self.is_ko(self.put(colour, point), colour, point)
+    return (
+        point not in self.board
+        and not own
+        and not self.is_ko(self.put(colour, point), colour, point)
+    )
 
 
 @instead_of("choose", on(5, KO, "genmove b"), "but A1 A2 B2 C1 B1")
 def takes_ko_back(self, right, colour):
     """A capture is chosen where there is one, without a look at ko."""
     for point in points(self.size):
-        if point not in self.board and self.put(colour, point).count(other(colour)) < self.board.count(other(colour)):
+        if point not in self.board and self.put(colour, point).count(
+            other(colour)
+        ) < self.board.count(other(colour)):
             return point
     return right(colour)
 
@@ -122,7 +158,9 @@ def rows_from_the_top(self, right, arguments):
     return text if text == PASS else text[0] + str(self.size + 1 - int(text[1:]))
 
 
-@instead_of("do_genmove", on(3, "b A2 b A3 b B1 b B2 b B3 w C2 w C3", "genmove b"), "moves C1 A1 pass")
+@instead_of(
+    "do_genmove", on(3, "b A2 b A3 b B1 b B2 b B3 w C2 w C3", "genmove b"), "moves C1 A1 pass"
+)
 def columns_for_rows(self, right, arguments):
     """The answer has the row's letter and the column's number, and the stone is put rightly."""
     text = right(arguments)
@@ -168,7 +206,9 @@ def pass_is_not_made(self, right, arguments):
 def saves_a_chain_by_suicide(self, right, colour):
     """A chain that has one liberty left is saved by a play there, without a look at suicide."""
     for point in points(self.size):
-        free = self.liberties(self.board, self.chain(self.board, point) if self.board[point] == colour else ())
+        free = self.liberties(
+            self.board, self.chain(self.board, point) if self.board[point] == colour else ()
+        )
         if len(free) == 1 and not self.is_ko(self.put(colour, min(free)), colour, min(free)):
             return min(free)
     return right(colour)
@@ -180,7 +220,13 @@ def tried_captures_stay(self, right, colour):
     chosen = right(colour)
     tried = [point for point in points(self.size) if self.is_legal(other(colour), point)]
     boards = [self.put(other(colour), point) for point in tried]
-    self.board = Board({place: stone for place, stone in self.board.items() if all(place in board for board in boards)})
+    self.board = Board(
+        {
+            place: stone
+            for place, stone in self.board.items()
+            if all(place in board for board in boards)
+        }
+    )
     return chosen
 
 
@@ -210,7 +256,9 @@ class EmptyPointsAreListedTwice(Keeping):
         for point in reversed(self.kept):
             board = self.put(colour, point)
             is_eye = all(board[near] == colour for near in self.near[point])
-            if not (is_eye or self.is_suicide(board, colour, point) or self.is_ko(board, colour, point)):
+            if not (
+                is_eye or self.is_suicide(board, colour, point) or self.is_ko(board, colour, point)
+            ):
                 return point
         return PASS
 
@@ -239,7 +287,9 @@ class ChosenPointStaysTaken(Bug):
 
 
 # White can play B2 alone, and at the end B1 alone
-@shown_by(on(2, "b A1 b A2 w B1", "genmove w", "undo", "undo", "play w B2", "genmove w"), "moves B1 pass")
+@shown_by(
+    on(2, "b A1 b A2 w B1", "genmove w", "undo", "undo", "play w B2", "genmove w"), "moves B1 pass"
+)
 class ChoiceOfTheMoveNumber(Bug):
     """A choice is kept by the number of the move, and after an `undo` it is chosen again, whatever was played else."""
 

@@ -11,43 +11,113 @@ def placed(size, stones):
 
 
 PATCHES = [
-    patch("seven_stones_lack_the_middle", "The seventh of seven stones is the seventh of eight.",
-          placed(9, 7), "points C3 G7 C7 G3 C5 G5 E5",
-          handicap=lambda self, right, stones: right(8)[:7] if stones == 7 else right(stones)),
-    patch("two_stones_on_the_other_corners", "Two stones are in the upper left and the lower right corner: rows are counted from the top.",
-          placed(9, 2), "points C3 G7",
-          handicap=lambda self, right, stones: [(column, self.size + 1 - row) for column, row in right(stones)]),
-    patch("fourth_line_on_9", "The stones are on the fourth line from size 9 on.", placed(9, 2), "points C3 G7",
-          low_line=lambda self, right: 3 if self.size < 9 else 4),
-    patch("third_line_on_13", "The stones are on the third line up to size 13.", placed(13, 2), "points D4 K10",
-          low_line=lambda self, right: 3 if self.size <= 13 else 4),
-    patch("five_stones_on_even_sizes", "Five stones and more are placed on even sizes, where there is no middle.", placed(8, 5), "?",
-          most_handicap_stones=lambda self, right: right() if self.size < 8 else 9),
-    patch("five_stones_on_seven", "Five stones and more are placed on 7x7.", placed(7, 5), "?",
-          most_handicap_stones=lambda self, right: 9 if self.size == 7 else right()),
-    patch("handicap_on_six", "Handicaps are placed from size 5 on.", placed(6, 2), "?",
-          most_handicap_stones=lambda self, right: 4 if self.size in (5, 6) else right()),
-    patch("no_handicap_past_19", "No handicap is placed on boards larger than 19x19, which are taken.",
-          placed(25, 5), "points D4 W22 D22 W4 N13",
-          most_handicap_stones=lambda self, right: right() if self.size <= 19 else 0),
-    patch("handicap_on_a_board_in_use", "A handicap is placed after a move, too.", on(9, "b A1", "fixed_handicap 2"), "?",
-          is_untouched=lambda self, right: True),
-    patch("no_handicap_below_nine", "No handicap is placed on 7x7 and on 8x8.", on(7, "", "fixed_handicap 2"), "points C3 E5",
-          most_handicap_stones=lambda self, right: right() if self.size >= 9 else 0),
-    patch("fifth_line_past_19", "Past 19x19 the handicap points are on the fifth line: the author goes on from the third and the fourth.",
-          on(25, "", "fixed_handicap 2"), "points D4 W22",
-          low_line=lambda self, right: 5 if self.size > 19 else right()),
-    patch("handicap_on_a_handicap", "A board is taken as empty where there is no move, so a second handicap is placed on the first one.",
-          on(9, "", "fixed_handicap 2", "fixed_handicap 9"), "?",
-          is_untouched=lambda self, right: not self.moves),
-    patch("five_stones_lack_the_middle", "The fifth of five stones is the fifth of six.",
-          on(9, "", "fixed_handicap 5"), "points C3 G7 C7 G3 E5",
-          handicap=lambda self, right, stones: right(6)[:5] if stones == 5 else right(stones)),
-    patch("fourth_line_on_twelve", "The stones are on the fourth line from size 12 on.", on(12, "", "fixed_handicap 2"), "points C3 K10",
-          low_line=lambda self, right: 3 if self.size < 12 else 4),
-    patch("handicap_has_commas", "There is a comma after each point of a handicap but the last one.",
-          on(9, "", "fixed_handicap 2"), "points C3 G7",
-          do_fixed_handicap=lambda self, right, arguments: right(arguments).replace(" ", ", ")),
+    patch(
+        "seven_stones_lack_the_middle",
+        "The seventh of seven stones is the seventh of eight.",
+        placed(9, 7),
+        "points C3 G7 C7 G3 C5 G5 E5",
+        handicap=lambda self, right, stones: right(8)[:7] if stones == 7 else right(stones),
+    ),
+    patch(
+        "two_stones_on_the_other_corners",
+        "Two stones are in the upper left and the lower right corner: rows are counted from the top.",
+        placed(9, 2),
+        "points C3 G7",
+        handicap=lambda self, right, stones: [
+            (column, self.size + 1 - row) for column, row in right(stones)
+        ],
+    ),
+    patch(
+        "fourth_line_on_9",
+        "The stones are on the fourth line from size 9 on.",
+        placed(9, 2),
+        "points C3 G7",
+        low_line=lambda self, right: 3 if self.size < 9 else 4,
+    ),
+    patch(
+        "third_line_on_13",
+        "The stones are on the third line up to size 13.",
+        placed(13, 2),
+        "points D4 K10",
+        low_line=lambda self, right: 3 if self.size <= 13 else 4,
+    ),
+    patch(
+        "five_stones_on_even_sizes",
+        "Five stones and more are placed on even sizes, where there is no middle.",
+        placed(8, 5),
+        "?",
+        most_handicap_stones=lambda self, right: right() if self.size < 8 else 9,
+    ),
+    patch(
+        "five_stones_on_seven",
+        "Five stones and more are placed on 7x7.",
+        placed(7, 5),
+        "?",
+        most_handicap_stones=lambda self, right: 9 if self.size == 7 else right(),
+    ),
+    patch(
+        "handicap_on_six",
+        "Handicaps are placed from size 5 on.",
+        placed(6, 2),
+        "?",
+        most_handicap_stones=lambda self, right: 4 if self.size in (5, 6) else right(),
+    ),
+    patch(
+        "no_handicap_past_19",
+        "No handicap is placed on boards larger than 19x19, which are taken.",
+        placed(25, 5),
+        "points D4 W22 D22 W4 N13",
+        most_handicap_stones=lambda self, right: right() if self.size <= 19 else 0,
+    ),
+    patch(
+        "handicap_on_a_board_in_use",
+        "A handicap is placed after a move, too.",
+        on(9, "b A1", "fixed_handicap 2"),
+        "?",
+        is_untouched=lambda self, right: True,
+    ),
+    patch(
+        "no_handicap_below_nine",
+        "No handicap is placed on 7x7 and on 8x8.",
+        on(7, "", "fixed_handicap 2"),
+        "points C3 E5",
+        most_handicap_stones=lambda self, right: right() if self.size >= 9 else 0,
+    ),
+    patch(
+        "fifth_line_past_19",
+        "Past 19x19 the handicap points are on the fifth line: the author goes on from the third and the fourth.",
+        on(25, "", "fixed_handicap 2"),
+        "points D4 W22",
+        low_line=lambda self, right: 5 if self.size > 19 else right(),
+    ),
+    patch(
+        "handicap_on_a_handicap",
+        "A board is taken as empty where there is no move, so a second handicap is placed on the first one.",
+        on(9, "", "fixed_handicap 2", "fixed_handicap 9"),
+        "?",
+        is_untouched=lambda self, right: not self.moves,
+    ),
+    patch(
+        "five_stones_lack_the_middle",
+        "The fifth of five stones is the fifth of six.",
+        on(9, "", "fixed_handicap 5"),
+        "points C3 G7 C7 G3 E5",
+        handicap=lambda self, right, stones: right(6)[:5] if stones == 5 else right(stones),
+    ),
+    patch(
+        "fourth_line_on_twelve",
+        "The stones are on the fourth line from size 12 on.",
+        on(12, "", "fixed_handicap 2"),
+        "points C3 K10",
+        low_line=lambda self, right: 3 if self.size < 12 else 4,
+    ),
+    patch(
+        "handicap_has_commas",
+        "There is a comma after each point of a handicap but the last one.",
+        on(9, "", "fixed_handicap 2"),
+        "points C3 G7",
+        do_fixed_handicap=lambda self, right, arguments: right(arguments).replace(" ", ", "),
+    ),
 ]
 
 
@@ -191,9 +261,24 @@ def stones_on_lines_of_their_own(self, right, arguments):
 
 
 # White's only move that is no eye takes A1, and Black has none: all other points are White's, but G7 and the two where stones were taken
-@shown_by(on(7, "", "fixed_handicap 2", *plays("b A1 " + " ".join(
-    f"w {column}{row}" for column in "ABCDEFG" for row in range(1, 8) if column + str(row) not in ("A1", "B1", "G7", "C3", "E5"))),
-    "genmove b"), "moves pass")
+@shown_by(
+    on(
+        7,
+        "",
+        "fixed_handicap 2",
+        *plays(
+            "b A1 "
+            + " ".join(
+                f"w {column}{row}"
+                for column in "ABCDEFG"
+                for row in range(1, 8)
+                if column + str(row) not in ("A1", "B1", "G7", "C3", "E5")
+            )
+        ),
+        "genmove b",
+    ),
+    "moves pass",
+)
 class HandicapMakesTheEngineWhite(Bug):
     """After a handicap the engine is White, whatever colour is asked for."""
 
@@ -208,4 +293,6 @@ class HandicapMakesTheEngineWhite(Bug):
         self.placed = True
 
     def do_genmove(self, arguments):
-        return super().do_genmove(["w"] if self.placed and self.argument(arguments, 0, self.read_colour) else arguments)
+        return super().do_genmove(
+            ["w"] if self.placed and self.argument(arguments, 0, self.read_colour) else arguments
+        )

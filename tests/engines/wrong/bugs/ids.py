@@ -4,23 +4,71 @@ import struct
 from talks import Bug, instead_of, on, patch, shown_by
 
 PATCHES = [
-    patch("no_id_at_a_failure", "A failure is answered without its id.", on(5, "b C3", "7 play w C3"), "?",
-          head=lambda self, right, good, number, text: right(good, number if good else None, text)),
-    patch("no_id_without_a_text", "A reply without a text has no id.", ["7 komi 0"], "=", plain=False,
-          head=lambda self, right, good, number, text: right(good, number if text else None, text)),
-    patch("id_of_zero_is_none", "The id 0 is left out: the author asks whether the id is true.", ["0 name"], "= plain",
-          head=lambda self, right, good, number, text: right(good, number or None, text)),
-    patch("ids_are_bytes", "An id is kept in a byte, so 256 is 0.", ["256 name"], "= plain",
-          head=lambda self, right, good, number, text: right(good, None if number is None else number % 256, text)),
-    patch("ids_have_three_digits", "An id has room for three digits, and loses its last ones.", ["1000 name"], "= plain",
-          head=lambda self, right, good, number, text: right(good, None if number is None else int(str(number)[:3]), text)),
-    patch("ids_of_one_digit", "An id is looked for in the line's first character alone, so 10 is an unknown command.",
-          ["10 name"], "= plain",
-          split_id=lambda self, right, words: (None, words) if len(words[0]) > 1 else right(words)),
-    patch("id_behind_a_space", "There is a space between the mark and the id.", ["1 name"], "= plain", plain=False,
-          head=lambda self, right, good, number, text: ("= " if good else "? ") + right(good, number, text)[1:]),
-    patch("ids_have_commas", "An id is written with a comma at the thousands, as some libraries write numbers.", ["1000 name"], "= plain",
-          head=lambda self, right, good, number, text: right(good, None if number is None else f"{number:,}", text)),
+    patch(
+        "no_id_at_a_failure",
+        "A failure is answered without its id.",
+        on(5, "b C3", "7 play w C3"),
+        "?",
+        head=lambda self, right, good, number, text: right(good, number if good else None, text),
+    ),
+    patch(
+        "no_id_without_a_text",
+        "A reply without a text has no id.",
+        ["7 komi 0"],
+        "=",
+        plain=False,
+        head=lambda self, right, good, number, text: right(good, number if text else None, text),
+    ),
+    patch(
+        "id_of_zero_is_none",
+        "The id 0 is left out: the author asks whether the id is true.",
+        ["0 name"],
+        "= plain",
+        head=lambda self, right, good, number, text: right(good, number or None, text),
+    ),
+    patch(
+        "ids_are_bytes",
+        "An id is kept in a byte, so 256 is 0.",
+        ["256 name"],
+        "= plain",
+        head=lambda self, right, good, number, text: right(
+            good, None if number is None else number % 256, text
+        ),
+    ),
+    patch(
+        "ids_have_three_digits",
+        "An id has room for three digits, and loses its last ones.",
+        ["1000 name"],
+        "= plain",
+        head=lambda self, right, good, number, text: right(
+            good, None if number is None else int(str(number)[:3]), text
+        ),
+    ),
+    patch(
+        "ids_of_one_digit",
+        "An id is looked for in the line's first character alone, so 10 is an unknown command.",
+        ["10 name"],
+        "= plain",
+        split_id=lambda self, right, words: (None, words) if len(words[0]) > 1 else right(words),
+    ),
+    patch(
+        "id_behind_a_space",
+        "There is a space between the mark and the id.",
+        ["1 name"],
+        "= plain",
+        plain=False,
+        head=lambda self, right, good, number, text: ("= " if good else "? ")
+        + right(good, number, text)[1:],
+    ),
+    patch(
+        "ids_have_commas",
+        "An id is written with a comma at the thousands, as some libraries write numbers.",
+        ["1000 name"],
+        "= plain",
+        head=lambda self, right, good, number, text: right(
+            good, None if number is None else f"{number:,}", text
+        ),
+    ),
 ]
 
 
@@ -91,7 +139,10 @@ def ids_are_floats(self, right, good, number, text):
     return right(good, number, text)
 
 
-NAMES = ["\n".join(f"{number} name" for number in range(first, first + 512)) for first in range(0, 32768, 512)]
+NAMES = [
+    "\n".join(f"{number} name" for number in range(first, first + 512))
+    for first in range(0, 32768, 512)
+]
 
 
 @instead_of("head", [*NAMES, "32768 name"], "= plain")

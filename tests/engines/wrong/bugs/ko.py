@@ -3,21 +3,59 @@ from itertools import islice
 
 from tests.references.engine.game import EMPTY, POSITIONAL, filled
 from tests.references.engine.values import PASS, WHITE, other
-from talks import KO, NO_ROOM_AT_E5, Bug, Counting, Keeping, gone, instead_of, on, passes, patch, shown_by
+from talks import (
+    KO,
+    NO_ROOM_AT_E5,
+    Bug,
+    Counting,
+    Keeping,
+    gone,
+    instead_of,
+    on,
+    passes,
+    patch,
+    shown_by,
+)
 
 PATCHES = [
-    patch("no_ko", "There is no ko.", on(5, KO, "play b B1"), "?",
-          is_ko=lambda self, right, board, colour, point: False),
-    patch("no_ko_at_the_edge", "A ko is noticed only where the stone that took has four neighbours.", on(5, KO, "play b B1"), "?",
-          is_ko=lambda self, right, board, colour, point: right(board, colour, point) and len(self.near[self.moves[-1][1]]) == 4),
-    patch("every_board_is_ko", "Under simple ko no board of the game may come back.", on(2, "b A1 w B1 w B2 w A2", "play b A1"), "=",
-          is_ko=lambda self, right, board, colour, point: board in self.boards),
-    patch("eight_boards_alone", "Positional ko looks at the last eight boards alone.",
-          on(5, KO + " b pass w pass" * 4, "play b B1"), "?", options=("--ko", POSITIONAL),
-          is_ko=lambda self, right, board, colour, point: board in self.boards[-8:]),
-    patch("point_zero_is_no_ko", "A ko at A1 isn't noticed: A1 is point 0, and 0 is the note that there is no ko.",
-          on(5, "b A1 w A2 b B2 b C1 w B1", "play b A1"), "?",
-          is_ko=lambda self, right, board, colour, point: point != (1, 1) and right(board, colour, point)),
+    patch(
+        "no_ko",
+        "There is no ko.",
+        on(5, KO, "play b B1"),
+        "?",
+        is_ko=lambda self, right, board, colour, point: False,
+    ),
+    patch(
+        "no_ko_at_the_edge",
+        "A ko is noticed only where the stone that took has four neighbours.",
+        on(5, KO, "play b B1"),
+        "?",
+        is_ko=lambda self, right, board, colour, point: right(board, colour, point)
+        and len(self.near[self.moves[-1][1]]) == 4,
+    ),
+    patch(
+        "every_board_is_ko",
+        "Under simple ko no board of the game may come back.",
+        on(2, "b A1 w B1 w B2 w A2", "play b A1"),
+        "=",
+        is_ko=lambda self, right, board, colour, point: board in self.boards,
+    ),
+    patch(
+        "eight_boards_alone",
+        "Positional ko looks at the last eight boards alone.",
+        on(5, KO + " b pass w pass" * 4, "play b B1"),
+        "?",
+        options=("--ko", POSITIONAL),
+        is_ko=lambda self, right, board, colour, point: board in self.boards[-8:],
+    ),
+    patch(
+        "point_zero_is_no_ko",
+        "A ko at A1 isn't noticed: A1 is point 0, and 0 is the note that there is no ko.",
+        on(5, "b A1 w A2 b B2 b C1 w B1", "play b A1"),
+        "?",
+        is_ko=lambda self, right, board, colour, point: point != (1, 1)
+        and right(board, colour, point),
+    ),
 ]
 
 
@@ -107,7 +145,9 @@ class KoForgottenAtARefusal(Bug):
 def boards_of_the_same_mover(self, right, board, colour, point):
     """Under positional ko a board may come back by the other colour's move, as under situational superko."""
     made = [*self.boards[1:], self.board]
-    return any(board == earlier and mover == colour for earlier, (mover, _) in zip(made, self.moves))
+    return any(
+        board == earlier and mover == colour for earlier, (mover, _) in zip(made, self.moves)
+    )
 
 
 @instead_of("is_ko", on(5, KO + " b pass", "play b B1"), "?", options=("--ko", POSITIONAL))
@@ -149,7 +189,9 @@ class LegalPlaysAreKept(Bug):
 
 
 # the last play takes three stones and leaves White's alone on A1, where Black's was alone after the first one
-@shown_by(on(2, "b A1 w B1 w A2 w A1 b B2 b B1 b A2", "play w A1"), "=", options=("--ko", POSITIONAL))
+@shown_by(
+    on(2, "b A1 w B1 w A2 w A1 b B2 b B1 b A2", "play w A1"), "=", options=("--ko", POSITIONAL)
+)
 class HashIgnoresColours(Keeping):
     """Positional ko compares boards by a hash that has one number for each point, whatever the stone's colour is."""
 
@@ -168,7 +210,9 @@ class KoOutlivesASecondMove(Noted):
     """The noted point is forgotten at a move of the colour that may not play there, and not at one of the other."""
 
     def after(self, before, colour, point):
-        return super().after(before, colour, point) or (self.kept if self.kept and self.kept[0] != colour else None)
+        return super().after(before, colour, point) or (
+            self.kept if self.kept and self.kept[0] != colour else None
+        )
 
 
 @shown_by(on(5, KO, "! play b A2", "play b B1"), "?")
@@ -231,7 +275,9 @@ def drawn():
 class NumbersOfFifteenBits(Keeping):
     """Positional ko compares boards by a sum of numbers of their stones, which have fifteen bits, so others have the same sum."""
 
-    numbers = list(islice(zip(*[drawn()] * 2), 625))  # of each point those of a stone of Black's and of White's
+    numbers = list(
+        islice(zip(*[drawn()] * 2), 625)
+    )  # of each point those of a stone of Black's and of White's
 
     def fresh(self):
         return []

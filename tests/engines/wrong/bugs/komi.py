@@ -13,35 +13,94 @@ def scored(*komi):
 
 
 PATCHES = [
-    patch("sign_is_lost", "The sign of a komi is lost.", scored("-3.5"), "= B+3.5",
-          read_komi=lambda self, right, text: right(text.lstrip("-"))),
-    patch("whole_komi_alone", "A komi is cut to a whole number.", scored("6.5"), "= W+6.5",
-          read_komi=lambda self, right, text: right(text.split(".")[0])),
-    patch("komi_of_four_characters", "A komi has room for four characters, so -12.5 is -12.", scored("-12.5"), "= B+12.5",
-          read_komi=lambda self, right, text: right(text[:4])),
-    patch("negative_komi_is_refused", "A komi below zero is refused.", ["komi -0.5"], "=",
-          read_komi=lambda self, right, text: None if text.startswith("-") else right(text)),
-    patch("komi_is_blacks", "Komi is given to Black.", scored("6.5"), "= W+6.5",
-          score=lambda self, right: right() + 2 * self.komi),
-    patch("even_score_has_a_colour", "An even score is written as `B+0`.", on(5, "", "komi 0", "final_score"), "= 0",
-          write_score=lambda self, right, halves: right(halves) if halves else "B+0"),
-    patch("score_has_a_comma", "A half of a score is written after a comma, as in the language of the user.",
-          on(9, "", "komi 6.5", "final_score"), "= W+6.5",
-          write_score=lambda self, right, halves: right(halves).replace(".", ",")),
-    patch("score_has_six_digits", "A score is written with six digits, and a larger one with an exponent, as C does it by `%g`.",
-          on(5, "", "komi 1000000", "final_score"), "= W+1000000",
-          write_score=lambda self, right, halves: right(halves)[:2] + f"{abs(halves) / 2:g}" if halves else "0"),
-    patch("whites_lead_is_floored", "White's lead is a number below zero, whose half is cut off downwards, so 6.5 is written as 7.5.",
-          on(9, "", "komi 6.5", "final_score"), "= W+6.5",
-          write_score=lambda self, right, halves: right(halves - halves % 2 - 1 if halves < 0 and halves % 2 else halves)),
-    patch("empty_board_is_blacks", "A region counts for Black where no stone of White is beside it, and so does an empty board.",
-          on(5, "", "komi 0", "final_score"), "= 0",
-          score=lambda self, right: right() if self.board else 2 * self.size**2 - self.komi),
-    patch("even_score_is_a_word", "An even score is answered by a word, `Draw`.", on(5, "", "komi 0", "final_score"), "= 0",
-          write_score=lambda self, right, halves: right(halves) if halves else "Draw"),
-    patch("komi_of_zero_is_unread", "A komi of 0 is refused: the function that reads a number returns 0 for what it can't read, too.",
-          on(5, "", "komi 0"), "=",
-          read_komi=lambda self, right, text: right(text) or None),
+    patch(
+        "sign_is_lost",
+        "The sign of a komi is lost.",
+        scored("-3.5"),
+        "= B+3.5",
+        read_komi=lambda self, right, text: right(text.lstrip("-")),
+    ),
+    patch(
+        "whole_komi_alone",
+        "A komi is cut to a whole number.",
+        scored("6.5"),
+        "= W+6.5",
+        read_komi=lambda self, right, text: right(text.split(".")[0]),
+    ),
+    patch(
+        "komi_of_four_characters",
+        "A komi has room for four characters, so -12.5 is -12.",
+        scored("-12.5"),
+        "= B+12.5",
+        read_komi=lambda self, right, text: right(text[:4]),
+    ),
+    patch(
+        "negative_komi_is_refused",
+        "A komi below zero is refused.",
+        ["komi -0.5"],
+        "=",
+        read_komi=lambda self, right, text: None if text.startswith("-") else right(text),
+    ),
+    patch(
+        "komi_is_blacks",
+        "Komi is given to Black.",
+        scored("6.5"),
+        "= W+6.5",
+        score=lambda self, right: right() + 2 * self.komi,
+    ),
+    patch(
+        "even_score_has_a_colour",
+        "An even score is written as `B+0`.",
+        on(5, "", "komi 0", "final_score"),
+        "= 0",
+        write_score=lambda self, right, halves: right(halves) if halves else "B+0",
+    ),
+    patch(
+        "score_has_a_comma",
+        "A half of a score is written after a comma, as in the language of the user.",
+        on(9, "", "komi 6.5", "final_score"),
+        "= W+6.5",
+        write_score=lambda self, right, halves: right(halves).replace(".", ","),
+    ),
+    patch(
+        "score_has_six_digits",
+        "A score is written with six digits, and a larger one with an exponent, as C does it by `%g`.",
+        on(5, "", "komi 1000000", "final_score"),
+        "= W+1000000",
+        write_score=lambda self, right, halves: right(halves)[:2] + f"{abs(halves) / 2:g}"
+        if halves
+        else "0",
+    ),
+    patch(
+        "whites_lead_is_floored",
+        "White's lead is a number below zero, whose half is cut off downwards, so 6.5 is written as 7.5.",
+        on(9, "", "komi 6.5", "final_score"),
+        "= W+6.5",
+        write_score=lambda self, right, halves: right(
+            halves - halves % 2 - 1 if halves < 0 and halves % 2 else halves
+        ),
+    ),
+    patch(
+        "empty_board_is_blacks",
+        "A region counts for Black where no stone of White is beside it, and so does an empty board.",
+        on(5, "", "komi 0", "final_score"),
+        "= 0",
+        score=lambda self, right: right() if self.board else 2 * self.size**2 - self.komi,
+    ),
+    patch(
+        "even_score_is_a_word",
+        "An even score is answered by a word, `Draw`.",
+        on(5, "", "komi 0", "final_score"),
+        "= 0",
+        write_score=lambda self, right, halves: right(halves) if halves else "Draw",
+    ),
+    patch(
+        "komi_of_zero_is_unread",
+        "A komi of 0 is refused: the function that reads a number returns 0 for what it can't read, too.",
+        on(5, "", "komi 0"),
+        "=",
+        read_komi=lambda self, right, text: right(text) or None,
+    ),
 ]
 
 
@@ -184,7 +243,11 @@ class RegionsAreFilledByRecursion(Bug):
     def fill(self, board, point, found):
         """Finds what is joined to a point and isn't found yet. Its number of points."""
         found.add(point)
-        same = (near for near in self.near[point] if near not in found and board.get(near) == board.get(point))
+        same = (
+            near
+            for near in self.near[point]
+            if near not in found and board.get(near) == board.get(point)
+        )
         return 1 + sum(self.fill(board, near, found) for near in same)
 
 

@@ -14,9 +14,14 @@ ROUND = "b A2 b B1 b A1 w B2 "
 CYCLE = "w B1 b A2 w B2 b A1 w A2 b A1"
 
 PATCHES = [
-    patch("ko_of_1000_boards", "The boards that ko is looked up in have room for 1,000, and there is no ko later.",
-          on(5, passes(996) + KO, "play b B1"), "?",
-          is_ko=lambda self, right, board, colour, point: len(self.boards) <= 1000 and right(board, colour, point)),
+    patch(
+        "ko_of_1000_boards",
+        "The boards that ko is looked up in have room for 1,000, and there is no ko later.",
+        on(5, passes(996) + KO, "play b B1"),
+        "?",
+        is_ko=lambda self, right, board, colour, point: len(self.boards) <= 1000
+        and right(board, colour, point),
+    ),
 ]
 
 
@@ -125,14 +130,19 @@ def passes_of_a_long_game(self, right):
 
 
 # E5 is stone 1, the ko goes up to stone 256, and A5 is stone 257
-@shown_by(on(5, "b E5 " + KO + " b pass b B1 w pass w A1" * 125 + " b A5 w A4 w B5", "play w A5"), "=")
+@shown_by(
+    on(5, "b E5 " + KO + " b pass b B1 w pass w A1" * 125 + " b A5 w A4 w B5", "play w A5"), "="
+)
 class ChainNumbersAreBytes(Named):
     """A chain is known by the number of its last stone in the game, which is a byte, so two can have one number."""
 
     def after(self, before, colour, point):
         names = {stone: name for stone, name in self.kept.items() if self.board[stone] != EMPTY}
         number = sum(place != PASS for _, place in self.moves)
-        return {**names, **dict.fromkeys(() if point == PASS else self.chain(self.board, point), number % 256)}
+        return {
+            **names,
+            **dict.fromkeys(() if point == PASS else self.chain(self.board, point), number % 256),
+        }
 
 
 @shown_by(on(5, passes(257), *["undo"] * 257), "=")
@@ -160,7 +170,9 @@ class KoComesBack(Noted):
         return (len(self.moves), note) if note else self.kept
 
     def is_ko(self, board, colour, point):
-        return self.kept is not None and self.is_now(self.kept[0]) and self.kept[1] == (colour, point)
+        return (
+            self.kept is not None and self.is_now(self.kept[0]) and self.kept[1] == (colour, point)
+        )
 
     def is_now(self, number):
         """Is this the number of moves, as far as the engine can see?"""
@@ -250,4 +262,6 @@ class MovesAreBytes(Bug):
         (colour, point), after = self.moves[-1], self.board
         super().undo()
         if point != PASS and self.index(point) > 255 and after[point] == colour:
-            self.board = filled(filled(self.board, [point], colour), [self.point(self.index(point) % 256)])
+            self.board = filled(
+                filled(self.board, [point], colour), [self.point(self.index(point) % 256)]
+            )

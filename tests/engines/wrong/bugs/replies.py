@@ -6,38 +6,111 @@ from tests.references.engine.values import PASS
 from talks import Bug, instead_of, on, patch, shown_by
 
 PATCHES = [
-    patch("one_newline", "A reply ends with one newline in place of two.", ["1 name"], "= plain", plain=False, waits=True,
-          reply=lambda self, right, good, number, text: right(good, number, text)[:-1]),
-    patch("failures_are_successes", "A command that fails is answered by `=` and the error's text.", on(5, "b C3", "play w C3"), "?",
-          head=lambda self, right, good, number, text: right(True, number, text)),
-    patch("failures_have_an_exclamation_mark", "A failure begins with an exclamation mark.", on(5, "b C3", "play w C3"), "?",
-          head=lambda self, right, good, number, text: right(good, number, text).replace("?", "!")),
-    patch("note_before_a_genmove", "A line for the author is on standard output before the reply to a `genmove`.",
-          on(5, "", "1 genmove b"), "but", plain=False,
-          answer=lambda self, right, line: ("playouts: 1000\n" if self.command_of(line) == "genmove" else "") + right(line)),
-    patch("prompt", "Each reply has a prompt in front of it.", ["1 name"], "= plain", plain=False,
-          reply=lambda self, right, good, number, text: "GTP> " + right(good, number, text)),
-    patch("echo", "Each line is written back before its reply, as a library for typed lines does.", ["1 name"], "= plain", plain=False,
-          answer=lambda self, right, line: line + "\n" + right(line)),
-    patch("version_without_a_mark", "`version` is printed as it is, without the mark and the id.", ["1 version"], "= 1",
-          answer=lambda self, right, line: "1\n\n" if self.command_of(line) == "version" else right(line)),
-    patch("ends_at_a_refused_play", "The program ends at an illegal play: an exception that nobody catches.",
-          on(5, "b C3", "play w C3"), "?",
-          refuse=lambda self, right, colour, point: sys.exit(1)),
-    patch("known_is_yes", "`known_command` answers `yes` or `no`, in place of `true` or `false`.", ["1 known_command play"], "= true",
-          do_known_command=lambda self, right, arguments: {"true": "yes", "false": "no"}[right(arguments)]),
-    patch("genmove_is_not_listed", "`list_commands` leaves `genmove` out, which is looked at before the table of commands.",
-          ["list_commands"], "= " + "\n".join(Bug.names),
-          do_list_commands=lambda self, right, arguments: right(arguments).replace("\ngenmove", "")),
-    patch("names_have_commas", "The names of `list_commands` are in one line, with commas between them.",
-          ["list_commands"], "= " + "\n".join(Bug.names),
-          do_list_commands=lambda self, right, arguments: right(arguments).replace("\n", ", ")),
-    patch("names_are_in_one_row", "The names of `list_commands` are in one line, with spaces between them.",
-          ["list_commands"], "= " + "\n".join(Bug.names),
-          do_list_commands=lambda self, right, arguments: right(arguments).replace("\n", " ")),
-    patch("quit_is_not_known", "`known_command` doesn't know `quit`, which is looked at before the table of commands.",
-          ["known_command quit"], "= true",
-          do_known_command=lambda self, right, arguments: "false" if arguments[:1] == ["quit"] else right(arguments)),
+    patch(
+        "one_newline",
+        "A reply ends with one newline in place of two.",
+        ["1 name"],
+        "= plain",
+        plain=False,
+        waits=True,
+        reply=lambda self, right, good, number, text: right(good, number, text)[:-1],
+    ),
+    patch(
+        "failures_are_successes",
+        "A command that fails is answered by `=` and the error's text.",
+        on(5, "b C3", "play w C3"),
+        "?",
+        head=lambda self, right, good, number, text: right(True, number, text),
+    ),
+    patch(
+        "failures_have_an_exclamation_mark",
+        "A failure begins with an exclamation mark.",
+        on(5, "b C3", "play w C3"),
+        "?",
+        head=lambda self, right, good, number, text: right(good, number, text).replace("?", "!"),
+    ),
+    patch(
+        "note_before_a_genmove",
+        "A line for the author is on standard output before the reply to a `genmove`.",
+        on(5, "", "1 genmove b"),
+        "but",
+        plain=False,
+        answer=lambda self, right, line: (
+            "playouts: 1000\n" if self.command_of(line) == "genmove" else ""
+        )
+        + right(line),
+    ),
+    patch(
+        "prompt",
+        "Each reply has a prompt in front of it.",
+        ["1 name"],
+        "= plain",
+        plain=False,
+        reply=lambda self, right, good, number, text: "GTP> " + right(good, number, text),
+    ),
+    patch(
+        "echo",
+        "Each line is written back before its reply, as a library for typed lines does.",
+        ["1 name"],
+        "= plain",
+        plain=False,
+        answer=lambda self, right, line: line + "\n" + right(line),
+    ),
+    patch(
+        "version_without_a_mark",
+        "`version` is printed as it is, without the mark and the id.",
+        ["1 version"],
+        "= 1",
+        answer=lambda self, right, line: "1\n\n"
+        if self.command_of(line) == "version"
+        else right(line),
+    ),
+    patch(
+        "ends_at_a_refused_play",
+        "The program ends at an illegal play: an exception that nobody catches.",
+        on(5, "b C3", "play w C3"),
+        "?",
+        refuse=lambda self, right, colour, point: sys.exit(1),
+    ),
+    patch(
+        "known_is_yes",
+        "`known_command` answers `yes` or `no`, in place of `true` or `false`.",
+        ["1 known_command play"],
+        "= true",
+        do_known_command=lambda self, right, arguments: {"true": "yes", "false": "no"}[
+            right(arguments)
+        ],
+    ),
+    patch(
+        "genmove_is_not_listed",
+        "`list_commands` leaves `genmove` out, which is looked at before the table of commands.",
+        ["list_commands"],
+        "= " + "\n".join(Bug.names),
+        do_list_commands=lambda self, right, arguments: right(arguments).replace("\ngenmove", ""),
+    ),
+    patch(
+        "names_have_commas",
+        "The names of `list_commands` are in one line, with commas between them.",
+        ["list_commands"],
+        "= " + "\n".join(Bug.names),
+        do_list_commands=lambda self, right, arguments: right(arguments).replace("\n", ", "),
+    ),
+    patch(
+        "names_are_in_one_row",
+        "The names of `list_commands` are in one line, with spaces between them.",
+        ["list_commands"],
+        "= " + "\n".join(Bug.names),
+        do_list_commands=lambda self, right, arguments: right(arguments).replace("\n", " "),
+    ),
+    patch(
+        "quit_is_not_known",
+        "`known_command` doesn't know `quit`, which is looked at before the table of commands.",
+        ["known_command quit"],
+        "= true",
+        do_known_command=lambda self, right, arguments: "false"
+        if arguments[:1] == ["quit"]
+        else right(arguments),
+    ),
 ]
 
 

@@ -134,12 +134,19 @@ class OldKoStays(Kept):
 
     def move(self, colour, point):
         super().move(colour, point)
-        pairs = [(mover, place) for place in points(self.size) if place not in self.board for mover in (BLACK, WHITE)]
+        pairs = [
+            (mover, place)
+            for place in points(self.size)
+            if place not in self.board
+            for mover in (BLACK, WHITE)
+        ]
         found = [pair for pair in pairs if super(OldKoStays, self).is_ko(self.put(*pair), *pair)]
         self.keep([(mover, self.index(place)) for mover, place in found])
 
     def is_ko(self, board, colour, point):
-        return super().is_ko(board, colour, point) or (not self.moves and [colour, self.index(point)] in (self.old or []))
+        return super().is_ko(board, colour, point) or (
+            not self.moves and [colour, self.index(point)] in (self.old or [])
+        )
 
 
 @shown_by([*on(9, "", "fixed_handicap 2"), AGAIN, *on(9, "", "fixed_handicap 2")], "points C3 G7")
@@ -261,7 +268,11 @@ class ChoiceIsKeptByItsBoard(Kept):
 
     def choose(self, colour):
         board = f"{self.size} {sorted(self.board.items())}"
-        point = super().choose(colour) if board not in (self.old or {}) else self.read_vertex(self.old[board])
+        point = (
+            super().choose(colour)
+            if board not in (self.old or {})
+            else self.read_vertex(self.old[board])
+        )
         self.choices[board] = self.write_vertex(point)
         self.keep(self.choices)
         return point
@@ -331,7 +342,9 @@ class BookHasNoSizes(Bug):
 
     def __init__(self, *options):
         super().__init__(*options)
-        self.file = os.environ.get("WRONG_ENGINE_STATE") or os.path.join(tempfile.gettempdir(), "wrong_engine_book")
+        self.file = os.environ.get("WRONG_ENGINE_STATE") or os.path.join(
+            tempfile.gettempdir(), "wrong_engine_book"
+        )
         self.book = dict(line.rstrip("\n").split(":") for line in self.pages())
 
     def pages(self):

@@ -3,18 +3,43 @@ from tests.references.engine.values import PASS
 from talks import Bug, instead_of, on, patch, shown_by
 
 PATCHES = [
-    patch("array_ends_at_19", "Larger boards than 19x19 are taken, and the array of points has 19 columns and rows.",
-          on(20, "", "play b A20"), "=",
-          place=lambda self, right, vertex: None if vertex != PASS and max(vertex) > 19 else right(vertex)),
-    patch("letters_end_at_t", "The table of letters ends with T, and 20x20 is taken.", on(20, "", "play b U1"), "=",
-          read_vertex=lambda self, right, text: None if text[0].upper() in "UVWXYZ" else right(text)),
-    patch("z_is_unread", "The table of letters ends with Y, and 25x25 is taken.", on(25, "", "play b Z25"), "=",
-          read_vertex=lambda self, right, text: None if text[0].upper() == "Z" else right(text)),
-    patch("rows_of_one_digit", "The row of a vertex is its first digit alone, so A10 is A1.", on(13, "b A1", "play b A10"), "=",
-          read_vertex=lambda self, right, text: right(text if text.lower() == "pass" else text[:2])),
-    patch("tt_is_a_pass", "U20 is a pass: the engine keeps a point as a game file does, and `tt` is a pass there.",
-          on(25, "b U20", "play w U20"), "?",
-          place=lambda self, right, vertex: PASS if vertex == (20, 20) else right(vertex)),
+    patch(
+        "array_ends_at_19",
+        "Larger boards than 19x19 are taken, and the array of points has 19 columns and rows.",
+        on(20, "", "play b A20"),
+        "=",
+        place=lambda self, right, vertex: None
+        if vertex != PASS and max(vertex) > 19
+        else right(vertex),
+    ),
+    patch(
+        "letters_end_at_t",
+        "The table of letters ends with T, and 20x20 is taken.",
+        on(20, "", "play b U1"),
+        "=",
+        read_vertex=lambda self, right, text: None if text[0].upper() in "UVWXYZ" else right(text),
+    ),
+    patch(
+        "z_is_unread",
+        "The table of letters ends with Y, and 25x25 is taken.",
+        on(25, "", "play b Z25"),
+        "=",
+        read_vertex=lambda self, right, text: None if text[0].upper() == "Z" else right(text),
+    ),
+    patch(
+        "rows_of_one_digit",
+        "The row of a vertex is its first digit alone, so A10 is A1.",
+        on(13, "b A1", "play b A10"),
+        "=",
+        read_vertex=lambda self, right, text: right(text if text.lower() == "pass" else text[:2]),
+    ),
+    patch(
+        "tt_is_a_pass",
+        "U20 is a pass: the engine keeps a point as a game file does, and `tt` is a pass there.",
+        on(25, "b U20", "play w U20"),
+        "?",
+        place=lambda self, right, vertex: PASS if vertex == (20, 20) else right(vertex),
+    ),
 ]
 
 

@@ -6,13 +6,30 @@ from talks import NO_ROOM_AT_E5, Bug, Keeping, gone, instead_of, on, patch, play
 from .captures import Counted
 
 PATCHES = [
-    patch("one_stone_may_die", "Suicide of one stone is taken.", on(5, "b A2 b B1", "play w A1"), "?",
-          is_suicide=lambda self, right, board, colour, point: len(self.chain(board, point)) > 1 and right(board, colour, point)),
-    patch("corners_are_forgotten", "Suicide in a corner is taken: the loop has three neighbours or more.",
-          on(5, "b A2 b B1", "play w A1"), "?",
-          is_suicide=lambda self, right, board, colour, point: len(self.near[point]) > 2 and right(board, colour, point)),
-    patch("white_may_die", "Suicide is looked for at Black's plays alone.", on(5, "b A2 b B1", "play w A1"), "?",
-          is_suicide=lambda self, right, board, colour, point: colour == BLACK and right(board, colour, point)),
+    patch(
+        "one_stone_may_die",
+        "Suicide of one stone is taken.",
+        on(5, "b A2 b B1", "play w A1"),
+        "?",
+        is_suicide=lambda self, right, board, colour, point: len(self.chain(board, point)) > 1
+        and right(board, colour, point),
+    ),
+    patch(
+        "corners_are_forgotten",
+        "Suicide in a corner is taken: the loop has three neighbours or more.",
+        on(5, "b A2 b B1", "play w A1"),
+        "?",
+        is_suicide=lambda self, right, board, colour, point: len(self.near[point]) > 2
+        and right(board, colour, point),
+    ),
+    patch(
+        "white_may_die",
+        "Suicide is looked for at Black's plays alone.",
+        on(5, "b A2 b B1", "play w A1"),
+        "?",
+        is_suicide=lambda self, right, board, colour, point: colour == BLACK
+        and right(board, colour, point),
+    ),
 ]
 
 
@@ -116,7 +133,9 @@ def first_neighbour_decides(self, right, board, colour, point):
 def atari_is_no_suicide(self, right, board, colour, point):
     """A play without a liberty is taken where a chain beside it has one left, as if that were taken."""
     beside = [self.chain(board, near) for near in self.near[point] if board[near] == other(colour)]
-    return right(board, colour, point) and all(len(self.liberties(board, chain)) > 1 for chain in beside)
+    return right(board, colour, point) and all(
+        len(self.liberties(board, chain)) > 1 for chain in beside
+    )
 
 
 # A2 has the liberties A1, A3 and B2
@@ -126,7 +145,11 @@ class RefusedSuicideTakesLiberties(Counted):
 
     def refuse(self, colour, point):
         dies = self.dies(colour, point)
-        for head in {self.heads[near] for near in self.near[point] if self.board[near] == other(colour)} if dies else ():
+        for head in (
+            {self.heads[near] for near in self.near[point] if self.board[near] == other(colour)}
+            if dies
+            else ()
+        ):
             self.free[head] -= 1
         super().refuse(colour, point)
 

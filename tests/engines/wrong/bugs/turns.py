@@ -5,8 +5,14 @@ from tests.references.engine.values import BLACK, PASS, WHITE, other
 from talks import instead_of, on, patch
 
 PATCHES = [
-    patch("same_colour_twice", "A second play of one colour is refused, as out of turn.", on(5, "b A1", "play b B1"), "=",
-          is_legal=lambda self, right, colour, point: not (self.moves and self.moves[-1][0] == colour) and right(colour, point)),
+    patch(
+        "same_colour_twice",
+        "A second play of one colour is refused, as out of turn.",
+        on(5, "b A1", "play b B1"),
+        "=",
+        is_legal=lambda self, right, colour, point: not (self.moves and self.moves[-1][0] == colour)
+        and right(colour, point),
+    ),
 ]
 
 

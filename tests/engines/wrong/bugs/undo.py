@@ -162,7 +162,9 @@ class LibertiesStayAtUndo(Counted):
     def undo(self):
         heads, free = self.heads, self.free
         super().undo()
-        self.free.update((head, free[heads[point]]) for point, head in self.heads.items() if point in heads)
+        self.free.update(
+            (head, free[heads[point]]) for point, head in self.heads.items() if point in heads
+        )
 
 
 @instead_of("undo", on(9, "", "fixed_handicap 2", "play w E5", "undo", "play b C3"), "?")
@@ -244,7 +246,9 @@ def taken_back_point_is_filled(self, right):
     taken = gone(self.board, after)
     if taken:
         after = filled(after, [point])
-        self.board = filled(after, set().union(*(self.chain(after, spot) for spot in taken)), other(colour))
+        self.board = filled(
+            after, set().union(*(self.chain(after, spot) for spot in taken)), other(colour)
+        )
 
 
 # A19 is point 342, and comes back at point 86
@@ -254,7 +258,11 @@ def taken_stones_are_bytes(self, right):
     (colour, point), after = self.moves[-1], self.board
     right()
     if point != PASS:
-        self.board = filled(filled(after, [point]), [self.point(self.index(spot) % 256) for spot in gone(self.board, after)], other(colour))
+        self.board = filled(
+            filled(after, [point]),
+            [self.point(self.index(spot) % 256) for spot in gone(self.board, after)],
+            other(colour),
+        )
 
 
 # A1 takes B1, and then A2
@@ -263,9 +271,15 @@ def last_taken_chain_comes_back(self, right):
     """A play has one list of captured stones, which each chain begins anew, so `undo` brings back the last chain."""
     (colour, point), after = self.moves[-1], self.board
     right()
-    taken = [near for near in self.near[point] if self.board[near] != after[near]] if point != PASS else []
+    taken = (
+        [near for near in self.near[point] if self.board[near] != after[near]]
+        if point != PASS
+        else []
+    )
     if taken:
-        self.board = filled(filled(after, [point]), self.chain(self.board, taken[-1]), other(colour))
+        self.board = filled(
+            filled(after, [point]), self.chain(self.board, taken[-1]), other(colour)
+        )
 
 
 @instead_of("undo", on(5, "w A2 w B1 w E5", "undo", "play b A1"), "?")
@@ -323,12 +337,18 @@ class JoinedChainsStayJoined(Bug):
             stone = todo.pop()
             if stone not in found:
                 found.add(stone)
-                todo += [near for near in [*self.near[stone], *self.mates.get(stone, ())] if board[near] == board[point]]
+                todo += [
+                    near
+                    for near in [*self.near[stone], *self.mates.get(stone, ())]
+                    if board[near] == board[point]
+                ]
         return found
 
     def move(self, colour, point):
         super().move(colour, point)
-        self.mates = {stone: mates for stone, mates in self.mates.items() if self.board[stone] != EMPTY}
+        self.mates = {
+            stone: mates for stone, mates in self.mates.items() if self.board[stone] != EMPTY
+        }
 
     def undo(self):
         point = self.moves[-1][1]

@@ -22,7 +22,9 @@ class Box:
 
     def contains(self, value):
         """Is it such an array?"""
-        return shape_of(value) == self.shape and all(self.low <= item <= self.high for item in items_of(value))
+        return shape_of(value) == self.shape and all(
+            self.low <= item <= self.high for item in items_of(value)
+        )
 
 
 class Discrete:
