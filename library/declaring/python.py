@@ -1,11 +1,14 @@
-"""Modules of the Python package: `_declared.py`, with the table of the calls, and `_numbers.py`, with numbers and what they mean."""
+"""Writes modules of the Python package, laid out as black does it.
+
+`_declared.py` has the table of the calls, and `_numbers.py` has numbers and what they mean.
+"""
 import textwrap
 
 from . import exports, header, numbers
 
 DECLARED = "library/python/vintsaky/_declared.py"
 NUMBERS = "library/python/vintsaky/_numbers.py"
-WIDTH = 120
+WIDTH = 100
 ENUMS = ("losses", "endings")  # the kinds that are enumerations of _numbers.py
 HANDLES = {
     "game": "a game: its address",
@@ -16,10 +19,11 @@ HANDLES = {
 }
 HEAD_OF_DECLARED = '''"""What the library declares: the constants of vintsaky.h, its handles, and the table of its calls.
 
-library/declare writes this module. Names are those of vintsaky.h without the prefix; only calls keep their whole
-names."""
+library/declare writes this module. Names are those of vintsaky.h without the prefix; only calls
+keep their whole names."""
 import ctypes
-from ctypes import POINTER, c_bool, c_char, c_char_p, c_float, c_int32, c_size_t, c_uint8, c_uint32, c_uint64, c_void_p
+from ctypes import POINTER, c_char, c_char_p, c_void_p
+from ctypes import c_bool, c_float, c_int32, c_size_t, c_uint8, c_uint32, c_uint64
 from typing import Any, Dict, Tuple
 '''
 HANDLE = '''
@@ -31,12 +35,13 @@ class {}Handle(ctypes.Structure):
 '''
 HEAD_OF_TABLE = """
 
-# Each call of vintsaky.h: the type of its result, and those of its arguments. Texts that are read are c_char_p, bytes
-# are c_void_p, and texts that are written are POINTER(c_char).
+# Each call of vintsaky.h: the type of its result, and those of its arguments. Texts that are read
+# are c_char_p, bytes are c_void_p, and texts that are written are POINTER(c_char).
 CALLS: Dict[str, Tuple[Any, Tuple[Any, ...]]] = {
 """
-HEAD_OF_NUMBERS = '''"""Numbers of the library, each with its explanation: why a call is rejected, why a side fails, and how a match ends.
+HEAD_OF_NUMBERS = '''"""Numbers of the library, each with its explanation.
 
+They are why a call is rejected, why a side fails, and how a match ends.
 library/declare writes this module. Names are those of vintsaky.h without the prefix."""
 from ._library import Numbered, Told
 '''

@@ -1,21 +1,10 @@
 """What the library declares: the constants of vintsaky.h, its handles, and the table of its calls.
 
-library/declare writes this module. Names are those of vintsaky.h without the prefix; only calls keep their whole
-names."""
+library/declare writes this module. Names are those of vintsaky.h without the prefix; only calls
+keep their whole names."""
 import ctypes
-from ctypes import (
-    POINTER,
-    c_bool,
-    c_char,
-    c_char_p,
-    c_float,
-    c_int32,
-    c_size_t,
-    c_uint8,
-    c_uint32,
-    c_uint64,
-    c_void_p,
-)
+from ctypes import POINTER, c_char, c_char_p, c_void_p
+from ctypes import c_bool, c_float, c_int32, c_size_t, c_uint8, c_uint32, c_uint64
 from typing import Any, Dict, Tuple
 
 INTERFACE = 1
@@ -79,8 +68,8 @@ class RepliesHandle(ctypes.Structure):
     _fields_ = [("at", c_void_p)]
 
 
-# Each call of vintsaky.h: the type of its result, and those of its arguments. Texts that are read are c_char_p, bytes
-# are c_void_p, and texts that are written are POINTER(c_char).
+# Each call of vintsaky.h: the type of its result, and those of its arguments. Texts that are read
+# are c_char_p, bytes are c_void_p, and texts that are written are POINTER(c_char).
 CALLS: Dict[str, Tuple[Any, Tuple[Any, ...]]] = {
     "vintsaky_interface_1": (None, ()),
     "vintsaky_version": (c_uint32, ()),

@@ -1,5 +1,6 @@
-"""Numbers of the library, each with its explanation: why a call is rejected, why a side fails, and how a match ends.
+"""Numbers of the library, each with its explanation.
 
+They are why a call is rejected, why a side fails, and how a match ends.
 library/declare writes this module. Names are those of vintsaky.h without the prefix."""
 from ._library import Numbered, Told
 
@@ -9,7 +10,8 @@ class Cause(Told):
 
     DONE: No error.
     BAD_COLOUR: Not a colour or side: use 1 (Black) or 2 (White).
-    BAD_VERTEX: Not a vertex: use 256 times the row plus the column, each 1 to 25, or 0 (a pass) where allowed.
+    BAD_VERTEX: Not a vertex: use 256 times the row plus the column, each 1 to 25, or 0 (a pass)
+        where allowed.
     BAD_RULE: Not a ko rule: use 1 (simple ko) or 2 (positional superko).
     BAD_SIZE: The size must be 1 to 25.
     BAD_KOMI: The komi must be -1,999,999,999 to 1,999,999,999 half points.
@@ -22,7 +24,8 @@ class Cause(Told):
     KO: The move would repeat a board that the ko rule forbids.
     NOTHING_TO_UNDO: The record has no move to undo.
     NOT_EMPTY: The board and the record must be empty.
-    BAD_HANDICAP: Odd sizes from 9 allow 2 to 9 stones, 7 and even sizes from 8 allow 2 to 4; never a negative number.
+    BAD_HANDICAP: Odd sizes from 9 allow 2 to 9 stones, 7 and even sizes from 8 allow 2 to 4; never
+        a negative number.
     NO_MOVE: The record has no move with this number, counted from 0.
     NO_STONE: No stone is on the point.
     NOT_ASKED: The engine is waiting for nothing, or for something that this call doesn't supply.
@@ -43,7 +46,8 @@ class Cause(Told):
     BAD_ID: The id must be 0 to 2,147,483,647, or -1 for none.
     DOWN: The side isn't up (it was not started, or it went down), or the match is over.
     IS_OVER: The match is already over.
-    BAD_REASON: A reason must be empty (loss on time), or 1 to 20 letters (a-z, A-Z) and spaces; not a forfeit's cause.
+    BAD_REASON: A reason must be empty (loss on time), or 1 to 20 letters (a-z, A-Z) and spaces; not
+        a forfeit's cause.
     """
 
     DONE = 0
@@ -126,9 +130,11 @@ class Ending(Numbered):
     BY_SCORE: two passes ended the game
     BY_RESIGNATION: the side resigned
     BY_LIMIT: the record has as many moves as the match allows
-    BY_REFUSED_PLAY: the side refused a play that isn't retaken, or that the other side didn't undo: it forfeits
+    BY_REFUSED_PLAY: the side refused a play that isn't retaken, or that the other side didn't undo:
+        it forfeits
     BY_NO_MOVE: the side failed at a genmove: it forfeits
-    BY_NO_VERTEX: the side answered a genmove by what is neither a vertex nor a resignation: it forfeits
+    BY_NO_VERTEX: the side answered a genmove by what is neither a vertex nor a resignation: it
+        forfeits
     BY_ILLEGAL_MOVE: the side answered a genmove by an illegal move: it forfeits
     BY_UNFIT: the side failed at a setup command, or placed other handicap stones: it is unfit
     BY_ABANDONED: the side went down too often
