@@ -1,0 +1,35 @@
+"""What the tests of tournaments share."""
+from __future__ import annotations
+
+from pathlib import Path
+from typing import Dict, Iterator
+
+import pytest
+
+from .runner import SMALL, TWO, Runner
+
+
+@pytest.fixture
+def runner(twogtp: Path, gtp_engine: Path, programs: Path, tmp_path: Path) -> Iterator[Runner]:
+    """Returns what runs the scripts in an empty directory."""
+    with Runner(tmp_path, programs) as made:
+        yield made
+
+
+@pytest.fixture(scope="module")
+def shared_runner(
+    twogtp: Path, gtp_engine: Path, programs: Path, tmp_path_factory: pytest.TempPathFactory
+) -> Iterator[Runner]:
+    """Returns the same for all tests of a module, which leave its directory as they find it."""
+    with Runner(tmp_path_factory.mktemp("shared"), programs) as made:
+        yield made
+
+
+@pytest.fixture(scope="session")
+def small_results(
+    twogtp: Path, gtp_engine: Path, programs: Path, tmp_path_factory: pytest.TempPathFactory
+) -> Dict[str, str]:
+    """Returns the results of a small tournament that nobody disturbs: TWO, 4 seeds, SMALL."""
+    with Runner(tmp_path_factory.mktemp("small"), programs) as runner:
+        assert runner.tournament("play", "all", *TWO, "--seeds", "4", *SMALL).status == 0
+        return runner.games()
