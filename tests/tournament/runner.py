@@ -82,20 +82,19 @@ class Runner:
 
     def start(self, *command: object, **options: Any) -> subprocess.Popen[str]:
         """Starts a command in a session of its own."""
+        options = {
+            "cwd": self.folder,
+            "env": self.environment,
+            "stdin": subprocess.DEVNULL,
+            "stdout": subprocess.PIPE,
+            "stderr": subprocess.PIPE,
+            "encoding": "utf-8",
+            "errors": "backslashreplace",
+            "preexec_fn": default_signals,
+            **options,
+        }
         process: subprocess.Popen[str] = subprocess.Popen(
-            list(map(str, command)),
-            **{
-                "cwd": self.folder,
-                "env": self.environment,
-                "stdin": subprocess.DEVNULL,
-                "stdout": subprocess.PIPE,
-                "stderr": subprocess.PIPE,
-                "encoding": "utf-8",
-                "errors": "backslashreplace",
-                "start_new_session": True,
-                "preexec_fn": default_signals,
-                **options,
-            },
+            list(map(str, command)), start_new_session=True, **options
         )
         self.started.append(process)
         return process
