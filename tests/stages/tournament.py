@@ -112,7 +112,6 @@ from tests.stages.of_tournament.damaged import (
 from tests.stages.of_tournament.damaged import Unread as UnreadResults  # noqa: E402, F401
 from tests.stages.of_tournament.costs import Dear, Filled, Many, OneGame  # noqa: E402, F401
 from tests.stages.of_tournament.counted import Intervals, Tallies, Wrong  # noqa: E402, F401
-from tests.stages.of_tournament.between import InTime, Late, Passing  # noqa: E402, F401
 from tests.stages.of_tournament.noted import LateOnes, Limits, Noted, Thought  # noqa: E402, F401
 from tests.stages.of_tournament.noted import Stopped as StoppedNotes  # noqa: E402, F401
 from tests.stages.of_tournament.openings import Folders, Refused, Rules, Taken  # noqa: E402, F401

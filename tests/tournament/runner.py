@@ -78,7 +78,8 @@ class Runner:
     ) -> None:
         self.kill_all()
         for process in self.started:
-            process.communicate()
+            with process:  # which closes its streams and waits for its end
+                pass
 
     def start(self, *command: object, **options: Any) -> subprocess.Popen[str]:
         """Starts a command in a session of its own."""
