@@ -9,13 +9,16 @@ A file edits/CRATE.edits has the edits of a crate, in the order of its sources:
     -     self.bytes[self.len - 1]
     +     self.bytes[0]
 
-After a file's name and a colon come its edits: a name, and below it lines of the source, which stand there once in this order, whatever
-their indentation. Those after two spaces stay, and those after `- ` give way to those after `+ `.
+After a file's name and a colon come its edits: a name, and below it lines of the source, which are
+there once in this order, whatever their indentation. Those after two spaces stay, and those after
+`- ` give way to those after `+ `.
 """
 from __future__ import annotations
 
 import re
 from dataclasses import dataclass
+from pathlib import Path
+from typing import NamedTuple, Optional, Union
 
 from .crates import TOP
 
@@ -26,90 +29,84 @@ class BadEdits(Exception):
     """A file of edits can't be read."""
 
 
+class Changed(NamedTuple):
+    """A text after a change, and the place of the change in the text before."""
+
+    text: str
+    place: int
+
+
 @dataclass(frozen=True)
 class Text:
-    """A change as `rt ci` makes those of must-fail/: a text that stands once in a file gives way to another."""
+    """A change as `rt ci` makes those of must-fail/: a text gives way to another."""
 
     file: str
     old: str
     new: str
 
-    def made_in(self, text):
-        """The text with this change, and where it is. None where the old text isn't there once."""
+    def apply(self, text: str) -> Optional[Changed]:
+        """Returns the text with this change, or None where the old text isn't there once."""
         if not self.old or text.count(self.old) != 1:
             return None
-        return text.replace(self.old, self.new), text.index(self.old)
+        return Changed(text.replace(self.old, self.new), text.index(self.old))
 
 
 @dataclass(frozen=True)
 class Lines:
-    """A change of whole lines: where those of `kept` and then of `old` stand, `old` gives way to `new`."""
+    """A change of whole lines: below the lines of `kept`, those of `old` give way to `new`."""
 
     file: str
     kept: tuple[str, ...]
     old: tuple[str, ...]
     new: tuple[str, ...]
 
-    def made_in(self, text):
-        """The text with this change, and where it is. None where the lines aren't there once."""
+    def apply(self, text: str) -> Optional[Changed]:
+        """Returns the text with this change, or None where the lines aren't there once."""
         lines, wanted = text.split("\n"), [line.strip() for line in self.kept + self.old]
         bare = [line.strip() for line in lines]
-        found = [at for at in range(len(lines)) if bare[at : at + len(wanted)] == wanted]
-        if len(found) != 1 or not any(wanted):
+        starts = [at for at in range(len(lines)) if bare[at : at + len(wanted)] == wanted]
+        if len(starts) != 1 or not any(wanted):
             return None
-        at = found[0] + len(self.kept)
+        at = starts[0] + len(self.kept)
         before = "".join(line + "\n" for line in lines[:at])
-        return "\n".join([*lines[:at], *self.new, *lines[at + len(self.old) :]]), len(before)
+        after = "\n".join([*lines[:at], *self.new, *lines[at + len(self.old) :]])
+        return Changed(after, len(before))
 
 
 @dataclass(frozen=True)
 class Edit:
-    """An edit: its crate, its name, and what it changes."""
+    """Changes of a crate that make a function wrong."""
 
     crate: str
     stem: str
-    changes: tuple
+    changes: tuple[Union[Text, Lines], ...]
 
     @property
-    def name(self):
+    def name(self) -> str:
         return f"{self.crate}/{self.stem}"
 
 
 # ---- reading
 
 
-def read_edits(path):
-    """The edits of a file of them."""
-    found, file = [], ""
+def read_edits(path: Path) -> list[Edit]:
+    """Returns the edits in a file of edits/."""
+    edits, file = [], ""
     for block in path.read_text().rstrip("\n").split("\n\n"):
         name, *lines = block.split("\n")
+        signs = "".join(line[:1] for line in lines)
         if re.fullmatch(r"src/[\w/]+\.rt:", block):
             file = name[:-1]
-        elif (
-            file
-            and re.fullmatch(r"\w+", name)
-            and re.fullmatch(r" *-*\+*", "".join(line[:1] for line in lines))
-            and lines
-        ):
-            found.append(
-                Edit(
-                    path.stem,
-                    name,
-                    (
-                        Lines(
-                            file,
-                            *(tuple(it[2:] for it in lines if it[0] == sign) for sign in " -+"),
-                        ),
-                    ),
-                )
-            )
+        elif file and re.fullmatch(r"\w+", name) and re.fullmatch(r"(?=.) *-*\+*", signs):
+            kept, old, new = (tuple(it[2:] for it in lines if it[0] == sign) for sign in " -+")
+            edits.append(Edit(path.stem, name, (Lines(file, kept, old, new),)))
         else:
             raise BadEdits(f"{path}: '{name}' is neither a file nor an edit of one")
-    return found
+    return edits
 
 
-def read_must_fail(path):
-    """The edit of a file of must-fail/, as `rt ci` reads it."""
+def read_must_fail(path: Path) -> Edit:
+    """Returns the edit in a file of must-fail/, as `rt ci` reads it."""
     file, old, changes = "", "", []
     for line in path.read_text().split("\n"):
         word, _, rest = line.partition(":")
@@ -122,25 +119,25 @@ def read_must_fail(path):
     return Edit(path.parent.parent.name, path.stem, tuple(changes))
 
 
-def all_edits():
-    """The edits of each crate, by its name: those of its must-fail/ and of its file here."""
-    found = {}
+def all_edits() -> dict[str, list[Edit]]:
+    """Returns the edits of each crate: those of its must-fail/ and of its file in edits/."""
     edits = [read_must_fail(path) for path in sorted(TOP.glob("crates/*/must-fail/*.edit"))]
-    for edit in [
-        *edits,
-        *(it for path in sorted(FOLDER.glob("*.edits")) for it in read_edits(path)),
-    ]:
-        if edit.name in (it.name for it in found.setdefault(edit.crate, [])):
+    for path in sorted(FOLDER.glob("*.edits")):
+        edits += read_edits(path)
+    of_crates: dict[str, list[Edit]] = {}
+    for edit in edits:
+        others = of_crates.setdefault(edit.crate, [])
+        if edit.name in (other.name for other in others):
             raise BadEdits(f"{edit.name} is there twice")
-        found[edit.crate].append(edit)
-    return dict(sorted(found.items()))
+        others.append(edit)
+    return dict(sorted(of_crates.items()))
 
 
 # ---- applying
 
 
-def applied(texts, edit):
-    """The texts of the crate's files with this edit, or None where what it changes isn't there once."""
+def applied(texts: dict[str, str], edit: Edit) -> Optional[dict[str, str]]:
+    """Returns the texts of the crate's files with this edit too, or None where it doesn't apply."""
     texts = dict(texts)
     for change in edit.changes:
         at = TOP / "crates" / edit.crate / change.file
@@ -148,8 +145,8 @@ def applied(texts, edit):
             if not at.is_file():
                 return None
             texts[change.file] = at.read_text()
-        made = change.made_in(texts[change.file])
-        if made is None:
+        changed = change.apply(texts[change.file])
+        if changed is None:
             return None
-        texts[change.file] = made[0]
+        texts[change.file] = changed.text
     return texts if edit.changes else None
