@@ -20,17 +20,15 @@ def policies_of(planes, masks):
 def turned(planes, policy, symmetry):
     """A position and its policy, both turned by a symmetry. The pass stays last."""
     places = MAPS[symmetry]
-    return planes.reshape(-1, SIZE * SIZE)[:, places].reshape(planes.shape), np.append(
-        policy[places], policy[-1]
-    )
+    planes_turned = planes.reshape(-1, SIZE * SIZE)[:, places].reshape(planes.shape)
+    return planes_turned, np.append(policy[places], policy[-1])
 
 
 games.planes_into(planes, EARLIER)
 games.masks_into(masks)
 played = [[] for _ in range(COUNT)]  # for each game: whose turn, planes and policy of each move
-learned = (
-    []
-)  # planes, policy, and 1 if the side that moved leads at the end, -1 if the other leads, else 0
+# planes, policy, and 1 if the side that moved leads at the end, -1 if the other leads, else 0
+learned = []
 for _ in range(400):
     turns, policies = games.turns, policies_of(planes, masks)
     moves = [rng.choice(len(policy), p=policy / policy.sum(dtype=float)) for policy in policies]
