@@ -1,6 +1,11 @@
-"""What a stage starts very often, made to start soon: a `python3` that is the one that runs the stage, with its standard library alone, and a
-copy of scripts whose modules are compiled. They want no more, and a start takes a third of the time where much is installed, or where
-`python3` is a script that looks for another."""
+"""Makes what tests of scripts start very often start sooner.
+
+That are a `python3` which is the one that runs the tests, with its standard library alone, and a
+copy of scripts whose modules are compiled. A start takes a third of the time where many packages
+are installed, or where `python3` is a script that looks for another.
+"""
+from __future__ import annotations
+
 import atexit
 import compileall
 import os
@@ -13,34 +18,32 @@ from pathlib import Path
 
 
 @lru_cache(maxsize=None)
-def python():
-    """The folder in which this `python3` is, until the stage ends."""
-    folder = made()
-    place = folder / "python3"
-    place.write_text(f'#!/bin/sh\nexec {shlex.quote(sys.executable)} -S "$@"\n')
-    place.chmod(0o755)
+def python() -> Path:
+    """Returns the folder in which this `python3` is, until the tests end."""
+    folder = new_folder()
+    script = folder / "python3"
+    script.write_text(f'#!/bin/sh\nexec {shlex.quote(sys.executable)} -S "$@"\n')
+    script.chmod(0o755)
     return folder
 
 
 @lru_cache(maxsize=None)
-def compiled(scripts):
-    """A copy of a folder of scripts, until the stage ends."""
-    folder = made() / scripts.name
+def compiled(scripts: Path) -> Path:
+    """Returns a copy of a folder of scripts, until the tests end."""
+    folder = new_folder() / scripts.name
     shutil.copytree(scripts, folder, ignore=shutil.ignore_patterns("__pycache__"))
     compileall.compile_dir(folder, quiet=1)
     return folder
 
 
-def made():
-    """A new folder, which is removed at the end."""
+def new_folder() -> Path:
+    """Returns a new folder, which is removed when the tests end."""
     folder = tempfile.TemporaryDirectory()
     atexit.register(folder.cleanup)
     return Path(folder.name)
 
 
-def environment(*folders):
-    """The environment in which this `python3` is found first, and then what is in these folders."""
-    return {
-        **os.environ,
-        "PATH": os.pathsep.join(map(str, [python(), *folders, os.environ["PATH"]])),
-    }
+def environment(*folders: Path) -> dict[str, str]:
+    """Returns the environment in which this `python3` is found, then what is in these folders."""
+    path = os.pathsep.join(map(str, [python(), *folders, os.environ["PATH"]]))
+    return {**os.environ, "PATH": path}

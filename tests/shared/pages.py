@@ -1,5 +1,4 @@
-"""The pages of the repository, in Markdown, and what one has: its blocks of code, its code in a line, its links, and the anchors of its
-headings."""
+"""Reads the pages of the repository, in Markdown: their code, links and headings."""
 from __future__ import annotations
 
 import os
@@ -9,6 +8,7 @@ from pathlib import Path
 
 from .processes import TOP
 
+# directories of what checks and builds leave
 LEFT_OUT = {
     ".git",
     ".mypy_cache",
@@ -19,7 +19,7 @@ LEFT_OUT = {
     "out",
     "target",
     "workspace",
-}  # directories of what checks and builds leave
+}
 
 BLOCK = re.compile(r"^```(\w*)\n(.*?)^```$", re.MULTILINE | re.DOTALL)
 SPAN = re.compile(r"(`+)(?!`)(.+?)(?<!`)\1(?!`)")
@@ -29,74 +29,79 @@ COMMENT = re.compile(r"<!--.*?-->", re.DOTALL)
 
 @lru_cache(maxsize=None)
 def files() -> tuple[str, ...]:
-    """The files of the repository, by their paths from its top."""
-    found = []
-    for directory, inner, names in os.walk(TOP):
+    """Returns the paths of the repository's files, from its top."""
+    paths = []
+    for folder, inner, names in os.walk(TOP):
         inner[:] = [name for name in inner if name not in LEFT_OUT]
-        found += [str((Path(directory) / name).relative_to(TOP)) for name in names]
-    return tuple(sorted(found))
+        paths += [str((Path(folder) / name).relative_to(TOP)) for name in names]
+    return tuple(sorted(paths))
 
 
 @lru_cache(maxsize=None)
 def page_paths() -> tuple[str, ...]:
-    """The pages among them."""
+    """Returns the paths of the pages."""
     return tuple(path for path in files() if path.endswith(".md"))
 
 
 def blocks_of(text: str) -> list[str]:
-    """The blocks of code between lines of ```."""
+    """Returns the blocks of code between lines of ```."""
     return [block for _, block in BLOCK.findall(text)]
 
 
 def blocks_in(text: str, language: str) -> list[str]:
-    """The blocks in this language, as the line before a block names it; "" is none."""
+    """Returns the blocks in a language, as the line before a block names it; "" is none."""
     return [block for of, block in BLOCK.findall(text) if of == language]
 
 
 def blank(found: re.Match[str]) -> str:
-    """Spaces in place of what was found. Lines stay, so that each place of the text keeps its number."""
+    """Returns spaces in place of what was found. Lines stay, so that places keep their numbers."""
     return re.sub(r"[^\n]", " ", found[0])
 
 
 def without_blocks(text: str) -> str:
-    """The text with spaces in place of its blocks of code."""
+    """Returns the text with spaces in place of its blocks of code."""
     return BLOCK.sub(blank, text)
 
 
 def without_code(text: str) -> str:
-    """The text with spaces in place of all code."""
+    """Returns the text with spaces in place of all code."""
     return SPAN.sub(blank, without_blocks(text))
 
 
 def spans_of(text: str) -> list[str]:
-    """The code in the lines of a page, each without its backquotes."""
+    """Returns the code in the lines of a page, without backquotes."""
     return [found[2] for found in SPAN.finditer(without_blocks(text))]
 
 
 def line_of(text: str, place: int) -> int:
-    """The number of the line in which this place of a text is."""
+    """Returns the number of the line in which this place of a text is."""
     return text.count("\n", 0, place) + 1
 
 
 def anchors_of(text: str) -> set[str]:
-    """The anchors of a page, as GitHub makes them of its headings: in small letters, without punctuation, with hyphens in place of spaces.
-    The second heading of the same text has `-1` after it, the third `-2`."""
-    found: dict[str, int] = {}
-    for heading in re.findall(
-        r"^#+ +(.*?) *$", COMMENT.sub("", without_blocks(text)), re.MULTILINE
-    ):
+    """Returns the anchors of a page, as GitHub makes them of its headings.
+
+    They are in small letters, without punctuation, with hyphens in place of spaces. The second
+    heading of the same text has `-1` after it, the third `-2`.
+    """
+    counts: dict[str, int] = {}
+    shown = COMMENT.sub("", without_blocks(text))
+    for heading in re.findall(r"^#+ +(.*?) *$", shown, re.MULTILINE):
         words = re.sub(r"\[([^]]*)\]\([^)]*\)", r"\1", heading)
         anchor = re.sub(r"[^\w\- ]", "", words.lower()).replace(" ", "-")
-        found[anchor] = found.get(anchor, 0) + 1
+        counts[anchor] = counts.get(anchor, 0) + 1
     return {
         f"{anchor}-{number}" if number else anchor
-        for anchor, times in found.items()
-        for number in range(times)
+        for anchor, count in counts.items()
+        for number in range(count)
     }
 
 
 def leads(page: Path, target: str) -> bool:
-    """Does a link of this page lead to a file, and to a heading in it? One to another site is taken to do so."""
+    """Tells whether a link of this page leads to a file, and to a heading in it.
+
+    A link to another site is taken to do so.
+    """
     if re.match(r"[a-z]+:", target):
         return True
     name, _, anchor = target.partition("#")
@@ -105,11 +110,10 @@ def leads(page: Path, target: str) -> bool:
 
 
 def lost_links(page: Path) -> list[str]:
-    """The links of a page that lead nowhere, each with the page's name and its line."""
+    """Returns the links of a page that lead nowhere, each with the page's name and its line."""
     text = page.read_text()
-    found = TARGET.finditer(without_code(text))
     return [
         f"{page.name}:{line_of(text, link.start())}: {link[0]}"
-        for link in found
+        for link in TARGET.finditer(without_code(text))
         if not leads(page, link[0])
     ]
