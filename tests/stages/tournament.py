@@ -62,14 +62,6 @@ from tests.stages.of_tournament.stops import (
     Whole,
 )  # noqa: E402, F401
 from tests.stages.of_tournament.drawn import Drawn, Two, Unread  # noqa: E402, F401
-from tests.stages.of_tournament.plans import (
-    CutAtSpaces,
-    Lost,
-    NoNotes,
-    NoResults,
-    Plans,
-    Vanished,
-)  # noqa: E402, F401
 from tests.stages.of_tournament.machines import (
     Arrays,
     Elsewhere,
@@ -118,31 +110,6 @@ from tests.stages.of_tournament.openings import Folders, Refused, Rules, Taken  
 from tests.stages.of_tournament.opened import Answers, Crashes, Refusals, Talks  # noqa: E402, F401
 from tests.stages.of_tournament.opened import Times as OpenedTimes  # noqa: E402, F401
 from tests.stages.of_tournament.opened import Games as OpenedGames  # noqa: E402, F401
-from tests.stages.of_tournament.replayed import (
-    Begun,
-    Followed,
-    InTheWay,
-    Looks,
-    Put,
-)  # noqa: E402, F401
-from tests.stages.of_tournament.tries import (
-    Added,
-    Counted,
-    Gone,
-    InARow,
-    NotStarted,
-    Tried,
-    Unable,
-)  # noqa: E402, F401
-from tests.stages.of_tournament.trials import (
-    Broken,
-    Dressed,
-    Kept,
-    Noticed,
-    Pauses,
-    Quits,
-    TrialKilled,
-)  # noqa: E402, F401
 from tests.stages.of_tournament.beside import Died, Games, Sample, Taps  # noqa: E402, F401
 
 PARSER = checks.Parser(__doc__)

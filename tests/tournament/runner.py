@@ -183,8 +183,8 @@ class Runner:
         """Returns the results of a tournament, by the names of the games."""
         return self.files(f"{folder}/games")
 
-    def pass_trials(self, folder: str = "all") -> None:
-        """Has all engines of a plan pass for tried on this machine."""
+    def pass_trials(self, folder: str = "all", *names: str) -> None:
+        """Has these engines of a plan, or all of them, pass for tried on this machine."""
         lines = [
             line.split(" ", 2) for line in (self.folder / folder / "plan").read_text().splitlines()
         ]
@@ -198,7 +198,8 @@ class Runner:
         board = f"size {size} komi {komi} handicap 0{' directly' if is_direct else ''}"
         place = self.folder / folder / "tried" / os.uname().nodename
         place.mkdir(parents=True, exist_ok=True)
-        passed = [f"passed {it[2]}\t{where}\t{board}\n" for it in lines if it[0] == "engine"]
+        commands = {line[1]: line[2] for line in lines if line[0] == "engine"}
+        passed = [f"passed {commands[name]}\t{where}\t{board}\n" for name in names or commands]
         (place / "passed").write_text("".join(passed))
 
 
