@@ -1,41 +1,56 @@
-"""What stands between twogtp and an engine of a game: it starts the engine, and passes the bytes both ways.
+"""Stands between twogtp and an engine of a game: starts the engine, and passes the bytes both ways.
 
-The file of the game has parts with a zero byte between two: `notes FILE`, `folder FOLDER`, and of the colour
-`black WORD` for each word of the command. There may be `limit SECONDS`, which is of each answer but that of a genmove, `move-limit
-SECONDS`, which is of that, and `opening MOVE ..`: then the engine is told the moves with which the game begins by `play`, in place of
-`genmove`. The notes get the moves as they are played, and how the engine ended. `held FILE NUMBER` is a pipe that the game's process
-holds, and the number of its inode. twogtp gives an engine three streams alone, so the pipe is opened by its name.
+The file of the game has parts, separated by zero bytes: `notes FILE`, `folder FOLDER`, and
+`black WORD` for each word of the command of that colour. It may have `limit SECONDS`, for each
+answer except that to genmove, `move-limit SECONDS`, for that, and `opening MOVE ..`: then the
+engine is sent the moves with which the game begins by `play`, in place of `genmove`. The notes get
+the moves as they are played, and how the engine ended. `held FILE NUMBER` is a pipe that the game's
+process holds, and the number of its inode. twogtp passes an engine three streams only, so the pipe
+is opened by its name.
 
-An engine that was late is ended with all that it started, and no other start of it in this game gets any time. The engine ends with this
-process; what it started then is ended by that of the game. This one goes on as long as somebody has the engine's output, and the game's
-process lives: where that has ended, all that is below this one is ended at once.
+An engine that was late is ended with all that it started, and isn't started again in this game. The
+engine ends with this process; what it started is ended by the game's process. This process runs as
+long as somebody has the engine's output and the game's process lives: once that has ended, all that
+is below this one is ended at once.
 
-status: the engine's, or the signal that ended it; 124 where an answer was late; 125 where the notes can't be written, or the game is over;
-        126 or 127 where the engine can't be started
+status: the engine's, or the signal that ended it; 124 if an answer was late; 125 if the notes can't
+        be written, or the game is over; 126 or 127 if the engine can't be started
 """
+from __future__ import annotations
+
 import os
 import select
 import time
 
 from . import below
 from .below import signal
-from .talk import Talk
+from .talk import Conversation
 
-ROOM = 65536  # bytes that are read at once
+TYPE_CHECKING = False  # as of typing, whose import takes longer than all of this
+if TYPE_CHECKING:
+    from collections.abc import Collection
+    from typing import NoReturn
+
+CHUNK = 65536  # bytes that are read at once
 LATE, OVER = 124, 125
-PAUSE = 0.2  # seconds in which an engine may end whose output has ended
-GONE = 5  # seconds in which one may end that nobody writes to or reads any more
-SAME = 0.5  # seconds in which twogtp ends, where it was asked to as the engine was
+PAUSE = 0.2  # seconds for which an engine may run on once its output has ended
+ABANDONED = 5  # seconds for which an engine may run on without anybody to write to it or read it
+SAME_SIGNAL = 0.5  # seconds in which twogtp ends, too, where the engine was asked to end
+STDIN, STDOUT, STDERR = 0, 1, 2
 
 
-class Ended(Exception):
-    """This process is to end with a status."""
+class Exit(Exception):
+    """Ends this process with a status."""
+
+    def __init__(self, status: int) -> None:
+        super().__init__(status)
+        self.status = status
 
 
-def say(colour, text):
+def report(colour: str, text: str) -> None:
     """Writes a line on standard error."""
     try:
-        os.write(2, f"between: {colour}: {text}\n".encode(errors="surrogateescape"))
+        os.write(STDERR, f"between: {colour}: {text}\n".encode(errors="surrogateescape"))
     except OSError:
         pass
 
@@ -43,59 +58,62 @@ def say(colour, text):
 class Game:
     """What the file of the game says of this colour's engine."""
 
-    def __init__(self, text, colour):
-        parts = {
-            "notes": [],
-            "folder": [],
-            "held": [],
-            "limit": [],
-            "move-limit": [],
-            "opening": [],
-            colour: [],
-        }
+    def __init__(self, text: bytes, colour: str) -> None:
+        keys = ("notes", "folder", "held", "limit", "move-limit", "opening", colour)
+        parts: dict[str, list[str]] = {key: [] for key in keys}
         for part in os.fsdecode(text).split("\0"):
             key, _, value = part.partition(" ")
-            parts.get(key, []).append(value)
-        (self.place,), (self.folder,), self.words = parts["notes"], parts["folder"], parts[colour]
-        self.limits = [float(parts[it][0]) if parts[it] else None for it in ("limit", "move-limit")]
-        self.opening = [it.upper().encode() for line in parts["opening"] for it in line.split()]
+            if key in parts:
+                parts[key].append(value)
+        (self.place,), (self.folder,), self.command = parts["notes"], parts["folder"], parts[colour]
+        self.limit, self.move_limit = (
+            float(parts[key][0]) if parts[key] else None for key in ("limit", "move-limit")
+        )
+        self.opening = [move.upper().encode() for line in parts["opening"] for move in line.split()]
         self.notes = os.open(self.place, os.O_RDWR | os.O_APPEND | os.O_CLOEXEC)
-        self.held = [end for it in parts["held"] for end in opened(*it.split(" "))]
+        self.held = [end for pipe in parts["held"] for end in open_held(*pipe.split(" "))]
         self.colour = colour
 
-    def heed(self, seconds, reads=(), writes=()):
-        """Waits until one of these can be read or written, so many seconds at most, and returns those that can be read. Where the game's
-        process has ended, so does this one."""
+    def wait(
+        self, seconds: float | None, reads: Collection[int] = (), writes: Collection[int] = ()
+    ) -> list[int]:
+        """Waits until one of these can be read or written, and returns which can be read.
+
+        Ends this process where the game's process has ended.
+        """
         readable, _, _ = select.select([*reads, *self.held], writes, [], seconds)
-        if any(it in readable for it in self.held):
-            raise Ended(OVER)
+        if any(end in readable for end in self.held):
+            raise Exit(OVER)
         return readable
 
-    def was_late(self):
-        """Was an engine of this colour late in the game?"""
+    def was_late(self) -> bool:
+        """Returns whether an engine of this colour was late in the game."""
         lines = os.pread(self.notes, os.fstat(self.notes).st_size, 0).decode("latin-1").split("\n")
         return any(line.split(" ")[1:3] == [self.colour, "late"] for line in lines)
 
-    def note(self, text):
-        """Writes a note. Where it can't be written whole the notes are removed, by which the game is known to have no result."""
+    def write_note(self, text: str) -> None:
+        """Writes a note. Where it can't be written whole the notes are removed, and so the game is
+        known to have no result."""
         data = text.encode("latin-1", "replace")
         try:
             if os.write(self.notes, data) == len(data):
                 return
-            why = "No space left on device"
-        except OSError as problem:
-            why = problem.strerror
+            reason = "No space left on device"
+        except OSError as error:
+            reason = error.strerror
         try:
             os.unlink(self.place)
         except OSError:
             pass
-        say(self.colour, f"{self.place} can't be written: {why}")
-        raise Ended(OVER)
+        report(self.colour, f"{self.place} can't be written: {reason}")
+        raise Exit(OVER)
 
 
-def opened(place, inode):
-    """The pipe that the game's process holds; none where this system lets nobody open it. FileNotFoundError where that process has ended,
-    also if its number is another one's by now."""
+def open_held(place: str, inode: str) -> list[int]:
+    """Opens the pipe that the game's process holds; nothing where this system lets nobody open it.
+
+    Raises FileNotFoundError where that process has ended, also if its number is used again.
+    """
     try:
         held = os.open(place, os.O_RDONLY | os.O_NONBLOCK | os.O_CLOEXEC)
     except PermissionError:
@@ -106,22 +124,27 @@ def opened(place, inode):
 
 
 class Engine:
-    """The engine's process."""
+    """The process of the engine."""
 
-    def __init__(self, game):
-        (from_caller, self.given), (self.taken, from_engine) = os.pipe(), os.pipe()
-        self.number, self.failure = below.start(
-            game.words, game.folder, (from_caller, from_engine, 2)
+    def __init__(self, game: Game) -> None:
+        (from_caller, to_engine), (self.output, from_engine) = os.pipe(), os.pipe()
+        self.input: int | None = to_engine  # None once it is closed
+        self.number, self.failure = below.start_program(
+            game.command, game.folder, (from_caller, from_engine, STDERR)
         )
         os.close(from_caller)
         os.close(from_engine)
-        os.set_blocking(self.given, False)
+        os.set_blocking(to_engine, False)
 
-    def ended(self, seconds=None):
-        """The status with which it ended, for which it is waited so long; None where it goes on."""
-        until = seconds and time.monotonic() + seconds
+    def wait(self) -> int:
+        """Waits for its end, and returns the status of waitpid."""
+        return os.waitpid(self.number, 0)[1]
+
+    def wait_for(self, seconds: float) -> int | None:
+        """Waits for its end for so long, and returns the status; None where it runs on."""
+        until = time.monotonic() + seconds
         while True:
-            number, status = os.waitpid(self.number, os.WNOHANG if seconds is not None else 0)
+            number, status = os.waitpid(self.number, os.WNOHANG)
             if number:
                 return status
             if time.monotonic() > until:
@@ -132,83 +155,89 @@ class Engine:
 class Relay:
     """The bytes that are passed both ways."""
 
-    def __init__(self, game, talk, engine):
-        self.game, self.talk, self.engine = game, talk, engine
+    def __init__(self, game: Game, conversation: Conversation, engine: Engine) -> None:
+        self.game, self.conversation, self.engine = game, conversation, engine
         self.to_engine = self.to_caller = b""
-        self.reads = {0, engine.taken}
-        self.left = None  # since when twogtp is gone
-        os.set_blocking(1, False)
+        self.reads = {STDIN, engine.output}
+        self.caller_left: float | None = None  # when twogtp was first seen to be gone
+        os.set_blocking(STDOUT, False)
 
-    def run(self):
-        """Passes them until the engine's output has ended. Is an answer late?"""
-        taken = self.engine.taken
+    def run(self) -> bool:
+        """Passes bytes until the engine's output has ended. Returns whether an answer is late."""
+        output = self.engine.output
         while True:
-            pause = self.talk.pause()
+            pause = self.conversation.seconds_to_wait()
             if pause is not None and pause <= 0:
                 return True
-            if 0 not in self.reads:
+            if STDIN not in self.reads:
                 pause = PAUSE if pause is None else min(PAUSE, pause)
-                self.end_if_left()
-            writes = [
-                end
-                for end, text in ((self.engine.given, self.to_engine), (1, self.to_caller))
-                if text
-            ]
-            readable = self.game.heed(
-                pause, self.reads if len(self.to_caller) < ROOM else self.reads - {taken}, writes
-            )
-            if 0 in readable:
-                self.hear_caller()
-            if taken in readable:
-                data = os.read(taken, ROOM)
-                self.to_caller += self.talk.heard(data)
+                self.end_if_abandoned()
+            reads = self.reads if len(self.to_caller) < CHUNK else self.reads - {output}
+            readable = self.game.wait(pause, reads, self.writes())
+            if STDIN in readable:
+                self.read_caller()
+            if output in readable:
+                data = os.read(output, CHUNK)
+                self.to_caller += self.conversation.from_engine(data)
                 if not data:
                     return False
-            if self.to_engine:
-                self.to_engine = rest(self.engine.given, self.to_engine)
-            if self.to_caller:
-                self.to_caller = rest(1, self.to_caller)
-            if 0 not in self.reads and not self.to_engine and self.engine.given is not None:
-                self.engine.given = os.close(self.engine.given)
+            self.write()
 
-    def end_if_left(self):
-        """Ends the engine where twogtp has gone, and the engine goes on for too long: nobody else would end it."""
+    def writes(self) -> list[int]:
+        """Returns the descriptors for which bytes wait."""
+        ends = [STDOUT] if self.to_caller else []
+        return [*ends, self.engine.input] if self.to_engine and self.engine.input else ends
+
+    def write(self) -> None:
+        """Writes what can be written, and closes the engine's input behind twogtp's last byte."""
+        if self.to_engine and self.engine.input is not None:
+            self.to_engine = write_some(self.engine.input, self.to_engine)
+        if self.to_caller:
+            self.to_caller = write_some(STDOUT, self.to_caller)
+        if STDIN not in self.reads and not self.to_engine and self.engine.input is not None:
+            os.close(self.engine.input)
+            self.engine.input = None
+
+    def end_if_abandoned(self) -> None:
+        """Ends the engine where twogtp is gone, and the engine runs on for too long: nobody else
+        would end it."""
         ends = select.poll()
-        ends.register(1, 0)
+        ends.register(STDOUT, 0)
         if not ends.poll(0):
             return
-        self.left = self.left or time.monotonic()
-        if time.monotonic() > self.left + GONE:
-            below.end_all()
-            raise Ended(LATE)
+        self.caller_left = self.caller_left or time.monotonic()
+        if time.monotonic() > self.caller_left + ABANDONED:
+            below.end_descendants()
+            raise Exit(LATE)
 
-    def hear_caller(self):
-        """Reads what twogtp wrote. Where it has ended, that is noted if it waited for an answer."""
-        data = os.read(0, ROOM)
-        self.to_engine += self.talk.asked(data)
+    def read_caller(self) -> None:
+        """Reads what twogtp wrote. At its end a note says whether it waited for an answer."""
+        data = os.read(STDIN, CHUNK)
+        self.to_engine += self.conversation.from_controller(data)
         if not data:
-            self.reads.discard(0)
-            if self.talk.waiting:
-                self.talk.cut("waited")
-            for command in self.talk.waiting:
+            self.reads.discard(STDIN)
+            if self.conversation.waiting:
+                self.conversation.note_no_answer("waited")
+            for command in self.conversation.waiting:
                 command.is_noted = True
 
-    def finish(self):
+    def finish(self) -> None:
         """Passes on what is left, once the engine's output has ended."""
-        os.set_blocking(1, True)
-        left = self.to_caller + (self.talk.held or b"" if self.talk.inside else b"")
+        os.set_blocking(STDOUT, True)
+        held = self.conversation.held if self.conversation.in_answer else None
+        left = self.to_caller + (held or b"")
         while left:
-            left = rest(1, left)
+            left = write_some(STDOUT, left)
 
-    def caller_is_gone(self, seconds):
-        """Has twogtp ended, or does it in so many seconds?"""
-        if 0 in self.reads and select.select([0], [], [], seconds)[0]:
-            self.hear_caller()
-        return 0 not in self.reads
+    def caller_is_gone(self, seconds: float) -> bool:
+        """Returns whether twogtp has ended, or does in so many seconds."""
+        if STDIN in self.reads and select.select([STDIN], [], [], seconds)[0]:
+            self.read_caller()
+        return STDIN not in self.reads
 
 
-def rest(end, data):
-    """Writes what there is room for, and returns the rest. Where nobody reads any more, nothing is left."""
+def write_some(end: int, data: bytes) -> bytes:
+    """Writes what can be written at once, and returns the rest; nothing where nobody reads."""
     try:
         return data[os.write(end, data) :]
     except BlockingIOError:
@@ -217,82 +246,87 @@ def rest(end, data):
         return b""
 
 
-def how(status):
-    """How an engine ended that ended with this status."""
+def description(status: int | None) -> str:
+    """Returns how an engine ended, by this status of waitpid."""
     if status is None:
         return "its output ended, but it ran on"
-    return (
-        f"signal {os.WTERMSIG(status)}"
-        if os.WIFSIGNALED(status)
-        else f"exit status {os.WEXITSTATUS(status)}"
-    )
+    if os.WIFSIGNALED(status):
+        return f"signal {os.WTERMSIG(status)}"
+    return f"exit status {os.WEXITSTATUS(status)}"
 
 
-def was_asked_to_end(status):
-    """Did it end by a signal that twogtp gets, too, where a game is stopped?"""
+def was_asked_to_end(status: int | None) -> bool:
+    """Returns whether it ended by a signal that twogtp gets, too, where a game is stopped."""
     return status is not None and os.WIFSIGNALED(status) and os.WTERMSIG(status) in below.ENDING
 
 
-def end_as(status):
+def end_as(status: int) -> NoReturn:
     """Ends as an engine that ended with this status, but without a dump of memory."""
     if os.WIFSIGNALED(status):
         number = os.WTERMSIG(status)
-        below.prctl(below.DUMPED, 0, 0, 0, 0)
+        below.prctl(below.DUMPABLE, 0, 0, 0, 0)
         if number != signal.SIGKILL:
             signal.signal(number, signal.SIG_DFL)
         os.kill(os.getpid(), number)
-    raise Ended(below.code(status))
+    raise Exit(below.shell_status(status))
 
 
-def play(game, colour):
-    """Starts the engine of a game and passes the bytes, until it has ended. Ends with its status."""
-    talk = Talk(colour, game.limits, game.opening, game.note)
+def play(game: Game) -> NoReturn:
+    """Starts the engine of a game and passes the bytes, until it has ended. Ends as it."""
+    limits = game.limit, game.move_limit
+    conversation = Conversation(game.colour, limits, game.opening, game.write_note)
     if game.was_late():
-        talk.tell("stays ended")
-        say(colour, "it was late, and isn't started again")
-        raise Ended(LATE)
-    below.adopt()
+        conversation.note("stays ended")
+        report(game.colour, "it was late, and isn't started again")
+        raise Exit(LATE)
+    below.adopt_orphans()
     engine = Engine(game)
     if engine.failure:
-        talk.tell(f"not started: {engine.failure}")
-        say(colour, f"not started: {engine.failure}")
-        end_as(engine.ended())
-    relay = Relay(game, talk, engine)
+        conversation.note(f"not started: {engine.failure}")
+        report(game.colour, f"not started: {engine.failure}")
+        end_as(engine.wait())
+    relay = Relay(game, conversation, engine)
     if relay.run():
-        if 0 in relay.reads:
-            talk.cut("late")
-        say(colour, f"no answer in time to {talk.waiting[0].text.decode('latin-1')!r}")
-        below.end_all()
-        raise Ended(LATE)
+        end_late(relay)
     relay.finish()
-    status = engine.ended(PAUSE)
-    is_due = talk.waiting and talk.waiting[0].name != b"quit" or not talk.has_answered
-    if not relay.caller_is_gone(SAME if is_due and was_asked_to_end(status) else 0) and is_due:
-        talk.cut("ended", how(status))
+    status = engine.wait_for(PAUSE)
+    waiting = conversation.waiting
+    is_early = waiting and waiting[0].name != b"quit" or not conversation.has_answered
+    seconds = SAME_SIGNAL if is_early and was_asked_to_end(status) else 0
+    if not relay.caller_is_gone(seconds) and is_early:
+        conversation.note_no_answer("ended", description(status))
     if status is None:
-        os.close(1)
+        os.close(STDOUT)
         while status is None:
-            game.heed(PAUSE)
-            status = engine.ended(0)
+            game.wait(PAUSE)
+            status = engine.wait_for(0)
     end_as(status)
 
 
-def main(text, colour):
-    """Does so in the game whose file has this text, and returns the status."""
-    for number in below.ENDING:
-        signal.signal(
-            number, signal.SIG_IGN
-        )  # who asks a game to end asks twogtp and the engine too
+def end_late(relay: Relay) -> NoReturn:
+    """Ends an engine whose answer is late."""
+    conversation = relay.conversation
+    if STDIN in relay.reads:
+        conversation.note_no_answer("late")
+    command = conversation.waiting[0].text.decode("latin-1")
+    report(conversation.colour, f"no answer in time to {command!r}")
+    below.end_descendants()
+    raise Exit(LATE)
+
+
+def main(text: bytes, colour: str) -> int:
+    """Runs the engine of this colour in the game whose file has this text. Returns the status."""
+    for number in below.ENDING:  # whoever asks a game to end asks twogtp and the engine, too
+        signal.signal(number, signal.SIG_IGN)
     try:
         game = Game(text, colour)
     except FileNotFoundError:
-        say(colour, "the game is over")
+        report(colour, "the game is over")
         return OVER
     try:
-        below.be_called(f"between {colour}")
-        play(game, colour)
-    except Ended as end:
-        if end.args[0] == OVER:
-            below.end_all()
-        return end.args[0]
-    return 0
+        below.set_process_name(f"between {colour}")
+        play(game)
+    except Exit as exit:
+        if exit.status == OVER:
+            below.end_descendants()
+        return exit.status

@@ -16,7 +16,7 @@ MOST = 10  # seconds after which what can't be killed is left
 
 def adopt():
     """From now on what a process below loses its parent becomes a child of this one."""
-    below.adopt()
+    below.adopt_orphans()
     if not os.path.exists(f"/proc/self/task/{os.getpid()}/children"):
         raise OSError(0, "/proc of this system doesn't list the children of a process")
 
@@ -30,7 +30,7 @@ def stand_apart(ending):
     signal.pthread_sigmask(signal.SIG_BLOCK, [signal.SIGCHLD, *ending])
     own, process = os.getpid(), os.fork()
     if not process:
-        if below.end_with(own, signal.SIGTERM):
+        if below.end_with_parent(own, signal.SIGTERM):
             os._exit(128 + signal.SIGTERM)
         return
     ended = 0
@@ -39,7 +39,7 @@ def stand_apart(ending):
         if came != signal.SIGCHLD:
             send(came, [process])
         ended, status = os.waitpid(process, os.WNOHANG)
-    os._exit(below.code(status))
+    os._exit(below.shell_status(status))
 
 
 def send(number, processes):

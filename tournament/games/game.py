@@ -185,11 +185,11 @@ def play_here(name, places, match, parent):
     outcome = BROKEN
     try:
         os.setsid()
-        below.be_called(f"game {name}")
+        below.set_process_name(f"game {name}")
         signal.signal(signal.SIGTERM, signal.SIG_DFL)
         family.adopt()
         outcome = (
-            STOPPED if below.end_with(parent, signal.SIGTERM) else Game(name, places, match).play()
+            STOPPED if below.end_with_parent(parent, signal.SIGTERM) else Game(name, places, match).play()
         )
     except BaseException as problem:  # this process may not go on as the run
         output.complain(

@@ -1,4 +1,6 @@
 """What is played: the command of twogtp for a game, and what `between` has to know of it."""
+from __future__ import annotations
+
 import marshal
 import os
 import re
@@ -12,6 +14,7 @@ MODULES = (
     "talk",
     "between",
 )  # what `between` needs, in the order in which one needs another
+ANNOTATIONS = b"from __future__ import annotations\n"
 # of an engine that answered nothing, by a line of --why without its beginning
 NO_ANSWER = re.compile(r'not started: .*|\d+ unanswered, (?:the first )?"1 boardsize .*')
 
@@ -71,13 +74,16 @@ class Match:
 
 
 def compiled():
-    """The modules that `between` needs."""
-    found = []
+    """The modules that `between` needs, without what costs time at its start: docstrings, and the
+    import by which annotations aren't evaluated, of which the compiler is told here."""
+    modules = []
     for name in MODULES:
         place = f"{program.HERE}/games/{name}.py"
         with open(place, "rb") as file:
-            found.append((name, compile(file.read(), place, "exec")))
-    return marshal.dumps(found)
+            source = file.read().replace(ANNOTATIONS, b"\n")
+        flags = annotations.compiler_flag
+        modules.append((name, compile(source, place, "exec", flags, dont_inherit=True, optimize=2)))
+    return marshal.dumps(modules)
 
 
 class Noted:

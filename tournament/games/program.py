@@ -42,7 +42,7 @@ def start(words, folder, result, log):
     """Starts twogtp, which reads nothing and writes into these files. It ends with this process. Returns its process, and why it can't be
     started, if it can't."""
     with open(os.devnull, "rb") as nothing:
-        return below.start(words, folder, (nothing.fileno(), result, log), AS_BEFORE)
+        return below.start_program(words, folder, (nothing.fileno(), result, log), AS_BEFORE)
 
 
 def between():

@@ -25,7 +25,7 @@ class Run:
         ]  # nohup ignores one
         family.stand_apart(self.ending)
         family.adopt()
-        below.be_called("tournament")
+        below.set_process_name("tournament")
         signal.pthread_sigmask(signal.SIG_BLOCK, [signal.SIGCHLD, *self.ending])
 
     def read(self, places, old=None):

@@ -1,229 +1,252 @@
-"""What an engine of a game is asked and what it answers, as `between` sees it: the moves, the time of each answer, and an opening.
+"""What an engine is sent and what it answers, as `between` sees it: moves, times, an opening.
 
-As long as the game goes as its opening has it, `ID genmove COLOUR` becomes `ID play COLOUR VERTEX` for the engine, and its success becomes
-`=ID VERTEX` for twogtp. So each command stays one, and has its answer.
+As long as the game follows its opening, `ID genmove COLOUR` becomes `ID play COLOUR VERTEX` for
+the engine, and its success becomes `=ID VERTEX` for twogtp. So each command keeps its answer.
 
-What happened is written at once, as notes: a line begins with the number of the next move and the colour (games/notes.py).
+Each event is written at once, as a line of the game's notes (games/notes.py).
 """
+from __future__ import annotations
+
 import time
 
-COMMENT, SPACE = b"#", bytes.maketrans(b"\t", b" ")
-CONTROL = bytes(it for it in range(128) if it < 32 and it not in (9, 10) or it == 127)
-LONGEST = 300  # bytes of an answer that are looked at
-MOST = 8192  # bytes that an answer may have for twogtp
-SOON = 0.2  # seconds after which it is noted that a move is waited for
+TYPE_CHECKING = False  # as of typing, whose import takes longer than all of this
+if TYPE_CHECKING:
+    from collections.abc import Callable
+
+COMMENT, TAB_TO_SPACE = b"#", bytes.maketrans(b"\t", b" ")
+CONTROL = bytes(code for code in range(128) if code < 32 and code not in (9, 10) or code == 127)
+ANSWER_LOOKED_AT = 300  # bytes of an answer that are kept, to see what it says
+ANSWER_HELD = 8192  # bytes of an answer that twogtp takes
+NOTED_AFTER = 0.2  # seconds after which a note says that a move is waited for
 RESIGN = b"RESIGN"
+FAILED, SUCCEEDED = b"?", b"="
 
 
-def written(vertex):
-    """A vertex, a pass or a resignation as twogtp writes it."""
+def as_written(vertex: bytes) -> bytes:
+    """Returns a vertex, a pass or a resignation as twogtp writes it."""
     return vertex if vertex[1:2].isdigit() else vertex.lower()
-
-
-def play(moves, command):
-    """Plays on a list of moves what a command does that succeeds. That of a genmove, but of an opening, isn't known."""
-    if command.name == b"play":
-        moves.append(command.text.split()[-1].upper())
-    elif command.name == b"genmove":
-        moves.append(command.opening)
-    elif command.name == b"undo" and moves:
-        moves.pop()
-    elif command.name in (b"clear_board", b"boardsize"):
-        moves.clear()
 
 
 class Command:
     """A command that wasn't answered yet."""
 
-    __slots__ = ("text", "name", "since", "opening", "is_noted")
+    __slots__ = ("text", "name", "since", "opening_move", "is_noted")
 
-    def __init__(self, text, name, opening):
-        self.text, self.name, self.opening = (
-            text,
-            name,
-            opening,
-        )  # and the move that the engine is told in place of a genmove
+    def __init__(self, text: bytes, name: bytes, opening_move: bytes | None) -> None:
+        self.text, self.name = text, name
+        self.opening_move = opening_move  # which the engine is sent in place of a genmove
         self.since = time.monotonic()
-        self.is_noted = name != b"genmove"  # that it is waited for
+        self.is_noted = name != b"genmove"  # whether a note says that it is waited for
+
+    def change(self, moves: list[bytes]) -> None:
+        """Changes these moves as the command does that succeeds, except for the move of a genmove
+        without an opening, which isn't known."""
+        if self.name == b"play":
+            moves.append(self.text.split()[-1].upper())
+        elif self.name == b"genmove":
+            moves.append(self.opening_move or b"")
+        elif self.name == b"undo" and moves:
+            moves.pop()
+        elif self.name in (b"clear_board", b"boardsize"):
+            moves.clear()
 
 
-class Talk:
-    """A talk of twogtp and an engine of this colour: `note` writes a note."""
+class Conversation:
+    """What twogtp and an engine of this colour write to each other, with a function for notes."""
 
-    def __init__(self, colour, limits, opening, note):
-        self.colour, self.opening, self.note = colour, opening, note
-        (
-            self.limit,
-            self.move_limit,
-        ) = limits  # of each answer but that of a genmove, and of that; None where there is none
-        self.began = self.last = time.monotonic()  # when did the last answer end?
-        self.waiting = []
-        self.moves = []
-        self.line, self.answer = b"", b""  # the beginning of a line of twogtp's, and of an answer
-        self.held = None  # the bytes of a success that is to be put otherwise
-        self.at_start, self.inside = True, False  # a line of the engine's, and an answer
+    def __init__(
+        self,
+        colour: str,
+        limits: tuple[float | None, float | None],
+        opening: list[bytes],
+        write_note: Callable[[str], None],
+    ) -> None:
+        self.colour, self.opening, self.write_note = colour, opening, write_note
+        self.limit, self.move_limit = limits  # of a genmove the second one; None for no limit
+        self.began = time.monotonic()
+        self.last_answer = self.began  # when the last answer ended
+        self.waiting: list[Command] = []
+        self.moves: list[bytes] = []
+        self.unfinished_line = b""  # of twogtp
+        self.answer = b""  # the beginning of the engine's answer, without control characters
+        self.held: bytes | None = None  # the bytes of a success that twogtp gets in another form
+        self.at_line_start = True  # of the engine's output
+        self.in_answer = False
         self.has_answered = False
 
-    def tell(self, what):
-        """Writes a note."""
-        self.note(f"{len(self.moves) + 1 if self.has_answered else 0} {self.colour} {what}\n")
+    def note(self, event: str) -> None:
+        """Writes a note of an event."""
+        number = len(self.moves) + 1 if self.has_answered else 0
+        self.write_note(f"{number} {self.colour} {event}\n")
 
-    def asked(self, data):
-        """Takes what twogtp wrote, and returns what the engine gets of it: whole lines."""
-        if data[-1:] == b"\n" and not self.line and data.count(b"\n") == 1:
-            return self.command(data)
-        *lines, self.line = (self.line + data).split(b"\n")
-        return b"".join([self.command(line + b"\n") for line in lines])
+    # ---- from twogtp to the engine
 
-    def command(self, line):
-        """The line that the engine gets for this one. One that is empty without its comment and control characters asks nothing."""
-        text = line.split(COMMENT)[0].translate(SPACE, CONTROL)
+    def from_controller(self, data: bytes) -> bytes:
+        """Takes bytes of twogtp, and returns what the engine gets: whole lines."""
+        if data[-1:] == b"\n" and not self.unfinished_line and data.count(b"\n") == 1:
+            return self.engine_line(data)
+        *lines, self.unfinished_line = (self.unfinished_line + data).split(b"\n")
+        return b"".join([self.engine_line(line + b"\n") for line in lines])
+
+    def engine_line(self, line: bytes) -> bytes:
+        """Returns the line that the engine gets for a line of twogtp.
+
+        A line that is empty without its comment and control characters is no command.
+        """
+        text = line.split(COMMENT)[0].translate(TAB_TO_SPACE, CONTROL)
         words = text.split()
         number = words.pop(0) if words and words[0].isdigit() else b""
-        name, opening = words[0] if words else number, None
+        name, opening_move = words[0] if words else number, None
         if not name:
             return line
         text = text.strip()
         if name == b"genmove" and self.opening:
-            opening = self.next_of_opening(self.coming())
-            if opening:
-                text = b" ".join(filter(None, [number, b"play", *words[1:2], written(opening)]))
+            opening_move = self.next_of_opening(self.moves_to_come())
+            if opening_move:
+                sent = [number, b"play", *words[1:2], as_written(opening_move)]
+                text = b" ".join(filter(None, sent))
                 line = text + b"\n"
-        self.waiting.append(Command(text, name, opening))
+        self.waiting.append(Command(text, name, opening_move))
         return line
 
-    def coming(self):
-        """The moves as they are once all commands that wait have succeeded."""
+    def moves_to_come(self) -> list[bytes]:
+        """Returns the moves that there are once all waiting commands have succeeded."""
         moves = list(self.moves)
         for command in self.waiting:
-            play(moves, command)
+            command.change(moves)
         return moves
 
-    def next_of_opening(self, moves):
-        """The move that the opening has behind these, if it begins with them and goes on."""
+    def next_of_opening(self, moves: list[bytes]) -> bytes | None:
+        """Returns the move of the opening after these; None where it has other moves, or ends."""
         count = len(moves)
-        return (
-            self.opening[count]
-            if count < len(self.opening) and moves == self.opening[:count]
-            else None
-        )
+        follows = count < len(self.opening) and moves == self.opening[:count]
+        return self.opening[count] if follows else None
 
-    def heard(self, data):
-        """Takes what the engine wrote, and returns what twogtp gets. An answer ends at an empty line."""
-        passed = []
+    # ---- from the engine to twogtp
+
+    def from_engine(self, data: bytes) -> bytes:
+        """Takes bytes of the engine, and returns what twogtp gets. An empty line ends an answer."""
         *lines, rest = data.split(b"\n")
-        for line in lines:
-            passed.append(self.piece(line + b"\n"))
+        passed = [self.engine_output(line + b"\n") for line in lines]
         if rest:
-            passed.append(self.piece(rest))
+            passed.append(self.engine_output(rest))
         return b"".join(passed)
 
-    def piece(self, line):
-        """Takes a line of the engine's, or a part of one, and returns what twogtp gets."""
-        bare = line.translate(SPACE, CONTROL)
-        if not self.inside:
+    def engine_output(self, line: bytes) -> bytes:
+        """Takes a line of the engine, or a part of one, and returns what twogtp gets."""
+        bare = line.translate(TAB_TO_SPACE, CONTROL)
+        if not self.in_answer:
             bare = bare.lstrip(b" \n")
             if not bare:
                 return line
-            self.inside, self.answer = True, b""
-            self.held = (
-                b"" if bare[:1] == b"=" and self.waiting and self.waiting[0].opening else None
-            )
-        is_end = bare == b"\n" and self.at_start
+            self.begin_answer(bare)
+        is_end = bare == b"\n" and self.at_line_start
         if bare:
-            self.at_start = bare.endswith(b"\n")
-        if len(self.answer) < LONGEST:
+            self.at_line_start = bare.endswith(b"\n")
+        if len(self.answer) < ANSWER_LOOKED_AT:
             self.answer += bare
         if self.held is not None:
-            line, self.held = (
-                (b"", self.held + line)
-                if len(self.held) + len(line) <= MOST
-                else (self.held + line, None)
-            )
+            self.held += line
+            line = b""
+            if len(self.held) > ANSWER_HELD:
+                line, self.held = self.held, None
         if is_end:
-            self.inside = False
+            self.in_answer = False
             if self.waiting:
-                return self.answered(self.waiting.pop(0)) or line
+                return self.end_answer(self.waiting.pop(0)) or line
         return line
 
-    def answered(self, command):
-        """Takes note of the answer to a command. Returns what twogtp gets where it isn't what the engine wrote."""
+    def begin_answer(self, bare: bytes) -> None:
+        """Begins an answer with these bytes, which is held where it ends a move of the opening."""
+        self.in_answer, self.answer = True, b""
+        is_opening = self.waiting and self.waiting[0].opening_move
+        self.held = b"" if bare[:1] == SUCCEEDED and is_opening else None
+
+    def end_answer(self, command: Command) -> bytes | None:
+        """Notes the answer to a command. Returns what twogtp gets in place of what was written."""
         now = time.monotonic()
-        seconds, self.last = now - self.since(command), now
-        if not self.has_answered and self.answer[:1] in (b"=", b"?"):
-            self.note(f"0 {self.colour} started {now - self.began:.3f}\n")
+        seconds, self.last_answer = now - self.asked_at(command), now
+        if not self.has_answered and self.answer[:1] in (SUCCEEDED, FAILED):
+            self.write_note(f"0 {self.colour} started {now - self.began:.3f}\n")
             self.has_answered = True
-        is_good = self.answer[:1] == b"="
-        if self.held is not None:
-            return self.opened(command.opening)
-        if command.name == b"genmove" and not command.opening:
-            self.moved(seconds, is_good)
-        elif is_good:
-            self.changed(command)
-        elif self.answer[:1] == b"?" and self.is_of_opening(command):
-            self.tell("refuses the opening")
+        is_success = self.answer[:1] == SUCCEEDED
+        if self.held is not None and command.opening_move:
+            return self.end_opening_move(command.opening_move)
+        if command.name == b"genmove" and not command.opening_move:
+            self.end_genmove(seconds, is_success)
+        elif is_success:
+            self.end_other(command)
+        elif self.answer[:1] == FAILED and self.plays_opening(command):
+            self.note("refuses the opening")
         return None
 
-    def opened(self, vertex):
-        """Takes note of a move of the opening that the engine took, and returns the answer to the genmove."""
-        self.tell(f"{written(vertex).decode()} opening")
+    def end_opening_move(self, vertex: bytes) -> bytes:
+        """Notes a move of the opening, and returns the answer to the genmove."""
+        self.note(f"{as_written(vertex).decode()} opening")
         self.moves.append(vertex)
         text = self.answer[1:]
         number = text[: len(text) - len(text.lstrip(b"0123456789"))]
-        return b"=%b %b\n\n" % (number, written(vertex))
+        return b"=%b %b\n\n" % (number, as_written(vertex))
 
-    def is_of_opening(self, command):
-        """Is the next move of the opening played by this command?"""
+    def plays_opening(self, command: Command) -> bool:
+        """Returns whether a command plays the next move of the opening."""
         moves = list(self.moves)
-        play(moves, command)
+        command.change(moves)
         return len(moves) > len(self.moves) and moves[-1] == self.next_of_opening(self.moves)
 
-    def moved(self, seconds, is_good):
-        """Takes note of the answer to a genmove."""
+    def end_genmove(self, seconds: float, is_success: bool) -> None:
+        """Notes the answer to a genmove."""
         words = self.answer[1:].split()
         vertex = b" ".join(words[1:] if self.answer[1:2].isdigit() else words).upper()
-        is_vertex = is_good and vertex.isalnum() and len(vertex) <= len(RESIGN)
-        self.tell(
-            f"{written(vertex).decode() if is_vertex else 'no-vertex' if is_good else 'failed'} {seconds:.3f}"
-        )
+        is_vertex = is_success and vertex.isalnum() and len(vertex) <= len(RESIGN)
+        failure = "no-vertex" if is_success else "failed"
+        self.note(f"{as_written(vertex).decode() if is_vertex else failure} {seconds:.3f}")
         if is_vertex and vertex != RESIGN:
             self.moves.append(vertex)
 
-    def changed(self, command):
-        """Takes note of the success of another command."""
+    def end_other(self, command: Command) -> None:
+        """Notes the success of a command that isn't a genmove."""
         is_undo = command.name == b"undo" and len(self.moves) > 0
-        play(self.moves, command)
+        command.change(self.moves)
         if is_undo:
-            self.tell("undone")
+            self.note("undone")
 
-    def since(self, command):
-        """When the time of an answer began: when its command came, or when the answer before it ended."""
-        return max(command.since, self.last)
+    # ---- time
 
-    def left(self):
-        """How many seconds are left for the answer that is awaited; None where none is, or without a limit."""
+    def asked_at(self, command: Command) -> float:
+        """Returns when the time of a command's answer began: at the command, or the end of the
+        answer before."""
+        return max(command.since, self.last_answer)
+
+    def seconds_left(self) -> float | None:
+        """Returns how long the next answer may take; None where none is awaited, or no limit is
+        set."""
         if not self.waiting:
             return None
         command = self.waiting[0]
-        is_move = command.name == b"genmove" and not command.opening
+        is_move = command.name == b"genmove" and not command.opening_move
         limit = self.move_limit if is_move else self.limit
-        return None if limit is None else self.since(command) + limit - time.monotonic()
+        return None if limit is None else self.asked_at(command) + limit - time.monotonic()
 
-    def pause(self):
-        """How many seconds may pass until there is something to do here; None for any. Where it is time, a note says who is waited for."""
-        left = self.left()
+    def seconds_to_wait(self) -> float | None:
+        """Returns for how long nothing is to be done here; None for any time.
+
+        Where it is time for that, a note says that a move is waited for.
+        """
+        left = self.seconds_left()
         if not self.waiting or self.waiting[0].is_noted:
             return left
-        soon = self.since(self.waiting[0]) + SOON - time.monotonic()
-        if soon <= 0:
+        to_note = self.asked_at(self.waiting[0]) + NOTED_AFTER - time.monotonic()
+        if to_note <= 0:
             self.waiting[0].is_noted = True
-            self.tell("thinks")
+            self.note("thinks")
             return left
-        return soon if left is None else min(soon, left)
+        return to_note if left is None else min(to_note, left)
 
-    def cut(self, what, how=""):
-        """Takes note that no answer comes any more: it is `late`, the engine `ended`, or twogtp did, which `waited`."""
+    def note_no_answer(self, event: str, ending: str = "") -> None:
+        """Notes that no answer follows: it is `late`, the engine `ended`, or twogtp did, which
+        `waited`."""
         command = self.waiting[0] if self.waiting else None
-        seconds = time.monotonic() - self.since(command) if command else 0
-        text = command.text[:LONGEST].decode("latin-1") if command else "nothing was asked"
-        self.tell(f"{what} {seconds:.3f}: {text}{how and ': '}{how}")
+        seconds = time.monotonic() - self.asked_at(command) if command else 0
+        text = command.text[:ANSWER_LOOKED_AT].decode("latin-1") if command else "nothing was asked"
+        self.note(f"{event} {seconds:.3f}: {text}{ending and ': '}{ending}")

@@ -10,7 +10,7 @@ import signal
 import time
 
 from . import below, family
-from .talk import MOST as LONGEST
+from .talk import ANSWER_HELD as LONGEST
 
 # how a trial ends: did the engine answer all, was something refused, was nothing answered, or did the trial break?
 PASSED, UNABLE, NOT_STARTED, BROKEN = range(4)
@@ -32,7 +32,7 @@ class Asked:
 
     def __init__(self, words, folder, log):
         (from_here, self.given), (self.taken, to_here) = os.pipe(), os.pipe()
-        self.number, self.failure = below.start(words, folder, (from_here, to_here, log))
+        self.number, self.failure = below.start_program(words, folder, (from_here, to_here, log))
         os.close(from_here)
         os.close(to_here)
         self.read, self.has_answered = b"", False
@@ -154,18 +154,18 @@ def attempt(words, folder, log, setup, limits):
 
 def end_here(*_):
     """Ends all that is below this process, and the process."""
-    below.end_all()
+    below.end_descendants()
     os._exit(BROKEN)
 
 
 def watches(name, parent):
     """From now on this process has this name, adopts what loses its parent, and ends with that where its own parent ends. Has that not
     ended already?"""
-    below.be_called(name)
+    below.set_process_name(name)
     family.adopt()
     signal.signal(signal.SIGTERM, end_here)  # which comes also where the parent is killed
     signal.pthread_sigmask(signal.SIG_SETMASK, ())
-    return not below.end_with(parent, signal.SIGTERM)
+    return not below.end_with_parent(parent, signal.SIGTERM)
 
 
 def try_below(name, tell, *what):
@@ -174,12 +174,12 @@ def try_below(name, tell, *what):
     own, process = os.getpid(), os.fork()
     if process:
         outcome = os.waitstatus_to_exitcode(os.waitpid(process, 0)[1])
-        below.end_all()
+        below.end_descendants()
         return outcome if outcome >= 0 else BROKEN
     if not watches(f"asks {name}", own):
         return BROKEN
     outcome, *said = attempt(*what)
-    below.end_all()
+    below.end_descendants()
     os.write(tell, os.fsencode("\0".join(said)))
     return outcome
 

@@ -210,7 +210,7 @@ unseen = {"stdout": subprocess.DEVNULL, "stderr": subprocess.DEVNULL}
 first = subprocess.Popen(["sleep", "1001"], **unseen)
 os.setresuid(65534, 65534, 65534)
 second = subprocess.Popen(["sleep", "1002"], **unseen)
-below.end_all()
+below.end_descendants()
 print(first.poll(), second.poll() is not None)
 """
 
