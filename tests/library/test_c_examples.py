@@ -2,24 +2,21 @@
 from __future__ import annotations
 
 import re
-import sys
 from pathlib import Path
 from subprocess import CompletedProcess
-from typing import Any, Callable, Iterator, List, NamedTuple
+from typing import Iterator, List, NamedTuple
 
 import pytest
 
-from tests.shared.processes import TIMEOUT, TOP, run
-from tests.stages.of_library_in_c import each_call
+from tests.shared.processes import TOP, run
 
+from . import each_call
 from .compiling import HEADER_FOLDER, WARNINGS, check_compiles
+from .games import ENDLESS, LIMIT, REFUSED, Match, Play, check_conversations
 
 pytestmark = pytest.mark.cc
 
 LONGEST = {"random_engine": 60, "play_match": 60, "uct_engine": 120}  # lines of an example
-LIMIT = 10 * TIMEOUT
-Done = CompletedProcess
-Play = Callable[..., Done]
 
 
 class Examples(NamedTuple):
@@ -60,22 +57,17 @@ def examples(archive: Path, tmp_path_factory: pytest.TempPathFactory) -> Example
     return compiled(tmp_path_factory.mktemp("examples"), archive)
 
 
-@pytest.fixture
-def play(twogtp: Path, gtp_engine: Path, environment: dict[str, str]) -> Play:
-    """Returns a function that plays a match by twogtp."""
-
-    def play_match(black: str, white: str, *options: str) -> Done[str]:
-        command = [twogtp, *options, "--black", black, "--white", white]
-        return run(command, cwd=TOP, env=environment, timeout=LIMIT)
-
-    return play_match
+@pytest.fixture(scope="module")
+def engine(examples: Examples) -> str:
+    """Returns the command of the engine that plays at random."""
+    return examples.engine
 
 
 @pytest.fixture
 def play_example(examples: Examples, gtp_engine: Path, environment: dict[str, str]) -> Play:
     """Returns a function that plays a match by the example."""
 
-    def play_match(size: int, half_komi: int, black: str, white: str) -> Done[str]:
+    def play_match(size: int, half_komi: int, black: str, white: str) -> CompletedProcess[str]:
         command = [examples.match, str(size), str(half_komi), black, white]
         return run(command, cwd=TOP, env=environment, timeout=LIMIT)
 
@@ -128,11 +120,7 @@ def test_engine_is_the_reference_on_random_conversations(
     request: pytest.FixtureRequest, examples: Examples
 ) -> None:
     count = request.config.getoption("--count") or 2
-    script = TOP / "tests/references/engine/chosen.py"
-    command = [sys.executable, script, "--count", count, examples.engine, "3"]
-    done = run(command, timeout=count * LIMIT)
-    assert done.returncode == 0, done.stdout + done.stderr
-    assert done.stdout.endswith(", 0 failed\n")
+    check_conversations([examples.engine, "3"], count)
 
 
 def test_engine_that_searches_wins(examples: Examples, play: Play) -> None:
@@ -258,72 +246,15 @@ def test_wrong_reply_ends_the_game_as_by_twogtp(
     assert {re.sub(".*': ", "", it) for it in done.stderr.splitlines()} == {reason}
 
 
-class Match(NamedTuple):
-    """A random match."""
-
-    size: int
-    half_komi: int
-    black: str
-    white: str
-
-
-class Dice:
-    """Numbers that are the same in each run, and by each Python."""
-
-    state = 4
-
-    def below(self, count: int) -> int:
-        """Returns a number from 0 to count - 1."""
-        self.state = (self.state * 1103515245 + 12345) % 2**31
-        return self.state // 256 % count
-
-    def choice(self, *choices: Any) -> Any:
-        """Returns one of these."""
-        return choices[self.below(len(choices))]
-
-    def engine(self) -> str:
-        """Returns the command of an engine of ours, which in two of three fails on request."""
-        times = self.below(6) + 1
-        faults = [f"stop:{times}", f"cut:{times}:{times}", f"junk:{times}", f"flood:{times}"]
-        fault = self.choice("none", "none", *faults)
-        policy = self.choice("random", "random", "first")
-        ko = self.choice("simple", "simple", "positional")
-        seed = self.below(65536)
-        return f"gtp_engine --fault {fault} --policy {policy} --ko {ko} --seed {seed}"
-
-    def matches(self, count: int) -> Iterator[Match]:
-        """Yields so many matches."""
-        for _ in range(count):
-            size = self.choice(1, 2, 2, 3, 4, 5, 7, 9, 13, 19, 25)
-            yield Match(size, self.below(61) - 30, self.engine(), self.engine())
-
-
-MATCHES = list(Dice().matches(40))
-# what --why writes of a loss, and what the example does
+# What --why writes of a loss, and what the example does. How twogtp notices the end of an engine
+# depends on which of the two is faster.
 REASONS = {
     "its output ended": "its output ended",
+    "writing failed": "its output ended",
     "not a GTP reply": "no reply",
     "the play was refused; ": "refuses a play",
     "no end of a reply in": "overlong",
 }
-# what all random matches together show
-ENDS = [
-    "abandoned black",
-    "abandoned white",
-    ": B+",
-    ": W+",
-    "F(refused play)",
-    "restarts 1",
-    "no end of a reply",
-    "not a GTP reply",
-    "output ended",
-]
-
-
-def by_twogtp(match: Match, play: Play) -> Done[str]:
-    """Returns what comes of a random match by twogtp."""
-    komi = f"--komi={match.half_komi / 2:g}"
-    return play(match.black, match.white, "--why", "--size", str(match.size), komi)
 
 
 def losses(match: Match, errors: str) -> Iterator[str]:
@@ -334,15 +265,14 @@ def losses(match: Match, errors: str) -> Iterator[str]:
                 yield f"{getattr(match, found[1])}: {reason}"
 
 
-@pytest.mark.parametrize("number", range(len(MATCHES)))
-def test_random_match_is_that_of_twogtp(number: int, play: Play, play_example: Play) -> None:
-    match = MATCHES[number]
-    wanted, done = by_twogtp(match, play), play_example(*match)
+def test_random_match_is_that_of_twogtp(match: Match, play: Play, play_example: Play) -> None:
+    wanted, done = match.by_twogtp(play, "--why"), play_example(*match)
     assert done.stdout == wanted.stdout
     assert done.stderr.splitlines() == [*losses(match, wanted.stderr)]
 
 
-def test_random_matches_have_all_ends_of_a_game(play: Play) -> None:
-    results = [by_twogtp(match, play) for match in MATCHES]
-    text = "".join(done.stdout + done.stderr for done in results)
-    assert [end for end in ENDS if end not in text] == []
+@pytest.mark.parametrize("rare", [ENDLESS, REFUSED], ids=["endless", "refused"])
+def test_rare_match_is_that_of_twogtp(rare: Match, play: Play, play_example: Play) -> None:
+    wanted, done = rare.by_twogtp(play, "--why"), play_example(*rare)
+    assert done.stdout == wanted.stdout
+    assert done.stderr.splitlines() == [*losses(rare, wanted.stderr)]

@@ -5,7 +5,7 @@
  *                                  calls, or that of a match's. */
 #define _DEFAULT_SOURCE
 #define NO_MAIN
-#include "../../shared/each_call.c"
+#include "../shared/each_call.c"
 #include <signal.h>
 #include <sys/mman.h>
 #include <sys/wait.h>
