@@ -18,9 +18,6 @@ The stage finds all processes that a script started by a word in their environme
 - Folders go on that the scripts left which were written in bash, and a game of theirs may be played at the same time.
 - A game starts few processes beside twogtp's. With ten times the results no command takes much more than ten times as long: with 20,000,
   and by --whole with 100,000.
-- The tally is compared with results that were counted by hand, and the interval of pairs is worked out in another way.
-- The formulas are compared with values worked out by hand and by R. Tests of two engines are simulated, and so is a tournament of
-  engines whose differences are known.
 - What is exported is read by pgn-extract, and by GNU Go, whose boards and captures have to be those of the games.
 - One engine plays all others, engines are added, and games that are the same are found. A run says how far it is.
 - tap is tried with two engines. The sample engine plays whole games on many sizes, and takes and refuses the same moves as
@@ -82,18 +79,10 @@ from tests.stages.of_tournament.exports import (
     DamagedNotes,
     Exported,
     Opened,
-    Page,
     Records,
     Versions,
 )  # noqa: E402, F401
 from tests.stages.of_tournament.progressed import Abandoned, Lines, Times  # noqa: E402, F401
-from tests.stages.of_tournament.numbers import (
-    Errors,
-    PairsOfTwo,
-    Tests,
-    Values,
-    Year,
-)  # noqa: E402, F401
 from tests.stages.of_tournament.damaged import (
     Copied,
     Cut,
@@ -103,7 +92,6 @@ from tests.stages.of_tournament.damaged import (
 )  # noqa: E402, F401
 from tests.stages.of_tournament.damaged import Unread as UnreadResults  # noqa: E402, F401
 from tests.stages.of_tournament.costs import Dear, Filled, Many, OneGame  # noqa: E402, F401
-from tests.stages.of_tournament.counted import Intervals, Tallies, Wrong  # noqa: E402, F401
 from tests.stages.of_tournament.noted import LateOnes, Limits, Noted, Thought  # noqa: E402, F401
 from tests.stages.of_tournament.noted import Stopped as StoppedNotes  # noqa: E402, F401
 from tests.stages.of_tournament.openings import Folders, Refused, Rules, Taken  # noqa: E402, F401

@@ -1,8 +1,4 @@
-"""What `tournament export` writes, read by programs of others where they are there: PGN by pgn-extract, SGF by GNU Go.
-
-The table of `--csv` was given to R's package BradleyTerry2 by hand: `python3 -m tests.stages.of_tournament.exports` prints the commands of R
-(`apt-get install r-cran-bradleyterry2`), and what it has to find.
-"""
+"""What `tournament export` writes, read by programs of others where they are there: PGN by pgn-extract, SGF by GNU Go."""
 import csv
 import io
 import json
@@ -11,7 +7,6 @@ import re
 import shutil
 import subprocess
 import sys
-import tempfile
 from pathlib import Path
 
 from tests.shared import checks
@@ -525,50 +520,3 @@ def read_by_gnugo(place):
         int(answers[5]),
         float(answers[6]),
     )
-
-
-class Page(checks.Case):
-    """What the page has of R is what was tried."""
-
-    def test_r(self):
-        """The commands of R."""
-        page = (SCRIPTS.parent / "docs/tournaments.md").read_text()
-        self.check(
-            "the page has the commands of R that were tried",
-            True,
-            f"```\n{IN_R.format(place='games.csv')}```\n" in page,
-        )
-
-
-# ---- by hand: the table for R
-
-IN_R = """\
-library(BradleyTerry2)
-games <- read.csv("{place}")
-games <- games[games$winner != "", ]
-names <- sort(unique(c(games$black, games$white)))
-games$one <- data.frame(engine = factor(games$black, names), black = 1)
-games$two <- data.frame(engine = factor(games$white, names), black = 0)
-fit <- BTm(games$winner == "black", one, two, ~ engine + black, id = "engine", data = games)
-round(400 / log(10) * coef(fit), 1)
-"""
-
-
-def for_r():
-    """Makes games of engines that are 60 Elo apart, exports them, and prints what R is to be given."""
-    from . import simulated
-
-    folder = Path(tempfile.mkdtemp())
-    simulated.make(folder / "all", simulated.strengths(6, 60), 200)
-    with open(folder / "games.csv", "wb") as file:
-        subprocess.run(
-            [SCRIPTS / "tournament", "export", folder / "all", "--csv"], stdout=file, check=True
-        )
-    print(IN_R.format(place=folder / "games.csv"))
-    print(
-        "# the engines have to be near 60, 120, 180, 240 and 300, and Black near 0", file=sys.stderr
-    )
-
-
-if __name__ == "__main__":
-    for_r()
