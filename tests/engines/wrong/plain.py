@@ -1,15 +1,15 @@
-"""The right engine that the engines here are made of, the plain reference (tests/references/engine) by another name; and how one is run."""
-import os
+"""The right engine that all engines here are made of, and how an engine is run."""
+from __future__ import annotations
+
+import re
 import sys
 from random import Random
 from typing import Dict, List, NoReturn, Type
 
-sys.path.insert(0, os.path.realpath(os.path.join(os.path.dirname(__file__), "../../..")))
-
-from tests.references.engine.engine import Engine  # noqa: E402
-from tests.references.engine.game import POSITIONAL, SIMPLE  # noqa: E402
-from tests.references.engine.policies import candidates  # noqa: E402
-from tests.references.engine.values import PASS, Colour, Vertex  # noqa: E402
+from tests.references.engine.engine import Engine
+from tests.references.engine.game import POSITIONAL, SIMPLE
+from tests.references.engine.policies import candidates
+from tests.references.engine.values import PASS, Colour, Vertex
 
 
 class Chance:
@@ -24,19 +24,20 @@ class Chance:
 
 
 class Plain(Engine):
-    """The right engine."""
+    """The right engine: the reference (tests/references/engine) by another name."""
 
     own_name = "plain"
     own_version = "1"
+    policy: Chance
 
     @property
     def random(self) -> Random:
-        """What it draws by."""
+        """Returns the generator by which the engine draws."""
         return self.policy.random
 
 
-def run(kind: Type[Engine], words: List[str], usage: str) -> None:
-    """Runs an engine of this kind, by options with their values: its rule of ko and its seed. Where they are wrong, it prints the usage."""
+def run(kind: Type[Plain], words: List[str], usage: str) -> None:
+    """Runs an engine of this kind with these options, or prints the usage where one is wrong."""
     options = {"--ko": SIMPLE, "--seed": "1", **dict(zip(words[::2], words[1::2]))}
     if (
         len(words) % 2
@@ -44,27 +45,37 @@ def run(kind: Type[Engine], words: List[str], usage: str) -> None:
         or options["--ko"] not in (SIMPLE, POSITIONAL)
         or not options["--seed"].isdecimal()
     ):
-        misused(usage)
+        fail(usage)
     try:
         kind(Chance(int(options["--seed"])), options["--ko"]).run()
     except BrokenPipeError:
         sys.exit(3)
 
 
-def run_named(kinds: Dict[str, Type[Engine]], usage: str) -> None:
-    """Runs the engine that the first word names, or prints all of them, a line each."""
-    name, *words = sys.argv[1:] or misused(usage)
+def run_named(kinds: Dict[str, Type[Plain]], usage: str) -> None:
+    """Runs the engine that the first argument names, or prints a line for each of them."""
+    name, *words = sys.argv[1:] or fail(usage)
     if name == "--list":
         width = max(map(len, kinds))
         for known, kind in kinds.items():
-            print(f"{known:{width}} {kind.__doc__.splitlines()[0]}")
+            print(f"{known:{width}} {summary(kind)}")
     elif name in kinds:
         run(kinds[name], words, usage)
     else:
-        misused(usage)
+        fail(usage)
 
 
-def misused(usage: str) -> NoReturn:
-    """Prints how it is used, and ends with status 2."""
+def fail(usage: str) -> NoReturn:
+    """Prints the usage, and ends with status 2."""
     print(usage.rstrip(), file=sys.stderr)
     sys.exit(2)
+
+
+def summary(kind: type) -> str:
+    """Returns the first paragraph of a docstring, in one line."""
+    return " ".join((kind.__doc__ or "").partition("\n\n")[0].split())
+
+
+def snake_case(name: str) -> str:
+    """Returns the name of a class as that of a function: `NoKo` is no_ko."""
+    return re.sub("(?<=[A-Za-z0-9])(?=[A-Z])|(?<=[a-z])(?=[0-9])", "_", name).lower()

@@ -1,92 +1,74 @@
 """Captures, and the chains that are captured."""
 from itertools import takewhile
+from typing import Dict, List, Set
 
+from tests.engines.wrong.bug import KO, Bug, Keeping, instead_of, on, removed, shown_by
 from tests.references.engine.game import EMPTY, Board, filled, in_order
-from tests.references.engine.values import BLACK, PASS, other
-from talks import KO, Bug, Keeping, gone, instead_of, on, patch, shown_by
+from tests.references.engine.values import BLACK, PASS, Point, other
 
 # Black's B5 takes 17 stones of White.
-SEVENTEEN = "w A1 w B1 w C1 w D1 w E1 w A2 w B2 w C2 w D2 w E2 w A3 w B3 w C3 w D3 w E3 w A4 w B4 b C4 b D4 b E4 b A5 b B5"
+SEVENTEEN = (
+    "w A1 w B1 w C1 w D1 w E1 w A2 w B2 w C2 w D2 w E2 w A3 w B3 w C3 w D3 w E3 w A4 w B4 "
+    "b C4 b D4 b E4 b A5 b B5"
+)
 
-PATCHES = [
-    patch(
-        "nearest_stone_is_taken",
-        "Of a chain that is captured only the stones beside the play are taken off.",
-        on(5, "w A1 w B1 b A2 b B2 b C1", "play b A1"),
-        "=",
-        captures=lambda self, right, board, colour, point: right(board, colour, point)
-        & set(self.near[point]),
-    ),
-    patch(
-        "white_takes_nothing",
-        "Captures are looked for after Black's plays alone.",
-        on(5, "b A1 w A2 w B1", "play w A1"),
-        "=",
-        captures=lambda self, right, board, colour, point: right(board, colour, point)
-        if colour == BLACK
-        else set(),
-    ),
-    patch(
-        "top_row_stays",
-        "Stones in the top row are never captured: the loop ends a row too early.",
-        on(5, "b A5 w A4 w B5", "play w A5"),
-        "=",
-        captures=lambda self, right, board, colour, point: {
-            stone for stone in right(board, colour, point) if stone[1] < self.size
-        },
-    ),
-    patch(
-        "point_zero_is_no_point",
-        "A1 is point 0, which is taken as no neighbour where captures are looked for.",
-        on(5, "b A1 w A2 w B1", "play w A1"),
-        "=",
-        captures=lambda self, right, board, colour, point: self.dead(
-            board, other(colour), {*self.near[point]} - {(1, 1)}
-        ),
-    ),
-    patch(
-        "nothing_below_is_taken",
-        "The table of the four directions has one of them twice, so a chain below the play isn't looked at.",
-        on(5, "b A1 w B1 w A2", "play w A1"),
-        "=",
-        captures=lambda self, right, board, colour, point: self.dead(
-            board, other(colour), {*self.near[point]} - {(point[0], point[1] - 1)}
-        ),
-    ),
-    patch(
-        "captures_end_at_an_empty_point",
-        "Captures are looked for at one neighbour after the other, and no further once one of them is empty.",
-        on(5, "w C1 b D1 b C2 b B1", "play b C1"),
-        "=",
-        captures=lambda self, right, board, colour, point: self.dead(
-            board, other(colour), takewhile(lambda near: near in board, self.near[point])
-        ),
-    ),
-    patch(
-        "every_second_stone_is_taken",
-        "Each stone that is taken is removed from the list that the loop is in, so every second one is passed over.",
-        on(5, "w A1 w B1 b A2 b B2 b C1", "play b B1"),
-        "=",
-        captures=lambda self, right, board, colour, point: set(
-            in_order(right(board, colour, point))[::2]
-        ),
-    ),
-    patch(
-        "sixteen_stones_at_most",
-        "The list of a chain's stones has room for 16, and a longer chain is taken as alive.",
-        on(5, SEVENTEEN, "play b A1"),
-        "=",
-        is_free=lambda self, right, board, chain: len(chain) > 16 or right(board, chain),
-    ),
-    # seven stones in a row have seven liberties above, seven below and two at the ends
-    patch(
-        "liberties_have_four_bits",
-        "The number of a chain's liberties has four bits, so a chain with sixteen has none.",
-        on(9, "b B5 b C5 b D5 b E5 b F5 b G5", "play b H5"),
-        "=",
-        is_free=lambda self, right, board, chain: len(self.liberties(board, chain)) % 16 != 0,
-    ),
-]
+
+@instead_of("captures", on(5, "w A1 w B1 b A2 b B2 b C1", "play b A1"), "=")
+def nearest_stone_is_taken(self, right, board, colour, point):
+    """Of a chain that is captured only the stones beside the play are taken off."""
+    return right(board, colour, point) & set(self.near[point])
+
+
+@instead_of("captures", on(5, "b A1 w A2 w B1", "play w A1"), "=")
+def white_takes_nothing(self, right, board, colour, point):
+    """Captures are looked for after Black's plays alone."""
+    return right(board, colour, point) if colour == BLACK else set()
+
+
+@instead_of("captures", on(5, "b A5 w A4 w B5", "play w A5"), "=")
+def top_row_stays(self, right, board, colour, point):
+    """Stones in the top row are never captured: the loop ends a row too early."""
+    return {stone for stone in right(board, colour, point) if stone[1] < self.size}
+
+
+@instead_of("captures", on(5, "b A1 w A2 w B1", "play w A1"), "=")
+def point_zero_is_no_point(self, right, board, colour, point):
+    """A1 is point 0, which is taken as no neighbour where captures are looked for."""
+    return self.dead(board, other(colour), {*self.near[point]} - {(1, 1)})
+
+
+@instead_of("captures", on(5, "b A1 w B1 w A2", "play w A1"), "=")
+def nothing_below_is_taken(self, right, board, colour, point):
+    """The table of the four directions has one of them twice, so a chain below the play isn't
+    looked at."""
+    return self.dead(board, other(colour), {*self.near[point]} - {(point[0], point[1] - 1)})
+
+
+@instead_of("captures", on(5, "w C1 b D1 b C2 b B1", "play b C1"), "=")
+def captures_end_at_an_empty_point(self, right, board, colour, point):
+    """Captures are looked for at one neighbour after the other, and no further once one of them is
+    empty."""
+    return self.dead(board, other(colour), takewhile(lambda near: near in board, self.near[point]))
+
+
+@instead_of("captures", on(5, "w A1 w B1 b A2 b B2 b C1", "play b B1"), "=")
+def every_second_stone_is_taken(self, right, board, colour, point):
+    """Each stone that is taken is removed from the list that the loop is in, so every second one is
+    passed over."""
+    return set(in_order(right(board, colour, point))[::2])
+
+
+@instead_of("is_free", on(5, SEVENTEEN, "play b A1"), "=")
+def sixteen_stones_at_most(self, right, board, chain):
+    """The list of a chain's stones has room for 16, and a longer chain is taken as alive."""
+    return len(chain) > 16 or right(board, chain)
+
+
+# seven stones in a row have seven liberties above, seven below and two at the ends
+@instead_of("is_free", on(9, "b B5 b C5 b D5 b E5 b F5 b G5", "play b H5"), "=")
+def liberties_have_four_bits(self, right, board, chain):
+    """The number of a chain's liberties has four bits, so a chain with sixteen has none."""
+    return len(self.liberties(board, chain)) % 16 != 0
 
 
 @shown_by(on(5, "b A3 b B2 b C1 w A2 w B1 b A1", "play b A2"), "=")
@@ -96,7 +78,8 @@ class OneChainIsTaken(Bug):
     most = 1
 
     def captures(self, board, colour, point):
-        taken, chains = super().captures(board, colour, point), []
+        taken = super().captures(board, colour, point)
+        chains: List[Set[Point]] = []
         for near in self.near[point]:
             if near in taken and not any(near in chain for chain in chains):
                 chains.append(self.chain(board, near))
@@ -112,7 +95,8 @@ class TwoChainsAreTaken(OneChainIsTaken):
 
 @instead_of("beside", on(5, "b E1 w D1 w E2", "play w E1"), "=")
 def edges_are_joined(self, right, point):
-    """The last point of a row is a neighbour of the first point of the next row: the array has no margin."""
+    """The last point of a row is a neighbour of the first point of the next row: the array has no
+    margin."""
     index = self.index(point)
     places = [index - 1, index + 1, index - self.size, index + self.size]
     return [self.point(place) for place in places if 0 <= place < self.size**2]
@@ -138,14 +122,19 @@ class ChainsAreSlanting(Bug):
 
 
 class Counted(Bug):
-    """An engine that keeps the number of liberties of each chain. It is right; bugs here and elsewhere change it."""
+    """An engine that keeps the number of liberties of each chain. It is right; bugs here and
+    elsewhere change it."""
+
+    heads: Dict[Point, Point]
+    free: Dict[Point, int]
 
     def begin(self, size):
         super().begin(size)
         self.recount()
 
     def recount(self):
-        """Counts the liberties of all chains: `heads` has a chain's name for each stone, and `free` has its number."""
+        """Counts the liberties of all chains: `heads` has a chain's name for each stone, and `free`
+        has its number."""
         self.heads, self.free = {}, {}
         for point in in_order(self.board):
             if point not in self.heads:
@@ -203,7 +192,8 @@ class Counted(Bug):
 
 @shown_by(on(5, "w A2 w B1 w B2 b A3 b B3 b C2 b C1", "play b A1"), "=")
 class JoinedChainCountsTwice(Counted):
-    """Where chains join, their numbers of liberties are added, so a liberty that both had counts twice."""
+    """Where chains join, their numbers of liberties are added, so a liberty that both had counts
+    twice."""
 
     def joined_count(self, board, point, own):
         new = self.liberties(board, {point})
@@ -219,7 +209,8 @@ class TakenStonesGiveNoLiberty(Counted):
 
 @instead_of("beside", on(5, "b A1 w A2 w B1", "play w A1"), "=")
 def edges_wrap_round(self, right, point):
-    """Left of column A is the last column, and below row 1 the top row: an index of -1 is an array's last place."""
+    """Left of column A is the last column, and below row 1 the top row: an index of -1 is an
+    array's last place."""
     column, row = point
     spots = [(column - 1, row), (column + 1, row), (column, row - 1), (column, row + 1)]
     return [(x or self.size, y or self.size) for x, y in spots if x <= self.size and y <= self.size]
@@ -234,8 +225,8 @@ def both_chains_die(self, right, colour, point):
 
 
 class Named(Keeping):
-    """An engine that gives names to chains. Stones of one colour that have one name are one chain for it. `after` of a bug says what the
-    names of points are."""
+    """An engine that gives names to chains. Stones of one colour that have one name are one chain
+    for it. `kept_after` of a bug says what the names of points are."""
 
     def fresh(self):
         return {}
@@ -260,10 +251,11 @@ class Named(Keeping):
 
 @shown_by(on(5, "w A1 w B1 w C1 w D1 b A2 b B2 b C2 b D2 b E1 w A1 w D1 b B1", "play b A1"), "=")
 class NamesOfTakenStonesStay(Named):
-    """The points of a captured chain keep its name, so stones that are put there later are taken as one chain."""
+    """The points of a captured chain keep its name, so stones that are put there later are taken as
+    one chain."""
 
-    def after(self, before, colour, point):
-        taken = gone(before, self.board)
+    def kept_after(self, before, colour, point):
+        taken = removed(before, self.board)
         return {
             **self.kept,
             **{place: (len(self.moves), min(self.chain(before, place))) for place in taken},
@@ -273,7 +265,8 @@ class NamesOfTakenStonesStay(Named):
 # B1 joins A1, C1 and B2, which have the liberty D1
 @shown_by(on(5, "b A1 b C1 b B2 b B1 w A2 w C2 w B3", "play w B2"), "?")
 class ThirdChainIsNotJoined(Keeping):
-    """A play that touches three chains of its colour joins two of them, and the third stays a chain of its own."""
+    """A play that touches three chains of its colour joins two of them, and the third stays a chain
+    of its own."""
 
     def fresh(self):
         return {}  # the names of stones; a chain's stones have one name
@@ -288,7 +281,7 @@ class ThirdChainIsNotJoined(Keeping):
             return found
         return {stone for stone in found if self.kept.get(stone) == self.kept[point]}
 
-    def after(self, before, colour, point):
+    def kept_after(self, before, colour, point):
         if point == PASS:
             return self.kept
         joined = list(
@@ -304,7 +297,8 @@ class ThirdChainIsNotJoined(Keeping):
 # White's chain has the liberties A2, A4, B4, C3, C2 and B1, and A2 is beside two of its stones
 @shown_by(on(5, "w A3 w B3 w B2 b A2 b A4 b B4 b C3 b C2", "play w B2"), "?")
 class TouchedTwiceCountsTwice(Counted):
-    """A play takes a liberty from a chain of the other colour for each stone of it that it touches."""
+    """A play takes a liberty from a chain of the other colour for each stone of it that it
+    touches."""
 
     def put(self, colour, point):
         kept = self.free
@@ -320,7 +314,8 @@ class TouchedTwiceCountsTwice(Counted):
 # Black's A2 and B2 get the liberties A1 and B1, and White fills A3, B3, C2 and A1
 @shown_by(on(5, "w A1 w B1 b A2 b B2 b C1 w A3 w B3 w C2 w A1", "play b A2"), "?")
 class TakenChainGivesOneLiberty(Counted):
-    """Where a chain is taken, each chain beside it gets one liberty, however many of its stones it touched."""
+    """Where a chain is taken, each chain beside it gets one liberty, however many of its stones it
+    touched."""
 
     def take(self, board, heads, free, head):
         stones = [stone for stone, its in heads.items() if its == head]
@@ -334,7 +329,8 @@ class TakenChainGivesOneLiberty(Counted):
 
 @shown_by(on(5, "w A2 w B2 w B1 w A1 b A3 b B3 b C2 b C1", "play b A2"), "=")
 class ChainJoinsItself(Keeping):
-    """A chain is a ring of links. A stone that touches one chain twice is linked twice, which cuts the ring in two."""
+    """A chain is a ring of links. A stone that touches one chain twice is linked twice, which cuts
+    the ring in two."""
 
     def fresh(self):
         return {}  # for each stone the next one of its ring
@@ -354,7 +350,7 @@ class ChainJoinsItself(Keeping):
         whole = super().captures(board, colour, point)
         return {stone for near in self.near[point] if near in whole for stone in self.ring(near)}
 
-    def after(self, before, colour, point):
+    def kept_after(self, before, colour, point):
         links = {
             stone: following for stone, following in self.kept.items() if self.board[stone] != EMPTY
         }
@@ -367,13 +363,15 @@ class ChainJoinsItself(Keeping):
 
 @shown_by(on(5, "w A2 w B1 b A3 b C1 b B2", "play b B1"), "?")
 class SharedLibertyCountsOnce(Bug):
-    """Points are marked where liberties are counted, and the marks stay for the next chain beside the same play.
+    """Points are marked where liberties are counted, and the marks stay for the next chain beside
+    the same play.
 
     So that chain is taken where all its liberties are those of the chain before.
     """
 
     def captures(self, board, colour, point):
-        taken, marked = set(), set()
+        taken: Set[Point] = set()
+        marked: Set[Point] = set()
         for near in self.near[point]:
             if board[near] == other(colour) and near not in marked:
                 chain = self.chain(board, near)
@@ -398,7 +396,8 @@ class SharedLibertyCountsOnce(Bug):
     "?",
 )
 class SearchHasRoomForSixteenPoints(Bug):
-    """The search of a chain has room for 16 points that wait, and what finds no room isn't looked at further."""
+    """The search of a chain has room for 16 points that wait, and what finds no room isn't looked
+    at further."""
 
     def chain(self, board, point):
         found, todo = {point}, [point]
@@ -424,11 +423,12 @@ class OwnStoneIsPlayedAgain(Bug):
 # A1 takes B1, and is looked at before it
 @instead_of("move", on(5, KO, "play w B1"), "=")
 def first_chain_without_a_liberty_is_taken(self, right, colour, point):
-    """After a play the board is looked through from A1, and the first chain without a liberty is taken off, the mover's own too."""
+    """After a play the board is looked through from A1, and the first chain without a liberty is
+    taken off, the mover's own too."""
     before = self.board
     right(colour, point)
     bare = filled(before, [] if point == PASS else [point], colour)
     own = set() if point == PASS else self.chain(bare, point)
-    taken = gone(before, self.board)
+    taken = removed(before, self.board)
     if taken and not self.is_free(bare, own) and in_order([*own, *taken])[0] in own:
         self.board = filled(bare, own)

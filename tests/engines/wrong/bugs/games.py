@@ -1,8 +1,10 @@
 """The second and later games of a process."""
+from typing import Any
+
+from tests.engines.wrong.bug import FORCED, KO, Bug, instead_of, on, plays, removed, shown_by
 from tests.references.engine.engine import Failure
 from tests.references.engine.game import POSITIONAL, Board, filled, is_on, points
 from tests.references.engine.values import BLACK, PASS, WHITE
-from talks import FORCED, KO, Bug, gone, instead_of, on, plays, shown_by
 
 from .undo import Prisoners
 
@@ -17,7 +19,8 @@ def record_stays(self, right, arguments):
 
 @shown_by(on(5, KO, "clear_board", "play b B1"), "=")
 class KoStays(Bug):
-    """The noted point of a ko stays at `clear_board`, so the first play of the next game can be refused."""
+    """The noted point of a ko stays at `clear_board`, so the first play of the next game can be
+    refused."""
 
     kept = None
 
@@ -78,7 +81,8 @@ class GameOverStays(Bug):
 
 @shown_by(["boardsize 5", *on(3, "b C1 w B1 w C2", "play w C1")], "=")
 class EdgesOfALargerBoard(Bug):
-    """The table of edges is made anew only for a larger board, so a smaller one has liberties outside."""
+    """The table of edges is made anew only for a larger board, so a smaller one has liberties
+    outside."""
 
     edge = 0
 
@@ -95,13 +99,12 @@ class EdgesOfALargerBoard(Bug):
 class BoardsOfEarlierGames(Bug):
     """Under positional ko the boards of earlier games may not come back."""
 
-    earlier = ()
+    def __init__(self, *options):
+        self.earlier = set()
+        super().__init__(*options)
 
     def do_clear_board(self, arguments):
-        self.earlier = {
-            *self.earlier,
-            *((self.size, board) for board in [*self.boards, self.board]),
-        }
+        self.earlier |= {(self.size, board) for board in [*self.boards, self.board]}
         super().do_clear_board(arguments)
 
     def is_ko(self, board, colour, point):
@@ -126,7 +129,8 @@ class EndsAtTheThirdGame(Bug):
 
 @shown_by(on(3, FORCED, "clear_board", "play w A1", "genmove b"), "but A1")
 class ChoiceOfTheGameBefore(Bug):
-    """The first `genmove` of a game takes what the engine had found on the last board of the game before."""
+    """The first `genmove` of a game takes what the engine had found on the last board of the game
+    before."""
 
     found = None
 
@@ -160,7 +164,8 @@ def stones_of_the_game_before(self, right, arguments):
 
 @shown_by([*on(9, "", "fixed_handicap 2"), *on(13, "", "fixed_handicap 2")], "points D4 K10")
 class HandicapPointsOfTheFirstSize(Bug):
-    """The handicap points are worked out once in a process, so a later size has those of the first one."""
+    """The handicap points are worked out once in a process, so a later size has those of the first
+    one."""
 
     first = None
 
@@ -174,7 +179,8 @@ class HandicapPointsOfTheFirstSize(Bug):
 
 @shown_by(on(5, "b A1 w A2 w B1", "clear_board", "play w E5", "undo", "play w A1"), "=")
 class TakenStonesOfTheGameBefore(Bug):
-    """`clear_board` doesn't empty the list of captured stones, so `undo` puts some of an earlier game on the board."""
+    """`clear_board` doesn't empty the list of captured stones, so `undo` puts some of an earlier
+    game on the board."""
 
     def __init__(self, *options):
         super().__init__(*options)
@@ -185,7 +191,7 @@ class TakenStonesOfTheGameBefore(Bug):
         super().move(colour, point)
         self.taken += [
             (len(self.moves), self.index(place), before[place])
-            for place in gone(before, self.board)
+            for place in removed(before, self.board)
         ]
 
     def undo(self):
@@ -200,7 +206,8 @@ class TakenStonesOfTheGameBefore(Bug):
 
 @shown_by(on(3, FORCED, "genmove b", "clear_board", *plays(FORCED), "genmove w"), "moves pass")
 class ColourOfTheFirstGenmove(Bug):
-    """The colour of the first `genmove` of a process is the engine's own, and later ones are of that colour too."""
+    """The colour of the first `genmove` of a process is the engine's own, and later ones are of
+    that colour too."""
 
     own = None
 
@@ -232,7 +239,8 @@ class TablesOfAnotherSize(Bug):
 
 @shown_by([*on(5, "b C3"), *on(9, "", "play b J9")], "=")
 class RoomOfTheFirstSize(Bug):
-    """The first `boardsize` of a process makes the board, and on a larger one the program ends past its last point."""
+    """The first `boardsize` of a process makes the board, and on a larger one the program ends past
+    its last point."""
 
     room = None
 
@@ -248,7 +256,8 @@ class RoomOfTheFirstSize(Bug):
 
 @shown_by([*on(9, "", "fixed_handicap 2"), *on(9, "b C3", "undo")], "=")
 class HandicapNumberStays(Bug):
-    """A handicap's stones are moves that `undo` stops at, and `clear_board` forgets them, and not their number."""
+    """A handicap's stones are moves that `undo` stops at, and `clear_board` forgets them, and not
+    their number."""
 
     stop = 0
 
@@ -289,28 +298,33 @@ class PointsForAHandicapStay(Bug):
         return super().score() - 2 * self.stones
 
 
-class Asked:
-    """A list whose values are worked out where they are asked for."""
+class Computed:
+    """A mapping whose values are computed by a function each time."""
 
-    def __init__(self, work):
-        self.work = work
+    def __init__(self, compute):
+        self.compute = compute
 
-    def __getitem__(self, number):
-        return self.work(number)
+    def __getitem__(self, key):
+        return self.compute(key)
 
 
 @shown_by([*on(5, "b E1"), *on(9, "w E1 b D1 b E2", "play b E1")], "?")
 class NeighboursAreKept(Bug):
-    """The neighbours of a column and a row are kept in a process, so on a larger board an old corner has only two."""
+    """The neighbours of a column and a row are kept in a process, so on a larger board an old
+    corner has only two."""
 
-    kept = {}
+    near: Any
+
+    def __init__(self, *options):
+        self.kept = {}
+        super().__init__(*options)
 
     def begin(self, size):
         super().begin(size)
-        self.near = Asked(self.kept_beside)
+        self.near = Computed(self.kept_beside)
 
     def kept_beside(self, point):
-        """The neighbours of a point on the board that it was asked of first, as far as this one has them."""
+        """Returns a point's neighbours on the first board that had it, if this one has them."""
         if point not in self.kept:
             self.kept[point] = self.beside(point)
         return [near for near in self.kept[point] if is_on(self.size, near)]
@@ -318,7 +332,8 @@ class NeighboursAreKept(Bug):
 
 @shown_by([*on(5, "b C3"), "\n".join(["clear_board"] * 256), "play w C3"], "=")
 class GamesAreCountedInAByte(Bug):
-    """`clear_board` empties nothing. A stone has the number of its game, and that of another game counts as none. The number is a byte."""
+    """`clear_board` empties nothing. A stone has the number of its game, and that of another game
+    counts as none. The number is a byte."""
 
     def __init__(self, *options):
         self.game, self.stamps = 0, {}  # and of a point the last stone there, with its game

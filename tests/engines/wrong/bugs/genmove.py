@@ -1,8 +1,8 @@
 """The moves that an engine chooses."""
+from tests.engines.wrong.bug import FORCED, KO, Bug, Keeping, instead_of, on, removed, shown_by
 from tests.references.engine.engine import Failure
 from tests.references.engine.game import EMPTY, Board, in_order, points
 from tests.references.engine.values import PASS, WHITE, other
-from talks import FORCED, KO, Bug, Keeping, gone, instead_of, on, patch, shown_by
 
 # White's only legal play is A1, which takes the stone on B1. Then Black may not take back.
 FORCED_KO = "b A2 b A3 b B3 b B1 w C1 w C2 w B2"
@@ -11,48 +11,35 @@ ALL_BUT_J = " ".join(
     f"b {c}{r}" for c in "ABCDEFGH" for r in range(1, 10) if f"{c}{r}" not in ("A1", "C1")
 )
 
-PATCHES = [
-    patch(
-        "chooses_for_the_other_colour",
-        "The move is chosen for the other colour.",
-        on(3, FORCED, "genmove w"),
-        "moves pass",
-        choose=lambda self, right, colour: right(other(colour)),
-    ),
-    patch(
-        "chosen_move_is_not_made",
-        "The move is answered, and isn't made.",
-        on(3, FORCED, "genmove b", "play b A1"),
-        "?",
-        do_genmove=lambda self, right, arguments: self.write_vertex(
-            self.choose(self.argument(arguments, 0, self.read_colour))
-        ),
-    ),
-    patch(
-        "letters_with_i",
-        "The answer has I as the ninth letter.",
-        on(9, ALL_BUT_J, "genmove w"),
-        "moves J1 J2 J3 J4 J5 J6 J7 J8 J9 pass",
-        do_genmove=lambda self, right, arguments: right(arguments).replace("J", "I"),
-    ),
-    patch(
-        "point_and_its_value",
-        "What the engine thinks of its move comes after the vertex.",
-        on(5, "", "genmove b"),
-        "but",
-        plain=False,
-        do_genmove=lambda self, right, arguments: right(arguments) + " 0.52",
-    ),
-    patch(
-        "chosen_pass_is_a_point",
-        "A pass is the number after the last point, and is written as a point: A10 on 9x9.",
-        on(1, "", "genmove b"),
-        "moves pass",
-        write_vertex=lambda self, right, point: right(
-            (1, self.size + 1) if point == PASS else point
-        ),
-    ),
-]
+
+@instead_of("choose", on(3, FORCED, "genmove w"), "moves pass")
+def chooses_for_the_other_colour(self, right, colour):
+    """The move is chosen for the other colour."""
+    return right(other(colour))
+
+
+@instead_of("do_genmove", on(3, FORCED, "genmove b", "play b A1"), "?")
+def chosen_move_is_not_made(self, right, arguments):
+    """The move is answered, and isn't made."""
+    return self.write_vertex(self.choose(self.argument(arguments, 0, self.read_colour)))
+
+
+@instead_of("do_genmove", on(9, ALL_BUT_J, "genmove w"), "moves J1 J2 J3 J4 J5 J6 J7 J8 J9 pass")
+def letters_with_i(self, right, arguments):
+    """The answer has I as the ninth letter."""
+    return right(arguments).replace("J", "I")
+
+
+@instead_of("do_genmove", on(5, "", "genmove b"), "but", plain=False)
+def point_and_its_value(self, right, arguments):
+    """What the engine thinks of its move comes after the vertex."""
+    return right(arguments) + " 0.52"
+
+
+@instead_of("write_vertex", on(1, "", "genmove b"), "moves pass")
+def chosen_pass_is_a_point(self, right, point):
+    """A pass is the number after the last point, and is written as a point: A10 on 9x9."""
+    return right((1, self.size + 1) if point == PASS else point)
 
 
 @shown_by(on(5, "b C3", "genmove w"), "but C3")
@@ -132,7 +119,8 @@ class KoAfterAGenmove(Bug):
 
 @instead_of("choose", on(3, FORCED_KO + " w A1", "genmove w"), "moves B1 C3 pass")
 def thinks_of_the_board_before(self, right, colour):
-    """The move is chosen on the board before the last move, which came while the engine was thinking."""
+    """The move is chosen on the board before the last move, which came while the engine was
+    thinking."""
     if not self.boards:
         return right(colour)
     board, self.board = self.board, self.boards[-1]
@@ -216,7 +204,8 @@ def saves_a_chain_by_suicide(self, right, colour):
 
 @instead_of("choose", on(3, FORCED, "genmove w", "play w A2"), "?")
 def tried_captures_stay(self, right, colour):
-    """The engine tries what the other side can take on its own board, and doesn't put those stones back."""
+    """The engine tries what the other side can take on its own board, and doesn't put those stones
+    back."""
     chosen = right(colour)
     tried = [point for point in points(self.size) if self.is_legal(other(colour), point)]
     boards = [self.put(other(colour), point) for point in tried]
@@ -233,7 +222,8 @@ def tried_captures_stay(self, right, colour):
 # B2 takes A1, A2 and B1, of which it touches two, and Black plays one of them again
 @shown_by(on(5, "b A1 b A2 b B1 w A3 w C1 w B2 b A2", "genmove w"), "but A2 A3 C1 B2")
 class EmptyPointsAreListedTwice(Keeping):
-    """A captured chain is listed as empty once for each of its stones by the play, and `genmove` goes by the list."""
+    """A captured chain is listed as empty once for each of its stones by the play, and `genmove`
+    goes by the list."""
 
     def fresh(self):
         return list(points(self.size))
@@ -242,7 +232,7 @@ class EmptyPointsAreListedTwice(Keeping):
         super().place_handicap(points)
         self.kept = [point for point in self.kept if point not in points]
 
-    def after(self, before, colour, point):
+    def kept_after(self, before, colour, point):
         empty = list(self.kept)
         for near in self.near[point] if point != PASS else ():
             if before[near] == other(colour) and self.board[near] == EMPTY:
@@ -266,7 +256,8 @@ class EmptyPointsAreListedTwice(Keeping):
 # White can play B2 alone, and takes A1 and A2
 @shown_by(on(2, "b A1 b A2 w B1", "genmove w", "undo", "play w B2"), "=")
 class ChosenPointStaysTaken(Bug):
-    """A chosen point leaves the list of empty points. A capture puts it back, and `undo` doesn't."""
+    """A chosen point leaves the list of empty points. A capture puts it back, and `undo`
+    doesn't."""
 
     def begin(self, size):
         super().begin(size)
@@ -275,7 +266,7 @@ class ChosenPointStaysTaken(Bug):
     def move(self, colour, point):
         before = self.board
         super().move(colour, point)
-        self.chosen -= set(gone(before, self.board))
+        self.chosen -= set(removed(before, self.board))
 
     def do_genmove(self, arguments):
         text = super().do_genmove(arguments)
@@ -291,7 +282,8 @@ class ChosenPointStaysTaken(Bug):
     on(2, "b A1 b A2 w B1", "genmove w", "undo", "undo", "play w B2", "genmove w"), "moves B1 pass"
 )
 class ChoiceOfTheMoveNumber(Bug):
-    """A choice is kept by the number of the move, and after an `undo` it is chosen again, whatever was played else."""
+    """A choice is kept by the number of the move, and after an `undo` it is chosen again, whatever
+    was played else."""
 
     def begin(self, size):
         super().begin(size)
@@ -314,7 +306,8 @@ def two_passes_end_the_choice(self, right, arguments):
 
 @instead_of("choose", on(1, "", "genmove b"), "moves pass")
 def last_draw_is_played(self, right, colour):
-    """A point is drawn up to a thousand times, until it may be played, and then the last one is played in any case."""
+    """A point is drawn up to a thousand times, until it may be played, and then the last one is
+    played in any case."""
     for _ in range(1000):
         point = self.point(int(self.random.random() * self.size**2))
         if self.is_candidate(colour, point):

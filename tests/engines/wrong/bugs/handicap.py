@@ -1,8 +1,8 @@
 """Handicap stones."""
+from tests.engines.wrong.bug import Bug, instead_of, on, plays, shown_by
 from tests.references.engine.engine import Failure
 from tests.references.engine.game import filled
 from tests.references.engine.values import WHITE
-from talks import Bug, instead_of, on, patch, plays, shown_by
 
 
 def placed(size, stones):
@@ -10,120 +10,103 @@ def placed(size, stones):
     return on(size, "", f"fixed_handicap {stones}")
 
 
-PATCHES = [
-    patch(
-        "seven_stones_lack_the_middle",
-        "The seventh of seven stones is the seventh of eight.",
-        placed(9, 7),
-        "points C3 G7 C7 G3 C5 G5 E5",
-        handicap=lambda self, right, stones: right(8)[:7] if stones == 7 else right(stones),
-    ),
-    patch(
-        "two_stones_on_the_other_corners",
-        "Two stones are in the upper left and the lower right corner: rows are counted from the top.",
-        placed(9, 2),
-        "points C3 G7",
-        handicap=lambda self, right, stones: [
-            (column, self.size + 1 - row) for column, row in right(stones)
-        ],
-    ),
-    patch(
-        "fourth_line_on_9",
-        "The stones are on the fourth line from size 9 on.",
-        placed(9, 2),
-        "points C3 G7",
-        low_line=lambda self, right: 3 if self.size < 9 else 4,
-    ),
-    patch(
-        "third_line_on_13",
-        "The stones are on the third line up to size 13.",
-        placed(13, 2),
-        "points D4 K10",
-        low_line=lambda self, right: 3 if self.size <= 13 else 4,
-    ),
-    patch(
-        "five_stones_on_even_sizes",
-        "Five stones and more are placed on even sizes, where there is no middle.",
-        placed(8, 5),
-        "?",
-        most_handicap_stones=lambda self, right: right() if self.size < 8 else 9,
-    ),
-    patch(
-        "five_stones_on_seven",
-        "Five stones and more are placed on 7x7.",
-        placed(7, 5),
-        "?",
-        most_handicap_stones=lambda self, right: 9 if self.size == 7 else right(),
-    ),
-    patch(
-        "handicap_on_six",
-        "Handicaps are placed from size 5 on.",
-        placed(6, 2),
-        "?",
-        most_handicap_stones=lambda self, right: 4 if self.size in (5, 6) else right(),
-    ),
-    patch(
-        "no_handicap_past_19",
-        "No handicap is placed on boards larger than 19x19, which are taken.",
-        placed(25, 5),
-        "points D4 W22 D22 W4 N13",
-        most_handicap_stones=lambda self, right: right() if self.size <= 19 else 0,
-    ),
-    patch(
-        "handicap_on_a_board_in_use",
-        "A handicap is placed after a move, too.",
-        on(9, "b A1", "fixed_handicap 2"),
-        "?",
-        is_untouched=lambda self, right: True,
-    ),
-    patch(
-        "no_handicap_below_nine",
-        "No handicap is placed on 7x7 and on 8x8.",
-        on(7, "", "fixed_handicap 2"),
-        "points C3 E5",
-        most_handicap_stones=lambda self, right: right() if self.size >= 9 else 0,
-    ),
-    patch(
-        "fifth_line_past_19",
-        "Past 19x19 the handicap points are on the fifth line: the author goes on from the third and the fourth.",
-        on(25, "", "fixed_handicap 2"),
-        "points D4 W22",
-        low_line=lambda self, right: 5 if self.size > 19 else right(),
-    ),
-    patch(
-        "handicap_on_a_handicap",
-        "A board is taken as empty where there is no move, so a second handicap is placed on the first one.",
-        on(9, "", "fixed_handicap 2", "fixed_handicap 9"),
-        "?",
-        is_untouched=lambda self, right: not self.moves,
-    ),
-    patch(
-        "five_stones_lack_the_middle",
-        "The fifth of five stones is the fifth of six.",
-        on(9, "", "fixed_handicap 5"),
-        "points C3 G7 C7 G3 E5",
-        handicap=lambda self, right, stones: right(6)[:5] if stones == 5 else right(stones),
-    ),
-    patch(
-        "fourth_line_on_twelve",
-        "The stones are on the fourth line from size 12 on.",
-        on(12, "", "fixed_handicap 2"),
-        "points C3 K10",
-        low_line=lambda self, right: 3 if self.size < 12 else 4,
-    ),
-    patch(
-        "handicap_has_commas",
-        "There is a comma after each point of a handicap but the last one.",
-        on(9, "", "fixed_handicap 2"),
-        "points C3 G7",
-        do_fixed_handicap=lambda self, right, arguments: right(arguments).replace(" ", ", "),
-    ),
-]
+@instead_of("handicap", placed(9, 7), "points C3 G7 C7 G3 C5 G5 E5")
+def seven_stones_lack_the_middle(self, right, stones):
+    """The seventh of seven stones is the seventh of eight."""
+    return right(8)[:7] if stones == 7 else right(stones)
+
+
+@instead_of("handicap", placed(9, 2), "points C3 G7")
+def two_stones_on_the_other_corners(self, right, stones):
+    """Two stones are in the upper left and the lower right corner: rows are counted from the
+    top."""
+    return [(column, self.size + 1 - row) for column, row in right(stones)]
+
+
+@instead_of("low_line", placed(9, 2), "points C3 G7")
+def fourth_line_on_9(self, right):
+    """The stones are on the fourth line from size 9 on."""
+    return 3 if self.size < 9 else 4
+
+
+@instead_of("low_line", placed(13, 2), "points D4 K10")
+def third_line_on_13(self, right):
+    """The stones are on the third line up to size 13."""
+    return 3 if self.size <= 13 else 4
+
+
+@instead_of("most_handicap_stones", placed(8, 5), "?")
+def five_stones_on_even_sizes(self, right):
+    """Five stones and more are placed on even sizes, where there is no middle."""
+    return right() if self.size < 8 else 9
+
+
+@instead_of("most_handicap_stones", placed(7, 5), "?")
+def five_stones_on_seven(self, right):
+    """Five stones and more are placed on 7x7."""
+    return 9 if self.size == 7 else right()
+
+
+@instead_of("most_handicap_stones", placed(6, 2), "?")
+def handicap_on_six(self, right):
+    """Handicaps are placed from size 5 on."""
+    return 4 if self.size in (5, 6) else right()
+
+
+@instead_of("most_handicap_stones", placed(25, 5), "points D4 W22 D22 W4 N13")
+def no_handicap_past_19(self, right):
+    """No handicap is placed on boards larger than 19x19, which are taken."""
+    return right() if self.size <= 19 else 0
+
+
+@instead_of("is_untouched", on(9, "b A1", "fixed_handicap 2"), "?")
+def handicap_on_a_board_in_use(self, right):
+    """A handicap is placed after a move, too."""
+    return True
+
+
+@instead_of("most_handicap_stones", on(7, "", "fixed_handicap 2"), "points C3 E5")
+def no_handicap_below_nine(self, right):
+    """No handicap is placed on 7x7 and on 8x8."""
+    return right() if self.size >= 9 else 0
+
+
+@instead_of("low_line", on(25, "", "fixed_handicap 2"), "points D4 W22")
+def fifth_line_past_19(self, right):
+    """Past 19x19 the handicap points are on the fifth line: the author goes on from the third and
+    the fourth."""
+    return 5 if self.size > 19 else right()
+
+
+@instead_of("is_untouched", on(9, "", "fixed_handicap 2", "fixed_handicap 9"), "?")
+def handicap_on_a_handicap(self, right):
+    """A board is taken as empty where there is no move, so a second handicap is placed on the first
+    one."""
+    return not self.moves
+
+
+@instead_of("handicap", on(9, "", "fixed_handicap 5"), "points C3 G7 C7 G3 E5")
+def five_stones_lack_the_middle(self, right, stones):
+    """The fifth of five stones is the fifth of six."""
+    return right(6)[:5] if stones == 5 else right(stones)
+
+
+@instead_of("low_line", on(12, "", "fixed_handicap 2"), "points C3 K10")
+def fourth_line_on_twelve(self, right):
+    """The stones are on the fourth line from size 12 on."""
+    return 3 if self.size < 12 else 4
+
+
+@instead_of("do_fixed_handicap", on(9, "", "fixed_handicap 2"), "points C3 G7")
+def handicap_has_commas(self, right, arguments):
+    """There is a comma after each point of a handicap but the last one."""
+    return right(arguments).replace(" ", ", ")
 
 
 @instead_of("handicap", placed(9, 6), "points C3 G7 C7 G3 C5 G5")
 def six_stones_are_turned(self, right, stones):
-    """The fifth and the sixth of six stones are below and above the middle, in place of left and right."""
+    """The fifth and the sixth of six stones are below and above the middle, in place of left and
+    right."""
     points = right(stones)
     return points[:4] + [(row, column) for column, row in points[4:]] if stones == 6 else points
 
@@ -137,7 +120,8 @@ def eight_stones_lack_the_top(self, right, stones):
 
 @instead_of("handicap", placed(9, 3), "points C3 G7 C7")
 def third_stone_is_below(self, right, stones):
-    """The third stone is in the lower right corner, and the standard has it in the upper left one."""
+    """The third stone is in the lower right corner, and the standard has it in the upper left
+    one."""
     points = right(stones)
     return points[:2] + [points[2][::-1]] if stones == 3 else points
 
@@ -223,7 +207,8 @@ def handicap_sets_komi(self, right, points):
 
 @instead_of("do_fixed_handicap", on(8, "", "! fixed_handicap 5", "play b C3"), "=")
 def refused_handicap_is_placed(self, right, arguments):
-    """A handicap of too many stones is refused only after as many as the size allows were placed."""
+    """A handicap of too many stones is refused only after as many as the size allows were
+    placed."""
     most = self.most_handicap_stones()
     if self.is_untouched() and self.argument(arguments, 0, self.read_int) > most > 0:
         right([str(most)])
@@ -239,7 +224,8 @@ def handicap_is_transposed(self, right, points):
 
 @shown_by(on(9, "", "! fixed_handicap 10", "fixed_handicap 2"), "points C3 G7")
 class RefusedHandicapCounts(Bug):
-    """That there is a handicap is noted before its number is looked at, so after a refused one the next one fails."""
+    """That there is a handicap is noted before its number is looked at, so after a refused one the
+    next one fails."""
 
     noted = False
 
@@ -260,7 +246,8 @@ def stones_on_lines_of_their_own(self, right, arguments):
     return right(arguments).replace(" ", "\n")
 
 
-# White's only move that is no eye takes A1, and Black has none: all other points are White's, but G7 and the two where stones were taken
+# White's only move that is no eye takes A1, and Black has none. All other points are White's,
+# except G7 and the two where stones were taken.
 @shown_by(
     on(
         7,
@@ -293,6 +280,5 @@ class HandicapMakesTheEngineWhite(Bug):
         self.placed = True
 
     def do_genmove(self, arguments):
-        return super().do_genmove(
-            ["w"] if self.placed and self.argument(arguments, 0, self.read_colour) else arguments
-        )
+        self.argument(arguments, 0, self.read_colour)
+        return super().do_genmove(["w"] if self.placed else arguments)

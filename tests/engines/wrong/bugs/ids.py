@@ -1,75 +1,55 @@
 """The ids of replies."""
 import struct
 
-from talks import Bug, instead_of, on, patch, shown_by
+from tests.engines.wrong.bug import Bug, instead_of, on, shown_by
 
-PATCHES = [
-    patch(
-        "no_id_at_a_failure",
-        "A failure is answered without its id.",
-        on(5, "b C3", "7 play w C3"),
-        "?",
-        head=lambda self, right, good, number, text: right(good, number if good else None, text),
-    ),
-    patch(
-        "no_id_without_a_text",
-        "A reply without a text has no id.",
-        ["7 komi 0"],
-        "=",
-        plain=False,
-        head=lambda self, right, good, number, text: right(good, number if text else None, text),
-    ),
-    patch(
-        "id_of_zero_is_none",
-        "The id 0 is left out: the author asks whether the id is true.",
-        ["0 name"],
-        "= plain",
-        head=lambda self, right, good, number, text: right(good, number or None, text),
-    ),
-    patch(
-        "ids_are_bytes",
-        "An id is kept in a byte, so 256 is 0.",
-        ["256 name"],
-        "= plain",
-        head=lambda self, right, good, number, text: right(
-            good, None if number is None else number % 256, text
-        ),
-    ),
-    patch(
-        "ids_have_three_digits",
-        "An id has room for three digits, and loses its last ones.",
-        ["1000 name"],
-        "= plain",
-        head=lambda self, right, good, number, text: right(
-            good, None if number is None else int(str(number)[:3]), text
-        ),
-    ),
-    patch(
-        "ids_of_one_digit",
-        "An id is looked for in the line's first character alone, so 10 is an unknown command.",
-        ["10 name"],
-        "= plain",
-        split_id=lambda self, right, words: (None, words) if len(words[0]) > 1 else right(words),
-    ),
-    patch(
-        "id_behind_a_space",
-        "There is a space between the mark and the id.",
-        ["1 name"],
-        "= plain",
-        plain=False,
-        head=lambda self, right, good, number, text: ("= " if good else "? ")
-        + right(good, number, text)[1:],
-    ),
-    patch(
-        "ids_have_commas",
-        "An id is written with a comma at the thousands, as some libraries write numbers.",
-        ["1000 name"],
-        "= plain",
-        head=lambda self, right, good, number, text: right(
-            good, None if number is None else f"{number:,}", text
-        ),
-    ),
-]
+
+@instead_of("head", on(5, "b C3", "7 play w C3"), "?")
+def no_id_at_a_failure(self, right, good, number, text):
+    """A failure is answered without its id."""
+    return right(good, number if good else None, text)
+
+
+@instead_of("head", ["7 komi 0"], "=", plain=False)
+def no_id_without_a_text(self, right, good, number, text):
+    """A reply without a text has no id."""
+    return right(good, number if text else None, text)
+
+
+@instead_of("head", ["0 name"], "= plain")
+def id_of_zero_is_none(self, right, good, number, text):
+    """The id 0 is left out: the author asks whether the id is true."""
+    return right(good, number or None, text)
+
+
+@instead_of("head", ["256 name"], "= plain")
+def ids_are_bytes(self, right, good, number, text):
+    """An id is kept in a byte, so 256 is 0."""
+    return right(good, None if number is None else number % 256, text)
+
+
+@instead_of("head", ["1000 name"], "= plain")
+def ids_have_three_digits(self, right, good, number, text):
+    """An id has room for three digits, and loses its last ones."""
+    return right(good, None if number is None else int(str(number)[:3]), text)
+
+
+@instead_of("split_id", ["10 name"], "= plain")
+def ids_of_one_digit(self, right, words):
+    """An id is looked for in the line's first character alone, so 10 is an unknown command."""
+    return (None, words) if len(words[0]) > 1 else right(words)
+
+
+@instead_of("head", ["1 name"], "= plain", plain=False)
+def id_behind_a_space(self, right, good, number, text):
+    """There is a space between the mark and the id."""
+    return ("= " if good else "? ") + right(good, number, text)[1:]
+
+
+@instead_of("head", ["1000 name"], "= plain")
+def ids_have_commas(self, right, good, number, text):
+    """An id is written with a comma at the thousands, as some libraries write numbers."""
+    return right(good, None if number is None else f"{number:,}", text)
 
 
 @shown_by(["1 name", "2 version"], "= 1", plain=False)
@@ -94,7 +74,8 @@ def no_id_at_a_genmove(self, right, line):
 
 @shown_by(["2 name"], "= plain")
 class IdsAreItsOwnCount(Bug):
-    """Replies are numbered by the engine's own count of commands, which is right while ids go up by one from 1."""
+    """Replies are numbered by the engine's own count of commands, which is right while ids go up by
+    one from 1."""
 
     count = 0
 
@@ -133,7 +114,8 @@ class IdStays(Bug):
 
 @instead_of("head", ["16777217 name"], "= plain")
 def ids_are_floats(self, right, good, number, text):
-    """An id is a number with 24 bits and an exponent, so a large odd one comes back as an even one."""
+    """An id is a number with 24 bits and an exponent, so a large odd one comes back as an even
+    one."""
     if number is not None:
         number = int(struct.unpack("f", struct.pack("f", number))[0])
     return right(good, number, text)
@@ -153,7 +135,8 @@ def ids_are_shorts(self, right, good, number, text):
 
 @shown_by(["1 name\n2 version"], "= 1")
 class IdOfTheLastLineOfARead(Bug):
-    """The lines of a read are parsed before the first one is executed, so all replies have the last one's id."""
+    """The lines of a read are parsed before the first one is executed, so all replies have the last
+    one's id."""
 
     last = None
 

@@ -1,62 +1,51 @@
 """Ko."""
 from itertools import islice
 
-from tests.references.engine.game import EMPTY, POSITIONAL, filled
-from tests.references.engine.values import PASS, WHITE, other
-from talks import (
+from tests.engines.wrong.bug import (
     KO,
-    NO_ROOM_AT_E5,
+    NO_LIBERTY_AT_E5,
     Bug,
     Counting,
     Keeping,
-    gone,
     instead_of,
     on,
-    passes,
-    patch,
+    removed,
     shown_by,
 )
+from tests.references.engine.game import EMPTY, POSITIONAL, filled
+from tests.references.engine.values import PASS, WHITE, other
 
-PATCHES = [
-    patch(
-        "no_ko",
-        "There is no ko.",
-        on(5, KO, "play b B1"),
-        "?",
-        is_ko=lambda self, right, board, colour, point: False,
-    ),
-    patch(
-        "no_ko_at_the_edge",
-        "A ko is noticed only where the stone that took has four neighbours.",
-        on(5, KO, "play b B1"),
-        "?",
-        is_ko=lambda self, right, board, colour, point: right(board, colour, point)
-        and len(self.near[self.moves[-1][1]]) == 4,
-    ),
-    patch(
-        "every_board_is_ko",
-        "Under simple ko no board of the game may come back.",
-        on(2, "b A1 w B1 w B2 w A2", "play b A1"),
-        "=",
-        is_ko=lambda self, right, board, colour, point: board in self.boards,
-    ),
-    patch(
-        "eight_boards_alone",
-        "Positional ko looks at the last eight boards alone.",
-        on(5, KO + " b pass w pass" * 4, "play b B1"),
-        "?",
-        options=("--ko", POSITIONAL),
-        is_ko=lambda self, right, board, colour, point: board in self.boards[-8:],
-    ),
-    patch(
-        "point_zero_is_no_ko",
-        "A ko at A1 isn't noticed: A1 is point 0, and 0 is the note that there is no ko.",
-        on(5, "b A1 w A2 b B2 b C1 w B1", "play b A1"),
-        "?",
-        is_ko=lambda self, right, board, colour, point: point != (1, 1)
-        and right(board, colour, point),
-    ),
-]
+
+@instead_of("is_ko", on(5, KO, "play b B1"), "?")
+def no_ko(self, right, board, colour, point):
+    """There is no ko."""
+    return False
+
+
+@instead_of("is_ko", on(5, KO, "play b B1"), "?")
+def no_ko_at_the_edge(self, right, board, colour, point):
+    """A ko is noticed only where the stone that took has four neighbours."""
+    return right(board, colour, point) and len(self.near[self.moves[-1][1]]) == 4
+
+
+@instead_of("is_ko", on(2, "b A1 w B1 w B2 w A2", "play b A1"), "=")
+def every_board_is_ko(self, right, board, colour, point):
+    """Under simple ko no board of the game may come back."""
+    return board in self.boards
+
+
+@instead_of(
+    "is_ko", on(5, KO + " b pass w pass" * 4, "play b B1"), "?", options=("--ko", POSITIONAL)
+)
+def eight_boards_alone(self, right, board, colour, point):
+    """Positional ko looks at the last eight boards alone."""
+    return board in self.boards[-8:]
+
+
+@instead_of("is_ko", on(5, "b A1 w A2 b B2 b C1 w B1", "play b A1"), "?")
+def point_zero_is_no_ko(self, right, board, colour, point):
+    """A ko at A1 isn't noticed: A1 is point 0, and 0 is the note that there is no ko."""
+    return point != (1, 1) and right(board, colour, point)
 
 
 @instead_of("is_ko", on(5, KO + " b pass", "play b B1"), "=")
@@ -69,15 +58,15 @@ def ko_outlives_a_pass(self, right, board, colour, point):
 
 
 class Noted(Keeping):
-    """An engine that notes who may not play where by simple ko: a colour and a point, or None. It is right; bugs here and elsewhere
-    change it."""
+    """An engine that notes who may not play where by simple ko: a colour and a point, or None. It
+    is right; bugs here and elsewhere change it."""
 
     def fresh(self):
         return None
 
-    def after(self, before, colour, point):
+    def kept_after(self, before, colour, point):
         """What a move notes: a stone alone has taken one stone, and has no other liberty."""
-        taken = gone(before, self.board)
+        taken = removed(before, self.board)
         if len(taken) != 1:
             return None
         around = [near for near in self.near[point] if self.board[near] in (EMPTY, colour)]
@@ -89,10 +78,13 @@ class Noted(Keeping):
 
 @shown_by(on(5, KO + " b E5", "play b B1"), "=")
 class KoOutlivesAThreat(Noted):
-    """The noted point is forgotten only at the next capture, so a ko can't be retaken after a threat."""
+    """The noted point is forgotten only at the next capture, so a ko can't be retaken after a
+    threat."""
 
-    def after(self, before, colour, point):
-        return super().after(before, colour, point) if gone(before, self.board) else self.kept
+    def kept_after(self, before, colour, point):
+        return (
+            super().kept_after(before, colour, point) if removed(before, self.board) else self.kept
+        )
 
 
 @shown_by(on(5, KO, "play w B1"), "=")
@@ -105,10 +97,11 @@ class KoForbidsBothColours(Noted):
 
 @shown_by(on(5, "w A1 b B1 b A3 w B2 w B3 w A4 b A2", "play w A1"), "=")
 class KoAfterAChain(Noted):
-    """A point is noted whenever one stone was taken, also where the stone that took it joined others."""
+    """A point is noted whenever one stone was taken, also where the stone that took it joined
+    others."""
 
-    def after(self, before, colour, point):
-        taken = gone(before, self.board)
+    def kept_after(self, before, colour, point):
+        taken = removed(before, self.board)
         return (other(colour), taken[0]) if len(taken) == 1 else None
 
 
@@ -118,12 +111,13 @@ def ko_after_two_stones(self, right, board, colour, point):
     if not self.moves or self.moves[-1][1] == PASS or colour == self.moves[-1][0]:
         return False
     took = self.boards[-1].count(colour) > self.board.count(colour)
-    return took and gone(self.board, board) == [self.moves[-1][1]]
+    return took and removed(self.board, board) == [self.moves[-1][1]]
 
 
 @instead_of("is_ko", on(5, "w C1 b B1 w B2 w E5 b D5 w A1", "play b E4"), "=")
 def ko_of_equal_counts(self, right, board, colour, point):
-    """Boards are compared by their numbers of stones, so once a stone was taken none may be taken at another place."""
+    """Boards are compared by their numbers of stones, so once a stone was taken none may be taken
+    at another place."""
     return bool(self.boards) and sorted(board.values()) == sorted(self.boards[-1].values())
 
 
@@ -143,7 +137,8 @@ class KoForgottenAtARefusal(Bug):
 
 @instead_of("is_ko", on(5, KO, "play b B1"), "?", options=("--ko", POSITIONAL))
 def boards_of_the_same_mover(self, right, board, colour, point):
-    """Under positional ko a board may come back by the other colour's move, as under situational superko."""
+    """Under positional ko a board may come back by the other colour's move, as under situational
+    superko."""
     made = [*self.boards[1:], self.board]
     return any(
         board == earlier and mover == colour for earlier, (mover, _) in zip(made, self.moves)
@@ -159,7 +154,8 @@ def boards_since_the_pass(self, right, board, colour, point):
 
 @instead_of("refuse", on(5, KO, "! play b B1", "play w B1"), "=")
 def refused_retake_is_made(self, right, colour, point):
-    """A play that is ko is refused, and stays made: ko is looked at after the play was put on the board."""
+    """A play that is ko is refused, and stays made: ko is looked at after the play was put on the
+    board."""
     board = self.put(colour, point) if self.is_empty(point) else None
     self.board = board if board and self.is_ko(board, colour, point) else self.board
     right(colour, point)
@@ -175,7 +171,8 @@ def third_time_is_refused(self, right, board, colour, point):
 
 @shown_by(on(5, KO, "! play b B1", "play b pass", "play b B1"), "=")
 class LegalPlaysAreKept(Bug):
-    """Whether a play is legal is worked out once for each board in a process, so a ko outlives what ends it."""
+    """Whether a play is legal is worked out once for each board in a process, so a ko outlives what
+    ends it."""
 
     def __init__(self, *options):
         self.legal = {}
@@ -188,17 +185,19 @@ class LegalPlaysAreKept(Bug):
         return self.legal[key]
 
 
-# the last play takes three stones and leaves White's alone on A1, where Black's was alone after the first one
+# the last play takes three stones and leaves only White's on A1, where only Black's was after the
+# first one
 @shown_by(
     on(2, "b A1 w B1 w A2 w A1 b B2 b B1 b A2", "play w A1"), "=", options=("--ko", POSITIONAL)
 )
 class HashIgnoresColours(Keeping):
-    """Positional ko compares boards by a hash that has one number for each point, whatever the stone's colour is."""
+    """Positional ko compares boards by a hash that has one number for each point, whatever the
+    stone's colour is."""
 
     def fresh(self):
         return []  # the hashes of the boards before: which points have stones
 
-    def after(self, before, colour, point):
+    def kept_after(self, before, colour, point):
         return [*self.kept, set(before)]
 
     def is_ko(self, board, colour, point):
@@ -207,17 +206,19 @@ class HashIgnoresColours(Keeping):
 
 @shown_by(on(5, KO + " w E5", "play b B1"), "=")
 class KoOutlivesASecondMove(Noted):
-    """The noted point is forgotten at a move of the colour that may not play there, and not at one of the other."""
+    """The noted point is forgotten at a move of the colour that may not play there, and not at one
+    of the other."""
 
-    def after(self, before, colour, point):
-        return super().after(before, colour, point) or (
+    def kept_after(self, before, colour, point):
+        return super().kept_after(before, colour, point) or (
             self.kept if self.kept and self.kept[0] != colour else None
         )
 
 
 @shown_by(on(5, KO, "! play b A2", "play b B1"), "?")
 class KoForgottenAtAnOccupiedPoint(Counting):
-    """The board is noted before a play is looked at, so ko isn't noticed after a play on a stone was refused."""
+    """The board is noted before a play is looked at, so ko isn't noticed after a play on a stone
+    was refused."""
 
     def refuse(self, colour, point):
         self.number += point in self.board
@@ -230,16 +231,18 @@ class KoForgottenAtAnOccupiedPoint(Counting):
 # B19 is point 343
 @shown_by(on(19, "b A18 w C19 b B19 w B18 w A19", "play b B19"), "?")
 class KoIsComparedByIs(Noted):
-    """The noted point is compared by `is`, which in Python finds equal numbers to be one up to 256 alone."""
+    """The noted point is compared by `is`, which in Python finds equal numbers to be one up to 256
+    alone."""
 
     def is_ko(self, board, colour, point):
         return self.index(point) <= 256 and super().is_ko(board, colour, point)
 
 
 # Black may not play E5.
-@shown_by(on(5, f"{NO_ROOM_AT_E5} {KO}", "! play b E5", "play b B1"), "?")
+@shown_by(on(5, f"{NO_LIBERTY_AT_E5} {KO}", "! play b E5", "play b B1"), "?")
 class KoForgottenAtASuicide(Counting):
-    """A play forgets the noted point before it looks at suicide, so there is no ko after a suicide was refused."""
+    """A play forgets the noted point before it looks at suicide, so there is no ko after a suicide
+    was refused."""
 
     def refuse(self, colour, point):
         self.number += self.dies(colour, point)
@@ -255,10 +258,11 @@ class KoForgottenAtASuicide(Counting):
 
 @instead_of("refuse", on(5, KO, "! play b B1", "play w A1"), "?")
 def refused_retake_takes_the_stone(self, right, colour, point):
-    """A play that is ko is refused, and the stone that it would have taken is off the board: ko is looked at after the captures."""
+    """A play that is ko is refused, and the stone that it would have taken is off the board: ko is
+    looked at after the captures."""
     board = self.put(colour, point) if self.is_empty(point) else None
     if board and self.is_ko(board, colour, point):
-        self.board = filled(self.board, gone(self.board, board))
+        self.board = filled(self.board, removed(self.board, board))
     right(colour, point)
 
 
@@ -273,7 +277,8 @@ def drawn():
 # the numbers of the three stones have the sum 0, as the empty board has
 @shown_by(on(7, "b F3 w D6", "play w C6"), "=", options=("--ko", POSITIONAL))
 class NumbersOfFifteenBits(Keeping):
-    """Positional ko compares boards by a sum of numbers of their stones, which have fifteen bits, so others have the same sum."""
+    """Positional ko compares boards by a sum of numbers of their stones, which have fifteen bits,
+    so others have the same sum."""
 
     numbers = list(
         islice(zip(*[drawn()] * 2), 625)
@@ -289,7 +294,7 @@ class NumbersOfFifteenBits(Keeping):
             total ^= self.numbers[self.index(point)][stone == WHITE]
         return total
 
-    def after(self, before, colour, point):
+    def kept_after(self, before, colour, point):
         return [*self.kept, self.sum_of(before)]
 
     def is_ko(self, board, colour, point):

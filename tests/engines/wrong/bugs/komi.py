@@ -1,10 +1,11 @@
 """Komi, and scores. `final_score` of an empty board shows the komi that an engine uses."""
 import struct
+from typing import Set
 
+from tests.engines.wrong.bug import Bug, instead_of, on, shown_by
 from tests.references.engine.engine import Failure
 from tests.references.engine.game import points
-from tests.references.engine.values import BLACK, PASS
-from talks import Bug, instead_of, on, patch, shown_by
+from tests.references.engine.values import BLACK, PASS, Point
 
 
 def scored(*komi):
@@ -12,96 +13,80 @@ def scored(*komi):
     return on(5, "", *(f"komi {number}" for number in komi), "final_score")
 
 
-PATCHES = [
-    patch(
-        "sign_is_lost",
-        "The sign of a komi is lost.",
-        scored("-3.5"),
-        "= B+3.5",
-        read_komi=lambda self, right, text: right(text.lstrip("-")),
-    ),
-    patch(
-        "whole_komi_alone",
-        "A komi is cut to a whole number.",
-        scored("6.5"),
-        "= W+6.5",
-        read_komi=lambda self, right, text: right(text.split(".")[0]),
-    ),
-    patch(
-        "komi_of_four_characters",
-        "A komi has room for four characters, so -12.5 is -12.",
-        scored("-12.5"),
-        "= B+12.5",
-        read_komi=lambda self, right, text: right(text[:4]),
-    ),
-    patch(
-        "negative_komi_is_refused",
-        "A komi below zero is refused.",
-        ["komi -0.5"],
-        "=",
-        read_komi=lambda self, right, text: None if text.startswith("-") else right(text),
-    ),
-    patch(
-        "komi_is_blacks",
-        "Komi is given to Black.",
-        scored("6.5"),
-        "= W+6.5",
-        score=lambda self, right: right() + 2 * self.komi,
-    ),
-    patch(
-        "even_score_has_a_colour",
-        "An even score is written as `B+0`.",
-        on(5, "", "komi 0", "final_score"),
-        "= 0",
-        write_score=lambda self, right, halves: right(halves) if halves else "B+0",
-    ),
-    patch(
-        "score_has_a_comma",
-        "A half of a score is written after a comma, as in the language of the user.",
-        on(9, "", "komi 6.5", "final_score"),
-        "= W+6.5",
-        write_score=lambda self, right, halves: right(halves).replace(".", ","),
-    ),
-    patch(
-        "score_has_six_digits",
-        "A score is written with six digits, and a larger one with an exponent, as C does it by `%g`.",
-        on(5, "", "komi 1000000", "final_score"),
-        "= W+1000000",
-        write_score=lambda self, right, halves: right(halves)[:2] + f"{abs(halves) / 2:g}"
-        if halves
-        else "0",
-    ),
-    patch(
-        "whites_lead_is_floored",
-        "White's lead is a number below zero, whose half is cut off downwards, so 6.5 is written as 7.5.",
-        on(9, "", "komi 6.5", "final_score"),
-        "= W+6.5",
-        write_score=lambda self, right, halves: right(
-            halves - halves % 2 - 1 if halves < 0 and halves % 2 else halves
-        ),
-    ),
-    patch(
-        "empty_board_is_blacks",
-        "A region counts for Black where no stone of White is beside it, and so does an empty board.",
-        on(5, "", "komi 0", "final_score"),
-        "= 0",
-        score=lambda self, right: right() if self.board else 2 * self.size**2 - self.komi,
-    ),
-    patch(
-        "even_score_is_a_word",
-        "An even score is answered by a word, `Draw`.",
-        on(5, "", "komi 0", "final_score"),
-        "= 0",
-        write_score=lambda self, right, halves: right(halves) if halves else "Draw",
-    ),
-    patch(
-        "komi_of_zero_is_unread",
-        "A komi of 0 is refused: the function that reads a number returns 0 for what it can't read, too.",
-        on(5, "", "komi 0"),
-        "=",
-        read_komi=lambda self, right, text: right(text) or None,
-    ),
-]
+@instead_of("read_komi", scored("-3.5"), "= B+3.5")
+def sign_is_lost(self, right, text):
+    """The sign of a komi is lost."""
+    return right(text.lstrip("-"))
+
+
+@instead_of("read_komi", scored("6.5"), "= W+6.5")
+def whole_komi_alone(self, right, text):
+    """A komi is cut to a whole number."""
+    return right(text.split(".")[0])
+
+
+@instead_of("read_komi", scored("-12.5"), "= B+12.5")
+def komi_of_four_characters(self, right, text):
+    """A komi has room for four characters, so -12.5 is -12."""
+    return right(text[:4])
+
+
+@instead_of("read_komi", ["komi -0.5"], "=")
+def negative_komi_is_refused(self, right, text):
+    """A komi below zero is refused."""
+    return None if text.startswith("-") else right(text)
+
+
+@instead_of("score", scored("6.5"), "= W+6.5")
+def komi_is_blacks(self, right):
+    """Komi is given to Black."""
+    return right() + 2 * self.komi
+
+
+@instead_of("write_score", on(5, "", "komi 0", "final_score"), "= 0")
+def even_score_has_a_colour(self, right, halves):
+    """An even score is written as `B+0`."""
+    return right(halves) if halves else "B+0"
+
+
+@instead_of("write_score", on(9, "", "komi 6.5", "final_score"), "= W+6.5")
+def score_has_a_comma(self, right, halves):
+    """A half of a score is written after a comma, as in the language of the user."""
+    return right(halves).replace(".", ",")
+
+
+@instead_of("write_score", on(5, "", "komi 1000000", "final_score"), "= W+1000000")
+def score_has_six_digits(self, right, halves):
+    """A score is written with six digits, and a larger one with an exponent, as C does it by
+    `%g`."""
+    return right(halves)[:2] + f"{abs(halves) / 2:g}" if halves else "0"
+
+
+@instead_of("write_score", on(9, "", "komi 6.5", "final_score"), "= W+6.5")
+def whites_lead_is_floored(self, right, halves):
+    """White's lead is a number below zero, whose half is cut off downwards, so 6.5 is written as
+    7.5."""
+    return right(halves - halves % 2 - 1 if halves < 0 and halves % 2 else halves)
+
+
+@instead_of("score", on(5, "", "komi 0", "final_score"), "= 0")
+def empty_board_is_blacks(self, right):
+    """A region counts for Black where no stone of White is beside it, and so does an empty
+    board."""
+    return right() if self.board else 2 * self.size**2 - self.komi
+
+
+@instead_of("write_score", on(5, "", "komi 0", "final_score"), "= 0")
+def even_score_is_a_word(self, right, halves):
+    """An even score is answered by a word, `Draw`."""
+    return right(halves) if halves else "Draw"
+
+
+@instead_of("read_komi", on(5, "", "komi 0"), "=")
+def komi_of_zero_is_unread(self, right, text):
+    """A komi of 0 is refused: the function that reads a number returns 0 for what it can't read,
+    too."""
+    return right(text) or None
 
 
 @instead_of("read_komi", scored("-0.5"), "= B+0.5")
@@ -233,10 +218,11 @@ def komi_is_a_single(self, right, arguments):
 
 @shown_by(on(25, "", "komi 0", "final_score"), "= 0")
 class RegionsAreFilledByRecursion(Bug):
-    """A region is filled by calls in one another, two for a point, and at a thousand calls Python ends the program."""
+    """A region is filled by calls in one another, two for a point, and at a thousand calls Python
+    ends the program."""
 
     def chain(self, board, point):
-        found = set()
+        found: Set[Point] = set()
         self.fill(board, point, found)
         return found
 
@@ -253,7 +239,8 @@ class RegionsAreFilledByRecursion(Bug):
 
 @shown_by(on(5, "", "komi 6.5", "final_score"), "= W+6.5")
 class KomiIsOfTheNextGame(Bug):
-    """A komi is a setting that a new game takes over, so one that comes after `clear_board` isn't used."""
+    """A komi is a setting that a new game takes over, so one that comes after `clear_board` isn't
+    used."""
 
     setting = 0
 

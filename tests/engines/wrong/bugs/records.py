@@ -1,8 +1,8 @@
 """Long records."""
+from tests.engines.wrong.bug import KO, Bug, instead_of, on, passes, removed, shown_by
 from tests.references.engine.engine import Failure
 from tests.references.engine.game import EMPTY, filled, points
 from tests.references.engine.values import PASS, other
-from talks import KO, Bug, gone, instead_of, on, passes, patch, shown_by
 
 from .captures import Named
 from .ko import Noted
@@ -10,19 +10,14 @@ from .undo import UndoOnce
 
 # Each round takes four stones on 2x2 in four plays.
 ROUND = "b A2 b B1 b A1 w B2 "
-# On 2x2 each of these goes on from Black's A1 as the only stone, and comes back to it. Three begin a chain.
+# On 2x2 these lead from Black's A1 as the only stone back to that board. Three begin a chain.
 CYCLE = "w B1 b A2 w B2 b A1 w A2 b A1"
 
-PATCHES = [
-    patch(
-        "ko_of_1000_boards",
-        "The boards that ko is looked up in have room for 1,000, and there is no ko later.",
-        on(5, passes(996) + KO, "play b B1"),
-        "?",
-        is_ko=lambda self, right, board, colour, point: len(self.boards) <= 1000
-        and right(board, colour, point),
-    ),
-]
+
+@instead_of("is_ko", on(5, passes(996) + KO, "play b B1"), "?")
+def ko_of_1000_boards(self, right, board, colour, point):
+    """The boards that ko is looked up in have room for 1,000, and there is no ko later."""
+    return len(self.boards) <= 1000 and right(board, colour, point)
 
 
 @shown_by(on(5, passes(361), "play b C3"), "=")
@@ -82,7 +77,8 @@ def undo_of_500_moves(self, right):
 
 @shown_by(on(2, ROUND * 90 + "b A2 b B1 b A1", "play w B2", "play b A1"), "=")
 class PrisonersOf361(Bug):
-    """The list of captured stones has room for 361, and a stone that has no room there stays on the board."""
+    """The list of captured stones has room for 361, and a stone that has no room there stays on the
+    board."""
 
     def begin(self, size):
         super().begin(size)
@@ -91,7 +87,7 @@ class PrisonersOf361(Bug):
     def move(self, colour, point):
         before = self.board
         super().move(colour, point)
-        taken = gone(before, self.board)
+        taken = removed(before, self.board)
         self.board = filled(self.board, taken[max(0, 361 - self.taken) :], other(colour))
         self.taken += len(taken)
 
@@ -106,7 +102,8 @@ def note_at_move_200(self, right, arguments):
 
 @shown_by(on(5, passes(300), "clear_board", *on(5, passes(300))[2:], "play b C3"), "=")
 class MovesOfAllGames(Bug):
-    """The record's room of 600 moves is for all games of a process: `clear_board` doesn't give it back."""
+    """The record's room of 600 moves is for all games of a process: `clear_board` doesn't give it
+    back."""
 
     made = 0
     room = 600
@@ -134,9 +131,10 @@ def passes_of_a_long_game(self, right):
     on(5, "b E5 " + KO + " b pass b B1 w pass w A1" * 125 + " b A5 w A4 w B5", "play w A5"), "="
 )
 class ChainNumbersAreBytes(Named):
-    """A chain is known by the number of its last stone in the game, which is a byte, so two can have one number."""
+    """A chain is known by the number of its last stone in the game, which is a byte, so two can
+    have one number."""
 
-    def after(self, before, colour, point):
+    def kept_after(self, before, colour, point):
         names = {stone: name for stone, name in self.kept.items() if self.board[stone] != EMPTY}
         number = sum(place != PASS for _, place in self.moves)
         return {
@@ -154,7 +152,8 @@ class MovesTakenBackFillAList(UndoOnce):
 
 @instead_of("undo", on(5, passes(100) + "b C3", "undo", "play b C3"), "=")
 def first_of_a_block_stays(self, right):
-    """The record is in blocks of 100 moves, and `undo` of a block's first move drops the block and leaves the board."""
+    """The record is in blocks of 100 moves, and `undo` of a block's first move drops the block and
+    leaves the board."""
     board, first = self.board, len(self.moves) % 100 == 1 and len(self.moves) > 1
     right()
     if first:
@@ -165,8 +164,8 @@ def first_of_a_block_stays(self, right):
 class KoComesBack(Noted):
     """The move that a ko was noted at is a byte, so the ko is there again 256 moves later."""
 
-    def after(self, before, colour, point):
-        note = super().after(before, colour, point)
+    def kept_after(self, before, colour, point):
+        note = super().kept_after(before, colour, point)
         return (len(self.moves), note) if note else self.kept
 
     def is_ko(self, board, colour, point):
@@ -181,7 +180,8 @@ class KoComesBack(Noted):
 
 @shown_by(on(5, passes(256) + KO, "play b B1"), "?")
 class NoKoPastAByte(KoComesBack):
-    """The move that a ko was noted at is a byte and the number of moves is none, so there is no ko after 255 moves."""
+    """The move that a ko was noted at is a byte and the number of moves is none, so there is no ko
+    after 255 moves."""
 
     def is_now(self, number):
         return number % 256 == len(self.moves)
@@ -201,7 +201,8 @@ class UndoGivesNoRoomBack(MovesOfAllGames):
 # each play is a search; the last one is the 256th, and nothing beside E5 was marked before
 @shown_by([*on(5, ""), *["\n".join(["play b C3", "undo"] * 51)] * 5, "play b E5"], "=")
 class MarksAreBytes(Bug):
-    """Liberties are marked with the search's number, a byte, so a search can find marks of an earlier one.
+    """Liberties are marked with the search's number, a byte, so a search can find marks of an
+    earlier one.
 
     The marks of a new board are 0, and so is each 256th number.
     """
@@ -223,7 +224,8 @@ class MarksAreBytes(Bug):
 
 @shown_by([*["\n".join(["name"] * 512)] * 8, "name"], "= plain")
 class LogOf4096Lines(Bug):
-    """The lines of a process are kept, with room for 4,096, and the program ends at the next one."""
+    """The lines of a process are kept, with room for 4,096, and the program ends at the next
+    one."""
 
     kept = 0
 
@@ -236,7 +238,8 @@ class LogOf4096Lines(Bug):
 
 @shown_by(on(2, " ".join(["b A1", *[CYCLE] * 120]), "play w B1"), "=")
 class ChainsOf361(Bug):
-    """There are numbers for 361 chains, and none is used again in a game. The program ends at the next chain."""
+    """There are numbers for 361 chains, and none is used again in a game. The program ends at the
+    next chain."""
 
     def begin(self, size):
         super().begin(size)
@@ -256,12 +259,13 @@ class ChainsOf361(Bug):
 # T19 is point 360
 @shown_by(on(19, "b T19", "undo", "play w T19"), "=")
 class MovesAreBytes(Bug):
-    """The record keeps a move's point in a byte, so `undo` leaves a stone past point 255, and empties another point."""
+    """The record keeps a move's point in a byte, so `undo` leaves a stone past point 255, and
+    empties another point."""
 
     def undo(self):
         (colour, point), after = self.moves[-1], self.board
         super().undo()
-        if point != PASS and self.index(point) > 255 and after[point] == colour:
+        if isinstance(point, tuple) and self.index(point) > 255 and after[point] == colour:
             self.board = filled(
                 filled(self.board, [point], colour), [self.point(self.index(point) % 256)]
             )

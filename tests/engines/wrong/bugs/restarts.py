@@ -1,19 +1,21 @@
 """What a process does that another one was before, and the first answers after a start.
 
-The file of these engines is $WRONG_ENGINE_STATE, or else one in the folder of temporary files, each bug its own.
+The file of these engines is $WRONG_ENGINE_STATE, or else one in the folder of temporary files, each
+bug its own.
 """
 import json
 import os
 import tempfile
 
+from tests.engines.wrong.bug import FORCED, KO, RESTART, Bug, instead_of, on, shown_by
 from tests.references.engine.engine import Failure
 from tests.references.engine.game import Board, points
 from tests.references.engine.values import BLACK, PASS, WHITE
-from talks import AGAIN, FORCED, KO, Bug, instead_of, on, shown_by
 
 
 class Kept(Bug):
-    """An engine that keeps something in a file for the next process. `old` is what the file had at the start."""
+    """An engine that keeps something in a file for the next process. `old` is what the file had at
+    the start."""
 
     def __init__(self, *options):
         super().__init__(*options)
@@ -30,9 +32,10 @@ class Kept(Bug):
             json.dump(value, file)
 
 
-@shown_by(["1 name", AGAIN, "1 name"], "= plain")
+@shown_by(["1 name", RESTART, "1 name"], "= plain")
 class LockStays(Kept):
-    """A file says that the engine is running, and only `quit` removes it, so the next process ends at once."""
+    """A file says that the engine is running, and only `quit` removes it, so the next process ends
+    at once."""
 
     def run(self):
         if self.old:
@@ -63,9 +66,10 @@ class KeptBoard(Kept):
         self.old = None
 
 
-@shown_by([*on(5, "b C3"), AGAIN, *on(5, "", "play b C3")], "=")
+@shown_by([*on(5, "b C3"), RESTART, *on(5, "", "play b C3")], "=")
 class OldGameComesBack(KeptBoard):
-    """The first `clear_board` of a process brings back the game that an earlier one has left, as after a crash."""
+    """The first `clear_board` of a process brings back the game that an earlier one has left, as
+    after a crash."""
 
     def do_clear_board(self, arguments):
         super().do_clear_board(arguments)
@@ -76,9 +80,10 @@ class OldGameComesBack(KeptBoard):
         self.keep_board()
 
 
-@shown_by([*on(5, "b C3"), AGAIN, *on(5, "", "undo")], "?")
+@shown_by([*on(5, "b C3"), RESTART, *on(5, "", "undo")], "?")
 class OldMovesAreUndone(Kept):
-    """The record is a file that no start empties, so `undo` succeeds where an earlier process has moved."""
+    """The record is a file that no start empties, so `undo` succeeds where an earlier process has
+    moved."""
 
     def move(self, colour, point):
         super().move(colour, point)
@@ -91,7 +96,7 @@ class OldMovesAreUndone(Kept):
             self.old -= 1
 
 
-@shown_by(["komi 6.5", AGAIN, *on(5, "", "komi 0.5", "final_score")], "= W+0.5")
+@shown_by(["komi 6.5", RESTART, *on(5, "", "komi 0.5", "final_score")], "= W+0.5")
 class OldKomiStays(Kept):
     """The komi of an earlier process is a setting that no command changes."""
 
@@ -101,7 +106,7 @@ class OldKomiStays(Kept):
         self.keep(self.komi)
 
 
-@shown_by(["boardsize 9", AGAIN, *on(5, "", "play b F6")], "?")
+@shown_by(["boardsize 9", RESTART, *on(5, "", "play b F6")], "?")
 class OldSizeStays(Kept):
     """`clear_board` makes a board of the size that an earlier process had first."""
 
@@ -114,7 +119,7 @@ class OldSizeStays(Kept):
         self.begin(self.old or self.size)
 
 
-@shown_by([*on(3, FORCED, "genmove b"), AGAIN, *on(3, "w A1", "genmove b")], "but A1")
+@shown_by([*on(3, FORCED, "genmove b"), RESTART, *on(3, "w A1", "genmove b")], "but A1")
 class OldGameIsABook(Kept):
     """The first move that an earlier process chose is chosen again, whatever is there."""
 
@@ -123,14 +128,15 @@ class OldGameIsABook(Kept):
             index, self.old = self.old, None
             return self.point(index)
         point = super().choose(colour)
-        if point != PASS and not os.path.exists(self.file):
+        if isinstance(point, tuple) and not os.path.exists(self.file):
             self.keep(self.index(point))
         return point
 
 
-@shown_by([*on(5, KO), AGAIN, *on(5, "", "play b B1")], "=")
+@shown_by([*on(5, KO), RESTART, *on(5, "", "play b B1")], "=")
 class OldKoStays(Kept):
-    """The point of a ko is in the file, so a process begins with the ko that an earlier one has left."""
+    """The point of a ko is in the file, so a process begins with the ko that an earlier one has
+    left."""
 
     def move(self, colour, point):
         super().move(colour, point)
@@ -149,7 +155,7 @@ class OldKoStays(Kept):
         )
 
 
-@shown_by([*on(9, "", "fixed_handicap 2"), AGAIN, *on(9, "", "fixed_handicap 2")], "points C3 G7")
+@shown_by([*on(9, "", "fixed_handicap 2"), RESTART, *on(9, "", "fixed_handicap 2")], "points C3 G7")
 class OldHandicapStays(Kept):
     """A file says that the handicap was placed, and a later process refuses another one."""
 
@@ -161,7 +167,7 @@ class OldHandicapStays(Kept):
         self.keep("placed")
 
 
-@shown_by(["name", AGAIN, "name", AGAIN, *on(5, "", "genmove b")], "but")
+@shown_by(["name", RESTART, "name", RESTART, *on(5, "", "genmove b")], "but")
 class TrialIsOver(Kept):
     """The third process of a trial version refuses `genmove`."""
 
@@ -191,7 +197,8 @@ def greeting(self, right):
 
 @instead_of("run", ["1 name"], "= plain", plain=False, waits=True)
 def first_read_is_lost(self, right):
-    """What a process reads first is thrown away, as by an engine that empties its input once it is ready."""
+    """What a process reads first is thrown away, as by an engine that empties its input once it is
+    ready."""
     self.receive()
     right()
 
@@ -224,7 +231,8 @@ class FirstGenmoveClearsTheBoard(Bug):
 
 @shown_by(on(5, "b C3", "undo"), "=")
 class UndoNeedsAGenmove(Bug):
-    """The list that `undo` uses is made by the first `genmove` of a process, and before that `undo` fails."""
+    """The list that `undo` uses is made by the first `genmove` of a process, and before that `undo`
+    fails."""
 
     ready = False
 
@@ -250,17 +258,19 @@ class FirstKomiIsLost(Bug):
         self.ready = True
 
 
-@shown_by(["1 name", AGAIN, "1 name"], "= plain")
+@shown_by(["1 name", RESTART, "1 name"], "= plain")
 class NoteAfterACrash(LockStays):
-    """Where the process before wasn't ended by `quit`, a line that says so is in front of the first reply."""
+    """Where the process before wasn't ended by `quit`, a line that says so is in front of the first
+    reply."""
 
     def find_it_running(self):
         self.send("the last game was not saved\n")
 
 
-@shown_by([*on(3, FORCED, "genmove b"), AGAIN, *on(3, FORCED, "genmove w")], "moves pass")
+@shown_by([*on(3, FORCED, "genmove b"), RESTART, *on(3, FORCED, "genmove w")], "moves pass")
 class ChoiceIsKeptByItsBoard(Kept):
-    """Choices are kept in the file by the board alone, and a later process takes them for the other colour too."""
+    """Choices are kept in the file by the board alone, and a later process takes them for the other
+    colour too."""
 
     def __init__(self, *options):
         super().__init__(*options)
@@ -268,19 +278,17 @@ class ChoiceIsKeptByItsBoard(Kept):
 
     def choose(self, colour):
         board = f"{self.size} {sorted(self.board.items())}"
-        point = (
-            super().choose(colour)
-            if board not in (self.old or {})
-            else self.read_vertex(self.old[board])
-        )
+        old = (self.old or {}).get(board)
+        point = old and self.read_vertex(old) or super().choose(colour)
         self.choices[board] = self.write_vertex(point)
         self.keep(self.choices)
         return point
 
 
-@shown_by([*on(5, "b C3 w D4"), AGAIN, *on(5, "w A1 w B1", "undo", "play w A1")], "?")
+@shown_by([*on(5, "b C3 w D4"), RESTART, *on(5, "w A1 w B1", "undo", "play w A1")], "?")
 class OldBoardComesBackAtUndo(KeptBoard):
-    """`undo` reads the board from a file, and the first one of a process reads what an earlier process left there."""
+    """`undo` reads the board from a file, and the first one of a process reads what an earlier
+    process left there."""
 
     def move(self, colour, point):
         self.keep_board()
@@ -291,9 +299,10 @@ class OldBoardComesBackAtUndo(KeptBoard):
         self.bring_back()
 
 
-@shown_by([*["1 name", AGAIN] * 10, "1 name"], "= plain")
+@shown_by([*["1 name", RESTART] * 10, "1 name"], "= plain")
 class EleventhStartFails(Kept):
-    """Each process has a log of its own, with one of ten names, and the eleventh process ends at once."""
+    """Each process has a log of its own, with one of ten names, and the eleventh process ends at
+    once."""
 
     def run(self):
         starts = (self.old or 0) + 1
@@ -303,16 +312,17 @@ class EleventhStartFails(Kept):
         super().run()
 
 
-@shown_by([*on(5, "b C3 w D3"), AGAIN, *on(5, "b C3", "play w D3")], "=")
+@shown_by([*on(5, "b C3 w D3"), RESTART, *on(5, "b C3", "play w D3")], "=")
 class GameIsResumedAtItsFirstMove(Kept):
-    """Where the first move of a process is that of the game in the file, the rest of that game is played too."""
+    """Where the first move of a process is that of the game in the file, the rest of that game is
+    played too."""
 
     def move(self, colour, point):
         super().move(colour, point)
         (size, moves), self.old = self.old or (0, []), None
         if size == self.size and moves[:1] == [[colour, self.write_vertex(point)]]:
-            for its, text in moves[1:]:
-                super().move(its, self.read_vertex(text))
+            for mover, text in moves[1:]:
+                super().move(mover, self.read_vertex(text) or PASS)
         self.keep_moves()
 
     def keep_moves(self):
@@ -323,9 +333,10 @@ class GameIsResumedAtItsFirstMove(Kept):
         self.keep_moves()
 
 
-@shown_by([*on(5, "b C3", "genmove w"), AGAIN, *on(5, "b C3", "genmove b")], "but C3")
+@shown_by([*on(5, "b C3", "genmove w"), RESTART, *on(5, "b C3", "genmove b")], "but C3")
 class OldColourStays(Kept):
-    """The colour that the engine chose for is a setting in the file, and a later process fails for the other one."""
+    """The colour that the engine chose for is a setting in the file, and a later process fails for
+    the other one."""
 
     def choose(self, colour):
         if self.old not in (None, colour):
@@ -334,9 +345,10 @@ class OldColourStays(Kept):
         return super().choose(colour)
 
 
-@shown_by([*on(9, "", "genmove b"), AGAIN, *on(1, "", "genmove b")], "moves pass")
+@shown_by([*on(9, "", "genmove b"), RESTART, *on(1, "", "genmove b")], "moves pass")
 class BookHasNoSizes(Bug):
-    """Early chosen moves are a book in a file, by the moves before them alone. A later process uses it on each size."""
+    """Early chosen moves are a book in a file, by the moves before them alone. A later process uses
+    it on each size."""
 
     most = 20  # moves before a chosen one that is kept
 
@@ -369,7 +381,7 @@ class BookHasNoSizes(Bug):
 
     def from_book(self, colour, answer):
         """Makes the move of an answer that is in the book, as far as the board has it."""
-        point = self.place(self.read_vertex(answer))
+        point = self.place(self.read_vertex(answer) or PASS)
         if point is not None:
             self.move(colour, point)
         return answer

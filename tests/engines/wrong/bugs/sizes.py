@@ -1,51 +1,42 @@
 """Sizes, columns and rows."""
+from tests.engines.wrong.bug import Bug, instead_of, on, shown_by
 from tests.references.engine.values import PASS
-from talks import Bug, instead_of, on, patch, shown_by
 
-PATCHES = [
-    patch(
-        "array_ends_at_19",
-        "Larger boards than 19x19 are taken, and the array of points has 19 columns and rows.",
-        on(20, "", "play b A20"),
-        "=",
-        place=lambda self, right, vertex: None
-        if vertex != PASS and max(vertex) > 19
-        else right(vertex),
-    ),
-    patch(
-        "letters_end_at_t",
-        "The table of letters ends with T, and 20x20 is taken.",
-        on(20, "", "play b U1"),
-        "=",
-        read_vertex=lambda self, right, text: None if text[0].upper() in "UVWXYZ" else right(text),
-    ),
-    patch(
-        "z_is_unread",
-        "The table of letters ends with Y, and 25x25 is taken.",
-        on(25, "", "play b Z25"),
-        "=",
-        read_vertex=lambda self, right, text: None if text[0].upper() == "Z" else right(text),
-    ),
-    patch(
-        "rows_of_one_digit",
-        "The row of a vertex is its first digit alone, so A10 is A1.",
-        on(13, "b A1", "play b A10"),
-        "=",
-        read_vertex=lambda self, right, text: right(text if text.lower() == "pass" else text[:2]),
-    ),
-    patch(
-        "tt_is_a_pass",
-        "U20 is a pass: the engine keeps a point as a game file does, and `tt` is a pass there.",
-        on(25, "b U20", "play w U20"),
-        "?",
-        place=lambda self, right, vertex: PASS if vertex == (20, 20) else right(vertex),
-    ),
-]
+
+@instead_of("place", on(20, "", "play b A20"), "=")
+def array_ends_at_19(self, right, vertex):
+    """Larger boards than 19x19 are taken, and the array of points has 19 columns and rows."""
+    return None if vertex != PASS and max(vertex) > 19 else right(vertex)
+
+
+@instead_of("read_vertex", on(20, "", "play b U1"), "=")
+def letters_end_at_t(self, right, text):
+    """The table of letters ends with T, and 20x20 is taken."""
+    return None if text[0].upper() in "UVWXYZ" else right(text)
+
+
+@instead_of("read_vertex", on(25, "", "play b Z25"), "=")
+def z_is_unread(self, right, text):
+    """The table of letters ends with Y, and 25x25 is taken."""
+    return None if text[0].upper() == "Z" else right(text)
+
+
+@instead_of("read_vertex", on(13, "b A1", "play b A10"), "=")
+def rows_of_one_digit(self, right, text):
+    """The row of a vertex is its first digit alone, so A10 is A1."""
+    return right(text if text.lower() == "pass" else text[:2])
+
+
+@instead_of("place", on(25, "b U20", "play w U20"), "?")
+def tt_is_a_pass(self, right, vertex):
+    """U20 is a pass: the engine keeps a point as a game file does, and `tt` is a pass there."""
+    return PASS if vertex == (20, 20) else right(vertex)
 
 
 @instead_of("read_vertex", on(9, "", "play b J1"), "=")
 def j_is_the_tenth_letter(self, right, text):
-    """A column is read as the letter's place in the alphabet, so I isn't skipped, and J1 is off a board of 9x9."""
+    """A column is read as the letter's place in the alphabet, so I isn't skipped, and J1 is off a
+    board of 9x9."""
     vertex = right(text)
     return vertex if vertex in (None, PASS) else (ord(text[0].upper()) - ord("A") + 1, vertex[1])
 
@@ -58,7 +49,8 @@ def j_is_read_as_h(self, right, text):
 
 @instead_of("begin", on(11, "", "play b M1"), "?")
 def sizes_in_between(self, right, size):
-    """A size between 9, 13 and 19 is answered with success, and the board has the next of these sizes."""
+    """A size between 9, 13 and 19 is answered with success, and the board has the next of these
+    sizes."""
     right(next((known for known in (9, 13, 19) if 9 < size <= known), size))
 
 
@@ -95,7 +87,8 @@ def row_past_the_board_ends(self, right, vertex):
 
 @shown_by(["boardsize 9", "! boardsize 26", "clear_board", "play b K10"], "?")
 class RefusedSizeCounts(Bug):
-    """A size that is refused is noted before it is looked at, and `clear_board` makes a board of it."""
+    """A size that is refused is noted before it is looked at, and `clear_board` makes a board of
+    it."""
 
     asked = None
 
@@ -109,7 +102,8 @@ class RefusedSizeCounts(Bug):
 
 @instead_of("is_free", on(1, "", "play b A1"), "?")
 def one_point_has_a_liberty(self, right, board, chain):
-    """On 1x1 the only point may be played: a stone without a neighbour is taken as one that isn't surrounded."""
+    """On 1x1 the only point may be played: a stone without a neighbour is taken as one that isn't
+    surrounded."""
     return not any(self.near[stone] for stone in chain) or right(board, chain)
 
 
@@ -154,6 +148,7 @@ def refused_size_clears_the_board(self, right, arguments):
 
 @instead_of("write_vertex", on(25, "", "fixed_handicap 2"), "points D4 W22")
 def written_letters_end_at_t(self, right, point):
-    """Columns are read up to Z, and the table that they are written from ends with T: later ones have no letter."""
+    """Columns are read up to Z, and the table that they are written from ends with T: later ones
+    have no letter."""
     text = right(point)
     return text if point == PASS or text[0] <= "T" else text[1:]

@@ -1,41 +1,42 @@
 """Suicide, and plays that are taken for it."""
+from tests.engines.wrong.bug import (
+    NO_LIBERTY_AT_E5,
+    Bug,
+    Keeping,
+    instead_of,
+    on,
+    plays,
+    removed,
+    shown_by,
+)
 from tests.references.engine.game import filled
 from tests.references.engine.values import BLACK, PASS, other
-from talks import NO_ROOM_AT_E5, Bug, Keeping, gone, instead_of, on, patch, plays, shown_by
 
 from .captures import Counted
 
-PATCHES = [
-    patch(
-        "one_stone_may_die",
-        "Suicide of one stone is taken.",
-        on(5, "b A2 b B1", "play w A1"),
-        "?",
-        is_suicide=lambda self, right, board, colour, point: len(self.chain(board, point)) > 1
-        and right(board, colour, point),
-    ),
-    patch(
-        "corners_are_forgotten",
-        "Suicide in a corner is taken: the loop has three neighbours or more.",
-        on(5, "b A2 b B1", "play w A1"),
-        "?",
-        is_suicide=lambda self, right, board, colour, point: len(self.near[point]) > 2
-        and right(board, colour, point),
-    ),
-    patch(
-        "white_may_die",
-        "Suicide is looked for at Black's plays alone.",
-        on(5, "b A2 b B1", "play w A1"),
-        "?",
-        is_suicide=lambda self, right, board, colour, point: colour == BLACK
-        and right(board, colour, point),
-    ),
-]
+
+@instead_of("is_suicide", on(5, "b A2 b B1", "play w A1"), "?")
+def one_stone_may_die(self, right, board, colour, point):
+    """Suicide of one stone is taken."""
+    return len(self.chain(board, point)) > 1 and right(board, colour, point)
+
+
+@instead_of("is_suicide", on(5, "b A2 b B1", "play w A1"), "?")
+def corners_are_forgotten(self, right, board, colour, point):
+    """Suicide in a corner is taken: the loop has three neighbours or more."""
+    return len(self.near[point]) > 2 and right(board, colour, point)
+
+
+@instead_of("is_suicide", on(5, "b A2 b B1", "play w A1"), "?")
+def white_may_die(self, right, board, colour, point):
+    """Suicide is looked for at Black's plays alone."""
+    return colour == BLACK and right(board, colour, point)
 
 
 @instead_of("is_suicide", on(5, "w A1 b A2 b B2 b C1", "play w B1"), "?")
 def two_stones_may_die(self, right, board, colour, point):
-    """Suicide of two stones or more is taken: the new stone alone is looked at, and it has its own colour beside it."""
+    """Suicide of two stones or more is taken: the new stone alone is looked at, and it has its own
+    colour beside it."""
     return len(self.chain(board, point)) == 1 and right(board, colour, point)
 
 
@@ -54,13 +55,15 @@ class DeadStonesAreTakenOff(Bug):
 
 @instead_of("is_suicide", on(5, "b A2 w C1 b B1 w B2", "play w A1"), "=")
 def capture_is_suicide(self, right, board, colour, point):
-    """Liberties are looked for before the other side's stones are taken off, so a capture can be refused."""
+    """Liberties are looked for before the other side's stones are taken off, so a capture can be
+    refused."""
     return right(filled(self.board, [point], colour), colour, point)
 
 
 @instead_of("is_suicide", on(5, "b A2 w B1", "play b A1"), "=")
 def joining_is_suicide(self, right, board, colour, point):
-    """A play without an empty neighbour that takes nothing is refused, also where it joins a chain with liberties."""
+    """A play without an empty neighbour that takes nothing is refused, also where it joins a chain
+    with liberties."""
     return all(near in board for near in self.near[point])
 
 
@@ -111,7 +114,8 @@ def refused_suicide_takes_its_chain(self, right, colour, point):
 
 @instead_of("is_suicide", on(5, "w A1 w C1 b A2 b B2 b C2 b D1", "play w B1"), "?")
 def joined_chains_may_die(self, right, board, colour, point):
-    """Suicide that joins two chains is taken: each of them counts its point as a liberty, and one is taken off."""
+    """Suicide that joins two chains is taken: each of them counts its point as a liberty, and one
+    is taken off."""
     own = [near for near in self.near[point] if self.board[near] == colour]
     joined = {min(self.chain(self.board, near)) for near in own}
     return len(joined) < 2 and right(board, colour, point)
@@ -120,7 +124,8 @@ def joined_chains_may_die(self, right, board, colour, point):
 # B1 takes C1, and A1 beside it lives
 @instead_of("is_suicide", on(5, "b A1 b A2 b B2 b C1 w D1 w C2", "play w B1"), "=")
 def first_neighbour_decides(self, right, board, colour, point):
-    """A play without a liberty is suicide where the first chain beside it isn't taken, also where another one is."""
+    """A play without a liberty is suicide where the first chain beside it isn't taken, also where
+    another one is."""
     bare = filled(self.board, [point], colour)
     if self.is_free(bare, self.chain(bare, point)):
         return False
@@ -131,7 +136,8 @@ def first_neighbour_decides(self, right, board, colour, point):
 # A2 has the liberty B2
 @instead_of("is_suicide", on(5, "w A2 w B1 b A3", "play b A1"), "?")
 def atari_is_no_suicide(self, right, board, colour, point):
-    """A play without a liberty is taken where a chain beside it has one left, as if that were taken."""
+    """A play without a liberty is taken where a chain beside it has one left, as if that were
+    taken."""
     beside = [self.chain(board, near) for near in self.near[point] if board[near] == other(colour)]
     return right(board, colour, point) and all(
         len(self.liberties(board, chain)) > 1 for chain in beside
@@ -141,7 +147,8 @@ def atari_is_no_suicide(self, right, board, colour, point):
 # A2 has the liberties A1, A3 and B2
 @shown_by(on(5, "w A2 w B1", "! play b A1", "play b A3", "play b B2", "play w A2"), "?")
 class RefusedSuicideTakesLiberties(Counted):
-    """A suicide is refused, and the chains beside it stay without the liberty that it took from them."""
+    """A suicide is refused, and the chains beside it stay without the liberty that it took from
+    them."""
 
     def refuse(self, colour, point):
         dies = self.dies(colour, point)
@@ -154,15 +161,16 @@ class RefusedSuicideTakesLiberties(Counted):
         super().refuse(colour, point)
 
 
-@shown_by(on(5, f"{NO_ROOM_AT_E5} w A1 b A2 b B1", "play b E5"), "?")
+@shown_by(on(5, f"{NO_LIBERTY_AT_E5} w A1 b A2 b B1", "play b E5"), "?")
 class PrisonersAllowSuicide(Keeping):
-    """Whether a play has taken a stone is asked of its colour's prisoners, so after a capture its suicide is taken."""
+    """Whether a play has taken a stone is asked of its colour's prisoners, so after a capture its
+    suicide is taken."""
 
     def fresh(self):
         return set()  # the colours that have prisoners
 
-    def after(self, before, colour, point):
-        return self.kept | {colour} if gone(before, self.board) else self.kept
+    def kept_after(self, before, colour, point):
+        return self.kept | {colour} if removed(before, self.board) else self.kept
 
     def is_suicide(self, board, colour, point):
         return colour not in self.kept and super().is_suicide(board, colour, point)
@@ -171,7 +179,8 @@ class PrisonersAllowSuicide(Keeping):
 # White's A2 has no liberty but A1, until White takes A3
 @shown_by(on(5, "w A2 b A3 b B2 b B1", "! play w A1", *plays("w A4 w B3"), "play w A1"), "=")
 class SuicideIsNoted(Bug):
-    """That a play is suicide is noted until a point beside it changes, so a liberty that its chain gets elsewhere isn't seen."""
+    """That a play is suicide is noted until a point beside it changes, so a liberty that its chain
+    gets elsewhere isn't seen."""
 
     def begin(self, size):
         super().begin(size)

@@ -1,19 +1,14 @@
 """Whose turn it is. Either colour may move at any time, also after two passes."""
+from tests.engines.wrong.bug import instead_of, on
 from tests.references.engine.engine import Failure
 from tests.references.engine.game import filled
 from tests.references.engine.values import BLACK, PASS, WHITE, other
-from talks import instead_of, on, patch
 
-PATCHES = [
-    patch(
-        "same_colour_twice",
-        "A second play of one colour is refused, as out of turn.",
-        on(5, "b A1", "play b B1"),
-        "=",
-        is_legal=lambda self, right, colour, point: not (self.moves and self.moves[-1][0] == colour)
-        and right(colour, point),
-    ),
-]
+
+@instead_of("is_legal", on(5, "b A1", "play b B1"), "=")
+def same_colour_twice(self, right, colour, point):
+    """A second play of one colour is refused, as out of turn."""
+    return not (self.moves and self.moves[-1][0] == colour) and right(colour, point)
 
 
 @instead_of("choose", on(5, "b C3", "genmove b"), "but C3")
@@ -47,7 +42,8 @@ def two_passes_end_the_game(self, right, colour, point):
 
 @instead_of("move", on(5, "b A1 b B1", "undo", "undo", "play b A1"), "=")
 def pass_in_between(self, right, colour, point):
-    """Where a colour moves twice, a pass of the other one is put in between, which `undo` takes back like a move."""
+    """Where a colour moves twice, a pass of the other one is put in between, which `undo` takes
+    back like a move."""
     if self.moves and self.moves[-1][0] == colour:
         right(other(colour), PASS)
     right(colour, point)
@@ -63,7 +59,8 @@ def colours_by_turn(self, right, arguments):
 
 @instead_of("move", on(5, "b A1 w A2 b pass w pass", "play w A1"), "?")
 def dead_stones_go_after_two_passes(self, right, colour, point):
-    """After two passes the game is counted, and chains that have one liberty are taken off as dead."""
+    """After two passes the game is counted, and chains that have one liberty are taken off as
+    dead."""
     right(colour, point)
     if [place for _, place in self.moves[-2:]] == [PASS, PASS]:
         chains = {frozenset(self.chain(self.board, place)) for place in self.board}

@@ -1,8 +1,8 @@
 """Undo."""
+from tests.engines.wrong.bug import KO, Bug, Counting, instead_of, on, plays, removed, shown_by
 from tests.references.engine.engine import Failure
 from tests.references.engine.game import EMPTY, POSITIONAL, Board, filled
 from tests.references.engine.values import BLACK, PASS, WHITE, other
-from talks import KO, Bug, Counting, gone, instead_of, on, plays, shown_by
 
 from .captures import Counted
 
@@ -35,7 +35,7 @@ def one_captured_stone_comes_back(self, right):
     """`undo` brings back the first of the stones that were taken."""
     after = self.board
     right()
-    self.board = filled(self.board, gone(self.board, after)[1:])
+    self.board = filled(self.board, removed(self.board, after)[1:])
 
 
 @instead_of("undo", on(5, "b A1 w A2 w B1", "undo", "play w B1", "play w A1"), "=")
@@ -43,12 +43,13 @@ def captured_stones_change_sides(self, right):
     """`undo` brings back the stones that were taken in the colour of the move."""
     after, (colour, _) = self.board, self.moves[-1]
     right()
-    self.board = filled(self.board, gone(self.board, after), colour)
+    self.board = filled(self.board, removed(self.board, after), colour)
 
 
 @shown_by(on(5, KO + " w E5", "undo", "play b B1"), "?")
 class KoOfTheTakenBackMove(Bug):
-    """`undo` leaves the board that ko compares with: the one before the move that was taken back."""
+    """`undo` leaves the board that ko compares with: the one before the move that was taken
+    back."""
 
     compared = None
 
@@ -145,7 +146,8 @@ def last_pass_stays(self, right, arguments):
 
 @instead_of("undo", on(5, "b A1 w A2 w B1 b pass", "undo", "play w A1"), "=")
 def pass_brings_stones_back(self, right):
-    """`undo` of a pass brings back the stones of the last capture, whose list a pass doesn't empty."""
+    """`undo` of a pass brings back the stones of the last capture, whose list a pass doesn't
+    empty."""
     number = len(self.moves) - 1
     passed = self.moves[number][1] == PASS
     right()
@@ -180,7 +182,8 @@ def undo_forgets_the_handicap(self, right):
 
 @shown_by(on(5, "b A1 w A2 w B1 w E5", "undo", "undo", "play b A1"), "?")
 class OneListOfTakenStones(Bug):
-    """The captured stones are kept for the last move alone, so a second `undo` in a row brings none back."""
+    """The captured stones are kept for the last move alone, so a second `undo` in a row brings none
+    back."""
 
     kept = False
 
@@ -189,15 +192,17 @@ class OneListOfTakenStones(Bug):
         self.kept = True
 
     def undo(self):
-        board, point = self.board, self.moves[-1][1]
+        board, (_, point) = self.board, self.moves[-1]
         super().undo()
-        self.board = self.board if self.kept or point == PASS else filled(board, [point])
+        if isinstance(point, tuple) and not self.kept:
+            self.board = filled(board, [point])
         self.kept = False
 
 
 @shown_by(on(5, "b A1", "undo", "play w B1", "undo", "play b A1"), "=")
 class TakenBackMovesStayListed(Bug):
-    """A move after an `undo` is listed after the one that was taken back, and the next `undo` goes back to that."""
+    """A move after an `undo` is listed after the one that was taken back, and the next `undo` goes
+    back to that."""
 
     def begin(self, size):
         super().begin(size)
@@ -220,7 +225,8 @@ class TakenBackMovesStayListed(Bug):
 
 @instead_of("undo", on(5, "b A1 w B2 w C3", "undo", "play w C3"), "=")
 def undo_goes_by_turns(self, right):
-    """The moves are two lists, Black's and White's, and `undo` takes from the one whose turn it was by their number."""
+    """The moves are two lists, Black's and White's, and `undo` takes from the one whose turn it was
+    by their number."""
     mover = BLACK if len(self.moves) % 2 else WHITE
     moves = self.moves
     of_the_mover = [number for number, (colour, _) in enumerate(moves) if colour == mover]
@@ -232,7 +238,8 @@ def undo_goes_by_turns(self, right):
 
 @instead_of("undo", on(5, "b A1 w pass", "undo", "play w A1"), "?")
 def pass_is_taken_back_from_a1(self, right):
-    """A pass is in the record as point 0, and `undo` empties the point of the last move, which is A1."""
+    """A pass is in the record as point 0, and `undo` empties the point of the last move, which is
+    A1."""
     point = self.moves[-1][1]
     right()
     self.board = filled(self.board, [(1, 1)]) if point == PASS else self.board
@@ -240,10 +247,11 @@ def pass_is_taken_back_from_a1(self, right):
 
 @instead_of("undo", on(5, "w A1 b A2 b B1", "undo", "play b B1"), "=")
 def taken_back_point_is_filled(self, right):
-    """`undo` removes the stone, and then fills what the captured stones left, so the filling runs out by its point."""
+    """`undo` removes the stone, and then fills what the captured stones left, so the filling runs
+    out by its point."""
     (colour, point), after = self.moves[-1], self.board
     right()
-    taken = gone(self.board, after)
+    taken = removed(self.board, after)
     if taken:
         after = filled(after, [point])
         self.board = filled(
@@ -254,13 +262,14 @@ def taken_back_point_is_filled(self, right):
 # A19 is point 342, and comes back at point 86
 @instead_of("undo", on(19, "w A19 b A18 b B19", "undo", "play b A19"), "?")
 def taken_stones_are_bytes(self, right):
-    """The list of captured stones is of bytes, so those past point 255 come back at another point."""
+    """The list of captured stones is of bytes, so those past point 255 come back at another
+    point."""
     (colour, point), after = self.moves[-1], self.board
     right()
     if point != PASS:
         self.board = filled(
             filled(after, [point]),
-            [self.point(self.index(spot) % 256) for spot in gone(self.board, after)],
+            [self.point(self.index(spot) % 256) for spot in removed(self.board, after)],
             other(colour),
         )
 
@@ -268,7 +277,8 @@ def taken_stones_are_bytes(self, right):
 # A1 takes B1, and then A2
 @instead_of("undo", on(5, "b A3 b B2 b C1 w A2 w B1 b A1", "undo", "play w B1"), "?")
 def last_taken_chain_comes_back(self, right):
-    """A play has one list of captured stones, which each chain begins anew, so `undo` brings back the last chain."""
+    """A play has one list of captured stones, which each chain begins anew, so `undo` brings back
+    the last chain."""
     (colour, point), after = self.moves[-1], self.board
     right()
     taken = (
@@ -296,7 +306,8 @@ def undo_plays_in_turns(self, right):
 
 
 class Prisoners(Bug):
-    """An engine whose score has prisoners. They count for nothing on a board without stones, but by the bugs below."""
+    """An engine whose score has prisoners. They count for nothing on a board without stones, but by
+    the bugs below."""
 
     lead = 0  # Black's prisoners less White's
 
@@ -308,7 +319,7 @@ class Prisoners(Bug):
         before = self.board
         super().move(colour, point)
         self.leads.append(self.lead)
-        self.lead += len(gone(before, self.board)) * (1 if colour == BLACK else -1)
+        self.lead += len(removed(before, self.board)) * (1 if colour == BLACK else -1)
 
     def score(self):
         return super().score() + 2 * self.lead
@@ -325,7 +336,8 @@ class PrisonersStayAtUndo(Prisoners):
 
 @shown_by(on(5, "w A1 w C1 w B1", "undo", *plays("b A2 b B1"), "play b A1"), "=")
 class JoinedChainsStayJoined(Bug):
-    """`undo` takes a stone off, and the chains that it joined stay one chain: they have one name, which they keep."""
+    """`undo` takes a stone off, and the chains that it joined stay one chain: they have one name,
+    which they keep."""
 
     def begin(self, size):
         super().begin(size)
@@ -367,7 +379,8 @@ def undo_sets_komi_back(self, right):
 
 @shown_by(on(5, "w C3 b pass", "undo", "play b pass", "genmove w"), "but C3")
 class PassesStayAtUndo(Bug):
-    """`genmove` fails after two passes, and `undo` of a pass leaves their count, so it fails after one more."""
+    """`genmove` fails after two passes, and `undo` of a pass leaves their count, so it fails after
+    one more."""
 
     def begin(self, size):
         super().begin(size)
@@ -385,7 +398,8 @@ class PassesStayAtUndo(Bug):
 
 @shown_by(on(5, "b C3", "undo", "play b C3"), "=", options=("--ko", POSITIONAL))
 class TakenBackBoardsAreKept(Bug):
-    """Positional ko keeps the boards of the game in a set, from which `undo` takes none, so a move can't be made again."""
+    """Positional ko keeps the boards of the game in a set, from which `undo` takes none, so a move
+    can't be made again."""
 
     def begin(self, size):
         super().begin(size)
