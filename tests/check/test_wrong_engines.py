@@ -6,24 +6,17 @@ rightly by a wrong engine too, unless its bug says that it isn't.
 """
 from __future__ import annotations
 
-import contextlib
-import os
 import re
-import sys
 from collections import Counter
 from pathlib import Path
-from subprocess import DEVNULL, PIPE
-from typing import Any, Iterator, List, NamedTuple, Optional, Sequence, Tuple
+from typing import Callable, List, NamedTuple, Optional, Sequence, Type
 
 import pytest
 
-from tests.shared.processes import TOP, Process, process_tree
-
-WRONG = TOP / "tests/engines/wrong"
-sys.path.insert(0, str(WRONG))
-
-from bugs import all_bugs  # type: ignore[import] # noqa: E402
-from talks import AGAIN  # type: ignore[import] # noqa: E402
+from tests.engines.wrong.bug import RESTART, Bug
+from tests.engines.wrong.bugs import SUBJECTS, all_bugs, bugs_of
+from tests.engines.wrong.plain import Plain, run
+from tests.references.engine.engine import Engine
 
 BUGS = all_bugs()
 FEWEST, FEWEST_OF_A_SUBJECT = 300, 7
@@ -42,90 +35,70 @@ RIGHT_AFTER_OPENING = "but C3 G7 C7 G3"
 LETTERS = "ABCDEFGHJKLMNOPQRSTUVWXYZ"
 
 
-class Starter(NamedTuple):
-    """Starts engines, for which Python compiles its modules once."""
-
-    folder: Path
-    compiled: Path
-
-    @contextlib.contextmanager
-    def start(self, options: Sequence[str]) -> Iterator[Process]:
-        """Starts an engine with these options."""
-        own = {"WRONG_ENGINE_STATE": str(self.folder / "state")}
-        environment = {**os.environ, **own, "PYTHONPYCACHEPREFIX": str(self.compiled)}
-        environment.pop("PYTHONDONTWRITEBYTECODE", None)
-        # -S leaves out what a machine adds to each start of Python
-        command = [sys.executable, "-S", str(WRONG / "engine"), *options]
-        with process_tree(
-            command, env=environment, stdin=PIPE, stdout=PIPE, stderr=DEVNULL
-        ) as process:
-            yield process
-
-    def converse(self, steps: Sequence[str], options: Sequence[str]) -> Answers:
-        """Returns what an engine with these options answers to these steps."""
-        (self.folder / "state").unlink(missing_ok=True)
-        before = []
-        with contextlib.ExitStack() as stack:
-            engine = stack.enter_context(self.start(options))
-            for step in steps[:-1]:
-                if step == AGAIN:
-                    output, status = end(engine)
-                    before.append(f"{output}{status}")
-                    engine = stack.enter_context(self.start(options))
-                else:
-                    lines = step.removeprefix("! ")
-                    say(engine, lines)
-                    before.append(hear(engine, lines.count("\n") + 1))
-            say(engine, steps[-1])
-            last, status = end(engine)
-        return Answers(before, last, status)
-
-
 class Answers(NamedTuple):
-    """What an engine has answered: before the last step, and to it; and its status."""
+    """What an engine has answered, before the last step and to it, and how its processes ended."""
 
     before: List[str]
     last: str
-    status: int
+    statuses: List[int]
 
 
-@pytest.fixture(scope="session")
-def compiled(tmp_path_factory: pytest.TempPathFactory) -> Path:
-    """Returns the folder of what Python compiles for the engines."""
-    return tmp_path_factory.mktemp("compiled")
+Converse = Callable[[Type[Plain], Sequence[str], Sequence[str]], Answers]
 
 
 @pytest.fixture
-def starter(tmp_path: Path, compiled: Path) -> Starter:
-    """Returns what starts engines."""
-    return Starter(tmp_path, compiled)
+def converse(tmp_path: Path, monkeypatch: pytest.MonkeyPatch) -> Converse:
+    """Returns a function that has a conversation with an engine, in memory: each step is a read."""
+    state = tmp_path / "state"
+    monkeypatch.setenv("WRONG_ENGINE_STATE", str(state))
+    unread: List[str] = []
+    written = [""]  # before and after each read
+
+    def receive(engine: Engine) -> str:
+        written.append("")
+        return unread.pop(0) if unread else ""
+
+    def send(engine: Engine, text: str) -> None:
+        written[-1] += text
+
+    monkeypatch.setattr(Engine, "receive", receive)
+    monkeypatch.setattr(Engine, "send", send)
+
+    def answers(kind: Type[Plain], steps: Sequence[str], options: Sequence[str]) -> Answers:
+        state.unlink(missing_ok=True)
+        found, statuses = [], []
+        for texts in texts_of_processes(steps):
+            unread[:], written[:] = texts, [""]
+            statuses.append(status_of(kind, options))
+            # what is written before the first read and at the end belongs to the steps there
+            first, *replies = written + [""] * (len(texts) + 1 - len(written))
+            replies[0] = first + replies[0]
+            found += [*replies[: len(texts) - 1], "".join(replies[len(texts) - 1 :])]
+        return Answers(found[:-1], found[-1], statuses)
+
+    return answers
 
 
-def say(engine: Process, lines: str) -> None:
-    """Writes these lines at once, unless the engine has ended."""
-    assert engine.stdin is not None
-    with contextlib.suppress(BrokenPipeError):
-        os.write(engine.stdin.fileno(), f"{lines}\n".encode("latin-1"))
+def texts_of_processes(steps: Sequence[str]) -> List[List[str]]:
+    """Returns what each process reads."""
+    found: List[List[str]] = [[]]
+    for step in steps:
+        if step == RESTART:
+            found.append([])
+        else:
+            found[-1].append(step.removeprefix("! ") + "\n")
+    return found
 
 
-def hear(engine: Process, count: int) -> str:
-    """Returns what an engine writes up to the end of so many replies, or up to its own end."""
-    assert engine.stdout is not None
-    output = b""
-    while output.count(b"\n\n") < count:
-        piece = os.read(engine.stdout.fileno(), 65536)
-        if not piece:
-            break
-        output += piece
-    return output.decode("latin-1")
-
-
-def end(engine: Process) -> Tuple[str, int]:
-    """Closes the input of an engine, and returns what it writes then, and its status."""
-    assert engine.stdin is not None and engine.stdout is not None
-    with contextlib.suppress(BrokenPipeError):
-        engine.stdin.close()
-    return engine.stdout.read().decode("latin-1"), engine.wait()
+def status_of(kind: Type[Plain], options: Sequence[str]) -> int:
+    """Runs an engine, and returns the status with which its process would end."""
+    try:
+        run(kind, [*options], "")
+    except SystemExit as end:
+        return int(end.code or 0)
+    except Exception:  # a process would print it
+        return 1
+    return 0
 
 
 # ---- what is right
@@ -166,7 +139,7 @@ def is_right(right: str, steps: Sequence[str], output: str) -> bool:
 
 
 def is_wanted(right: str, steps: Sequence[str], reply: Reply) -> bool:
-    """Tells whether a reply is one that is wanted, by the words of tests/engines/wrong/talks.py."""
+    """Tells whether a reply is one that is wanted, by the words of tests/engines/wrong/bug.py."""
     kind, _, wanted = right.partition(" ")
     if "?" in (kind, reply.mark):
         return kind == reply.mark
@@ -193,36 +166,36 @@ def is_on_board(text: str, steps: Sequence[str]) -> bool:
 
 
 @pytest.mark.parametrize("name", BUGS)
-def test_conversation_shows_the_bug(name: str, starter: Starter) -> None:
+def test_conversation_shows_the_bug(name: str, converse: Converse) -> None:
     bug = BUGS[name]
-    right = starter.converse(bug.shows, bug.options)
-    wrong = starter.converse(bug.shows, [*bug.options, "--bug", name])
+    right = converse(Plain, bug.shows, bug.options)
+    wrong = converse(bug, bug.shows, bug.options)
     assert wrong.before == right.before
-    for step, answer in zip(bug.shows, right.before):
-        assert answer.startswith("0" if step == AGAIN else "?" if step.startswith("! ") else "=")
-    assert right.status == 0
+    for step, answer in zip((step for step in bug.shows if step != RESTART), right.before):
+        assert answer.startswith("?" if step.startswith("! ") else "=")
+    assert right.statuses == [0, *wrong.statuses[:-1]] == [0] * len(right.statuses)
     assert is_right(bug.right, bug.shows, right.last), right.last
     assert not is_right(bug.right, bug.shows, wrong.last), wrong.last
     assert bug.waits == owes_a_reply(bug, wrong)
 
 
-def owes_a_reply(bug: Any, wrong: Answers) -> bool:
+def owes_a_reply(bug: Type[Bug], wrong: Answers) -> bool:
     """Tells whether an engine that was not asked to quit has read on without the end of a reply."""
     owes = wrong.last.count("\n\n") <= bug.shows[-1].count("\n") and bug.right != "nothing"
-    return owes and wrong.status == 0 and "quit" not in bug.shows[-1]
+    return owes and wrong.statuses[-1] == 0 and "quit" not in bug.shows[-1]
 
 
 @pytest.mark.parametrize("name", BUGS)
-def test_opening_of_an_ordinary_game(name: str, starter: Starter) -> None:
+def test_opening_of_an_ordinary_game(name: str, converse: Converse) -> None:
     bug = BUGS[name]
     # where the bug shows there, all lines are written at once
     steps = OPENING if bug.plain else ["\n".join(OPENING)]
-    answers = starter.converse(steps, [*bug.options, "--bug", name])
+    answers = converse(bug, steps, bug.options)
     succeeded = answers.before == [f"={number}\n\n" for number in range(1, len(steps))]
     assert bug.plain == (succeeded and is_right(RIGHT_AFTER_OPENING, steps, answers.last))
 
 
 def test_there_are_enough_bugs_of_each_subject() -> None:
-    subjects = Counter(bug.subject for bug in BUGS.values())
-    assert sum(subjects.values()) >= FEWEST
-    assert min(subjects.values()) >= FEWEST_OF_A_SUBJECT
+    counts = Counter({subject: len(bugs_of(subject)) for subject in SUBJECTS})
+    assert sum(counts.values()) == len(BUGS) >= FEWEST  # no two have one name
+    assert min(counts.values()) >= FEWEST_OF_A_SUBJECT
