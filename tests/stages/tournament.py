@@ -20,8 +20,6 @@ The stage finds all processes that a script started by a word in their environme
   and by --whole with 100,000.
 - What is exported is read by pgn-extract, and by GNU Go, whose boards and captures have to be those of the games.
 - One engine plays all others, engines are added, and games that are the same are found. A run says how far it is.
-- tap is tried with two engines. The sample engine plays whole games on many sizes, and takes and refuses the same moves as
-  gtp_engine.
 - The same games are played by xargs, by the script for Slurm without Slurm, and by GNU Parallel on two machines, for which a
   script plays ssh. The results have to be the same. Machines leave that can't be reached, or have no engine. Each lock fails.
 - Each process that watches over a game is killed, and two of them at one moment, and no engine may be left. Engines that hang are
@@ -98,7 +96,6 @@ from tests.stages.of_tournament.openings import Folders, Refused, Rules, Taken  
 from tests.stages.of_tournament.opened import Answers, Crashes, Refusals, Talks  # noqa: E402, F401
 from tests.stages.of_tournament.opened import Times as OpenedTimes  # noqa: E402, F401
 from tests.stages.of_tournament.opened import Games as OpenedGames  # noqa: E402, F401
-from tests.stages.of_tournament.beside import Died, Games, Sample, Taps  # noqa: E402, F401
 
 PARSER = checks.Parser(__doc__)
 PARSER.add_argument(
