@@ -92,10 +92,6 @@ from tests.stages.of_tournament.damaged import Unread as UnreadResults  # noqa: 
 from tests.stages.of_tournament.costs import Dear, Filled, Many, OneGame  # noqa: E402, F401
 from tests.stages.of_tournament.noted import LateOnes, Limits, Noted, Thought  # noqa: E402, F401
 from tests.stages.of_tournament.noted import Stopped as StoppedNotes  # noqa: E402, F401
-from tests.stages.of_tournament.openings import Folders, Refused, Rules, Taken  # noqa: E402, F401
-from tests.stages.of_tournament.opened import Answers, Crashes, Refusals, Talks  # noqa: E402, F401
-from tests.stages.of_tournament.opened import Times as OpenedTimes  # noqa: E402, F401
-from tests.stages.of_tournament.opened import Games as OpenedGames  # noqa: E402, F401
 
 PARSER = checks.Parser(__doc__)
 PARSER.add_argument(
