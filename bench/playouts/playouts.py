@@ -1,4 +1,5 @@
 """What bench/playouts/run measures, over the package vintsaky: the rollouts of playouts.c."""
+from __future__ import annotations
 
 import time
 
@@ -9,21 +10,20 @@ HALF_KOMI = 15
 NO_LIMIT = 2**32 - 1
 
 
-def make_rollouts(game, count):
-    """The sum of the scores, in half points."""
+def sum_of_rollouts(game: Game, count: int) -> int:
+    """Returns the sum of the scores of so many rollouts, in half points."""
     return sum(int(2 * game.rollout(BLACK, seed, NO_LIMIT)) for seed in range(count))
 
 
-def main():
+def main() -> None:
     """Prints a line for each size."""
     for lines, count in [(9, 100), (19, 25)]:
-        game, best, came = Game(lines, HALF_KOMI / 2), None, None
+        game, times, total = Game(lines, HALF_KOMI / 2), [], 0
         for _ in range(ROUNDS):
             start = time.perf_counter_ns()
-            came = make_rollouts(game, count)
-            spent = time.perf_counter_ns() - start
-            best = spent if best is None else min(best, spent)
-        print(lines, "rollouts", best, count, came)
+            total = sum_of_rollouts(game, count)
+            times.append(time.perf_counter_ns() - start)
+        print(lines, "rollouts", min(times), count, total)
 
 
 main()
