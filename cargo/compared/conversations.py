@@ -21,7 +21,7 @@ NEARLY_SEEDS = ["4294967296", "18446744073709551616", "-1", "+1", "", "x", "0x1"
 ODD_WORDS = [
     b"--help", b"--version", b"-h", b"--", b"-", b"", b"x", b"--x", b"--seed", b"--policy=last", b"--ko", b"--fault=\xff", b"\xc3\x28",
 ]  # fmt: skip
-KINDS = [kind for kind, (_, _, one_in, _) in reference.KINDS.items() if one_in == 1]
+KINDS = [name for name, kind in reference.KINDS.items() if kind.one_in == 1]
 RARE_KINDS = [kind for kind in reference.KINDS if kind not in KINDS]
 
 
@@ -42,9 +42,11 @@ def conversations(seed, count):
 
 def words_of(r, talk):
     """The words of the command line."""
-    options = [["--policy", talk.policy], ["--seed", str(talk.seed)], ["--ko", talk.rule]]
-    if talk.book:
-        options.append(["--book=" + talk.book.decode()])
+    given = talk.options
+    options = [["--policy", str(given.policy)], ["--seed", str(given.seed)]]
+    options.append(["--ko", str(given.rule)])
+    if given.book:
+        options.append(["--book=" + given.book.decode()])
     if r.random() < 0.15:
         options.append(["--fault", r.choice(NEARLY_FAULTS) if r.random() < 0.15 else fault(r)])
     r.shuffle(options)

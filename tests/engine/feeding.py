@@ -25,7 +25,7 @@ class Result(NamedTuple):
 
 
 def feed_at_once(program: Path, arguments: Sequence[str], data: bytes) -> Result:
-    """Returns what comes of an engine whose input is all there at its start."""
+    """Returns what comes of an engine that is given all of its input at once."""
     try:
         done = run([program, *arguments], data)
     except subprocess.TimeoutExpired as expired:
@@ -34,7 +34,7 @@ def feed_at_once(program: Path, arguments: Sequence[str], data: bytes) -> Result
 
 
 def feed_bytewise(program: Path, arguments: Sequence[str], data: bytes) -> Result:
-    """Returns what comes of an engine to which each byte is written by itself."""
+    """Returns what comes of an engine that is given one byte after the other."""
     with running_engine(program, arguments) as running:
         for place in range(len(data)):
             running.write(data[place : place + 1])
@@ -50,9 +50,7 @@ def feed_in_pieces(
     At times the next piece is held back until each reply has come that is due by then. After
     `quit` the input stays open, and the engine has to end all the same.
     """
-    reference = engine.start(
-        conversation.policy, conversation.seed, conversation.book, conversation.rule
-    )
+    reference = engine.start(conversation.options)
     assert reference is not None
     longest = max(rng.choice([1, 3, 20, 200, 3000]), len(conversation.data) // 200)
     patience = rng.choice([0, 0.1, 1])
@@ -64,7 +62,7 @@ def feed_in_pieces(
             place += len(piece)
             due += reference.feed(piece)
             if not running.write(piece) and not reference.ended:
-                return running.result("it closed its input")
+                return running.result("its input was closed")
             if rng.random() < patience and not running.has_written(due):
                 return running.result(f"replies were due after {place} bytes, and did not come")
         if not reference.ended:
@@ -73,7 +71,7 @@ def feed_in_pieces(
 
 
 class RunningEngine:
-    """An engine with pipes to it and from it. A thread takes what it writes."""
+    """An engine with pipes. A thread reads the engine's output."""
 
     def __init__(self, process: subprocess.Popen[bytes]) -> None:
         self.process = process
@@ -83,7 +81,7 @@ class RunningEngine:
         self.reader.start()
 
     def read_all(self) -> None:
-        """Takes what the engine writes, until it closes its output."""
+        """Reads what the engine writes, until its output ends."""
         assert self.process.stdout is not None
         while piece := os.read(self.process.stdout.fileno(), 65536):
             with self.arrival:
@@ -91,7 +89,7 @@ class RunningEngine:
                 self.arrival.notify()
 
     def write(self, piece: bytes) -> bool:
-        """Writes to the engine, and tells whether it still reads."""
+        """Writes to the engine, and returns whether the engine still reads."""
         assert self.process.stdin is not None
         try:
             self.process.stdin.write(piece)
@@ -106,7 +104,7 @@ class RunningEngine:
             self.process.stdin.close()
 
     def has_written(self, due: bytes) -> bool:
-        """Waits for this output, and tells whether it has come, and not another one."""
+        """Waits for this output, and returns whether that has come, and nothing else."""
         with self.arrival:
             self.arrival.wait_for(
                 lambda: len(self.output) >= len(due) or not due.startswith(self.output), TIMEOUT
@@ -114,7 +112,7 @@ class RunningEngine:
             return self.output.startswith(due)
 
     def result(self, failure: Optional[str] = None) -> Result:
-        """Waits for the engine's end where nothing has failed, and returns what has come of it."""
+        """Returns what has come of the engine. Where nothing has failed, waits for its end."""
         status: Union[int, str]
         try:
             status = failure or self.process.wait(TIMEOUT)

@@ -1,4 +1,4 @@
-"""Random conversations that an engine and the reference both have, and a report of a difference."""
+"""Random conversations with an engine and with the reference, and a report of a difference."""
 from __future__ import annotations
 
 import contextlib
@@ -8,16 +8,15 @@ import random
 import re
 import tempfile
 import time
-from dataclasses import replace
 from pathlib import Path
-from typing import Iterator, List, Optional, Sequence
+from typing import Iterator, Optional, Sequence
 from unittest import mock
 
-from tests.references.engine import conversations, engine
-from tests.references.engine.conversations import KINDS
-from tests.references.engine.engine import Engine
+from tests.references.engine import engine
+from tests.references.engine.conversations import KINDS, conversation
+from tests.references.engine.engine import Engine, Options
 from tests.references.engine.game import SIMPLE
-from tests.references.engine.values import Colour, Point
+from tests.references.engine.values import Colour, Vertex
 
 from .feeding import Result, feed_at_once, feed_in_pieces
 
@@ -25,22 +24,22 @@ SHRINKING = 10  # seconds that are spent on making a failing input smaller
 PIECES = "pieces"  # conversations of the other kinds, whose input comes in pieces
 
 
-def share(kind: str) -> int:
-    """Returns the number N where there is one conversation of a slow kind for N of the others."""
-    return 1 if kind == PIECES else KINDS[kind][2]
+def number_of(kind: str, count: int) -> int:
+    """Returns how many conversations of this kind there are where a quick kind has so many."""
+    return count if kind == PIECES else max(1, count // KINDS[kind].one_in)
 
 
-def arguments_of(conversation: conversations.Conversation, rng: random.Random) -> List[str]:
+def arguments_of(options: Options, rng: random.Random) -> list[str]:
     """Returns the options, in any order, in one word or in two; a default may be left out."""
-    options = [
-        ("--policy", conversation.policy, "first"),
-        ("--seed", str(conversation.seed), "1"),
-        ("--book", os.fsdecode(conversation.book), ""),
-        ("--ko", conversation.rule, "simple"),
+    values = [
+        ("--policy", str(options.policy), "first"),
+        ("--seed", str(options.seed), "1"),
+        ("--book", os.fsdecode(options.book), ""),
+        ("--ko", str(options.rule), "simple"),
     ]
-    rng.shuffle(options)
-    words: List[str] = []
-    for option, value, default in options:
+    rng.shuffle(values)
+    words: list[str] = []
+    for option, value, default in values:
         if value != default or rng.random() < 0.5:
             is_one_word = value.startswith("-") or rng.random() < 0.5
             words += [f"{option}={value}"] if is_one_word else [option, value]
@@ -48,20 +47,20 @@ def arguments_of(conversation: conversations.Conversation, rng: random.Random) -
 
 
 @contextlib.contextmanager
-def positional_refusals() -> Iterator[List[Point]]:
-    """Gathers each play that the reference refuses by positional ko, and simple ko would allow."""
-    found: List[Point] = []
+def positional_refusals() -> Iterator[list[Vertex]]:
+    """Collects each play that the reference refuses by positional ko, and simple ko would allow."""
+    refused: list[Vertex] = []
     refuse = Engine.refuse
 
-    def note_and_refuse(self: Engine, colour: Colour, point: Optional[Point]) -> None:
+    def record_and_refuse(self: Engine, colour: Colour, vertex: Optional[Vertex]) -> None:
         by_simple_ko = copy.copy(self)
         by_simple_ko.rule = SIMPLE
-        if point is not None and by_simple_ko.is_legal(colour, point):
-            found.append(point)
-        refuse(self, colour, point)
+        if vertex is not None and by_simple_ko.is_legal(colour, vertex):
+            refused.append(vertex)
+        refuse(self, colour, vertex)
 
-    with mock.patch.object(Engine, "refuse", note_and_refuse):
-        yield found
+    with mock.patch.object(Engine, "refuse", record_and_refuse):
+        yield refused
 
 
 class Trial:
@@ -71,31 +70,29 @@ class Trial:
         self.program = program
         self.seed = seed
         rng = random.Random(seed)
-        quick = [other for other in KINDS if share(other) == 1]
-        chosen = rng.choice(quick) if kind == PIECES else kind
-        self.conversation = conversations.conversation(chosen, seed)
-        self.arguments = arguments_of(self.conversation, rng)
+        quick = [name for name in KINDS if KINDS[name].one_in == 1]
+        self.conversation = conversation(rng.choice(quick) if kind == PIECES else kind, seed)
+        self.arguments = arguments_of(self.conversation.options, rng)
         self.in_pieces = kind == PIECES and self.wanted(self.conversation.data).status == 0
 
     def wanted(self, data: bytes) -> Result:
         """Returns what comes of the reference that is given this input."""
-        known = self.conversation
-        return Result(*engine.run(known.policy, known.seed, known.book, data, known.rule))
+        return Result(*engine.run(self.conversation.options, data))
 
     def got(self, data: bytes) -> Result:
         """Returns what comes of the engine that is given this input."""
         if not self.in_pieces:
             return feed_at_once(self.program, self.arguments, data)
-        changed = replace(self.conversation, data=data)
+        changed = self.conversation._replace(data=data)
         return feed_in_pieces(self.program, self.arguments, changed, random.Random(self.seed))
 
     def agrees(self, data: Optional[bytes] = None) -> bool:
-        """Tells whether the same comes of both; of the whole input where none is given."""
+        """Returns whether the same comes of both; of the whole input where none is given."""
         data = self.conversation.data if data is None else data
         return self.got(data) == self.wanted(data)
 
     def shrunk(self) -> bytes:
-        """Returns a smaller input on which both differ still, as far as it is found in time."""
+        """Returns a smaller input on which both still differ."""
         lines = split_lines(self.conversation.data)
         end = time.monotonic() + SHRINKING
         size = len(lines)
@@ -113,7 +110,7 @@ class Trial:
         return b"".join(lines)
 
     def difference(self) -> str:
-        """Returns a report of an input on which both differ, and keeps it in a folder."""
+        """Returns a report of an input on which both differ, which is kept in a folder."""
         if self.in_pieces:
             self.in_pieces = False
             self.in_pieces = self.agrees()
@@ -144,7 +141,7 @@ def report(who: str, result: Result) -> Sequence[str]:
     ]
 
 
-def split_lines(data: bytes) -> List[bytes]:
+def split_lines(data: bytes) -> list[bytes]:
     """Returns the lines, each with its newline; the last one may have none."""
     return re.findall(rb"[^\n]*\n|[^\n]+", data)
 

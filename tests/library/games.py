@@ -3,11 +3,12 @@ from __future__ import annotations
 
 import random
 import re
-import sys
 from subprocess import CompletedProcess
 from typing import Any, Callable, List, NamedTuple
 
-from tests.shared.processes import TIMEOUT, TOP, run
+from tests.references.engine import chosen
+from tests.references.engine.conversations import KINDS
+from tests.shared.processes import TIMEOUT, TOP
 
 LIMIT = 10 * TIMEOUT
 Play = Callable[..., CompletedProcess[Any]]  # plays a match by twogtp
@@ -31,13 +32,10 @@ def check_killed(engine: str, kept: int, white: str, play: Play) -> None:
     assert int(found[2]) == (black_moves - 1) // 2
 
 
-def check_conversations(engine: List[str], count: int, *options: str) -> None:
-    """Fails unless so many random conversations of each kind are those of the reference."""
-    script = TOP / "tests/references/engine/chosen.py"
-    command = [sys.executable, script, "--count", count, *options, "--", *engine]
-    done = run(command, timeout=count * LIMIT)
-    assert done.returncode == 0, done.stdout + done.stderr
-    assert done.stdout.endswith(", 0 failed\n")
+def check_conversations(engine: List[str], count: int, name: str = "stepgo") -> None:
+    """Fails unless random conversations are those of the reference, so many of each quick kind."""
+    for kind in KINDS:
+        assert chosen.failures(engine, kind, chosen.counted(kind, count), 1, name) == []
 
 
 class Match(NamedTuple):

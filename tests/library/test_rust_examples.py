@@ -79,7 +79,7 @@ def test_engine_is_the_reference_on_random_conversations(
     request: pytest.FixtureRequest, engine: str
 ) -> None:
     count = request.config.getoption("--count") or 10
-    check_conversations([engine, "5"], count, "--name", "random_engine")
+    check_conversations([engine, "5"], count, "random_engine")
 
 
 # ---- the matches

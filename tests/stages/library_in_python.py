@@ -244,10 +244,6 @@ def odd_conversations(kind):
 class Conversations(Needing):
     """Drawn conversations."""
 
-    def test_judged(self):
-        """the reference judges the worked outputs rightly."""
-        self.same([], chosen.misjudged())
-
     def row(self, _, wrong):
         self.same([], wrong)
 

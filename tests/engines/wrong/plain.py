@@ -7,7 +7,7 @@ from random import Random
 from typing import Dict, List, NoReturn, Type
 
 from tests.references.engine.engine import Engine
-from tests.references.engine.game import POSITIONAL, SIMPLE
+from tests.references.engine.game import KoRule
 from tests.references.engine.policies import candidates
 from tests.references.engine.values import PASS, Colour, Vertex
 
@@ -38,16 +38,16 @@ class Plain(Engine):
 
 def run(kind: Type[Plain], words: List[str], usage: str) -> None:
     """Runs an engine of this kind with these options, or prints the usage where one is wrong."""
-    options = {"--ko": SIMPLE, "--seed": "1", **dict(zip(words[::2], words[1::2]))}
+    options = {"--ko": "simple", "--seed": "1", **dict(zip(words[::2], words[1::2]))}
     if (
         len(words) % 2
         or len(options) > 2
-        or options["--ko"] not in (SIMPLE, POSITIONAL)
+        or options["--ko"] not in list(KoRule)
         or not options["--seed"].isdecimal()
     ):
         fail(usage)
     try:
-        kind(Chance(int(options["--seed"])), options["--ko"]).run()
+        kind(Chance(int(options["--seed"])), KoRule(options["--ko"])).run()
     except BrokenPipeError:
         sys.exit(3)
 

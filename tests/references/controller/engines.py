@@ -8,6 +8,8 @@ import sys
 from pathlib import Path
 
 from ..engine import engine as reference
+from ..engine.game import KoRule
+from ..engine.policies import PolicyName
 
 from .faulty import ENDS, Faulty
 
@@ -123,7 +125,12 @@ class Ours:
     def fresh(self):
         """The reference of it, under its fault."""
         return Bent(
-            reference.start(self.policy, self.seed, self.book.encode(), self.rule), self.fault
+            reference.start(
+                reference.Options(
+                    PolicyName(self.policy), self.seed, self.book.encode(), KoRule(self.rule)
+                )
+            ),
+            self.fault,
         )
 
 

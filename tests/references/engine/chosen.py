@@ -1,91 +1,85 @@
-#!/usr/bin/env python3
-"""Compares an engine that makes its own choices with the reference, on drawn conversations.
+"""Compares an engine that makes its own choices with the reference, on random conversations.
 
-The reference takes each choice from what the engine wrote. A choice has to be lawful, and allowed by the engine's own
-rule. All else that the engine writes has to be what the reference writes.
-
-usage: python3 tests/references/engine/chosen.py [--count N] [--seed S] [--name TEXT] [--version TEXT] [--eyes] COMMAND..
-Each check is a line, and the last line is 'N passed, M failed'. Other scripts call `failures`.
+The reference takes each choice from what the engine wrote. A choice has to be lawful, and allowed
+by the engine's own rule. All else that the engine writes has to be what the reference writes.
 """
-import argparse
+from __future__ import annotations
+
 import contextlib
-import random
 import re
 import subprocess
-import sys
 import tempfile
 from pathlib import Path
+from random import Random
+from typing import Callable, Sequence
 
-sys.dont_write_bytecode = True
-sys.path[0] = str(Path(__file__).resolve().parents[3])
+from tests.shared.processes import process_tree
 
-from tests.references.engine import conversations, engine, policies, values  # noqa: E402
-from tests.references.engine.conversations import KINDS  # noqa: E402
-from tests.references.engine.policies import RESIGN  # noqa: E402
-from tests.references.engine.values import PASS  # noqa: E402
+from . import conversations, engine, policies, values
+from .conversations import KINDS
+from .game import Game
+from .values import PASS, RESIGN, Choice, Colour
 
-LIMIT = 60  # seconds that a conversation may take
 REPLY = re.compile(rb"=[0-9]* ([^\n]*)\n\n")
-# Black has A1 and B2 of four points: the others are eyes of Black, and suicide for White.
-SAID = b"boardsize 2\nplay b A1\nplay b B2\n1 genmove b\ngenmove w\nkomi x\n"
-RIGHT = [b"=\n\n=\n\n=\n\n=1 pass\n\n= pass\n\n? syntax error\n\n"]
-CHANGES = [
-    (b"=1 pass", b"=1 A2"), (b"=1 pass", b"=1 A1"), (b"=1 pass", b"=1 C3"), (b"=1 pass", b"=1 I1"),
-    (b"=1 pass", b"=1 PASS"), (b"=1 pass", b"=1 resign"), (b"=1 pass", b"=2 pass"), (b"=1 pass", b"= pass"),
-    (b"=1 pass", b"?1 pass"), (b"= pass", b"= A2"), (b"= pass\n\n", b""), (b"= pass\n\n", b"= pass\n\n\n"),
-    (b"= pass\n\n", b"= pass\n\n= pass\n\n"), (b"?", b"="), (b"x e", b"x  e"),
-]  # fmt: skip
-WRONG = [RIGHT[0].replace(*change) for change in CHANGES] + [
-    RIGHT[0] + b"=\n\n",
-    RIGHT[0][:-1],
-    b"",
-]
-# Where eyes are allowed, Black may fill one, and White takes all by the other.
-EYES = [*RIGHT, b"=\n\n=\n\n=\n\n=1 A2\n\n= B1\n\n? syntax error\n\n"]
+
+# What an engine's own rule allows: of a game, a colour, and its lawful choice.
+Allowed = Callable[[engine.Engine, Colour, Choice], bool]
 
 
 class Wrong(Exception):
-    """The engine wrote something that it may not write: what it is."""
+    """What the engine wrote, though it may not."""
 
 
 class Chosen:
-    """The policy that takes its choice from what the engine wrote. `place` is where the reply to the genmove begins."""
+    """The policy that takes its choice from what the engine wrote."""
 
-    def __init__(self, output, allowed):
+    def __init__(self, output: bytes, allowed: Allowed) -> None:
         self.output = output
         self.allowed = allowed
-        self.place = 0
+        self.place = 0  # where the next reply begins
 
-    def choose(self, game, colour):
-        """The choice that the engine made, where it is lawful and allowed."""
+    def choose(self, game: engine.Engine, colour: Colour) -> Choice:
+        """Returns the choice that the engine made, where that is lawful and allowed."""
         reply = REPLY.match(self.output, self.place)
         choice = policies.read_entry(reply[1]) if reply else None
         if choice is None:
-            raise Wrong(f"a genmove is answered by {self.output[self.place:self.place + 40]!r}")
-        if choice != RESIGN and not game.is_legal(colour, choice):
-            raise Wrong(
-                f"{colour} chose {values.write_vertex(choice).decode()}, which isn't lawful"
-            )
+            start = self.output[self.place : self.place + 40]
+            raise Wrong(f"a genmove is answered by {start!r}")
+        if not is_lawful(game, colour, choice):
+            raise Wrong(f"{colour} chose {written(choice)}, which isn't lawful")
         if not self.allowed(game, colour, choice):
-            raise Wrong(f"{colour} chose {reply[1].decode()}, which the engine's own rule forbids")
+            raise Wrong(f"{colour} chose {written(choice)}, which the engine's own rule forbids")
         return choice
 
 
-def no_own_eye(game, colour, choice):
-    """The rule of the examples: a legal point that isn't surrounded by the colour's own stones, and a pass where there
-    is none."""
-    if choice == PASS:
-        return not policies.candidates(game, colour)
-    return choice != RESIGN and game.is_candidate(colour, choice)
+def is_lawful(game: Game, colour: Colour, choice: Choice) -> bool:
+    """Returns whether this is a resignation or a legal vertex."""
+    return choice is RESIGN or game.is_legal(colour, choice)
 
 
-def anything(game, colour, choice):
-    """The rule that allows each lawful choice."""
+def written(choice: Choice) -> str:
+    """Returns a choice as a text."""
+    return "resign" if choice is RESIGN else values.write_vertex(choice).decode()
+
+
+def no_own_eye(game: engine.Engine, colour: Colour, choice: Choice) -> bool:
+    """Returns whether the rule of the examples allows a choice.
+
+    It allows legal points that aren't surrounded by the colour's own stones, and a pass where there
+    is none.
+    """
+    if isinstance(choice, tuple):
+        return game.is_candidate(colour, choice)
+    return choice == PASS and not policies.candidates(game, colour)
+
+
+def anything(game: engine.Engine, colour: Colour, choice: Choice) -> bool:
+    """Allows each lawful choice."""
     return True
 
 
-def examine(output, data, name, version, allowed):
-    """Raises Wrong where an engine of this name and version that is given this input may not write this output."""
+def examine(output: bytes, data: bytes, name: str, version: str, allowed: Allowed) -> None:
+    """Raises Wrong where an engine of this name may not write this output to this input."""
     policy = Chosen(output, allowed)
     reference = engine.Engine(policy)
     reference.own_name, reference.own_version = name, version
@@ -99,27 +93,23 @@ def examine(output, data, name, version, allowed):
         raise Wrong(f"after all replies it wrote {output[policy.place:policy.place + 80]!r}")
 
 
-def heard(command, data, longest, r):
-    """What the engine writes that is given this input in pieces of at most `longest` bytes, or at once where that is 0."""
+def output_of(command: Sequence[str], data: bytes, rng: Random) -> bytes:
+    """Returns what an engine writes that is given this input, at once or in random pieces."""
+    longest = rng.choice([0, 0, 3, 200]) if len(data) < 20000 else 0
     with tempfile.TemporaryFile() as output, tempfile.TemporaryFile() as errors:
-        process = subprocess.Popen(
-            command, stdin=subprocess.PIPE, stdout=output, stderr=errors, bufsize=0
-        )
-        try:
-            with contextlib.suppress(
-                BrokenPipeError
-            ):  # It may end before it has read what comes after a quit.
+        with process_tree(
+            command, bufsize=0, stdin=subprocess.PIPE, stdout=output, stderr=errors
+        ) as process:
+            assert process.stdin is not None
+            # an engine may end before it has read what comes after a quit
+            with contextlib.suppress(BrokenPipeError):
                 place = 0
                 while place < len(data):
-                    piece = data[place : place + (r.randint(1, longest) if longest else len(data))]
-                    place += process.stdin.write(piece)
+                    end = place + (rng.randint(1, longest) if longest else len(data))
+                    place += process.stdin.write(data[place:end])
             with contextlib.suppress(BrokenPipeError):
                 process.stdin.close()
-            status = process.wait(LIMIT)
-        except subprocess.TimeoutExpired:
-            process.kill()
-            process.wait()
-            raise Wrong(f"it still ran {LIMIT} seconds after its input") from None
+            status = process.wait()
         output.seek(0)
         errors.seek(0)
         said = errors.read(200)
@@ -128,79 +118,29 @@ def heard(command, data, longest, r):
         return output.read()
 
 
-def misjudged():
-    """What `examine` says wrongly of the worked outputs, a text each."""
-    found = []
-    for allowed, right, outputs in [
-        (no_own_eye, True, RIGHT),
-        (no_own_eye, False, WRONG),
-        (anything, True, EYES),
-    ]:
-        for output in outputs:
-            try:
-                examine(output, SAID, "", "", allowed)
-                said = True
-            except Wrong:
-                said = False
-            found += [] if said == right else [f"{output!r} is {'right' if right else 'wrong'}"]
-    return found
-
-
-def failures(command, kind, count, seed, name="stepgo", version="1.0", allowed=no_own_eye):
-    """What is wrong in `count` drawn conversations of this kind, a text each. It names the file that keeps the input.
-
-    The command is a list of words. `allowed(game, colour, choice)` says which lawful choices the engine's own rule
-    allows."""
-    found = []
+def failures(
+    command: Sequence[str],
+    kind: str,
+    count: int,
+    seed: object,
+    name: str = "stepgo",
+    version: str = "1.0",
+    allowed: Allowed = no_own_eye,
+) -> list[str]:
+    """Returns what is wrong in so many conversations of this kind, with the file of the input."""
+    wrong = []
     for number in range(count):
-        r = random.Random(f"{seed} {kind} {number}")
-        data = conversations.conversation(kind, f"{seed} {kind} {number}").data
+        seed_of_this = f"{seed} {kind} {number}"
+        data = conversations.conversation(kind, seed_of_this).data
         try:
-            output = heard(command, data, r.choice([0, 0, 3, 200]) if len(data) < 20000 else 0, r)
-            examine(output, data, name, version, allowed)
-        except Wrong as wrong:
-            kept = Path(tempfile.mkdtemp(prefix="chosen-")) / "input"
-            kept.write_bytes(data)
-            found.append(f"{wrong}; the input is {kept}")
-    return found
+            examine(output_of(command, data, Random(seed_of_this)), data, name, version, allowed)
+        except Wrong as what:
+            file = Path(tempfile.mkdtemp(prefix="chosen-")) / "input"
+            file.write_bytes(data)
+            wrong.append(f"{what}; the input is {file}")
+    return wrong
 
 
-def counted(kind, count):
-    """How many conversations of this kind are drawn where the others have `count`: fewer where it is slow."""
-    return max(1, count // KINDS[kind][2])
-
-
-def say(what, wrong):
-    """Prints a check, and what was wrong in it."""
-    print("\n".join([f"{'FAILED' if wrong else 'ok'}: {what}", *wrong]), flush=True)
-
-
-def main():
-    """Compares the command with the reference, a line a kind of conversation."""
-    parser = argparse.ArgumentParser(description=__doc__.split("\n\n")[0])
-    parser.add_argument(
-        "--count", type=int, default=10, help="how many conversations of each kind; else 10"
-    )
-    parser.add_argument("--seed", type=int, default=1, help="which conversations; else 1")
-    parser.add_argument("--name", default="stepgo", help="what the engine answers to name")
-    parser.add_argument("--version", default="1.0", help="what the engine answers to version")
-    parser.add_argument(
-        "--eyes", action="store_true", help="any lawful choice is allowed, also an own eye"
-    )
-    parser.add_argument("command", nargs="+", help="the engine's command, a word each")
-    options = parser.parse_args()
-    wrong = misjudged()
-    passed, failed = int(not wrong), int(bool(wrong))
-    say("the worked outputs are judged rightly", wrong)
-    for kind, (what, *_) in KINDS.items():
-        count = counted(kind, options.count)
-        wrong = failures(options.command, kind, count, options.seed, options.name, options.version,
-                         anything if options.eyes else no_own_eye)  # fmt: skip
-        passed, failed = passed + (not wrong), failed + bool(wrong)
-        say(f"{count} conversations of {what} are the reference's", wrong)
-    print(f"{passed} passed, {failed} failed")
-    return 1 if failed else 0
-
-
-if __name__ == "__main__":
-    sys.exit(main())
+def counted(kind: str, count: int) -> int:
+    """Returns how many conversations of this kind there are where a quick kind has so many."""
+    return max(1, count // KINDS[kind].one_in)

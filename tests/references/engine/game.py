@@ -1,62 +1,73 @@
 """The rules of play: docs/rules.md in Python, as literal as they are slow.
 
-A game keeps a whole board for each of its moves, so that taking a move back, and ko, need no thought. Its methods are small: an engine with
-one bug is a class that has another one of them (tests/engines/wrong). All rules here are own, except where a function says otherwise.
+A game keeps a whole board for each of its moves, so that taking a move back, and ko, need no
+thought. Its methods are small: an engine with one bug is a class that has another one of them
+(tests/engines/wrong). All rules here are own, except where a function says otherwise.
 """
+from __future__ import annotations
+
 from functools import lru_cache
-from typing import Iterable, List, Optional, Set, Tuple
+from typing import Dict, Final, Iterable, NamedTuple, Optional
 
 from . import values
-from .values import BLACK, PASS, WHITE, Colour, Point, Vertex, other
+from .values import BLACK, PASS, WHITE, Colour, Point, Vertex, Word, other
 
 MOST_MOVES = 2000
-# The rules of ko.
-SIMPLE = "simple"
-POSITIONAL = "positional"
-EMPTY = None
+EMPTY: Final = None
+
+
+class KoRule(Word):
+    """A rule of ko: which earlier boards a play may not make again."""
+
+    SIMPLE = "simple"
+    POSITIONAL = "positional"
+
+
+SIMPLE: Final = KoRule.SIMPLE
+POSITIONAL: Final = KoRule.POSITIONAL
 
 
 @lru_cache(maxsize=None)
-def points(size: int) -> List[Point]:
-    """All points of a board, in the order A1, B1, .., A2, B2, .."""
+def points(size: int) -> list[Point]:
+    """Returns all points of a board, in the order A1, B1, .., A2, B2, .."""
     return [(column, row) for row in range(1, size + 1) for column in range(1, size + 1)]
 
 
-def in_order(found: Iterable[Point]) -> List[Point]:
-    """These points in the board's order."""
-    return sorted(found, key=lambda point: point[::-1])
+def in_order(places: Iterable[Point]) -> list[Point]:
+    """Returns these points in the board's order."""
+    return sorted(places, key=lambda point: point[::-1])
 
 
 def is_on(size: int, point: Point) -> bool:
-    """Does the board have this point?"""
+    """Returns whether the board has this point."""
     column, row = point
     return 1 <= column <= size and 1 <= row <= size
 
 
 @lru_cache(maxsize=None)
-def neighbours(size: int, point: Point) -> List[Point]:
-    """The points of the board that share a side with this one: left, right, below, above."""
+def neighbours(size: int, point: Point) -> list[Point]:
+    """Returns the points that share a side with this one: left, right, below, above."""
     column, row = point
     beside = [(column - 1, row), (column + 1, row), (column, row - 1), (column, row + 1)]
     return [near for near in beside if is_on(size, near)]
 
 
-class Board(dict):
-    """The stones of a board: the colour of each point that has one. Any other point is EMPTY. Once it is made it isn't changed."""
+class Board(Dict[Point, Colour]):
+    """The stones of a board: the colour of each point that has one. Once made it isn't changed."""
 
     def __missing__(self, point: Point) -> None:
         return EMPTY
 
-    def __hash__(self) -> int:
+    def __hash__(self) -> int:  # type: ignore[override]  # a dict has none, since most change
         return hash(frozenset(self.items()))
 
     def count(self, colour: Colour) -> int:
-        """How many stones of this colour there are."""
+        """Returns how many stones of this colour there are."""
         return list(self.values()).count(colour)
 
 
 def filled(board: Board, places: Iterable[Point], stone: Optional[Colour] = EMPTY) -> Board:
-    """The board with this stone on these points, or with none there."""
+    """Returns the board with this stone on these points, or with none there."""
     board = Board(board)
     for point in places:
         if stone is EMPTY:
@@ -66,79 +77,97 @@ def filled(board: Board, places: Iterable[Point], stone: Optional[Colour] = EMPT
     return board
 
 
-class Game:
-    """A game: the rule of ko, size, komi in half points, the board, and the record of its moves, each a pair (colour, vertex)."""
+class Move(NamedTuple):
+    """A move of the record."""
 
-    def __init__(self, rule: str = SIMPLE) -> None:
+    colour: Colour
+    vertex: Vertex
+
+
+class Game:
+    """A game: the rule of ko, size, komi in half points, the board, and the record of its moves."""
+
+    def __init__(self, rule: KoRule = SIMPLE) -> None:
         self.rule = rule
         self.komi = 0
         self.begin(19)
 
     def begin(self, size: int) -> None:
-        """Sets the size and empties board and record. Komi and the rule of ko stay. (The standard, setup commands, leaves to the engine
-        which sizes there are and what is emptied.)"""
+        """Sets the size and empties board and record. Komi and the rule of ko stay.
+
+        The standard, setup commands, leaves both to the engine: which sizes there are, and what is
+        emptied.
+        """
         self.size = size
         self.board = Board()
-        self.moves: List[Tuple[Colour, Vertex]] = []
-        self.boards: List[Board] = []  # the board before each of the moves
+        self.moves: list[Move] = []
+        self.boards: list[Board] = []  # the board before each of the moves
         self.near = {point: self.beside(point) for point in points(size)}
 
     def first_board(self) -> Board:
-        """The board before the first move."""
+        """Returns the board before the first move."""
         return self.boards[0] if self.boards else self.board
 
-    def beside(self, point: Point) -> List[Point]:
-        """The points that are neighbours of this one."""
+    def beside(self, point: Point) -> list[Point]:
+        """Returns the points that are neighbours of this one."""
         return neighbours(self.size, point)
 
     # ---- chains and liberties
 
-    def chain(self, board: Board, point: Point) -> Set[Point]:
-        """The points that are joined to this one by neighbours that are all like it: a stone's chain, or an empty point's region."""
-        like, found, todo = board.get(point), {point}, [point]
+    def chain(self, board: Board, point: Point) -> set[Point]:
+        """Returns the points that are joined to this one by neighbours that are all like it.
+
+        That is a stone's chain, or an empty point's region.
+        """
+        like, chain, todo = board.get(point), {point}, [point]
         while todo:
             for near in self.near[todo.pop()]:
-                if near not in found and board.get(near) == like:
-                    found.add(near)
+                if near not in chain and board.get(near) == like:
+                    chain.add(near)
                     todo.append(near)
-        return found
+        return chain
 
     def is_free(self, board: Board, chain: Iterable[Point]) -> bool:
-        """Has the chain a liberty: an empty point next to one of its stones?"""
+        """Returns whether the chain has a liberty: an empty point next to one of its stones."""
         return any(near not in board for stone in chain for near in self.near[stone])
 
-    def liberties(self, board: Board, chain: Iterable[Point]) -> Set[Point]:
-        """The liberties of a chain."""
+    def liberties(self, board: Board, chain: Iterable[Point]) -> set[Point]:
+        """Returns the liberties of a chain."""
         return {near for stone in chain for near in self.near[stone] if near not in board}
 
     # ---- plays
 
     def put(self, colour: Colour, point: Point) -> Board:
-        """The board after a stone of this colour is put on this point, and then every stone of the other colour whose chain has no
-        liberty is removed, all at once."""
+        """Returns the board after a stone of this colour is put on this point.
+
+        Then every stone of the other colour whose chain has no liberty is removed, all at once.
+        """
         board = filled(self.board, [point], colour)
         return filled(board, self.captures(board, colour, point))
 
-    def captures(self, board: Board, colour: Colour, point: Point) -> Set[Point]:
-        """The stones that a stone of this colour on this point takes. It is on the board already. No other chains than those beside it can
-        have lost a liberty."""
+    def captures(self, board: Board, colour: Colour, point: Point) -> set[Point]:
+        """Returns the stones that a stone of this colour on this point takes.
+
+        That stone is on the board already. Only chains beside the stone can have lost a liberty.
+        """
         return self.dead(board, other(colour), self.near[point])
 
-    def dead(self, board: Board, colour: Colour, places: Iterable[Point]) -> Set[Point]:
-        """The stones of this colour whose chain is on one of these points and has no liberty."""
-        found = set()
+    def dead(self, board: Board, colour: Colour, places: Iterable[Point]) -> set[Point]:
+        """Returns the stones of this colour whose chain is on one of these points, and not free."""
+        stones: set[Point] = set()
         for point in places:
-            if board.get(point) == colour and point not in found:
+            if board.get(point) == colour and point not in stones:
                 chain = self.chain(board, point)
                 if not self.is_free(board, chain):
-                    found |= chain
-        return found
+                    stones |= chain
+        return stones
 
     def is_legal(self, colour: Colour, vertex: Vertex) -> bool:
-        """May this colour move so?
+        """Returns whether this colour may move so.
 
-        A pass is always legal and changes no stone. A play is illegal off the board, on a stone, where its chain then has no liberty
-        (suicide), and where it is ko. Any colour may move at any time.
+        A pass is always legal and changes no stone. A play is illegal off the board, on a stone,
+        where its chain then has no liberty (suicide), and where it is ko. Any colour may move at
+        any time.
         """
         if vertex == PASS:
             return True
@@ -148,22 +177,23 @@ class Game:
         return not self.is_suicide(board, colour, vertex) and not self.is_ko(board, colour, vertex)
 
     def is_suicide(self, board: Board, colour: Colour, point: Point) -> bool:
-        """Is the play that makes this board suicide?"""
+        """Returns whether the play that makes this board is suicide."""
         return not self.is_free(board, self.chain(board, point))
 
     def is_ko(self, board: Board, colour: Colour, point: Point) -> bool:
-        """Is the play that makes this board ko?
+        """Returns whether the play that makes this board is ko.
 
-        By the simple rule it is where that board stood before the previous move. A pass counts as a previous move, and with an empty
-        record there is no ko. By the positional rule it is where that board stood at any time, at the start or after any of the moves,
-        whoever was to move. (A play puts a stone down, so it never leaves the board as it is.)
+        By the simple rule a play is ko if its board stood before the previous move. A pass counts
+        as a previous move, and with an empty record there is no ko. By the positional rule a play
+        is ko if its board stood at any time, at the start or after any of the moves, whoever was to
+        move. (A play puts a stone down, so it never leaves the board as it is.)
         """
         if self.rule == POSITIONAL:
             return board in self.boards
         return bool(self.boards) and board == self.boards[-1]
 
     def after(self, colour: Colour, vertex: Vertex) -> Optional[Board]:
-        """The board that this move makes, or None where the move is illegal."""
+        """Returns the board that this move makes, or None where the move is illegal."""
         if not self.is_legal(colour, vertex):
             return None
         return self.board if vertex == PASS else self.put(colour, vertex)
@@ -171,7 +201,7 @@ class Game:
     # ---- moves
 
     def is_full(self) -> bool:
-        """Has the record no room for a further move?"""
+        """Returns whether the record has no room for a further move."""
         return len(self.moves) >= MOST_MOVES
 
     def play(self, colour: Colour, vertex: Vertex) -> bool:
@@ -187,10 +217,10 @@ class Game:
         if vertex != PASS:
             self.board = self.put(colour, vertex)
         self.boards.append(before)
-        self.moves.append((colour, vertex))
+        self.moves.append(Move(colour, vertex))
 
     def undo(self) -> None:
-        """Takes the last move back, with what it captured. There is one. (The standard, core play commands.)"""
+        """Takes the last move back, with what it captured. (The standard, core play commands.)"""
         self.board = self.boards.pop()
         self.moves.pop()
 
@@ -201,41 +231,45 @@ class Game:
     # ---- what is counted and shown
 
     def captured(self, colour: Colour) -> int:
-        """How many stones this colour's moves have taken: a play that takes none makes the board one stone richer."""
+        """Returns how many stones this colour's moves have taken.
+
+        A play that takes none makes the board one stone richer.
+        """
         return sum(
             len(before) + 1 - len(after)
-            for (mover, vertex), before, after in zip(
-                self.moves, self.boards, [*self.boards[1:], self.board]
-            )
-            if mover == colour and vertex != PASS
+            for move, before, after in zip(self.moves, self.boards, [*self.boards[1:], self.board])
+            if move.colour == colour and move.vertex != PASS
         )
 
     def score(self) -> int:
-        """Black's lead in half points, below zero where White leads.
+        """Returns Black's lead in half points, below zero where White leads.
 
-        A stone counts for its colour; an empty region counts for a colour where the stones next to it are all of that colour and
-        there is at least one. Every stone is alive. The score is Black's area less White's area less komi.
+        A stone counts for its colour; an empty region counts for a colour where the stones next to
+        it are all of that colour and there is at least one. Every stone is alive. The score is
+        Black's area less White's area less komi.
         """
-        area = {colour: self.board.count(colour) for colour in (BLACK, WHITE)}
-        seen = set()
+        area = {colour: self.board.count(colour) for colour in Colour}
+        seen: set[Point] = set()
         for point in points(self.size):
             if point not in self.board and point not in seen:
                 region = self.chain(self.board, point)
                 seen |= region
-                beside = {self.board.get(near) for place in region for near in self.near[place]} - {
-                    EMPTY
-                }
-                if len(beside) == 1:
-                    area[beside.pop()] += len(region)
+                near = {place for empty in region for place in self.near[empty]}
+                colours = {self.board[place] for place in near if place in self.board}
+                if len(colours) == 1:
+                    area[colours.pop()] += len(region)
         return 2 * (area[BLACK] - area[WHITE]) - self.komi
 
     def show(self) -> str:
-        """The board as text: a line for each row from the highest down, with the row's number; the columns' letters; the stones
-        that each colour has taken."""
+        """Returns the board as text.
+
+        There is a line for each row from the highest down, with the row's number; then the columns'
+        letters, and the stones that each colour has taken.
+        """
         marks = {EMPTY: ". ", BLACK: "X ", WHITE: "O "}
         columns = range(1, self.size + 1)
         lines = [
-            "".join(marks[self.board[column, row]] for column in columns) + str(row)
+            "".join(marks[self.board.get((column, row))] for column in columns) + str(row)
             for row in reversed(columns)
         ]
         lines.append(" ".join(values.COLUMNS.decode()[: self.size]))

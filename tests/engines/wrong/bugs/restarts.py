@@ -10,7 +10,7 @@ import tempfile
 from tests.engines.wrong.bug import FORCED, KO, RESTART, Bug, instead_of, on, shown_by
 from tests.references.engine.engine import Failure
 from tests.references.engine.game import Board, points
-from tests.references.engine.values import BLACK, PASS, WHITE
+from tests.references.engine.values import BLACK, PASS, RESIGN, WHITE, Colour
 
 
 class Kept(Bug):
@@ -62,7 +62,7 @@ class KeptBoard(Kept):
         """Brings back the board of the file, once, where it has this size."""
         size, stones = self.old or (0, [])
         if size == self.size:
-            self.board = Board((tuple(point), stone) for point, stone in stones)
+            self.board = Board(((column, row), Colour(stone)) for (column, row), stone in stones)
         self.old = None
 
 
@@ -280,6 +280,7 @@ class ChoiceIsKeptByItsBoard(Kept):
         board = f"{self.size} {sorted(self.board.items())}"
         old = (self.old or {}).get(board)
         point = old and self.read_vertex(old) or super().choose(colour)
+        assert point is not RESIGN  # no engine here resigns
         self.choices[board] = self.write_vertex(point)
         self.keep(self.choices)
         return point
