@@ -64,14 +64,6 @@ from tests.stages.of_tournament.machines import (
     Locks,
 )  # noqa: E402, F401
 from tests.stages.of_tournament.copied import Commands, Loop  # noqa: E402, F401
-from tests.stages.of_tournament.asked import (
-    Forms,
-    Helps,
-    Python,
-    Said,
-    SaidByTally,
-)  # noqa: E402, F401
-from tests.stages.of_tournament.gauntlets import Gauntlets, Same, Warned  # noqa: E402, F401
 from tests.stages.of_tournament.exports import (
     ByGnuGo,
     DamagedNotes,
