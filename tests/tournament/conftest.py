@@ -6,7 +6,7 @@ from typing import Dict, Iterator
 
 import pytest
 
-from .runner import SMALL, TWO, Runner
+from .runner import SMALL, TWO, Played, Runner
 
 
 @pytest.fixture
@@ -26,10 +26,16 @@ def shared_runner(
 
 
 @pytest.fixture(scope="session")
-def small_results(
+def small(
     twogtp: Path, gtp_engine: Path, programs: Path, tmp_path_factory: pytest.TempPathFactory
-) -> Dict[str, str]:
-    """Returns the results of a small tournament that nobody disturbs: TWO, 4 seeds, SMALL."""
+) -> Iterator[Played]:
+    """Returns a small tournament that nobody disturbs, in `all`: TWO, 4 seeds, SMALL."""
     with Runner(tmp_path_factory.mktemp("small"), programs) as runner:
-        assert runner.tournament("play", "all", *TWO, "--seeds", "4", *SMALL).status == 0
-        return runner.games()
+        yield Played(runner, runner.tournament("play", "all", *TWO, "--seeds", "4", *SMALL))
+
+
+@pytest.fixture(scope="session")
+def small_results(small: Played) -> Dict[str, str]:
+    """Returns the results of the small tournament."""
+    assert small.done.status == 0
+    return small.runner.games()

@@ -203,6 +203,13 @@ class Runner:
         (place / "passed").write_text("".join(passed))
 
 
+class Played(NamedTuple):
+    """A tournament that was played, by what has played it."""
+
+    runner: Runner
+    done: Done
+
+
 def read(place: str) -> bytes:
     """Returns what is in a file. It is called for each process very often."""
     with open(place, "rb", buffering=0) as file:

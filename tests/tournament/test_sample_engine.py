@@ -54,7 +54,7 @@ def test_handicaps_are_those_of_gtp_engine(size: int, gtp_engine: Path) -> None:
     assert own == replies(gtp_engine, text, r"^.*\S")
 
 
-def conversation(seed: int) -> str:
+def conversation(seed: int) -> List[str]:
     """Returns random plays and undos on a small board, most of them legal."""
     source = random.Random(seed)
     size = source.choice([2, 3, 3, 4, 5])
@@ -67,14 +67,14 @@ def conversation(seed: int) -> str:
         vertex = "pass" if source.random() < 0.05 else source.choice(points)
         commands.append(f"play {colour} {vertex}")
         colour = "w" if colour == "b" or source.random() < 0.1 else "b"
-    return "".join(f"{number} {command}\n" for number, command in enumerate([*commands, "quit"], 1))
+    return [f"{1000 * seed + number} {command}\n" for number, command in enumerate(commands)]
 
 
 def test_same_moves_are_legal_as_in_gtp_engine(gtp_engine: Path) -> None:
-    for seed in range(1, 41):
-        text = conversation(seed)
-        own, wanted = (replies(it, text, r"^[=?]\d+") for it in (SAMPLE, gtp_engine))
-        assert own == wanted, text
+    text = "".join(line for seed in range(1, 41) for line in conversation(seed))
+    own, wanted = (replies(it, text, r"^[=?]\d+") for it in (SAMPLE, gtp_engine))
+    assert own == wanted
+    assert len(own) == text.count("\n")
 
 
 # ---- matches

@@ -1,0 +1,164 @@
+"""The lines on standard error that say how far a run is."""
+from __future__ import annotations
+
+import os
+import re
+import select
+import subprocess
+from typing import List, NamedTuple
+
+import pytest
+
+from tests.shared.processes import TIMEOUT
+
+from .inside import module
+from .misbehaving import HANGS
+from .runner import Runner, engines
+
+progress = module("progress")
+
+
+class Clock:
+    """A clock that goes on when it is told."""
+
+    seconds = 100.0
+
+    def __call__(self) -> float:
+        return self.seconds
+
+
+class Run(NamedTuple):
+    """A run that began with some results: after so many seconds it has more."""
+
+    before: int
+    total: int
+    seconds: float
+    results: int
+    failed: int = 0
+    lost: int = 0  # results of unfit and abandoned sides
+
+
+@pytest.mark.parametrize(
+    "run, line",
+    [
+        (
+            Run(0, 20, 60, 4, failed=1, lost=3),
+            "4 of 20 games have a result, 3 of them unfit or abandoned, 1 failed; "
+            "4.0 games a minute, 4 min left",
+        ),
+        (
+            Run(0, 20, 0, 0),
+            "0 of 20 games have a result, 0 failed; 0.0 games a minute, unknown time left",
+        ),
+        (
+            Run(5, 20, 60, 5, failed=3),
+            "5 of 20 games have a result, 3 failed; 0.0 games a minute, unknown time left",
+        ),
+        (
+            # one in half a minute, and nine are left
+            Run(10, 20, 30, 11),
+            "11 of 20 games have a result, 0 failed; 2.0 games a minute, 4 min left",
+        ),
+    ],
+    ids=str,
+)
+def test_line(run: Run, line: str) -> None:
+    clock = Clock()
+    shown = progress.Progress(run.before, run.total, False, clock)
+    clock.seconds += run.seconds
+    shown.failed, shown.lost = run.failed, run.lost
+    assert shown.line(run.results) == line
+
+
+@pytest.mark.parametrize(
+    "results, total, left",
+    [
+        (40, 1000, "4 h"),  # 960 games at 4.0 a minute are 240 minutes
+        (40, 100_000, "17 days"),  # 24,990 minutes are 17.4 days
+        (10, 1000, "16 h"),  # 990 minutes
+        (10, 109, "99 min"),
+        (10, 110, "2 h"),  # 100 minutes
+        (10, 6009, "100 h"),  # 5,999 minutes
+        (10, 6010, "4 days"),  # 6,000 minutes, 100 hours
+    ],
+)
+def test_time_that_is_left(results: int, total: int, left: str) -> None:
+    clock = Clock()
+    shown = progress.Progress(0, total, False, clock)
+    clock.seconds += 600
+    assert shown.line(results).endswith(f" games a minute, {left} left")
+
+
+@pytest.mark.parametrize(
+    "is_terminal, pauses",
+    [
+        pytest.param(True, [0, 10, 10], id="in a terminal"),
+        pytest.param(False, [60, 60, 60], id="elsewhere"),
+    ],
+)
+def test_pauses_between_lines(
+    is_terminal: bool, pauses: List[float], capfd: pytest.CaptureFixture[str]
+) -> None:
+    clock = Clock()
+    shown = progress.Progress(0, 10, is_terminal, clock)
+    line = f"tournament: {shown.line(0)}"
+    found = []
+    for number in range(3):
+        found.append(shown.pause())
+        clock.seconds += found[-1]
+        shown.line = lambda _: line.removeprefix("tournament: ")
+        shown.look(0)
+        stops = "" if number else f"; kill {os.getpid()} stops this run"
+        assert capfd.readouterr().err == f"{line}{stops}\n"
+    assert found == pauses
+
+
+class Terminal:
+    """A terminal, which has what was written to it."""
+
+    def __init__(self) -> None:
+        self.end, self.streams = os.openpty()
+        self.text = ""
+
+    def wait_for(self, text: str) -> None:
+        """Waits until this text is written."""
+        while text not in self.text:
+            assert select.select([self.end], [], [], TIMEOUT)[0], self.text
+            self.text += os.read(self.end, 65536).decode().replace("\r\n", "\n")
+
+
+def start(runner: Runner, terminal: Terminal) -> subprocess.Popen[str]:
+    """Begins the tournament `all`, whose standard error is a terminal."""
+    process = runner.start(
+        *("tournament", "play", "all", "--jobs", "1"),
+        stdout=subprocess.DEVNULL,
+        stderr=terminal.streams,
+    )
+    os.close(terminal.streams)
+    return process
+
+
+def test_first_line_comes_at_once_in_a_terminal(runner: Runner) -> None:
+    both = engines(one=f"{runner.script('hangs', HANGS)} 1", two="gtp_engine")
+    runner.tournament("plan", "all", *both, "--seeds", "4")
+    runner.pass_trials()
+    terminal = Terminal()
+    process = start(runner, terminal)
+    terminal.wait_for("\n")
+    counted = "0 of 8 games have a result, 0 failed; 0.0 games a minute, unknown time left"
+    stops = f"kill {process.pid} stops this run"
+    assert terminal.text.splitlines()[0] == f"tournament: {counted}; {stops}"
+
+
+def test_line_counts_abandoned_sides(runner: Runner) -> None:
+    hangs = runner.script("hangs", HANGS)
+    some = engines(one="gtp_engine --fault stop:1", two="gtp_engine", three=f"{hangs} 1")
+    options = ["--gauntlet", "two", "--seeds", "1", "--", "--size", "9", "--restarts", "0"]
+    runner.tournament("plan", "all", *some, *options)
+    runner.pass_trials()
+    terminal = Terminal()
+    start(runner, terminal)
+    # two games are abandoned, and then one hangs
+    counted = "2 of 4 games have a result, 2 of them unfit or abandoned, 0 failed; "
+    terminal.wait_for(f"tournament: {counted}")
+    assert re.search(r"; \d+\.\d games a minute, \d+ min left", terminal.text)
