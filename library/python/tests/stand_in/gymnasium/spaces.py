@@ -1,15 +1,10 @@
 """Spaces: what an observation or an action may be."""
 
 
-def shape_of(value):
-    """The shape of an array of numpy, or of a memoryview."""
-    return tuple(value.shape)
-
-
 def items_of(value):
-    """The items of an array, as a flat list."""
+    """Returns the items of an array of numpy, or of a memoryview, as a flat list."""
     values = value.tolist()
-    for _ in shape_of(value)[1:]:
+    for _ in value.shape[1:]:
         values = [item for row in values for item in row]
     return values
 
@@ -21,20 +16,19 @@ class Box:
         self.low, self.high, self.shape, self.dtype = low, high, tuple(shape), dtype
 
     def contains(self, value):
-        """Is it such an array?"""
-        return shape_of(value) == self.shape and all(
-            self.low <= item <= self.high for item in items_of(value)
-        )
+        """Tells whether this is such an array."""
+        is_inside = all(self.low <= item <= self.high for item in items_of(value))
+        return tuple(value.shape) == self.shape and is_inside
 
 
 class Discrete:
-    """The numbers from 0 up."""
+    """The numbers from 0 to n - 1."""
 
     def __init__(self, n):
         self.n, self.shape = n, ()
 
     def contains(self, value):
-        """Is it such a number?"""
+        """Tells whether this is such a number."""
         return 0 <= int(value) < self.n
 
 
@@ -45,5 +39,5 @@ class MultiDiscrete:
         self.each, self.shape = each, (count,)
 
     def contains(self, values):
-        """Are they such numbers?"""
+        """Tells whether these are such numbers."""
         return len(values) == self.shape[0] and all(map(self.each.contains, values))

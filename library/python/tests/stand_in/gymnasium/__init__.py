@@ -1,0 +1,1 @@
+"""A stand-in for gymnasium, which checks an environment of many games."""
