@@ -11,9 +11,7 @@ from tests.stages.of_tournament import rooms  # noqa: E402
 from tests.stages.of_tournament.apart import AskedToEnd, Children, Groups, MayNot, Substituted  # noqa: E402, F401
 from tests.stages.of_tournament.stops import AllKilled, BothKilled, Full, Interrupted, Killed, Limited  # noqa: E402, F401
 from tests.stages.of_tournament.stops import OneKilled, Sessions, Silent, Stopped, Stubborn, Whole  # noqa: E402, F401
-from tests.stages.of_tournament.drawn import Drawn, Two, Unread  # noqa: E402, F401
 from tests.stages.of_tournament.machines import Arrays, Elsewhere, Leaving, Locks  # noqa: E402, F401
-from tests.stages.of_tournament.copied import Commands, Loop  # noqa: E402, F401
 from tests.stages.of_tournament.exports import ByGnuGo, DamagedNotes, Exported, Opened, Records, Versions  # noqa: E402, F401
 from tests.stages.of_tournament.damaged import Copied, Cut, Damages, Old, Spelled  # noqa: E402, F401
 from tests.stages.of_tournament.damaged import Unread as UnreadResults  # noqa: E402, F401
@@ -27,12 +25,9 @@ PARSER.add_argument(
     type=Path,
     help="where both programs are; else bin/",
 )
-PARSER.add_argument("--kills", metavar="N", default=Drawn.kills, type=checks.at_least_one,
-                    help=f"how many kills at drawn moments; else {Drawn.kills}")  # fmt: skip
 PARSER.add_argument("--whole", action="store_true",
-                    help="200 kills at drawn moments, and folders with 100,000 results; some 20 minutes longer")  # fmt: skip
+                    help="folders with 100,000 results; some 20 minutes longer")  # fmt: skip
 OPTIONS = PARSER.options(__name__)
-Drawn.kills = max(OPTIONS.kills, 200 if OPTIONS.whole else 0)
 Filled.whole = OPTIONS.whole
 rooms.Room.programs = OPTIONS.programs.resolve()
 

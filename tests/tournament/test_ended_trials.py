@@ -44,13 +44,13 @@ def test_nothing_is_left_of_a_trial_that_is_killed(
             kill(pid, number)
     runner.wait_until(lambda: not {it.pid for it in runner.processes()} & set(tried))
     trial.terminate()
-    trial.wait()
+    runner.finish(trial)
     assert runner.is_idle()
 
 
 def test_stop_ends_a_trial(trial: "subprocess.Popen[str]", runner: Runner) -> None:
     trial.terminate()
-    assert trial.wait() == 143
+    assert runner.finish(trial).status == 143
     line = "tournament: stopped: 0 of 20 games have a result; the same command goes on\n"
     assert (runner.folder / "errors").read_text() == line
     assert runner.is_idle()
