@@ -43,7 +43,9 @@ HEAD_OF_NUMBERS = '''"""Numbers of the library, each with its explanation.
 
 They are why a call is rejected, why a side fails, and how a match ends.
 library/declare writes this module. Names are those of vintsaky.h without the prefix."""
-from ._library import Numbered, Told
+from enum import IntEnum
+
+from ._library import Explained
 '''
 CLASS = '''
 
@@ -133,9 +135,9 @@ def named(files):
     ]
     return (
         HEAD_OF_NUMBERS
-        + enumeration("Cause", "Told", "Why a call is rejected: its error.", causes)
-        + enumeration("Loss", "Numbered", "Why a side fails by its output.", losses)
+        + enumeration("Cause", "Explained", "Why a call is rejected: its error.", causes)
+        + enumeration("Loss", "IntEnum", "Why a side fails by its output.", losses)
         + enumeration(
-            "Ending", "Numbered", "How a match ended.", numbers.values_of("endings", files)
+            "Ending", "IntEnum", "How a match ended.", numbers.values_of("endings", files)
         )
     )

@@ -17,9 +17,7 @@ def load_example(*folders):
     """Returns the example as a module, which finds packages in these folders before others."""
     with contextlib.suppress(ImportError):  # it can't be imported a second time
         importlib.import_module("numpy")
-    spec = importlib.util.spec_from_file_location(
-        "go_env", HERE.parent / "examples/go_env.py"
-    )
+    spec = importlib.util.spec_from_file_location("go_env", HERE.parent / "examples/go_env.py")
     example = importlib.util.module_from_spec(spec)
     sys.path[:0] = folders
     try:
@@ -50,13 +48,9 @@ class Environment:
         planes, rewards, ended, cut, infos = self.GoEnv(2, 3, 0.5).step([4, 9])
         # White has the turn: the first plane is White's, and the second has Black's stone on B2
         self.assertEqual(planes.tolist()[0], [EMPTY, [[0] * 3, [0, 1, 0], [0] * 3]])
-        self.assertEqual(
-            infos["action_mask"].tolist(), [[1, 1, 1, 1, 0, 1, 1, 1, 1, 1], [1] * 10]
-        )
+        self.assertEqual(infos["action_mask"].tolist(), [[1, 1, 1, 1, 0, 1, 1, 1, 1, 1], [1] * 10])
         self.assertEqual(list(map(float, rewards)), [0, 0])
-        self.assertEqual(
-            [list(map(bool, ended)), list(map(bool, cut))], [[False] * 2] * 2
-        )
+        self.assertEqual([list(map(bool, ended)), list(map(bool, cut))], [[False] * 2] * 2)
 
     def test_rewards(self):
         """Black has B2 and so all nine points, or none. The reward is that of who passes last."""
@@ -69,9 +63,7 @@ class Environment:
             (0, 0, [9, 9]),
         ):
             with self.subTest(komi=komi, moves=moves):
-                planes, rewards, ended, cut, infos = self.step(
-                    self.GoEnv(1, 3, komi), *moves
-                )
+                planes, rewards, ended, cut, infos = self.step(self.GoEnv(1, 3, komi), *moves)
                 self.assertEqual(float(rewards[0]), reward)
                 self.assertEqual((bool(ended[0]), bool(cut[0])), (True, False))
                 # it has begun again
@@ -87,9 +79,7 @@ class Environment:
         self.assertEqual(int(infos["refused"][0]), 0)
 
     def test_limit(self):
-        planes, rewards, ended, cut, _ = self.step(
-            self.GoEnv(1, 3, 0, limit=3), 4, 0, 1
-        )
+        planes, rewards, ended, cut, _ = self.step(self.GoEnv(1, 3, 0, limit=3), 4, 0, 1)
         self.assertEqual((bool(ended[0]), bool(cut[0])), (False, True))
         self.assertEqual(planes.tolist(), [[EMPTY] * 2])
         # Black has moved, and is ahead with two stones to one
@@ -97,9 +87,7 @@ class Environment:
 
     def test_earlier_boards(self):
         planes, *_ = self.step(self.GoEnv(1, 3, 0, earlier=1), 0, 8)
-        rows = [
-            [at for at, row in enumerate(it) if any(row)] for it in planes.tolist()[0]
-        ]
+        rows = [[at for at, row in enumerate(it) if any(row)] for it in planes.tolist()[0]]
         # Black has the turn: Black's A1, White's C3, and before that Black's A1 alone
         self.assertEqual(rows, [[0], [2], [0], []])
 
@@ -109,9 +97,7 @@ class Environment:
             _, rewards, ended, cut, infos = env.step(env.random_actions())
             self.assertFalse(any(infos["refused"].tolist()))
             ends |= set(zip(map(bool, ended), map(bool, cut), map(float, rewards)))
-        won_or_lost = {
-            (ended, not ended, reward) for ended in (True, False) for reward in (1, -1)
-        }
+        won_or_lost = {(ended, not ended, reward) for ended in (True, False) for reward in (1, -1)}
         self.assertEqual(ends, {(False, False, 0), *won_or_lost})
 
 

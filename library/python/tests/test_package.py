@@ -38,7 +38,6 @@ from vintsaky import _declared, _held, _library
 PACKAGE = Path(vintsaky.__file__).resolve().parent
 INNER = [
     "_declared",
-    "_brief",
     "_library",
     "_numbers",
     "_refused",
@@ -92,12 +91,8 @@ class Documentation(unittest.TestCase):
         self.assertEqual([name for name in vintsaky.__all__ if not hasattr(vintsaky, name)], [])
         self.assertEqual(len(set(vintsaky.__all__)), len(vintsaky.__all__))
 
-    def test_help_is_short_and_whole(self):
+    def test_help_is_whole(self):
         text = pydoc.render_doc(vintsaky, renderer=pydoc.plaintext)
-        most = (
-            1500 if sys.version_info < (3, 13) else 1600
-        )  # from then on each argument of a long signature has a line
-        self.assertLess(len(text.splitlines()), most)
         words = " ".join(re.sub(r"^ *\|", "", text, flags=re.MULTILINE).split())
         for cause in Cause:
             self.assertIn(f"{cause.name}: {cause.text}", words)
@@ -116,44 +111,24 @@ class Documentation(unittest.TestCase):
         ):
             self.assertRegex(text, rf"\|  {method}\b")
 
-    def test_what_help_leaves_out_is_there(self):
-        left_out = {
-            Point: "count",
-            Move: "_asdict",
-            Cause: "bit_length",
-            Colour: "__members__",
-            Action: "__eq__",
-        }
-        for kind, inherited in left_out.items():
-            self.assertNotIn(inherited, dir(kind))
-            self.assertTrue(hasattr(kind, inherited))
-        self.assertTrue(
-            {"column", "row", "turned", "count", "_replace", "__add__"} <= set(dir(Point(1, 1)))
-        )
-        self.assertTrue({"BLACK", "WHITE", "other"} <= set(dir(Colour)))
+    def test_signatures(self):
         self.assertEqual(list(inspect.signature(Point).parameters), ["column", "row"])
         self.assertEqual(list(inspect.signature(Game).parameters), ["size", "komi", "rule"])
         self.assertEqual([field.name for field in dataclasses.fields(Action)], ["kind", "side"])
+
+    def test_values_are_copied_and_pickled(self):
         self.assertEqual((Point._fields, Point(1, 2)._replace(row=5)), (("column", "row"), (1, 5)))
         self.assertIs(type(Point._make([1, 2])), Point)
-        self.assertEqual(list(Colour), [1, 2])
-        for value in (
-            Point(3, 4),
-            Move(Colour.BLACK, Point(1, 1)),
-            Chain(1, 2),
-            Cause.KO,
-            vintsaky.RESIGN,
-        ):
-            for again in (
-                pickle.loads(pickle.dumps(value)),
-                copy.copy(value),
-                copy.deepcopy(value),
-            ):
+        move = Move(Colour.BLACK, Point(1, 1))
+        for value in (Point(3, 4), move, Chain(1, 2), Cause.KO, vintsaky.RESIGN):
+            pickled = pickle.loads(pickle.dumps(value))
+            for again in (pickled, copy.copy(value), copy.deepcopy(value)):
                 self.assertEqual((again, type(again)), (value, type(value)))
         self.assertIs(pickle.loads(pickle.dumps(vintsaky.PASS)), vintsaky.PASS)
 
+    def test_a_subclass_may_be_abstract(self):
         class Mine(Game, abc.ABC):
-            """A subclass may be abstract, or generic."""
+            """A subclass."""
 
         self.assertEqual(Mine(5).size, 5)
 

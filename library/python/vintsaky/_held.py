@@ -8,7 +8,6 @@ import sys
 from threading import get_ident
 from typing import Any, NoReturn, Optional, Union
 
-from ._brief import BriefABC
 from ._library import library
 from ._numbers import Cause
 from ._refused import shown, wrong
@@ -16,7 +15,7 @@ from ._refused import shown, wrong
 Bytes = Union[bytes, bytearray, memoryview]
 
 
-class Held(metaclass=BriefABC):
+class Held:
     """An object of the library. It lives in memory that it keeps, and only the thread that made it may use it, or the
     one that adopted it last."""
 

@@ -7,7 +7,6 @@ from enum import IntEnum
 from pathlib import Path
 from typing import Any, Tuple
 
-from ._brief import BriefEnum
 from ._declared import CALLS, INTERFACE
 
 VARIABLE = "VINTSAKY_LIBRARY"
@@ -65,11 +64,7 @@ def text_of(call: Any, *arguments: Any) -> bytes:
         room = length + 1
 
 
-class Numbered(IntEnum, metaclass=BriefEnum):
-    """A number of the library."""
-
-
-class Told(Numbered):
+class Explained(IntEnum):
     """A number for which the library has a sentence."""
 
     @property

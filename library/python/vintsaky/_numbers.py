@@ -2,10 +2,12 @@
 
 They are why a call is rejected, why a side fails, and how a match ends.
 library/declare writes this module. Names are those of vintsaky.h without the prefix."""
-from ._library import Numbered, Told
+from enum import IntEnum
+
+from ._library import Explained
 
 
-class Cause(Told):
+class Cause(Explained):
     """Why a call is rejected: its error.
 
     DONE: No error.
@@ -89,7 +91,7 @@ class Cause(Told):
     BAD_REASON = 36
 
 
-class Loss(Numbered):
+class Loss(IntEnum):
     """Why a side fails by its output.
 
     NO_STATUS: What it wrote isn't a reply: it begins with neither = nor ?. It goes down.
@@ -124,7 +126,7 @@ class Loss(Numbered):
     KO = 14
 
 
-class Ending(Numbered):
+class Ending(IntEnum):
     """How a match ended.
 
     BY_SCORE: two passes ended the game

@@ -4,13 +4,12 @@ from __future__ import annotations
 from enum import Enum
 from typing import Any, Optional
 
-from ._brief import Brief
 from ._numbers import Cause
 
 MOST_SHOWN = 60  # characters of a value
 
 
-class Refused(ValueError, metaclass=Brief):
+class Refused(ValueError):
     """A call was rejected, and has changed nothing. `cause` is the error. The text names what was rejected with its
     value, and then what is wanted, or else the error's sentence."""
 

@@ -10,7 +10,6 @@ from threading import get_ident
 from typing import Any, Iterator, List, NoReturn, Optional, Sequence, Tuple
 
 from . import _declared
-from ._brief import BriefABC
 from ._buffers import BYTE, FLOAT, Room, apart, room_of
 from ._held import clamped, integer, whole
 from ._library import library, unlocked
@@ -24,7 +23,7 @@ MOST_GAMES = 2**20
 MOST_NUMBER = 2**32 - 1
 
 
-class Games(metaclass=BriefABC):
+class Games:
     """Up to 2^20 games of one size, which one call plays. A game is over after two passes, or with `limit` moves, 1 to
     2,000. `step` begins it again then, and it keeps its komi, ko rule and handicap.
 

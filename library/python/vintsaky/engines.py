@@ -10,7 +10,6 @@ from enum import IntEnum
 from typing import Any, Callable, Dict, Iterator, List, Optional, Tuple, TypeVar, Union
 
 from . import _declared
-from ._brief import Brief, BriefABC, BriefEnum
 from ._held import Bytes, Held, ascii_of, bytes_of
 from ._library import library, text_of
 from ._numbers import Cause
@@ -23,7 +22,7 @@ PIECE = 4096  # bytes that are read at a time, at most
 Method = TypeVar("Method", bound=Callable[..., Any])
 
 
-class Event(IntEnum, metaclass=BriefEnum):
+class Event(IntEnum):
     """What came of a chunk that was fed to a sans-IO engine."""
 
     MORE = _declared.MORE  # All bytes were used: read more.
@@ -149,7 +148,7 @@ class Steps(Held):
         )
 
 
-class Failure(Exception, metaclass=Brief):
+class Failure(Exception):
     """Raised by a custom command that fails: its reply is a failure with this text."""
 
 
@@ -174,7 +173,7 @@ def command(name: str) -> Callable[[Method], Method]:
     return marked
 
 
-class Engine(metaclass=BriefABC):
+class Engine:
     """An engine of your own: a class that chooses the moves.
 
     `name` and `version` are its answers to these commands, at most 200 bytes each, and `rule` is its ko rule. A class

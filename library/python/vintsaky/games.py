@@ -9,7 +9,6 @@ from typing import Any, Callable, Dict, Iterable, List, NamedTuple, Optional, Tu
 
 from . import _declared
 from ._attributes import attributes_of, give_attributes
-from ._brief import BriefABC
 from ._buffers import BYTE, FLAG, room_of
 from ._held import Held, clamped, integer, whole
 from ._library import library, text_of
@@ -43,15 +42,11 @@ ILLEGAL = (Cause.OFF_BOARD, Cause.OCCUPIED, Cause.SUICIDE, Cause.KO)
 Kind = TypeVar("Kind", bound="Game")
 
 
-class _Chain(NamedTuple):
-    stones: int
-    liberties: int
-
-
-class Chain(_Chain, metaclass=BriefABC):
+class Chain(NamedTuple):
     """How many stones and how many liberties a chain has."""
 
-    __slots__ = ()
+    stones: int
+    liberties: int
 
 
 class Game(Held):

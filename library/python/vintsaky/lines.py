@@ -6,7 +6,6 @@ from enum import IntEnum
 from typing import Any, Callable, Dict, List, NamedTuple, Optional, Tuple, Union
 
 from . import _declared
-from ._brief import BriefABC, BriefEnum
 from ._held import Bytes, Held, ascii_of, bytes_of, integer, whole
 from ._library import library, text_of
 from ._numbers import Cause
@@ -16,14 +15,14 @@ from .values import colour_number, half_points, size_number, vertex_number, writ
 LONGEST_INT = 2**31 - 1
 
 
-class LineEvent(IntEnum, metaclass=BriefEnum):
+class LineEvent(IntEnum):
     """What came of a chunk that was fed to a reader of command lines, if it isn't 0."""
 
     LINE = _declared.LINE
     TOO_LONG = _declared.TOO_LONG
 
 
-class ReplyEvent(IntEnum, metaclass=BriefEnum):
+class ReplyEvent(IntEnum):
     """What came of a chunk that was fed to a reader of replies, if it isn't 0: a reply, or why there is none."""
 
     READ = _declared.READ
@@ -31,7 +30,7 @@ class ReplyEvent(IntEnum, metaclass=BriefEnum):
     LONG_REPLY = _declared.LONG_REPLY
 
 
-class Command(IntEnum, metaclass=BriefEnum):
+class Command(IntEnum):
     """The commands that `write_command` writes."""
 
     BOARDSIZE = _declared.BOARDSIZE
@@ -44,30 +43,22 @@ class Command(IntEnum, metaclass=BriefEnum):
     QUIT = _declared.QUIT
 
 
-class _CommandLine(NamedTuple):
+class CommandLine(NamedTuple):
+    """A command line: its id, if it has one, and its words, the command's name first. If a line is too long, only
+    `too_long` is set. Bytes of a word that aren't UTF-8 are kept so that `os.fsencode` gives them back.
+    """
+
     id: Optional[int]
     words: Tuple[str, ...]
     too_long: bool = False
 
 
-class CommandLine(_CommandLine, metaclass=BriefABC):
-    """A command line: its id, if it has one, and its words, the command's name first. If a line is too long, only
-    `too_long` is set. Bytes of a word that aren't UTF-8 are kept so that `os.fsencode` gives them back.
-    """
+class Reply(NamedTuple):
+    """A reply: whether it is a success, its id, if it has one, and its text, as it came."""
 
-    __slots__ = ()
-
-
-class _Reply(NamedTuple):
     ok: bool
     id: Optional[int]
     text: bytes
-
-
-class Reply(_Reply, metaclass=BriefABC):
-    """A reply: whether it is a success, its id, if it has one, and its text, as it came."""
-
-    __slots__ = ()
 
 
 def words_of(call: Any, place: Any) -> Tuple[str, ...]:

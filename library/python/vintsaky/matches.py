@@ -8,7 +8,6 @@ from enum import IntEnum
 from typing import Any, Optional, Tuple
 
 from . import _declared
-from ._brief import Brief, BriefEnum
 from ._held import Bytes, Held, ascii_of, bytes_of, clamped, integer, whole
 from ._library import library, text_of
 from ._numbers import Cause, Ending, Loss
@@ -20,7 +19,7 @@ COMMAND_ROOM = 128  # a command has at most 64 bytes
 WROTE_ROOM = 128  # at most 80 bytes of a side's output are shown
 
 
-class Next(IntEnum, metaclass=BriefEnum):
+class Next(IntEnum):
     """What to do next."""
 
     START = _declared.START  # Start this side's engine, and call `started`.
@@ -30,7 +29,7 @@ class Next(IntEnum, metaclass=BriefEnum):
 
 
 @dataclass(frozen=True)
-class Action(metaclass=Brief):
+class Action:
     """What to do next, and with which side."""
 
     kind: Next
@@ -38,7 +37,7 @@ class Action(metaclass=Brief):
 
 
 @dataclass(frozen=True)
-class Owed(metaclass=Brief):
+class Owed:
     """What a side owes: how many commands it hasn't answered; the oldest of them, as it was sent; and the first 80
     bytes that it wrote since its last whole reply."""
 
@@ -48,7 +47,7 @@ class Owed(metaclass=Brief):
 
 
 @dataclass(frozen=True)
-class Report(metaclass=Brief):
+class Report:
     """What came of a side's output: why the side fails, if it does; the number of the retake at its move number, 1 to
     3, if the side refused a play that is retaken, else 0; and what it owed at the loss, or else at the retake.
     """
@@ -59,7 +58,7 @@ class Report(metaclass=Brief):
 
 
 @dataclass(frozen=True)
-class Status(metaclass=Brief):
+class Status:
     """How many commands of its script (the setup, and a play for each move of the record) a side has confirmed, how
     many commands it hasn't answered, and whether a genmove is among the unanswered ones."""
 
@@ -69,7 +68,7 @@ class Status(metaclass=Brief):
 
 
 @dataclass(frozen=True)
-class Verdict(metaclass=Brief):
+class Verdict:
     """How a match ended, the score in points if it ended by score, and the reason if a ruling has one. `side` is the
     one that resigned, forfeited, is unfit, was abandoned or lost by a ruling: never the one that won.
     """

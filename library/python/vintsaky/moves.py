@@ -6,7 +6,6 @@ from collections.abc import Sequence
 from functools import lru_cache
 from typing import TYPE_CHECKING, Dict, Iterator, List, NamedTuple, Union, overload
 
-from ._brief import BriefABC
 from ._library import library, untyped
 from ._numbers import Cause
 from ._refused import Refused, shown
@@ -18,15 +17,11 @@ if TYPE_CHECKING:
 MADE = untyped(library.vintsaky_game_made)
 
 
-class _Move(NamedTuple):
-    colour: Colour
-    vertex: Vertex
-
-
-class Move(_Move, metaclass=BriefABC):
+class Move(NamedTuple):
     """A move of a record."""
 
-    __slots__ = ()
+    colour: Colour
+    vertex: Vertex
 
 
 MOVES = {
@@ -48,7 +43,7 @@ def moves_by_text() -> Dict[str, Move]:
     return {text_of_move(move): move for move in MOVES.values()}
 
 
-class Moves(Sequence[Move], metaclass=BriefABC):
+class Moves(Sequence[Move]):
     """The current moves of a game's record. A loop goes over the moves that there are when it begins."""
 
     __slots__ = ("_game",)

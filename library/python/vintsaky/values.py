@@ -9,14 +9,13 @@ from functools import lru_cache
 from typing import Any, Dict, Final, List, Literal, NamedTuple, Tuple, Union
 
 from . import _declared
-from ._brief import BriefABC, BriefEnum
 from ._held import ascii_of, integer, whole
 from ._library import library
 from ._numbers import Cause
 from ._refused import Refused, done, shown
 
 
-class Colour(IntEnum, metaclass=BriefEnum):
+class Colour(IntEnum):
     """The colour of a stone, and of the side that plays it."""
 
     BLACK = _declared.BLACK
@@ -43,26 +42,22 @@ BLACK = Colour.BLACK
 WHITE = Colour.WHITE
 
 
-class KoRule(IntEnum, metaclass=BriefEnum):
+class KoRule(IntEnum):
     """The boards that a play must not bring back: the one before the last move, or with POSITIONAL any earlier one."""
 
     SIMPLE = _declared.SIMPLE
     POSITIONAL = _declared.POSITIONAL
 
 
-class _Point(NamedTuple):
-    column: int
-    row: int
-
-
-class Point(_Point, metaclass=BriefABC):
+class Point(NamedTuple):
     """A point: its column and its row, both from 1 to 25, counted from the lower left corner. `str` returns its text.
 
     >>> str(Point(4, 16))
     'D16'
     """
 
-    __slots__ = ()
+    column: int
+    row: int
 
     def __str__(self) -> str:
         return written(library.vintsaky_vertex_text, _point_number(self))
@@ -102,7 +97,7 @@ class Point(_Point, metaclass=BriefABC):
         return Point(column, row)
 
 
-class NoPoint(Enum, metaclass=BriefEnum):
+class NoPoint(Enum):
     """A choice that isn't a point. Only an engine resigns."""
 
     PASS = "pass"

@@ -34,9 +34,7 @@ class VectorEnv:
 
 def check(env, observations, infos):
     """Checks what each call returns: observations, and infos with the mask of the actions."""
-    assert env.observation_space.contains(
-        observations
-    ), "the observations are of their space"
+    assert env.observation_space.contains(observations), "the observations are of their space"
     shape = (env.num_envs, *env.single_observation_space.shape)
     assert env.observation_space.shape == shape, "the spaces belong together"
     assert isinstance(infos, dict), "infos are a dict"
@@ -68,16 +66,12 @@ def checked_step(step):
     @functools.wraps(step)
     def checked(self, actions):
         assert self.action_space.contains(actions), "the actions are of their space"
-        observations, rewards, terminations, truncations, infos = returned = step(
-            self, actions
-        )
+        observations, rewards, terminations, truncations, infos = returned = step(self, actions)
         assert isinstance(returned, tuple), "step returns five things"
         check(self, observations, infos)
         for values in (rewards, terminations, truncations):
             assert tuple(values.shape) == (self.num_envs,), "a value for each game"
-        assert all(
-            isinstance(reward, float) for reward in rewards.tolist()
-        ), "rewards are floats"
+        assert all(isinstance(reward, float) for reward in rewards.tolist()), "rewards are floats"
         for ways in zip(terminations.tolist(), truncations.tolist()):
             assert set(ways) <= {0, 1} and ways != (
                 1,
