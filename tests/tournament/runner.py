@@ -142,10 +142,10 @@ class Runner:
 
     def named(self, name: str) -> List[int]:
         """Returns the processes that were started here and have this name."""
-        return [it.pid for it in self.processes() if it.name == name[:15]]
+        return [process.pid for process in self.processes() if process.name == name[:15]]
 
     def is_idle(self) -> bool:
-        """Waits until all that was started here has ended, and tells whether it has."""
+        """Waits until all that was started here has ended, and tells whether that is so."""
         return wait_until(lambda: not self.processes())
 
     def kill_all(self) -> None:

@@ -252,7 +252,7 @@ def row_of(runner: Runner) -> str:
         pytest.param(notes(OLD, "0.750"), ",", id="of another result"),
     ],
 )
-def test_notes_beside_the_lock_are_read(text: str, seconds: str, lost: Runner) -> None:
+def test_notes_in_the_directory_of_the_lock_are_read(text: str, seconds: str, lost: Runner) -> None:
     lost.write(f"all/games/{GAME}", result(NEW))
     (lost.folder / f"all/running/{GAME}").mkdir()
     lost.write(f"all/running/{GAME}/notes", text)
@@ -269,19 +269,18 @@ def is_read(fifo: Path) -> bool:
 
 
 def test_notes_are_moved_while_they_are_looked_for(lost: Runner) -> None:
-    lost.write(f"all/games/{GAME}", result(NEW))
-    (lost.folder / f"all/running/{GAME}").mkdir()
-    place, beside = (
-        lost.folder / f"all/{kind}" for kind in (f"notes/{GAME}", f"running/{GAME}/notes")
-    )
-    place.unlink()
-    for fifo in (place, beside):
-        os.mkfifo(fifo)
+    line = "B+R moves 1 restarts 0 0"
+    lost.write(f"all/games/{GAME}", f"game 1: {line}\nD4\n")
+    first, second = lost.folder / f"all/notes/{GAME}", lost.folder / f"all/running/{GAME}/notes"
+    first.unlink()
+    second.parent.mkdir()
+    os.mkfifo(first)
+    os.mkfifo(second)
     export = lost.start("tournament", "export", "all", "--csv")
-    lost.wait_until(lambda: is_read(place))
-    os.replace(lost.write("new", notes(NEW, "0.750")), place)
-    lost.wait_until(lambda: is_read(beside))
-    assert "abandoned white,,0,0.75,0.0," in lost.finish(export).output
+    lost.wait_until(lambda: is_read(first))
+    os.replace(lost.write("new", notes(line, "0.750")), first)
+    lost.wait_until(lambda: is_read(second))
+    assert ",B+R,black,1,0.75,0.0," in lost.finish(export).output
 
 
 def test_notes_that_cannot_be_read_are_none(lost: Runner) -> None:
@@ -297,7 +296,7 @@ def test_notes_that_cannot_be_read_are_none(lost: Runner) -> None:
 class Killed(NamedTuple):
     """What a process left that was killed, and whether the next run takes the notes and log."""
 
-    beside: Dict[str, str]  # the files beside the lock
+    files: Dict[str, str]  # in the directory of the lock
     result: str
     are_new: bool
 
@@ -326,7 +325,7 @@ def leave(runner: Runner, killed: Killed) -> None:
     """Leaves what a process of the game left that was killed."""
     runner.write(f"all/games/{GAME}", result(killed.result))
     (runner.folder / f"all/running/{GAME}").mkdir()
-    for name, text in {"lock": "", **killed.beside}.items():
+    for name, text in {"lock": "", **killed.files}.items():
         runner.write(f"all/running/{GAME}/{name}", text)
 
 
@@ -334,7 +333,7 @@ def leave(runner: Runner, killed: Killed) -> None:
 def test_next_run_moves_what_belongs_to_the_result(killed: Killed, lost: Runner) -> None:
     leave(lost, killed)
     assert lost.tournament("play", "all", "--time-left", "1").status == 1
-    wanted = (killed.beside["notes"], "new\n") if killed.are_new else (notes(OLD), "old\n")
+    wanted = (killed.files["notes"], "new\n") if killed.are_new else (notes(OLD), "old\n")
     found = kept(lost)
     assert found.games[GAME] == result(killed.result)
     assert (found.notes[GAME], found.logs[GAME]) == wanted
@@ -342,12 +341,9 @@ def test_next_run_moves_what_belongs_to_the_result(killed: Killed, lost: Runner)
 
 
 def test_directory_of_notes_is_made_for_what_is_moved(lost: Runner) -> None:
-    leave(lost, KILLED["once its result was moved"])
-    for game in GAMES:
-        (lost.folder / "all/notes" / game).unlink()
-    (lost.folder / "all/notes").rmdir()
-    lost.tournament("play", "all", "--time-left", "1")
-    assert lost.files("all/notes") == {GAME: notes(NEW)}
+    lost.script("two", AFTER_ITS_TRIAL.format("rm -r all/notes"))
+    assert lost.tournament("play", "all", "--again", "--task", "1/2")[::2] == (0, "")
+    assert list(lost.files("all/notes")) == [GAME]
 
 
 def test_files_are_moved_before_the_game_begins(lost: Runner) -> None:

@@ -26,6 +26,8 @@ NO_FORM = "write one of --pgn, --csv, --jsonl and --sgf FOLDER"
 NO_RECORDS = "--sgf needs a new FOLDER after it, such as --sgf records"
 OF_TWOGTP = "is an option of twogtp: these come last, after --, such as: tournament"
 
+MANY = shlex.join(f"--engine=e{number}=cat" for number in range(21))
+
 # the arguments, where ENGINES stands for two engines, and what standard error says to write
 MISTAKES = {
     "play": "FOLDER is missing: write tournament play FOLDER ..",
@@ -77,7 +79,7 @@ MISTAKES = {
     "play x --seed 3": "play has no option --seed: is it --seeds?",
     "play x ENGINES --seeds 0": "--seeds needs a number from 1 to 9999999, and not '0'",
     "play x --jobs many": "--jobs needs a number from 1 to 9999999, and not 'many'",
-    f"play x ENGINES --seeds 9999999 {shlex.join(f'--engine=e{it}=cat' for it in range(21))}": (
+    f"play x ENGINES --seeds 9999999 {MANY}": (
         "9999999 seeds are 5059999494 games, which are too many"
     ),
     "play x --move-limit 0": f"--move-limit {NO_SECONDS} '0'",
@@ -171,7 +173,7 @@ def files_in(folder: Path) -> Dict[Path, Union[bool, str]]:
     return {place: place.is_file() and place.read_text() for place in folder.rglob("*")}
 
 
-@pytest.mark.parametrize("arguments", MISTAKES, ids=lambda it: it[:60])
+@pytest.mark.parametrize("arguments", MISTAKES, ids=lambda arguments: arguments[:60])
 def test_mistake_is_answered_by_what_to_write(arguments: str, planned: Runner) -> None:
     before = files_in(planned.folder)
     words = shlex.split(arguments.replace("ENGINES", ENGINES))

@@ -17,7 +17,7 @@ while :; do sleep 0.5; done &
 while :; do sleep 0.5; done
 """
 PROCESSES = ("tournament", "trial one", "asks one")  # the run, and both processes of a trial
-KILLED = [it for count in (1, 2) for it in itertools.permutations(PROCESSES, count)]
+KILLED = [names for count in (1, 2) for names in itertools.permutations(PROCESSES, count)]
 
 
 @pytest.fixture
@@ -38,11 +38,13 @@ def test_nothing_is_left_of_a_trial_that_is_killed(
 ) -> None:
     numbers = [pid for name in killed for pid in runner.named(name)]
     assert len(numbers) == len(killed)
-    tried = runner.named("stubborn") + runner.named("timeout")
+    engine = runner.named("stubborn") + runner.named("timeout")
     for number in (signal.SIGSTOP, signal.SIGKILL):  # at one moment
         for pid in numbers:
             kill(pid, number)
-    runner.wait_until(lambda: not {it.pid for it in runner.processes()} & set(tried))
+    runner.wait_until(
+        lambda: not set(engine).intersection(process.pid for process in runner.processes())
+    )
     trial.terminate()
     runner.finish(trial)
     assert runner.is_idle()
@@ -98,7 +100,7 @@ def errors_of(runner: Runner, commands: List[List[str]]) -> Tuple[List[int], Lis
     """
     place = runner.folder / "errors"
     with open(place, "a") as errors:
-        runs = [runner.start("tournament", *it, stderr=errors) for it in commands]
+        runs = [runner.start("tournament", *words, stderr=errors) for words in commands]
     lines = [TRIED, *[WAITED] * (len(commands) - 1)]  # each is written after ten seconds
     runner.wait_until(lambda: sorted(place.read_text().splitlines()) == sorted(lines))
     (runner.folder / "go").touch()

@@ -20,13 +20,13 @@ engine = subprocess.Popen(["gtp_engine"], stdin=subprocess.PIPE, bufsize=0)
 left = amount if what == "ends" else float(amount)
 for line in sys.stdin:
     number, _, command = line.strip().partition(" ")
-    is_it = command.startswith(words)
-    if is_it and what == "ends" and not os.path.exists(amount):
+    is_odd = command.startswith(words)
+    if is_odd and what == "ends" and not os.path.exists(amount):
         open(amount, "w").close()
         os.kill(os.getpid(), 9)
-    if is_it and what == "waits":
+    if is_odd and what == "waits":
         time.sleep(left)
-    if is_it and what == "refuses" and left:
+    if is_odd and what == "refuses" and left:
         left -= 1
         print(f"?{number} no\\n", flush=True)
     else:
@@ -84,7 +84,7 @@ def test_next_seed_has_the_next_opening(runner: Runner) -> None:
         moves, notes = text.splitlines()[1].split(), notes_of(runner, game)
         assert moves[: len(opening)] == opening and len(moves) > len(opening) + 9
         assert record_of(notes) == moves
-        assert [it.split()[2] for it in notes if it.endswith(" opening")] == opening
+        assert [line.split()[2] for line in notes if line.endswith(" opening")] == opening
 
 
 def test_engines_are_asked_for_no_move_of_the_opening(runner: Runner) -> None:
@@ -96,7 +96,7 @@ def test_engines_are_asked_for_no_move_of_the_opening(runner: Runner) -> None:
     runner.tournament("game", "all", GAME)
     setup = ["1 boardsize 9", "2 komi 6.5", "3 clear_board"]
     opening = ["4 play b E5", "5 play w C3", "6 play b G7", "7 play w C7"]
-    black, white = ((runner.folder / it).read_text().splitlines() for it in ("one", "two"))
+    black, white = ((runner.folder / name).read_text().splitlines() for name in ("one", "two"))
     assert black[:8] == [*setup, *opening, "8 genmove b"]
     assert white[:9] == [*setup, *opening, "8 play b A1", "9 genmove w"]
 
@@ -183,7 +183,7 @@ def test_move_of_an_opening_that_is_refused(
     plan_of(runner, **odd)
     game = played(runner)
     ends = ("opening", "undone")
-    assert (game.line, [it for it in game.notes if it.endswith(ends)]) == (line, notes)
+    assert (game.line, [note for note in game.notes if note.endswith(ends)]) == (line, notes)
 
 
 # ---- the time of a move of an opening

@@ -165,7 +165,7 @@ def test_interval_of_an_engine_against_all(runner: Runner) -> None:
     (line,) = (line.split() for line in lines if line.startswith("first - all "))
     assert " ".join(line[-8:]) == "75.0 33.5 to 100.0 +191 -119 to +inf"
     counted = json.loads(runner.tally("all", "--json").output)
-    clusters = {it["name"]: it["pairs_in_interval"] for it in counted["engines"]}
+    clusters = {row["name"]: row["pairs_in_interval"] for row in counted["engines"]}
     assert clusters == {"first": 21, "book": 1, "rand": 20}
     for row in counted["engines"] + counted["pairs"]:
         if row["pairs_in_interval"]:

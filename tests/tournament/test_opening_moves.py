@@ -65,13 +65,13 @@ TALKS = {
         ["=1", "=2", "=3", "=4", "=5", "=6", "=7 A1"],
         ["7 black A1 S"],
     ),
-    "a game that left it": Talk(
+    "a game that left the opening": Talk(
         ["1 genmove b", "2 play w E6", "3 genmove b"],
         ["1 play b D4", "2 play w E6", "3 genmove b"],
         ["=1 D4", "=2", "=3 A1"],
         ["1 black D4 opening", "3 black A1 S"],
     ),
-    "a game that left it and came back": Talk(
+    "a game that left the opening and is in it again": Talk(
         ["1 genmove b", "2 play w E6", "3 undo", "4 play w e5", "5 genmove b"],
         ["1 play b D4", "2 play w E6", "3 undo", "4 play w e5", "5 play b pass"],
         ["=1 D4", "=2", "=3", "=4", "=5 pass"],

@@ -137,7 +137,7 @@ class RandomGame:
     def __init__(self, number: int, size: Optional[int] = None, stones: int = 0) -> None:
         self.random = random.Random(number)
         self.size = size or self.random.choice([2, 2, 3, 3, 4, 5, 7, 9, 13, 25])
-        handicaps = [it for it in range(2, 10) if values.handicap_points(self.size, it)]
+        handicaps = [stones for stones in range(2, 10) if values.handicap_points(self.size, stones)]
         self.stones = stones if size else self.random.choice([0, *handicaps])
         self.game = rules.Game()
         self.game.begin(self.size)
@@ -151,7 +151,7 @@ class RandomGame:
         captured = [point for point in self.before if point not in self.game.board]
         if captured and self.random.random() < 0.6:
             return self.random.choice(captured)
-        empty = [it for it in rules.points(self.size) if it not in self.game.board]
+        empty = [point for point in rules.points(self.size) if point not in self.game.board]
         if empty and self.random.random() < 0.8:
             return self.random.choice(empty)
         if self.moves[-1:] != ["pass"] and self.random.random() < 0.2:
@@ -179,7 +179,7 @@ class RandomGame:
 
     def broken_move(self, rule: str) -> Optional[str]:
         """Plays up to a move that breaks this rule, and returns it, if one comes soon."""
-        least = self.random.choice([0, 10, 40, 80])  # moves before it
+        least = self.random.choice([0, 10, 40, 80])  # moves before that one
         for _ in range(200):
             vertex = self.choice()
             if self.broken_by(vertex) == rule and len(self.moves) >= least:
@@ -203,7 +203,7 @@ def test_rules_are_those_of_the_reference(rule: str, number: int, runner: Runner
     others = [RandomGame(number, game.size, game.stones) for number in range(3)]
     for other in others:
         other.broken_move("no such rule")
-    lines = [" ".join(it.moves) for it in others if it.moves]
+    lines = [" ".join(other.moves) for other in others if other.moves]
     text = "\n".join([*lines, " ".join([*game.moves, move])])
     colour = {values.BLACK: "Black", values.WHITE: "White"}[game.colour]
     place = f"line {len(lines) + 1} of openings: move {len(game.moves) + 1}, {colour} {move}"

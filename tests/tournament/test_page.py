@@ -1,4 +1,4 @@
-"""What people copy from docs/tournaments.md: its commands, as they stand there."""
+"""What people copy from docs/tournaments.md: its commands, as the page has them."""
 from __future__ import annotations
 
 import os
@@ -54,7 +54,7 @@ LOOP = block("for ((seeds")
 ONE_WINS, BLACK_WINS = ("B", "W"), ("B", "B")
 ABANDONED = ("abandoned", "B")
 MANY = [ONE_WINS, ONE_WINS, BLACK_WINS] * 50
-GOES_ON = LOOP.replace("|| break\n", command("|| [ $?") + "\n", 1).replace(
+CONTINUED = LOOP.replace("|| break\n", command("|| [ $?") + "\n", 1).replace(
     "0 10", f"0 10 {command('--abandoned')}"
 )
 
@@ -74,7 +74,7 @@ GOES_ON = LOOP.replace("|| break\n", command("|| [ $?") + "\n", 1).replace(
             [ABANDONED, *MANY], LOOP, "200 of 200 games have a result", 1, id="an abandoned side"
         ),
         pytest.param(
-            [ABANDONED, *MANY], GOES_ON, "one - two: 10 Elo", 4, id="an abandoned side loses"
+            [ABANDONED, *MANY], CONTINUED, "one - two: 10 Elo", 4, id="an abandoned side loses"
         ),
         pytest.param(
             [BLACK_WINS] * 200,
@@ -110,7 +110,7 @@ def test_new_directory_with_old_games(runner: Runner) -> None:
     runner.shell(f"{command('mkdir new')}\n{command('cp -a')}")
     done = runner.tournament("play", "new", "--move-limit", "9", *words)
     assert done == (0, "2 of 2 games have a result\n", "")
-    night, new = (sorted((runner.folder / it / "games").iterdir()) for it in ("night", "new"))
+    night, new = (sorted((runner.folder / name / "games").iterdir()) for name in ("night", "new"))
     times = [[place.stat().st_mtime_ns for place in places] for places in (night, new)]
     assert times[0] == times[1]
     runner.shell(command("find new/games").replace("NAME", "two"))

@@ -24,7 +24,7 @@ def is_python(place: Path) -> bool:
     return place.suffix == ".py" or place.read_bytes().split(b"\n")[0].endswith(b"python3")
 
 
-FILES = [it for it in sorted(SCRIPTS.rglob("*")) if it.is_file() and is_python(it)]
+FILES = [file for file in sorted(SCRIPTS.rglob("*")) if file.is_file() and is_python(file)]
 
 
 def imports_of(tree: ast.Module) -> List[str]:
@@ -42,7 +42,7 @@ def test_files_are_found() -> None:
     assert len(FILES) >= 10
 
 
-@pytest.mark.parametrize("file", FILES, ids=lambda it: str(it.relative_to(SCRIPTS)))
+@pytest.mark.parametrize("file", FILES, ids=lambda file: str(file.relative_to(SCRIPTS)))
 def test_syntax_and_imports(file: Path) -> None:
     names = set(imports_of(ast.parse(file.read_bytes(), feature_version=(3, 9))))
     in_c = {name for name in IN_C if name[1:] in names}

@@ -21,7 +21,7 @@ def pytest_generate_tests(metafunc: pytest.Metafunc) -> None:
 
 def kill_some(runner: Runner, run: "subprocess.Popen[str]", chosen: random.Random) -> str:
     """Kills something of a run, ends the run, and returns what was killed."""
-    games = [it.name for it in runner.processes() if it.name.startswith("game ")]
+    games = [process.name for process in runner.processes() if process.name.startswith("game ")]
     names = ["all", "tournament", "twogtp", *chosen.sample(games, min(1, len(games)))]
     name = chosen.choice(names)
     if name == "all":

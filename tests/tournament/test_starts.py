@@ -72,7 +72,7 @@ def test_plan_of_earlier_scripts_names_no_directory(moved: Path, runner: Runner)
         pytest.param("./engine", Path.unlink, "No such file or directory", id="named by a path"),
         pytest.param("my-engine", Path.unlink, "No such file or directory", id="found in PATH"),
         pytest.param(
-            "./engine", lambda it: it.chmod(0o644), "Permission denied", id="not executable"
+            "./engine", lambda place: place.chmod(0o644), "Permission denied", id="not executable"
         ),
     ],
 )
@@ -114,7 +114,7 @@ def test_ten_games_in_a_row_end_the_run(runner: Runner) -> None:
     assert done.output.splitlines()[-1] == "6 of 24 games have a result"
     *games, line, advice = done.errors.splitlines()
     ended = r"it ended (at '1 boardsize 2'|before anything was asked): exit status 3"
-    matches = [re.fullmatch(f".*: no result: bad wasn't started: {ended}", it) for it in games]
+    matches = [re.fullmatch(f".*: no result: bad wasn't started: {ended}", line) for line in games]
     assert len(matches) == 10 and all(matches)
     in_a_row = "bad wasn't started in 10 games in a row: no other game is begun here"
     assert (line, advice) == (f"tournament: {in_a_row}", OTHERS)
