@@ -5,9 +5,9 @@ import unittest
 
 from vintsaky import BLACK, PASS, WHITE, Cause, Game, KoRule, Refused
 from vintsaky import _declared
-from vintsaky._held import whole
+from vintsaky._objects import int_in_range
 from vintsaky._library import library
-from vintsaky._refused import done
+from vintsaky._refused import check
 from vintsaky.values import half_points
 
 FILL = 77  # in each buffer before a call: what stays is seen
@@ -31,15 +31,19 @@ class Called:
         self._handles = (_declared.GameHandle * count)()
         start = ctypes.addressof(self._memory)
         start += -start % align
-        begins = whole(rule, "the ko rule"), whole(size, "the size"), half_points(komi)
+        begins = (
+            int_in_range(rule, "the ko rule"),
+            int_in_range(size, "the size"),
+            half_points(komi),
+        )
         for number in range(count):
             place = self._place(number)
             library.vintsaky_game_place(place, start + number * each)
-            done(library.vintsaky_game_begin(place, *begins))
+            check(library.vintsaky_game_begin(place, *begins))
             if handicap:
-                done(
+                check(
                     library.vintsaky_game_place_handicap(
-                        place, whole(handicap, "the number of handicap stones")
+                        place, int_in_range(handicap, "the number of handicap stones")
                     )
                 )
 
@@ -56,13 +60,13 @@ class Called:
 
     def play(self, moves, causes):
         """Each game makes its move for the colour whose turn it is. Its cause is 0, or why it refuses the move."""
-        done(library.vintsaky_games_play(*self._held(), moves, len(moves), causes, len(causes)))
+        check(library.vintsaky_games_play(*self._held(), moves, len(moves), causes, len(causes)))
 
     def restart(self, limit, over, half_points):
         """Tells of each game whether it is over: 1 after two passes, 2 after `limit` moves, else 0. Those that are over
         are scored in half points, and begin anew."""
-        most = whole(limit, "the limit")
-        done(
+        most = int_in_range(limit, "the limit")
+        check(
             library.vintsaky_games_restart(
                 *self._held(), most, over, len(over), half_points, len(half_points)
             )
@@ -76,8 +80,13 @@ class Called:
             if values._type_ is ctypes.c_float
             else library.vintsaky_games_planes
         )
-        done(
-            call(*self._held(), whole(earlier, "the number of earlier boards"), values, len(values))
+        check(
+            call(
+                *self._held(),
+                int_in_range(earlier, "the number of earlier boards"),
+                values,
+                len(values),
+            )
         )
 
     def masks(self, values):
@@ -87,12 +96,12 @@ class Called:
             if values._type_ is ctypes.c_float
             else library.vintsaky_games_masks
         )
-        done(call(*self._held(), values, len(values)))
+        check(call(*self._held(), values, len(values)))
 
     def rollouts(self, seeds, limit, half_points):
         """The score of a rollout of each game by its seed, in half points."""
-        most = whole(limit, "the limit")
-        done(
+        most = int_in_range(limit, "the limit")
+        check(
             library.vintsaky_games_rollouts(
                 *self._held(), seeds, len(seeds), most, half_points, len(half_points)
             )

@@ -328,7 +328,7 @@ class Records(Refusing):
             lambda: [move for move in game.moves],
         ):
             byref = mock.patch.object(moves.ctypes, "byref", wraps=ctypes.byref)
-            with byref as referred, mock.patch.object(moves, "MADE", wraps=moves.MADE) as made:
+            with byref as referred, mock.patch.object(moves, "MOVE_AT", wraps=moves.MOVE_AT) as made:
                 self.assertEqual(len(loop()), 400)
             self.assertEqual((made.call_count, referred.call_count), (400, 2))
 

@@ -31,8 +31,8 @@ class Beside(unittest.TestCase):
         masks = array(kind, [7] * (count * (points + 1)))
         for _ in range(60):
             numbers = [draw.randrange(points + 2) for _ in single]
-            rooms = dict(causes=causes, over=ways, scores=scores, planes=boards, masks=masks)
-            came = games.step(numbers, earlier=earlier, **rooms)
+            buffers = dict(causes=causes, over=ways, scores=scores, planes=boards, masks=masks)
+            came = games.step(numbers, earlier=earlier, **buffers)
             wanted = [played(*it) for it in zip(single, numbers)]
             ended = [over(it, limit) for it in single]
             self.assertEqual(list(causes), wanted)
@@ -255,33 +255,44 @@ class Wrong(unittest.TestCase):
     def test_buffers_that_are_gone(self):
         gone = memoryview(bytearray(36))
         gone.release()
-        self.refused(ValueError, "^planes: its buffer can't be had", planes=gone)
+        self.refused(ValueError, "^planes: its buffer can't be used", planes=gone)
 
     def test_overlaps(self):
-        room = memoryview(bytearray(64))
+        buffer = memoryview(bytearray(64))
         self.refused(
-            ValueError, "^planes and masks: .* bytes in common", planes=room[:36], masks=room[35:55]
+            ValueError,
+            "^planes and masks: .* bytes in common",
+            planes=buffer[:36],
+            masks=buffer[35:55],
         )
-        self.refused(ValueError, "bytes in common", causes=room[:2], over=room[1:3])
-        self.refused(ValueError, "bytes in common", scores=room[:8].cast("f"), planes=room[4:40])
+        self.refused(ValueError, "bytes in common", causes=buffer[:2], over=buffer[1:3])
+        self.refused(
+            ValueError, "bytes in common", scores=buffer[:8].cast("f"), planes=buffer[4:40]
+        )
         games = Games(2, 3)
         games.step(
-            [4, 4], causes=room[:2], over=room[2:4], scores=room[4:12].cast("f"), planes=room[12:48]
+            [4, 4],
+            causes=buffer[:2],
+            over=buffer[2:4],
+            scores=buffer[4:12].cast("f"),
+            planes=buffer[12:48],
         )
-        self.assertEqual(list(room), [0] * 12 + 2 * ([0] * 9 + [0] * 4 + [1] + [0] * 4) + [0] * 16)
+        self.assertEqual(
+            list(buffer), [0] * 12 + 2 * ([0] * 9 + [0] * 4 + [1] + [0] * 4) + [0] * 16
+        )
 
     def test_one_game(self):
         game = Game(3)
         game.play("b", "B2")
-        for call in (game.board_into, lambda room: game.legal_into("w", room)):
+        for call in (game.board_into, lambda buffer: game.legal_into("w", buffer)):
             for wrong in (bytearray(8), bytearray(10), array("f", [0] * 9), bytes(9), uneven(9)):
                 with self.assertRaises(ValueError):
                     call(wrong)
             with self.assertRaises(TypeError):
                 call([0] * 9)
-            room = bytearray([7] * 9)
-            call(room)
-            self.assertIn(bytes(room), (game.board, game.legal_mask("w")))
+            buffer = bytearray([7] * 9)
+            call(buffer)
+            self.assertIn(bytes(buffer), (game.board, game.legal_mask("w")))
 
     def test_moves(self):
         games = Games(2, 3)
@@ -322,9 +333,9 @@ class Wrong(unittest.TestCase):
             games.rollouts(["x", 1])
 
     def test_buffers_are_held_for_the_call_alone(self):
-        games, room = Games(2, 3), bytearray(36)
-        games.step([4, 4], planes=room)
-        room.append(0)  # which a bytearray that is held refuses
+        games, buffer = Games(2, 3), bytearray(36)
+        games.step([4, 4], planes=buffer)
+        buffer.append(0)  # which a bytearray that is held refuses
 
 
 class Threads(unittest.TestCase):
@@ -355,11 +366,11 @@ class Threads(unittest.TestCase):
 
     def test_while_a_call_runs(self):
         """Rollouts of many large boards take long enough for the others to be refused meanwhile; if not, once more."""
-        games, room, refused, came = Games(1000, 25), bytearray(1000 * 626), set(), []
+        games, buffer, refused, came = Games(1000, 25), bytearray(1000 * 626), set(), []
         calls = {
             "adopt": games.adopt,
             "step": lambda: games.step([0] * 1000),
-            "masks": lambda: games.masks_into(room),
+            "masks": lambda: games.masks_into(buffer),
             "rollouts": lambda: games.rollouts(range(1000), 1),
             "game": lambda: games.game(0),
             "put": lambda: games.put(0, Game(25)),
@@ -372,7 +383,7 @@ class Threads(unittest.TestCase):
         self.assertEqual(refused, set(calls))
         self.assertEqual({len(scores) for scores in came}, {1000})
         games.adopt()
-        self.assertEqual((games.step([0] * 1000), set(room)), (0, {0}))
+        self.assertEqual((games.step([0] * 1000), set(buffer)), (0, {0}))
 
     def seen_by_others(self, games, calls, refused):
         """Adds to those that are refused while another thread makes its rollouts, which are returned. The thread has the

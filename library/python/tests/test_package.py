@@ -33,7 +33,7 @@ from vintsaky import (
     Replies,
     Steps,
 )
-from vintsaky import _declared, _held, _library
+from vintsaky import _declared, _library, _objects
 
 PACKAGE = Path(vintsaky.__file__).resolve().parent
 INNER = [
@@ -41,7 +41,7 @@ INNER = [
     "_library",
     "_numbers",
     "_refused",
-    "_held",
+    "_objects",
     "_attributes",
     "_buffers",
 ]
@@ -246,8 +246,8 @@ class Objects(unittest.TestCase):
         """Each call with a handle gets it from the method that looks at the thread."""
         for name in ("games", "moves", "lines", "engines", "matches"):
             text = (PACKAGE / f"{name}.py").read_text("ascii")
-            self.assertNotRegex(text, r"\._(place|handle|memory)\b")
-        self.assertEqual((PACKAGE / "_held.py").read_text("ascii").count("get_ident() !="), 1)
+            self.assertNotRegex(text, r"\._(reference|handle|memory)\b")
+        self.assertEqual((PACKAGE / "_objects.py").read_text("ascii").count("get_ident() !="), 1)
 
     def test_threads_with_objects_of_their_own(self):
         boards = []
@@ -296,15 +296,16 @@ class Loading(unittest.TestCase):
 
     def test_each_number_is_looked_at(self):
         for value in (-1, 2**32):
-            self.assertRaises(ValueError, _held.whole, value, "number")
+            self.assertRaises(ValueError, _objects.int_in_range, value, "number")
         for value in (1.0, "1", None):
-            self.assertRaises(TypeError, _held.whole, value, "number")
+            self.assertRaises(TypeError, _objects.int_in_range, value, "number")
         self.assertEqual(
-            [_held.whole(number, "number") for number in (0, 2**32 - 1)], [0, 2**32 - 1]
+            [_objects.int_in_range(number, "number") for number in (0, 2**32 - 1)],
+            [0, 2**32 - 1],
         )
         most = 2**32 - 1
         self.assertEqual(
-            [_held.clamped(number) for number in (-1, 0, most, 2**32)], [most, 0, most, most]
+            [_objects.clamped(number) for number in (-1, 0, most, 2**32)], [most, 0, most, most]
         )
 
     def test_a_closed_input(self):

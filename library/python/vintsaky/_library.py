@@ -1,4 +1,7 @@
-"""The shared library: how it is found and loaded, its version and its texts. What it declares is in `_declared.py`."""
+"""The shared library: how it is found and loaded, its version and its texts.
+
+What it declares is in `_declared.py`.
+"""
 from __future__ import annotations
 
 import ctypes
@@ -14,20 +17,23 @@ FILE = "libvintsaky.so.1"
 
 
 def _place() -> str:
-    """Which library is loaded: the one beside the package, else the variable's, else the system's."""
-    beside = Path(__file__).resolve().parent / FILE
-    return str(beside) if beside.exists() else os.environ.get(VARIABLE) or FILE
+    """Returns the library's file: that of the package, or the variable's, or the system's."""
+    packaged = Path(__file__).resolve().parent / FILE
+    return str(packaged) if packaged.exists() else os.environ.get(VARIABLE) or FILE
 
 
 def _load(place: str, kind: Any) -> Any:
-    """Loads the library from there, with the types of its calls. Each call of a PyDLL holds the interpreter's lock."""
+    """Loads the library from there, with the types of its calls.
+
+    Each call of a PyDLL holds the interpreter's lock.
+    """
     try:
         loaded = kind(place)
     except OSError as problem:
-        hint = (
-            "" if os.sep in place else f" (install it, or name its file by the variable {VARIABLE})"
-        )
-        raise ImportError(f"vintsaky: its library can't be loaded: {problem}{hint}") from None
+        text = f"vintsaky: its library can't be loaded: {problem}"
+        if os.sep not in place:
+            text += f" (install it, or name its file by the variable {VARIABLE})"
+        raise ImportError(text) from None
     if not hasattr(loaded, f"vintsaky_interface_{INTERFACE}"):
         raise ImportError(f"vintsaky: {place} has another interface than {INTERFACE}")
     for name, (result, arguments) in CALLS.items():
@@ -40,28 +46,29 @@ def _load(place: str, kind: Any) -> Any:
 
 
 library: Any = _load(_place(), ctypes.PyDLL)
-unlocked: Any = _load(
-    _place(), ctypes.CDLL
-)  # lets other threads run: only calls over many games are made so
+# lets other threads run: only calls over many games are made so
+unlocked: Any = _load(_place(), ctypes.CDLL)
 
 
 def untyped(call: Any) -> Any:
-    """The same call, except that the types of its arguments aren't checked, which takes most of a call's time. All its
-    arguments have to be ctypes objects."""
+    """Returns the same call, which doesn't check the types of its arguments.
+
+    These checks take most of a call's time. All arguments have to be ctypes objects.
+    """
     same = library[call.__name__]
     same.restype = call.restype
     return same
 
 
 def text_of(call: Any, *arguments: Any) -> bytes:
-    """The text that this call writes, whose result is its length."""
-    room = 256
+    """Returns the text that this call writes, whose result is its length."""
+    size = 256
     while True:
-        text = ctypes.create_string_buffer(room)
-        length: int = call(*arguments, text, room)
-        if length < room:
+        text = ctypes.create_string_buffer(size)
+        length: int = call(*arguments, text, size)
+        if length < size:
             return text.raw[:length]
-        room = length + 1
+        size = length + 1
 
 
 class Explained(IntEnum):

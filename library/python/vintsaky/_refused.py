@@ -10,8 +10,11 @@ MOST_SHOWN = 60  # characters of a value
 
 
 class Refused(ValueError):
-    """A call was rejected, and has changed nothing. `cause` is the error. The text names what was rejected with its
-    value, and then what is wanted, or else the error's sentence."""
+    """A call was rejected, and has changed nothing.
+
+    `cause` is the error. The text names what was rejected with its value, and then what is wanted,
+    or else the error's sentence.
+    """
 
     def __init__(self, cause: Cause, what: str = "", said: str = "") -> None:
         super().__init__(cause, what, said)
@@ -25,7 +28,7 @@ class Refused(ValueError):
 
 
 def shown(value: Any) -> str:
-    """A value as an error names it: as it is written in Python, shortened if that is long."""
+    """Returns a value as an error names it: as Python writes it, shortened if that is long."""
     if isinstance(value, Enum):
         return value.name
     try:
@@ -38,21 +41,21 @@ def shown(value: Any) -> str:
     return text if len(text) <= MOST_SHOWN else f"{text[:MOST_SHOWN]}.."
 
 
-def wrong(what: str, said: str, cause: Optional[Cause] = None) -> ValueError:
-    """The error for an argument with a wrong value: Refused if there is a `Cause` for it."""
+def value_error(what: str, said: str, cause: Optional[Cause] = None) -> ValueError:
+    """Returns the error for a wrong value of an argument: Refused if there is a `Cause` for it."""
     return ValueError(f"{what}: {said}") if cause is None else Refused(cause, what, said)
 
 
-def done(cause: int, what: str = "") -> None:
+def check(cause: int, what: str = "") -> None:
     """Raises Refused if this is an error, with what was rejected."""
     if cause:
         raise Refused(Cause(cause), what)
 
 
 def or_none(cause: int, absent: Cause, value: Any) -> Optional[int]:
-    """The number that was written; None for this error."""
+    """Returns the number that was written; None for this error."""
     if cause == absent:
         return None
-    done(cause)
+    check(cause)
     number: int = value.value
     return number

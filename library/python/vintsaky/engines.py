@@ -10,10 +10,10 @@ from enum import IntEnum
 from typing import Any, Callable, Dict, Iterator, List, Optional, Tuple, TypeVar, Union
 
 from . import _declared
-from ._held import Bytes, Held, ascii_of, bytes_of
+from ._objects import Bytes, LibraryObject, ascii_of, bytes_of
 from ._library import library, text_of
 from ._numbers import Cause
-from ._refused import Refused, done, or_none, shown
+from ._refused import Refused, check, or_none, shown
 from .games import Game
 from .lines import CommandLine, bad_reply, words_of
 from .values import AnyChoice, Colour, KoRule, choice_number, rule_number, shown_vertex
@@ -23,23 +23,22 @@ Method = TypeVar("Method", bound=Callable[..., Any])
 
 
 class Event(IntEnum):
-    """What came of a chunk that was fed to a sans-IO engine."""
+    """The result of feeding a sans-IO engine."""
 
     MORE = _declared.MORE  # All bytes were used: read more.
     BLACK = _declared.BLACK  # Black's move is waited for: call `choose`.
     WHITE = _declared.WHITE  # White's move is waited for: call `choose`.
-    OTHER = (
-        _declared.OTHER
-    )  # A command that isn't in the protocol's table: see `line`; call `answer` or `decline`.
+    # A command that isn't in the protocol's table: see `line`; call `answer` or `decline`.
+    OTHER = _declared.OTHER
     REPLY = _declared.REPLY  # A line was answered, also a quit: write `reply`.
     ENDED = _declared.ENDED  # A quit was answered before: stop.
 
 
-class Steps(Held):
-    """A sans-IO engine: you pass it the bytes that arrived, and it returns replies or asks for a colour's move.
+class Steps(LibraryObject):
+    """A sans-IO engine, which takes bytes and returns replies, or asks for a colour's move.
 
-    A call that is rejected raises Refused, and the engine is unchanged. While the engine waits for a choice or an
-    answer, `feed` uses no byte and returns the same event.
+    A call that is rejected raises Refused, and the engine is unchanged. While the engine waits for
+    a choice or an answer, `feed` uses no byte and returns the same event.
 
     >>> steps = Steps()
     >>> steps.feed(b"1 genmove b\\n2 name\\n")
@@ -61,89 +60,102 @@ class Steps(Held):
 
     def begin(self, rule: KoRule = KoRule.SIMPLE) -> None:
         """Resets the engine. Errors: BAD_RULE."""
-        done(library.vintsaky_engine_begin(self._held(), rule_number(rule)))
+        check(library.vintsaky_engine_begin(self._pointer(), rule_number(rule)))
 
     def feed(self, data: Bytes) -> Tuple[int, Event]:
-        """Takes the next chunk, up to and including the newline of the first line that has a word, or all of it.
-        Returns how many bytes were used, and what came of them."""
+        """Takes the next chunk, up to the end of its first line that has a word, or all of it.
+
+        Returns how many bytes were used, and the result.
+        """
         data, used = bytes_of(data), ctypes.c_size_t()
-        event = library.vintsaky_engine_feed(self._held(), data, len(data), ctypes.byref(used))
+        event = library.vintsaky_engine_feed(self._pointer(), data, len(data), ctypes.byref(used))
         return used.value, Event(event)
 
     @property
     def wait(self) -> Event:
         """What the engine waits for: BLACK, WHITE or OTHER; MORE if it waits for nothing."""
-        return Event(library.vintsaky_engine_wait(self._held()))
+        return Event(library.vintsaky_engine_wait(self._pointer()))
 
     @property
     def ended(self) -> bool:
         """Whether the session has ended, by a quit."""
-        ended: bool = library.vintsaky_engine_ended(self._held())
+        ended: bool = library.vintsaky_engine_ended(self._pointer())
         return ended
 
     @property
     def reply(self) -> bytes:
         """The last reply: empty before the first."""
-        return text_of(library.vintsaky_engine_reply, self._held())
+        return text_of(library.vintsaky_engine_reply, self._pointer())
 
     @property
     def line(self) -> Optional[CommandLine]:
         """The command line for which the engine waits for a choice or an answer, or None."""
-        place, number = self._held(), ctypes.c_uint32()
+        pointer, id = self._pointer(), ctypes.c_uint32()
         if self.wait is Event.MORE:
             return None
-        number_or_none = or_none(
-            library.vintsaky_engine_id(place, ctypes.byref(number)), Cause.NO_ID, number
-        )
-        return CommandLine(number_or_none, words_of(library.vintsaky_engine_word, place))
+        cause = library.vintsaky_engine_id(pointer, ctypes.byref(id))
+        words = words_of(library.vintsaky_engine_word, pointer)
+        return CommandLine(or_none(cause, Cause.NO_ID, id), words)
 
     @property
     def game(self) -> Game:
         """A copy of the engine's game."""
         game = Game()
-        library.vintsaky_engine_copy_game(self._held(), game._held())
+        library.vintsaky_engine_copy_game(self._pointer(), game._pointer())
         return game
 
     def choose(self, choice: AnyChoice) -> None:
-        """Supplies the choice that the engine waits for: a vertex, RESIGN, or the text of either. Errors: BAD_VERTEX,
-        NOT_ASKED, OFF_BOARD, OCCUPIED, SUICIDE or KO; then the engine still waits for the choice.
+        """Supplies the choice that the engine waits for: a vertex, RESIGN, or the text of either.
+
+        Errors: BAD_VERTEX, NOT_ASKED, OFF_BOARD, OCCUPIED, SUICIDE or KO; then the engine still
+        waits for the choice.
         """
         number = choice_number(choice)
-        cause = library.vintsaky_engine_choose(self._held(), number)
+        cause = library.vintsaky_engine_choose(self._pointer(), number)
         if cause:
             raise Refused(Cause(cause), f"choose {shown_vertex(number)}")
 
     def answer(self, text: Union[str, bytes] = "", ok: bool = True) -> None:
-        """Answers a command that isn't in the protocol's table: by a success, or by a failure. Errors: NOT_ASKED, or
-        BAD_TEXT if the text isn't allowed in a reply."""
+        """Answers a command that isn't in the protocol's table: by a success, or by a failure.
+
+        Errors: NOT_ASKED, or BAD_TEXT if the text isn't allowed in a reply.
+        """
         data = ascii_of(text, "text")
-        cause = library.vintsaky_engine_answer(self._held(), int(bool(ok)), data, len(data))
-        if cause:
-            raise bad_reply(text) if cause == Cause.BAD_TEXT else Refused(
-                Cause(cause), f"answer {shown(text)}"
-            )
+        cause = library.vintsaky_engine_answer(self._pointer(), int(bool(ok)), data, len(data))
+        if cause == Cause.BAD_TEXT:
+            raise bad_reply(text)
+        check(cause, f"answer {shown(text)}")
 
     def decline(self) -> None:
-        """Answers a command that isn't in the protocol's table by `unknown command`. Errors: NOT_ASKED."""
-        done(library.vintsaky_engine_decline(self._held()), "decline")
+        """Answers a command that isn't in the protocol's table by `unknown command`.
+
+        Errors: NOT_ASKED.
+        """
+        check(library.vintsaky_engine_decline(self._pointer()), "decline")
 
     def set_name(self, name: Union[str, bytes]) -> None:
-        """Sets the answer to `name`. Errors: BAD_TEXT if it has more than 200 bytes, or isn't allowed in a reply."""
+        """Sets the answer to `name`.
+
+        Errors: BAD_TEXT if it has more than 200 bytes, or isn't allowed in a reply.
+        """
         data = ascii_of(name, "name")
-        if library.vintsaky_engine_set_name(self._held(), data, len(data)):
+        if library.vintsaky_engine_set_name(self._pointer(), data, len(data)):
             raise bad_reply(name, "name", 200)
 
     def set_version(self, version: Union[str, bytes]) -> None:
         """Sets the answer to `version`. Errors: those of `set_name`."""
         data = ascii_of(version, "version")
-        if library.vintsaky_engine_set_version(self._held(), data, len(data)):
+        if library.vintsaky_engine_set_version(self._pointer(), data, len(data)):
             raise bad_reply(version, "version", 200)
 
     def add_command(self, name: Union[str, bytes]) -> None:
-        """Adds a custom command. Errors: BAD_LENGTH, BAD_BYTE, ONLY_DIGITS, IN_TABLE, ADDED_BEFORE or TOO_MANY."""
+        """Adds a custom command.
+
+        Errors: BAD_LENGTH, BAD_BYTE, ONLY_DIGITS, IN_TABLE, ADDED_BEFORE or TOO_MANY.
+        """
         data = ascii_of(name, "name")
-        done(
-            library.vintsaky_engine_add_command(self._held(), data, len(data)),
+        check(
+            library.vintsaky_engine_add_command(self._pointer(), data, len(data)),
             f"add_command {shown(name)}",
         )
 
@@ -155,14 +167,17 @@ class Failure(Exception):
 def command(name: str) -> Callable[[Method], Method]:
     """Marks a method of an Engine as the answer to a custom command of this name.
 
-    The method gets the arguments after the name, a list of str, and returns the text of the reply, or None for an empty
-    one. If it raises Failure, the reply is a failure with that text. No custom command changes the game.
+    The method gets the arguments after the name, a list of str, and returns the text of the reply,
+    or None for an empty one. If it raises Failure, the reply is a failure with that text. No custom
+    command changes the game.
 
-    The text may have up to 2,000 bytes, each a newline or one of 32 to 126, without two newlines in a row, and without
-    a space or newline at its beginning or end. For any other value the reply is a failure, a line on standard error
-    names the command and says what is wrong, and the engine goes on. Other exceptions come out of `serve`.
+    The text may have up to 2,000 bytes, each a newline or one of 32 to 126, without two newlines in
+    a row, and without a space or newline at its beginning or end. For any other value the reply is
+    a failure, a line on standard error names the command and says what is wrong, and the engine
+    continues. Other exceptions come out of `serve`.
 
-    Errors: TypeError if the name is no str, as after `@command` without a name."""
+    Errors: TypeError if the name is no str, as after `@command` without a name.
+    """
     if not isinstance(name, str):
         raise TypeError(f'name: {shown(name)} is no str; a command has a name, as @command("NAME")')
 
@@ -176,8 +191,8 @@ def command(name: str) -> Callable[[Method], Method]:
 class Engine:
     """An engine of your own: a class that chooses the moves.
 
-    `name` and `version` are its answers to these commands, at most 200 bytes each, and `rule` is its ko rule. A class
-    or an object sets them before it serves.
+    `name` and `version` are its answers to these commands, at most 200 bytes each, and `rule` is
+    its ko rule. A class or an object sets them before it serves.
 
     >>> import io
     >>> from vintsaky import RESIGN
@@ -200,44 +215,53 @@ class Engine:
     _steps: Optional[Steps] = None
 
     def choose(self, game: Game, colour: Colour) -> AnyChoice:
-        """Returns what the engine plays: a legal Point, PASS or RESIGN, or the text of one. The game is a copy, on
-        which the method may play as it likes. When its record has 2,000 moves, `play` raises Refused with FULL.
+        """Returns what the engine plays: a legal Point, PASS or RESIGN, or the text of one.
 
-        An exception that it raises, or that its choice causes, comes out of `serve`, and the genmove has no reply.
+        The game is a copy, on which the method may play as it likes. When its record has 2,000
+        moves, `play` raises Refused with FULL.
+
+        An exception that it raises, or that its choice causes, comes out of `serve`, and the
+        genmove has no reply.
         """
         raise NotImplementedError(f"{type(self).__name__} has no method choose(self, game, colour)")
 
     @property
     def game(self) -> Game:
-        """A copy of the current game, for a custom command, say. Errors: RuntimeError if the engine isn't serving."""
+        """A copy of the current game, for a custom command, say.
+
+        Errors: RuntimeError if the engine isn't serving.
+        """
         if self._steps is None:
             raise RuntimeError(f"{type(self).__name__} doesn't serve")
         return self._steps.game
 
     def serve(self, source: Any = None, sink: Any = None) -> None:
-        """Reads commands from `source` and writes the replies to `sink`, until a quit is answered or the input ends.
+        """Reads commands from `source` and writes the replies to `sink`, up to a quit or the end.
+
         Both are binary files. Each chunk is read as it comes, and each reply is flushed.
 
-        By default they are standard input and standard output. While the engine serves, nothing else uses these: what
-        `print` or a process that the engine starts writes to standard output goes to standard error, and anything else
-        that reads standard input finds it empty.
+        By default they are standard input and standard output. While the engine serves, nothing
+        else uses these: what `print` or a process that the engine starts writes to standard output
+        goes to standard error, and anything else that reads standard input finds it empty.
 
-        Errors: what `choose` or a custom command raises, except Failure; Refused or TypeError for a choice that isn't
-        allowed; and what the files raise. Then the current line has no reply; earlier lines have theirs. A name or a
-        custom command that isn't allowed raises a ValueError at once."""
+        Errors: what `choose` or a custom command raises, except Failure; Refused or TypeError for a
+        choice that isn't allowed; and what the files raise. Then the current line has no reply;
+        earlier lines have theirs. A name or a custom command that isn't allowed raises a ValueError
+        at once.
+        """
         with contextlib.ExitStack() as stack:
             if source is None or sink is None:
                 standard = stack.enter_context(standard_streams())
                 source = standard[0] if source is None else source
                 sink = standard[1] if sink is None else sink
-            self._steps = self._started()
+            self._steps = self._new_steps()
             try:
                 self._answer_all(self._steps, source, sink)
             finally:
                 self._steps = None
 
-    def _started(self) -> Steps:
-        """A sans-IO engine of this name and version, with the custom commands."""
+    def _new_steps(self) -> Steps:
+        """Returns a sans-IO engine of this name and version, with the custom commands."""
         steps = Steps(self.rule)
         steps.set_name(self.name)
         steps.set_version(self.version)
@@ -249,7 +273,7 @@ class Engine:
         return steps
 
     def _commands(self) -> Dict[str, str]:
-        """The custom commands: the name of each, and that of its method, those of a base class first."""
+        """Returns the method's name for each custom command, those of a base class first."""
         found: Dict[str, str] = {}
         for kind in reversed(type(self).__mro__):
             for attribute, value in vars(kind).items():
@@ -281,15 +305,17 @@ class Engine:
         if not words or words[0] not in commands:
             steps.decline()
             return
-        text, ok = self._said(commands[words[0]], words[1:])
+        text, ok = self._answer_of(commands[words[0]], words[1:])
         try:
             steps.answer(text, ok)
         except (TypeError, ValueError) as problem:
-            tell(f"{type(self).__name__}: the command {words[0]}: its answer is wrong: {problem}")
+            print_error(
+                f"{type(self).__name__}: the command {words[0]}: its answer is wrong: {problem}"
+            )
             steps.answer("the answer is wrong", ok=False)
 
-    def _said(self, method: str, words: List[str]) -> Tuple[Any, bool]:
-        """What a custom command answers by its method, and whether that is a success."""
+    def _answer_of(self, method: str, words: List[str]) -> Tuple[Any, bool]:
+        """Returns what a custom command answers by its method, and whether that is a success."""
         try:
             text = getattr(self, method)(words)
         except Failure as failure:
@@ -297,7 +323,7 @@ class Engine:
         return "" if text is None else text, True
 
 
-def tell(line: str) -> None:
+def print_error(line: str) -> None:
     """Writes a line to standard error, if that accepts one."""
     with contextlib.suppress(OSError, ValueError):
         if sys.stderr is not None:
@@ -305,7 +331,7 @@ def tell(line: str) -> None:
 
 
 def read_some(source: Any) -> bytes:
-    """The next bytes as they come; none at the end of the input."""
+    """Returns the next bytes as they come; none at the end of the input."""
     data: Optional[bytes] = getattr(source, "read1", source.read)(PIECE)
     if data is None:
         raise BlockingIOError("the input doesn't block, and has nothing to read")
@@ -325,8 +351,11 @@ def write_whole(sink: Any, data: bytes) -> None:
 
 @contextlib.contextmanager
 def standard_streams() -> Iterator[Tuple[Any, Any]]:
-    """Standard input and output as files of their own. While they are open, standard output is standard error, and
-    standard input is empty. What `print` had written and not flushed goes to standard error too."""
+    """Standard input and output as files of their own.
+
+    While they are open, standard output is standard error, and standard input is empty. What
+    `print` wrote and didn't flush goes to standard error too.
+    """
     with contextlib.ExitStack() as stack:
         source, sink = (
             stack.enter_context(own_stream(number, mode)) for number, mode in ((0, "rb"), (1, "wb"))
@@ -343,7 +372,7 @@ def standard_streams() -> Iterator[Tuple[Any, Any]]:
 
 
 def own_stream(number: int, mode: str) -> Any:
-    """A standard stream as a file of another number, which no process that is started inherits."""
+    """Returns a standard stream as another file, which no process that is started inherits."""
     return os.fdopen(fcntl.fcntl(number, fcntl.F_DUPFD_CLOEXEC, 3), mode, buffering=0)
 
 

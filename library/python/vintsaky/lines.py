@@ -1,4 +1,4 @@
-"""Command lines and replies: their readers, which take bytes in any chunks, and how to write them."""
+"""Readers of command lines and replies, which take bytes in any chunks, and writers of both."""
 from __future__ import annotations
 
 import ctypes
@@ -6,24 +6,24 @@ from enum import IntEnum
 from typing import Any, Callable, Dict, List, NamedTuple, Optional, Tuple, Union
 
 from . import _declared
-from ._held import Bytes, Held, ascii_of, bytes_of, integer, whole
+from ._objects import Bytes, LibraryObject, ascii_of, bytes_of, integer, int_in_range
 from ._library import library, text_of
 from ._numbers import Cause
-from ._refused import Refused, done, or_none, shown
+from ._refused import Refused, check, or_none, shown
 from .values import colour_number, half_points, size_number, vertex_number, written
 
-LONGEST_INT = 2**31 - 1
+MOST_INT = 2**31 - 1
 
 
 class LineEvent(IntEnum):
-    """What came of a chunk that was fed to a reader of command lines, if it isn't 0."""
+    """The result of feeding a reader of command lines, if it isn't 0."""
 
     LINE = _declared.LINE
     TOO_LONG = _declared.TOO_LONG
 
 
 class ReplyEvent(IntEnum):
-    """What came of a chunk that was fed to a reader of replies, if it isn't 0: a reply, or why there is none."""
+    """The result of feeding a reader of replies, if it isn't 0: a reply, or why there is none."""
 
     READ = _declared.READ
     NO_REPLY = _declared.NO_REPLY
@@ -44,8 +44,10 @@ class Command(IntEnum):
 
 
 class CommandLine(NamedTuple):
-    """A command line: its id, if it has one, and its words, the command's name first. If a line is too long, only
-    `too_long` is set. Bytes of a word that aren't UTF-8 are kept so that `os.fsencode` gives them back.
+    """A command line: its id, if it has one, and its words, the command's name first.
+
+    If a line is too long, only `too_long` is set. Bytes of a word that aren't UTF-8 are kept so
+    that `os.fsencode` gives them back.
     """
 
     id: Optional[int]
@@ -54,27 +56,27 @@ class CommandLine(NamedTuple):
 
 
 class Reply(NamedTuple):
-    """A reply: whether it is a success, its id, if it has one, and its text, as it came."""
+    """A reply: whether it is a success, its id, if it has one, and its text as it was."""
 
     ok: bool
     id: Optional[int]
     text: bytes
 
 
-def words_of(call: Any, place: Any) -> Tuple[str, ...]:
-    """The words that this call writes, one by one."""
+def words_of(call: Any, pointer: Any) -> Tuple[str, ...]:
+    """Returns the words that this call writes, one by one."""
     words: List[str] = []
-    room = 1024  # a line has at most 1,000 bytes
-    text, count = ctypes.create_string_buffer(room), ctypes.c_size_t()
+    size = 1024  # a line has at most 1,000 bytes
+    text, count = ctypes.create_string_buffer(size), ctypes.c_size_t()
     while True:
-        cause = call(place, len(words), text, room, ctypes.byref(count))
+        cause = call(pointer, len(words), text, size, ctypes.byref(count))
         if cause == Cause.NO_WORD:
             return tuple(words)
-        done(cause)
+        check(cause)
         words.append(text.raw[: count.value].decode("utf-8", "surrogateescape"))
 
 
-class CommandLines(Held):
+class CommandLines(LibraryObject):
     """A reader of command lines.
 
     >>> lines = CommandLines()
@@ -93,7 +95,9 @@ class CommandLines(Held):
         data, used = bytes_of(data), ctypes.c_size_t()
         lines: List[CommandLine] = []
         while data:
-            event = library.vintsaky_lines_feed(self._held(), data, len(data), ctypes.byref(used))
+            event = library.vintsaky_lines_feed(
+                self._pointer(), data, len(data), ctypes.byref(used)
+            )
             data = data[used.value :]
             if event == LineEvent.LINE:
                 lines.append(self._line())
@@ -102,15 +106,14 @@ class CommandLines(Held):
         return lines
 
     def _line(self) -> CommandLine:
-        """The line that was read last."""
-        place, number = self._held(), ctypes.c_uint32()
-        number_or_none = or_none(
-            library.vintsaky_lines_id(place, ctypes.byref(number)), Cause.NO_ID, number
-        )
-        return CommandLine(number_or_none, words_of(library.vintsaky_lines_word, place))
+        """Returns the line that was read last."""
+        pointer, id = self._pointer(), ctypes.c_uint32()
+        cause = library.vintsaky_lines_id(pointer, ctypes.byref(id))
+        words = words_of(library.vintsaky_lines_word, pointer)
+        return CommandLine(or_none(cause, Cause.NO_ID, id), words)
 
 
-class Replies(Held):
+class Replies(LibraryObject):
     """A reader of replies.
 
     >>> replies = Replies()
@@ -130,7 +133,10 @@ class Replies(Held):
 
     @property
     def fault(self) -> Optional[ReplyEvent]:
-        """NO_REPLY or LONG_REPLY after such bytes came, else None. After a fault nothing is read."""
+        """NO_REPLY or LONG_REPLY after such bytes, else None.
+
+        After a fault nothing is read.
+        """
         return self._fault
 
     def feed(self, data: Bytes) -> List[Reply]:
@@ -138,7 +144,9 @@ class Replies(Held):
         data, used = bytes_of(data), ctypes.c_size_t()
         replies: List[Reply] = []
         while data and self._fault is None:
-            event = library.vintsaky_replies_feed(self._held(), data, len(data), ctypes.byref(used))
+            event = library.vintsaky_replies_feed(
+                self._pointer(), data, len(data), ctypes.byref(used)
+            )
             data = data[used.value :]
             if event == ReplyEvent.READ:
                 replies.append(self._reply())
@@ -147,29 +155,30 @@ class Replies(Held):
         return replies
 
     def _reply(self) -> Reply:
-        """The reply that was read last."""
-        place, number = self._held(), ctypes.c_uint32()
-        number_or_none = or_none(
-            library.vintsaky_replies_id(place, ctypes.byref(number)), Cause.NO_ID, number
-        )
-        return Reply(
-            library.vintsaky_replies_ok(place),
-            number_or_none,
-            text_of(library.vintsaky_replies_text, place),
-        )
+        """Returns the reply that was read last."""
+        pointer, id = self._pointer(), ctypes.c_uint32()
+        cause = library.vintsaky_replies_id(pointer, ctypes.byref(id))
+        is_ok: bool = library.vintsaky_replies_ok(pointer)
+        text = text_of(library.vintsaky_replies_text, pointer)
+        return Reply(is_ok, or_none(cause, Cause.NO_ID, id), text)
 
 
 def id_number(id: Optional[int]) -> int:
-    """The number of an id: -1 for none. Errors: BAD_ID."""
-    return -1 if id is None else whole(id, "id", 0, LONGEST_INT, Cause.BAD_ID)
+    """Returns the number of an id: -1 for none. Errors: BAD_ID."""
+    return -1 if id is None else int_in_range(id, "id", 0, MOST_INT, Cause.BAD_ID)
 
 
 def command_number(command: int) -> Command:
-    """The command of a number. Errors: BAD_COMMAND."""
+    """Returns the command of a number. Errors: BAD_COMMAND."""
     number = integer(command, "command", "no Command")
     if number not in list(Command):
         raise Refused(Cause.BAD_COMMAND, "command", f"{shown(command)} is no Command")
     return Command(number)
+
+
+def stones_number(stones: int) -> int:
+    """Returns the number of stones of a handicap. Errors: BAD_HANDICAP."""
+    return int_in_range(stones, "stones", 0, MOST_INT, Cause.BAD_HANDICAP)
 
 
 TAKEN = {
@@ -182,7 +191,7 @@ TAKEN = {
 
 
 def arguments_of(kind: Command, arguments: Tuple[Any, ...]) -> Tuple[int, int]:
-    """The two numbers that a call takes as a command's arguments: 0 for each that it doesn't have."""
+    """Returns the two numbers of a command's arguments: 0 for each that it doesn't have."""
     taken = TAKEN.get(kind, "none")
     if len(arguments) != (0 if taken == "none" else taken.count(" and ") + 1):
         given = "1 argument is" if len(arguments) == 1 else f"{len(arguments)} arguments are"
@@ -192,46 +201,47 @@ def arguments_of(kind: Command, arguments: Tuple[Any, ...]) -> Tuple[int, int]:
     numbers: Dict[Command, Callable[[Any], int]] = {
         Command.BOARDSIZE: size_number,
         Command.KOMI: half_points,
-        Command.FIXED_HANDICAP: lambda stones: whole(
-            stones, "stones", 0, LONGEST_INT, Cause.BAD_HANDICAP
-        ),
+        Command.FIXED_HANDICAP: stones_number,
         Command.GENMOVE: colour_number,
     }
     return (numbers[kind](arguments[0]) if arguments else 0), 0
 
 
 def write_command(command: Command, *arguments: Any, id: Optional[int] = None) -> bytes:
-    """Returns the line of a command, with its newline. Its arguments are the size of BOARDSIZE, the komi of KOMI, the
-    number of stones of FIXED_HANDICAP, the colour and the vertex of PLAY, and the colour of GENMOVE. Errors: BAD_ID,
+    """Returns the line of a command, with its newline.
+
+    Its arguments are the size of BOARDSIZE, the komi of KOMI, the number of stones of
+    FIXED_HANDICAP, the colour and the vertex of PLAY, and the colour of GENMOVE. Errors: BAD_ID,
     BAD_COMMAND, BAD_SIZE, BAD_KOMI, BAD_HANDICAP, BAD_COLOUR or BAD_VERTEX.
 
     >>> write_command(Command.PLAY, "b", "D4", id=5)
     b'5 play b D4\\n'
     """
     number, kind = id_number(id), command_number(command)
-    return written(
-        library.vintsaky_write_command, number, kind, *arguments_of(kind, arguments)
-    ).encode("ascii")
+    numbers = arguments_of(kind, arguments)
+    return written(library.vintsaky_write_command, number, kind, *numbers).encode("ascii")
 
 
 def bad_reply(text: Union[str, bytes], what: str = "text", most: int = 2000) -> Refused:
-    """The error for a text that isn't allowed in a reply, or is too long."""
-    said = f"{shown(text)} may be in no reply; a reply's text has at most {most} bytes, each a newline or 32 to 126, "
-    return Refused(
-        Cause.BAD_TEXT, what, f"{said}no empty line, and no space or newline at its ends"
+    """Returns the error for a text that isn't allowed in a reply, or is too long."""
+    wanted = (
+        f"a reply's text has at most {most} bytes, each a newline or 32 to 126, no empty line, and "
+        "no space or newline at its ends"
     )
+    return Refused(Cause.BAD_TEXT, what, f"{shown(text)} may be in no reply; {wanted}")
 
 
 def write_reply(text: Union[str, bytes] = "", ok: bool = True, id: Optional[int] = None) -> bytes:
-    """Returns a reply: a success, or a failure. Errors: BAD_ID, or BAD_TEXT if the text isn't allowed in a reply.
+    """Returns a reply: a success, or a failure.
+
+    Errors: BAD_ID, or BAD_TEXT if the text isn't allowed in a reply.
 
     >>> write_reply("D4", id=7), write_reply("no", ok=False)
     (b'=7 D4\\n\\n', b'? no\\n\\n')
     """
     number, data = id_number(id), ascii_of(text, "text")
     try:
-        return written(library.vintsaky_write_reply, number, int(bool(ok)), data, len(data)).encode(
-            "ascii"
-        )
+        reply = written(library.vintsaky_write_reply, number, int(bool(ok)), data, len(data))
     except Refused:
         raise bad_reply(text) from None
+    return reply.encode("ascii")

@@ -14,7 +14,7 @@ from .values import VERTICES, Colour, Vertex
 if TYPE_CHECKING:
     from .games import Game
 
-MADE = untyped(library.vintsaky_game_made)
+MOVE_AT = untyped(library.vintsaky_game_made)
 
 
 class Move(NamedTuple):
@@ -33,18 +33,21 @@ MOVES = {
 
 @lru_cache(maxsize=None)
 def text_of_move(move: Move) -> str:
-    """A move, as a pickle has it: `b D4`."""
+    """Returns a move, as a pickle has it: `b D4`."""
     return f"{move.colour} {move.vertex}"
 
 
 @lru_cache(maxsize=None)
 def moves_by_text() -> Dict[str, Move]:
-    """Each move by its text."""
+    """Returns each move by its text."""
     return {text_of_move(move): move for move in MOVES.values()}
 
 
 class Moves(Sequence[Move]):
-    """The current moves of a game's record. A loop goes over the moves that there are when it begins."""
+    """The current moves of a game's record.
+
+    A loop goes over the moves that there are when it begins.
+    """
 
     __slots__ = ("_game",)
 
@@ -52,7 +55,7 @@ class Moves(Sequence[Move]):
         self._game = game
 
     def __len__(self) -> int:
-        length: int = library.vintsaky_game_length(self._game._held())
+        length: int = library.vintsaky_game_length(self._game._pointer())
         return length
 
     @overload
@@ -68,29 +71,25 @@ class Moves(Sequence[Move]):
         try:
             numbers = range(length)[number]
         except IndexError:
-            raise IndexError(
-                f"number: {shown(number)} is no move of a record of {length}"
-            ) from None
+            problem = f"{shown(number)} is no move of a record of {length}"
+            raise IndexError(f"number: {problem}") from None
         except TypeError:
-            raise TypeError(
-                f"number: {shown(number)} is neither an int nor a slice of them"
-            ) from None
-        return (
-            self._made(numbers)
-            if isinstance(numbers, range)
-            else self._made(range(numbers, numbers + 1))[0]
-        )
+            problem = f"{shown(number)} is neither an int nor a slice of them"
+            raise TypeError(f"number: {problem}") from None
+        if isinstance(numbers, range):
+            return self._moves_at(numbers)
+        return self._moves_at(range(numbers, numbers + 1))[0]
 
     def __iter__(self) -> Iterator[Move]:
-        return iter(self._made(range(len(self))))
+        return iter(self._moves_at(range(len(self))))
 
-    def _made(self, numbers: range) -> List[Move]:
-        """The moves with these numbers, each by one call, whose arguments are made once."""
+    def _moves_at(self, numbers: range) -> List[Move]:
+        """Returns the moves with these numbers, each by one call, whose arguments are made once."""
         number, colour, vertex = ctypes.c_size_t(), ctypes.c_uint32(), ctypes.c_uint32()
-        arguments = self._game._held(), number, ctypes.byref(colour), ctypes.byref(vertex)
+        arguments = self._game._pointer(), number, ctypes.byref(colour), ctypes.byref(vertex)
         moves: List[Move] = []
         for number.value in numbers:
-            cause = MADE(*arguments)
+            cause = MOVE_AT(*arguments)
             if cause:
                 raise Refused(Cause(cause), f"move {number.value}")
             moves.append(MOVES[colour.value, vertex.value])

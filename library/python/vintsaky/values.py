@@ -9,10 +9,10 @@ from functools import lru_cache
 from typing import Any, Dict, Final, List, Literal, NamedTuple, Tuple, Union
 
 from . import _declared
-from ._held import ascii_of, integer, whole
+from ._objects import ascii_of, integer, int_in_range
 from ._library import library
 from ._numbers import Cause
-from ._refused import Refused, done, shown
+from ._refused import Refused, check, shown
 
 
 class Colour(IntEnum):
@@ -43,14 +43,19 @@ WHITE = Colour.WHITE
 
 
 class KoRule(IntEnum):
-    """The boards that a play must not bring back: the one before the last move, or with POSITIONAL any earlier one."""
+    """The boards that a play must not bring back.
+
+    It is the one before the last move, or with POSITIONAL any earlier one.
+    """
 
     SIMPLE = _declared.SIMPLE
     POSITIONAL = _declared.POSITIONAL
 
 
 class Point(NamedTuple):
-    """A point: its column and its row, both from 1 to 25, counted from the lower left corner. `str` returns its text.
+    """A point: its column and its row, both from 1 to 25, counted from the lower left corner.
+
+    `str` returns its text.
 
     >>> str(Point(4, 16))
     'D16'
@@ -71,18 +76,20 @@ class Point(NamedTuple):
         if type(size) is not int or not 1 <= size <= 25:
             size = size_number(size)
         column, row = self
-        beside = [
+        adjacent = [
             Point(column, row - 1),
             Point(column - 1, row),
             Point(column + 1, row),
             Point(column, row + 1),
         ]
-        return [point for point in beside if 1 <= point.column <= size and 1 <= point.row <= size]
+        return [point for point in adjacent if 1 <= point.column <= size and 1 <= point.row <= size]
 
     def turned(self, size: int, symmetry: int) -> Point:
-        """Returns where a symmetry of a board of this size puts the point. 0 to 3 are that many quarter turns to the
-        left; 4 to 7 swap left and right first, and then make symmetry - 4 such turns. Errors: BAD_VERTEX, BAD_SIZE or
-        OFF_BOARD; ValueError if the symmetry isn't from 0 to 7.
+        """Returns where a symmetry of a board of this size puts the point.
+
+        0 to 3 are that many quarter turns to the left; 4 to 7 swap left and right first, and then
+        make symmetry - 4 such turns. Errors: BAD_VERTEX, BAD_SIZE or OFF_BOARD; ValueError if the
+        symmetry isn't from 0 to 7.
 
         >>> [str(Point(1, 2).turned(9, symmetry)) for symmetry in range(8)]
         ['A2', 'H1', 'J8', 'B9', 'J2', 'H9', 'A8', 'B1']
@@ -123,20 +130,23 @@ VERTICES: Dict[int, Vertex] = {_declared.PASS: PASS, **POINTS}
 
 
 def written(call: Any, *arguments: Any, what: str = "") -> str:
-    """The text that this call writes with its length. If it is rejected, the error names `what`."""
-    room = 256
+    """Returns the text that this call writes with its length.
+
+    If it is rejected, the error names `what`.
+    """
+    length = 256
     while True:
-        text = ctypes.create_string_buffer(room)
+        text = ctypes.create_string_buffer(length)
         count = ctypes.c_size_t()
-        done(call(*arguments, text, room, ctypes.byref(count)), what)
-        if count.value < room:
+        check(call(*arguments, text, length, ctypes.byref(count)), what)
+        if count.value < length:
             return text.raw[: count.value].decode("ascii")
-        room = count.value + 1
+        length = count.value + 1
 
 
 COLOUR_TEXTS = {colour: written(library.vintsaky_colour_text, int(colour)) for colour in Colour}
 COLOURS = "use 'b', 'w', 'black', 'white' or a Colour"
-USED = {
+HINTS = {
     "vertex": "use a Point, PASS, or a text such as 'D4' or 'pass'",
     "point": "use a Point or a text such as 'D4'",
     "choice": "use a Point, PASS, RESIGN, or a text such as 'D4', 'pass' or 'resign'",
@@ -145,7 +155,10 @@ MOST_KOMI = 999_999_999.5  # points
 
 
 def colour_number(colour: AnyColour, what: str = "colour") -> int:
-    """The number of a colour, which may be given as text. Errors: BAD_COLOUR, or BAD_TEXT for text."""
+    """Returns the number of a colour, which may be given as text.
+
+    Errors: BAD_COLOUR, or BAD_TEXT for text.
+    """
     if type(colour) is Colour:
         return colour
     if isinstance(colour, (str, bytes)):
@@ -159,19 +172,21 @@ def colour_number(colour: AnyColour, what: str = "colour") -> int:
 
 
 def vertex_number(vertex: AnyChoice, what: str = "vertex") -> int:
-    """The number of a vertex, which may be given as text. Errors call it a vertex, a point or a choice. Errors:
-    BAD_VERTEX, or BAD_TEXT for text."""
+    """Returns the number of a vertex, which may be given as text.
+
+    Errors call it a vertex, a point or a choice. Errors: BAD_VERTEX, or BAD_TEXT for text.
+    """
     if type(vertex) is Point:  # the fastest way, since this comes most often
         column, row = vertex
         if type(column) is int and type(row) is int and 1 <= column <= 25 and 1 <= row <= 25:
             return row << 8 | column
     if vertex is PASS:
         return _declared.PASS
-    wanted = f"no {what}; {USED[what]}"
+    wanted = f"no {what}; {HINTS[what]}"
     if isinstance(vertex, (str, bytes)):
         return _read(library.vintsaky_read_vertex, ctypes.c_uint32(), vertex, what, wanted)
     if vertex is RESIGN:
-        said = f"no move on a board; {USED[what]}" if what == "vertex" else wanted
+        said = f"no move on a board; {HINTS[what]}" if what == "vertex" else wanted
         raise Refused(Cause.BAD_VERTEX, what, f"RESIGN is {said}")
     if not isinstance(vertex, tuple) or len(vertex) != 2:
         raise TypeError(f"{what}: {shown(vertex)} is {wanted}")
@@ -179,7 +194,7 @@ def vertex_number(vertex: AnyChoice, what: str = "vertex") -> int:
 
 
 def _point_number(point: Tuple[Any, Any], what: str = "") -> int:
-    """The number of the point at a column and a row."""
+    """Returns the number of the point at a column and a row."""
     named = f"{what}: {shown(point)}" if what else shown(point)
     for name, value in zip(("column", "row"), point):
         if not hasattr(type(value), "__index__"):
@@ -187,12 +202,12 @@ def _point_number(point: Tuple[Any, Any], what: str = "") -> int:
         if not 1 <= value <= 25:
             raise Refused(Cause.BAD_VERTEX, named, f"a {name} is from 1 to 25")
     number = ctypes.c_uint32()
-    done(library.vintsaky_point(point[0], point[1], ctypes.byref(number)))
+    check(library.vintsaky_point(point[0], point[1], ctypes.byref(number)))
     return number.value
 
 
 def choice_number(choice: AnyChoice) -> int:
-    """The number of a choice: a vertex, or a resignation."""
+    """Returns the number of a choice: a vertex, or a resignation."""
     text = choice.decode("ascii", "replace") if isinstance(choice, bytes) else choice
     if choice is RESIGN or isinstance(text, str) and text.lower() == "resign":
         return _declared.RESIGN
@@ -200,24 +215,24 @@ def choice_number(choice: AnyChoice) -> int:
 
 
 def shown_vertex(number: int) -> str:
-    """The vertex of a number, or a resignation, as the protocol spells it."""
+    """Returns the vertex of a number, or a resignation, as the protocol spells it."""
     return str(VERTICES.get(number, RESIGN))
 
 
 def refused_point(cause: int, call: str, number: int) -> Refused:
-    """The error for a point that a call of this name rejects."""
+    """Returns the error for a point that a call of this name rejects."""
     if cause == Cause.BAD_VERTEX:
-        return Refused(Cause.BAD_VERTEX, "point", f"PASS is no point; {USED['point']}")
+        return Refused(Cause.BAD_VERTEX, "point", f"PASS is no point; {HINTS['point']}")
     return Refused(Cause(cause), f"{call} {shown_vertex(number)}")
 
 
 def size_number(size: int) -> int:
-    """The size of a board. Errors: BAD_SIZE."""
-    return whole(size, "size", 1, 25, Cause.BAD_SIZE)
+    """Returns the size of a board. Errors: BAD_SIZE."""
+    return int_in_range(size, "size", 1, 25, Cause.BAD_SIZE)
 
 
 def rule_number(rule: int) -> int:
-    """The number of a ko rule. Errors: BAD_RULE."""
+    """Returns the number of a ko rule. Errors: BAD_RULE."""
     wanted = "no ko rule; use KoRule.SIMPLE or KoRule.POSITIONAL"
     number = integer(rule, "rule", wanted)
     if number not in (_declared.SIMPLE, _declared.POSITIONAL):
@@ -226,12 +241,14 @@ def rule_number(rule: int) -> int:
 
 
 def symmetry_number(symmetry: int) -> int:
-    """The number of a symmetry of the board."""
-    return whole(symmetry, "symmetry", 0, 7)
+    """Returns the number of a symmetry of the board."""
+    return int_in_range(symmetry, "symmetry", 0, 7)
 
 
 def inverse_symmetry(symmetry: int) -> int:
-    """Returns the symmetry that undoes this one: after both, in either order, each point is where it was.
+    """Returns the symmetry that undoes this one.
+
+    After both, in either order, each point is where it was.
 
     >>> Point(1, 2).turned(9, 1).turned(9, inverse_symmetry(1)) == Point(1, 2)
     True
@@ -241,10 +258,11 @@ def inverse_symmetry(symmetry: int) -> int:
 
 
 def symmetry_map(size: int, symmetry: int) -> Tuple[int, ...]:
-    """Returns for each point of the turned board, in board order, the index that it had before. So the plane of a
-    turned board is `[plane[index] for index in symmetry_map(size, symmetry)]`. A single index, such as the number of a
-    move, becomes `symmetry_map(size, inverse_symmetry(symmetry))[index]`. Errors: BAD_SIZE; ValueError if the symmetry
-    isn't 0 to 7.
+    """Returns for each point of the turned board, in board order, its index before the turn.
+
+    So the plane of a turned board is `[plane[index] for index in symmetry_map(size, symmetry)]`. A
+    single index, such as the number of a move, becomes `symmetry_map(size,
+    inverse_symmetry(symmetry))[index]`. Errors: BAD_SIZE; ValueError if the symmetry isn't 0 to 7.
 
     >>> symmetry_map(2, 1)  # A1, whose index is 0, comes to B1
     (2, 0, 3, 1)
@@ -254,14 +272,14 @@ def symmetry_map(size: int, symmetry: int) -> Tuple[int, ...]:
 
 @lru_cache(maxsize=None)
 def _map(size: int, symmetry: int) -> Tuple[int, ...]:
-    """The index to which each point of the board moves."""
+    """Returns the index to which each point of the board moves."""
     board = range(1, size + 1)
     turned = [Point(column, row).turned(size, symmetry) for row in board for column in board]
     return tuple((row - 1) * size + column - 1 for column, row in turned)
 
 
 def _read(call: Any, number: Any, text: Union[str, bytes], what: str, wanted: str) -> int:
-    """The number that this call reads from text."""
+    """Returns the number that this call reads from text."""
     data = ascii_of(text, what)
     if call(data, len(data), ctypes.byref(number)):
         raise Refused(Cause.BAD_TEXT, what, f"{shown(text)} is {wanted}")
@@ -295,16 +313,19 @@ def vertex_text(vertex: AnyVertex) -> str:
 
 
 def half_points(komi: Komi, what: str = "komi") -> int:
-    """A komi in points as half points. Errors: TypeError if it is no number, ValueError if it is no multiple of 0.5,
-    and Refused with BAD_KOMI if it is out of range."""
+    """Returns a komi in points as half points.
+
+    Errors: TypeError if it is no number, ValueError if it is no multiple of 0.5, and Refused with
+    BAD_KOMI if it is out of range.
+    """
     if not isinstance(komi, (int, float, Fraction)):
         raise TypeError(
             f"{what}: {shown(komi)} is a {type(komi).__name__}, and no int, float or Fraction"
         )
-    endless = isinstance(komi, float) and math.isinf(komi)
-    if komi != komi or not endless and Fraction(komi).denominator > 2:
+    is_infinite = isinstance(komi, float) and math.isinf(komi)
+    if komi != komi or not is_infinite and Fraction(komi).denominator > 2:
         raise ValueError(f"{what}: {shown(komi)} is no multiple of 0.5")
-    if endless or not -MOST_KOMI <= komi <= MOST_KOMI:
+    if is_infinite or not -MOST_KOMI <= komi <= MOST_KOMI:
         raise Refused(
             Cause.BAD_KOMI, what, f"{shown(komi)} is not from -{MOST_KOMI} to {MOST_KOMI}"
         )
