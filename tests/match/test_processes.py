@@ -12,7 +12,7 @@ import pytest
 
 from tests.references.controller.engines import Other
 from tests.references.controller.matches import Match
-from tests.references.controller.worked import FIRST, PASSED, book, match, passing, refusing
+from tests.references.controller.worked.rows import FIRST, PASSED, book, match, passing, refusing
 from tests.shared.processes import TIMEOUT, is_alive, wait_until
 
 from .playing import Player
@@ -45,7 +45,7 @@ def test_engine_that_closes_its_output_may_end_by_itself(player: Player) -> None
 def test_engines_end_with_a_twogtp_that_is_killed(player: Player) -> None:
     waiting = match(passing("*/c1-9//refuses"), passing())
     with player.start(waiting, stdin=DEVNULL, stdout=DEVNULL) as process:
-        for engine in player.notes().values():
+        for engine in player.log_files().values():
             assert wait_until(lambda: engine.read_bytes().startswith(b"start\n"))
         process.kill()
         process.wait()

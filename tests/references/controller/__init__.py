@@ -1,1 +1,1 @@
-"""A plain reference of the match controller, drawn matches, and what they are compared by. See tests/README.md."""
+"""A plain reference of the controller, and engines that misbehave. See tests/README.md."""

@@ -1,189 +1,218 @@
-"""The engines of a match: the command by which `twogtp` starts one, and the same engine in memory.
+"""The engines of a match: the commands by which `twogtp` starts them, and the same in memory."""
+from __future__ import annotations
 
-An engine in memory has `begins()`, what it writes before its first command, and `answers(line)`, what it writes when it is sent this;
-each with what it does then, as faulty.py has it: it goes `on`, it `ends`, and so on. Its `status` is that with which it ends by itself
-before it is asked to quit. Each answer is one write; where it `takes_all`, there is one to all that it was sent at a time.
-"""
 import sys
 from pathlib import Path
+from typing import NamedTuple, Optional, Protocol
 
 from ..engine import engine as reference
-from ..engine.game import KoRule
+from ..engine.engine import Options
+from ..engine.game import SIMPLE, KoRule
 from ..engine.policies import PolicyName
 
-from .faulty import ENDS, Faulty
+from .faulty import ENDS, Act, Faulty
 
 FAULTY = Path(__file__).resolve().parent / "faulty.py"
 FLOOD = b"\n" * 8193
 
-# Programs that aren't there. A command is cut at spaces alone.
+
+class Running(Protocol):
+    """A process of an engine, in memory."""
+
+    takes_all: bool  # there is one answer to all that is sent at a time, and else to each command
+    logs: bool  # whether what is sent next is logged
+    status: int  # with which the process ends by itself before it is asked to quit
+
+    def begins(self) -> Act:
+        """Returns what it does before its first command."""
+
+    def answers(self, line: bytes) -> Act:
+        """Returns what it does when it is sent this. What it writes is one write."""
+
+
+class Program(NamedTuple):
+    """A program that is no engine, or isn't there."""
+
+    command: str
+    begins: Act = Act(b"")  # what it does by itself
+    reason: str = ""  # why it can't be started, where it can't
+
+    @property
+    def word(self) -> bytes:
+        """The first word of the command, as a command is cut at spaces."""
+        return self.command.split(" ")[0].encode()
+
+
+NO_FILE = "no such file"
 ODD_PROGRAM = 'no_such\t"program"\\\n--mode\u00e9 gtp'
 LONG_PROGRAM = "./no_such_program" + 150 * "x" + " --mode gtp"
-
-# Programs that are no engines: what each writes by itself, and what it does then; None where it can't be started.
-OTHERS = {
-    "no_such_program": None,
-    ODD_PROGRAM: None,
-    LONG_PROGRAM: None,
-    "/": None,
-    "true": (b"", ENDS),
-    "echo hello": (b"hello\n", ENDS),
-    "cat": (b"", "on"),
-}
-# .. and why: there is no such file, or it is a folder.
-REASONS = {name: "no such file" for name in ("no_such_program", ODD_PROGRAM, LONG_PROGRAM)} | {
-    "/": "not allowed"
+PROGRAMS = {
+    program.command: program
+    for program in [
+        Program("no_such_program", reason=NO_FILE),
+        Program(ODD_PROGRAM, reason=NO_FILE),
+        Program(LONG_PROGRAM, reason=NO_FILE),
+        Program("/", reason="not allowed"),
+        Program("true", Act(b"", ENDS)),
+        Program("echo hello", Act(b"hello\n", ENDS)),
+        Program("cat"),
+    ]
 }
 
 
-class Other:
-    """Another program, which is no engine, or isn't there."""
+class Engine:
+    """An engine of a side."""
 
-    takes_notes = False
-    notes = False
+    keeps_log = False
+    program: Optional[Program] = None  # where that is no engine
+
+    def command(self, log: str) -> list[str]:
+        """Returns the words of its command, which logs in this file what it is sent."""
+        raise NotImplementedError
+
+    def started(self, life: int) -> Running:
+        """Returns its process of this number, in memory."""
+        raise NotImplementedError
+
+
+class Other(Engine):
+    """A program of PROGRAMS."""
+
     takes_all = True
+    logs = False
     status = 0
 
-    def __init__(self, name):
+    def __init__(self, name: str) -> None:
         self.name = name
-        self.reason = REASONS.get(name)
-        self.program = name.split(" ")[0].encode()
+        self.program = PROGRAMS[name]
 
-    def command(self, notes):
-        """The words of its command."""
+    def command(self, log: str) -> list[str]:
         return [self.name]
 
-    def started(self, life):
-        """It is the same each time; none where it can't be started."""
-        return None if OTHERS[self.name] is None else self
+    def started(self, life: int) -> Running:
+        return self
 
-    def begins(self):
-        """What it writes, whatever it is sent."""
-        return OTHERS[self.name]
+    def begins(self) -> Act:
+        """Returns what it does, whatever it is sent."""
+        assert self.program
+        return self.program.begins
 
-    def answers(self, text):
-        """One that goes on repeats what it is sent."""
-        return text, "on"
+    def answers(self, line: bytes) -> Act:
+        """Returns what it was sent, as the only program that doesn't end by itself does."""
+        return Act(line)
 
 
-class Planned:
+class Planned(Engine):
     """The engine that misbehaves as its plan says."""
 
-    takes_notes = True
+    keeps_log = True
 
-    def __init__(self, seed, passes, style, plan):
+    def __init__(self, seed: int, passes: int, style: str, plan: str) -> None:
         self.seed, self.passes, self.style, self.plan = seed, passes, style, plan
 
-    def command(self, notes):
-        """The words of its command."""
+    def command(self, log: str) -> list[str]:
         python = [sys.executable, "-I", "-S", "-B", str(FAULTY)]
-        return [*python, notes, str(self.seed), str(self.passes), self.style, self.plan]
+        return [*python, log, str(self.seed), str(self.passes), self.style, self.plan]
 
-    def started(self, life):
-        """Its process of this number, in memory."""
+    def started(self, life: int) -> Running:
         return Faulty(self.seed, self.passes, self.style, self.plan, life)
 
 
 class Timed(Planned):
-    """The same behind `timeout`. Where it ends with status 124 by its plan, it is `timeout` that ends it, and its program is silent."""
+    """The same behind `timeout`.
 
-    def __init__(self, seconds, *planned):
-        super().__init__(*planned)
+    Where its plan ends it with status 124, `timeout` does that, and its program is silent.
+    """
+
+    def __init__(self, seconds: int, seed: int, passes: int, style: str, plan: str) -> None:
+        super().__init__(seed, passes, style, plan)
         self.seconds = seconds
 
-    def command(self, notes):
-        """The words of its command."""
-        return [
-            "timeout",
-            "--foreground",
-            str(self.seconds),
-            *(word.replace("ends:124", "on") for word in super().command(notes)),
-        ]
+    def command(self, log: str) -> list[str]:
+        words = [word.replace("ends:124", "on") for word in super().command(log)]
+        return ["timeout", "--foreground", str(self.seconds), *words]
 
 
-class Ours:
-    """Our own engine. In memory it is the reference of it. What it answered once to a list of commands is kept, since the reference
-    is slow."""
+class Ours(Engine):
+    """Our own engine. In memory it is the reference of it.
 
-    takes_notes = False
+    What it answered once to a list of commands is kept, since the reference is slow.
+    """
 
-    def __init__(self, policy, seed=1, book="", fault="none", rule="simple"):
-        self.policy, self.seed, self.book, self.fault, self.rule = policy, seed, book, fault, rule
-        self.answered = {}
+    def __init__(
+        self,
+        policy: PolicyName,
+        seed: int = 1,
+        book: str = "",
+        fault: str = "none",
+        rule: KoRule = SIMPLE,
+    ) -> None:
+        self.options = Options(policy, seed, book.encode(), rule)
+        self.fault = fault
+        self.answered: dict[tuple[bytes, ...], Act] = {}
 
-    def command(self, notes):
-        """The words of its command."""
-        words = ["gtp_engine", "--policy", self.policy, "--seed", str(self.seed)]
-        words += ["--book", self.book] if self.book else []
-        words += ["--ko", self.rule] if self.rule != "simple" else []
+    def command(self, log: str) -> list[str]:
+        policy, seed, book, rule = self.options
+        words = ["gtp_engine", "--policy", str(policy), "--seed", str(seed)]
+        words += ["--book", book.decode()] if book else []
+        words += ["--ko", str(rule)] if rule != SIMPLE else []
         return words + (["--fault", self.fault] if self.fault != "none" else [])
 
-    def started(self, life):
-        """A process of it, in memory."""
+    def started(self, life: int) -> Running:
         return Remembering(self)
-
-    def fresh(self):
-        """The reference of it, under its fault."""
-        return Bent(
-            reference.start(
-                reference.Options(
-                    PolicyName(self.policy), self.seed, self.book.encode(), KoRule(self.rule)
-                )
-            ),
-            self.fault,
-        )
 
 
 class Remembering:
     """A process of our engine, which asks the reference only for what was never asked before."""
 
-    notes = False
     takes_all = False
+    logs = False
     status = 4  # where its fault ends it
 
-    def __init__(self, ours):
+    def __init__(self, ours: Ours) -> None:
         self.ours = ours
-        self.sent = ()
-        self.engine = None
+        self.sent: tuple[bytes, ...] = ()
+        self.engine: Optional[FaultyReference] = None
+        self.fed = 0  # how many of these commands the reference was sent
 
-    def begins(self):
-        """It writes nothing before it is sent something."""
-        return b"", "on"
+    def begins(self) -> Act:
+        return Act(b"")
 
-    def answers(self, line):
-        """What it replies to this."""
+    def answers(self, line: bytes) -> Act:
         self.sent += (line,)
-        if self.sent not in self.ours.answered:
-            if self.engine is None:
-                self.engine = self.ours.fresh()
-                self.answered_to = 0
-            for number in range(self.answered_to, len(self.sent)):
-                self.ours.answered[self.sent[: number + 1]] = self.engine.answers(self.sent[number])
-            self.answered_to = len(self.sent)
-        return self.ours.answered[self.sent]
+        answered = self.ours.answered
+        if self.sent not in answered:
+            self.engine = self.engine or FaultyReference(self.ours)
+            while self.fed < len(self.sent):
+                self.fed += 1
+                act = self.engine.answers(self.sent[self.fed - 1])
+                answered[self.sent[: self.fed]] = act
+        return answered[self.sent]
 
 
-class Bent:
-    """The reference of our engine, with the fault that --fault asks for, which docs/protocol.md describes."""
+class FaultyReference:
+    """The reference of our engine, with the fault of --fault, which docs/protocol.md describes."""
 
-    def __init__(self, engine, fault):
+    def __init__(self, ours: Ours) -> None:
+        engine = reference.start(ours.options)
+        assert engine is not None, "the book is no book"
         self.engine = engine
-        self.kind, *self.numbers = fault.split(":")
+        self.kind, *self.numbers = ours.fault.split(":")
         self.genmoves = 0
 
-    def answers(self, line):
-        """The reply to this, or what the fault puts in its place at the N-th genmove that succeeds."""
+    def answers(self, line: bytes) -> Act:
+        """Returns the reply, or what takes its place at the N-th genmove that succeeds."""
         reply = self.engine.feed(line)
         if b"genmove" in line and reply.startswith(b"="):
             self.genmoves += 1
             if self.kind != "none" and self.genmoves == int(self.numbers[0]):
-                return self.bent(reply)
-        return reply, ENDS if self.engine.ended else "on"
+                return self.fault(reply)
+        return Act(reply, ENDS) if self.engine.ended else Act(reply)
 
-    def bent(self, reply):
-        """What goes out in place of this reply, and what the engine does then."""
+    def fault(self, reply: bytes) -> Act:
+        """Returns what comes in place of this reply."""
         if self.kind == "stop":
-            return b"", ENDS
+            return Act(b"", ENDS)
         if self.kind == "cut":
-            return reply[: int(self.numbers[1])], ENDS
-        return (b"hello\n\n" if self.kind == "junk" else FLOOD), "on"
+            return Act(reply[: int(self.numbers[1])], ENDS)
+        return Act(b"hello\n\n" if self.kind == "junk" else FLOOD)

@@ -1,16 +1,37 @@
-r"""What engines of drawn matches write and do, as faulty.py reads it: templates, in which `_` is a space and `<reply>` the plain reply,
-and what comes then, where it isn't `on`."""
+r"""What engines of random matches write and do, as faulty.py reads it.
+
+Templates, in which `_` is a space and `<reply>` the plain reply, and what comes then.
+"""
+from __future__ import annotations
+
+from typing import NamedTuple
+
+from .faulty import CLOSES, ENDS, ON, REFUSES, SHUTS
+
+
+class Deed(NamedTuple):
+    """What an engine writes, and does then."""
+
+    template: str
+    then: str = ON
+
+
+def deeds(*templates: str) -> list[Deed]:
+    """Returns the deeds of an engine that writes one of these, and continues."""
+    return [Deed(template) for template in templates]
+
+
+def answers(*texts: str) -> list[str]:
+    """Returns the templates of successful replies with these texts."""
+    return [rf"=<id>_{text}\n\n" for text in texts]
+
 
 # ---- in place of any reply
 
-# It ends, or closes its output: before it replies, in the middle, or right after. K is drawn.
+# The engine ends, or closes its output: before it replies, in the middle, or right after. K is a
+# random number.
 ENDINGS = [
-    ("", "ends"),
-    ("<reply:K>", "ends"),
-    ("<reply>", "ends"),
-    ("", "closes"),
-    ("<reply:K>", "closes"),
-    ("<reply>", "closes"),
+    Deed(template, then) for then in (ENDS, CLOSES) for template in ("", "<reply:K>", "<reply>")
 ]
 # What is no reply.
 JUNK = [
@@ -50,7 +71,7 @@ WORDY = [
     r"=<id>_<text>\nmore_lines\nof_it\n\n",
     r"=<id>_<text>_#_a_comment\n\n",
 ]
-# Ids that are missing, or strange; now and then with more after it, which is of no account.
+# Ids that are missing, or strange; at times more follows, which doesn't count.
 STRANGE_IDS = [
     r"=<id+1>_<text>\n\n",
     r"=<id-1>_<text>\n\n",
@@ -68,7 +89,7 @@ STRANGE_IDS = [
     r"?<id+4294967296>_no\n\n",
     r"?_no\n\n\n!",
 ]
-# Failures. A play that fails is one that the engine refuses.
+# Failures. A play that fails is refused.
 REFUSALS = [r"?<id>_no\n\n", r"?<id>\n\n", r"?<id>_<text>\n\n", r"?00<id>no\n\n"]
 # Thousands of bytes: at the limit of 8,192, above it, and without an end.
 LONG = [
@@ -118,129 +139,61 @@ ANY = [JUNK, HARMLESS, WORDY, STRANGE_IDS, REFUSALS, LONG, MORE, FRONTS]
 
 # To a genmove.
 MOVES = [
-    *(
-        r"=<id>_%s\n\n" % resigns
-        for resigns in ["resign", "RESIGN", "Resign_", "rEsIgN", "resign_resign", "resigns"]
-    ),
-    *(r"=<id>_%s\n\n" % passes for passes in ["pass", "PASS", "pAsS", "pass_pass", "<text>_#"]),
-    *(
-        r"=<id>_%s\n\n" % vertex
-        for vertex in [
-            "<old>",
-            "<old>",
-            "<off>",
-            "<fresh>",
-            "a1",
-            "Z25",
-            "I5",
-            "i1",
-            "A0",
-            "A01",
-            "A26",
-        ]
-    ),
-    *(r"=<id>_%s\n\n" % words for words in ["A1_B2", r"A1\nB2", r"A1\x2c", "b_A1", r"_\t", "#"]),
+    *answers("resign", "RESIGN", "Resign_", "rEsIgN", "resign_resign", "resigns"),
+    *answers("pass", "PASS", "pAsS", "pass_pass", "<text>_#"),
+    *answers("<old>", "<old>", "<off>", "<fresh>", "a1", "Z25", "I5", "i1", "A0", "A01", "A26"),
+    *answers("A1_B2", r"A1\nB2", r"A1\x2c", "b_A1", r"_\t", "#"),
     r"=<id>\n\n",
     r"=<id>A1\n\n",
     r"=<id>resign\n\n",
     r"=<id>\n\n=<id>_A1\n\n",
     r"<reply>=<id+1>\n\n",
 ]
-# To a genmove too: it closes its input before it replies. Nothing else is on its way to it then.
-SHUT = ("<reply>", "shuts")
-# .. and it writes the front of another reply besides.
-SHUT_AND_MORE = [SHUT, ("<reply>=", "shuts"), (r"<reply>\n_=", "shuts")]
-# To the last move, which the other side made: it is refused at each of these plays, one after the other. The engine doesn't do it.
+# To a genmove too: the engine closes its input before it replies. Nothing else is on its way then.
+SHUT = Deed("<reply>", SHUTS)
+# .. and writes the front of another reply besides.
+SHUT_AND_MORE = [SHUT, Deed("<reply>=", SHUTS), Deed(r"<reply>\n_=", SHUTS)]
+# To the last move, which the other side made: it is refused at each of these plays, one after the
+# other. The engine doesn't do it.
 ROWS = [["p1", "p2", "p3"], ["p1-2", "p2-3"], ["p1-3", "p2-4"], ["p1-4", "p2-5"], ["p1-2000"]]
-# To the last move too: it is refused, and at once more follows than was asked for, or the front of a reply, or nothing more at all.
+# To the last move too: it is refused, and more follows at once than was asked for, or the front of
+# a reply, or nothing more at all.
 REFUSED_AND_MORE = [
-    (r"?<id>_no\n\nhello", "on"),
-    (r"?<id>_no\n\n=\n\n", "on"),
-    (r"?<id>_no\n\n?<id>_no\n\n", "on"),
-    (r"?<id>_no\n\n=<id+1>\n\n", "on"),
-    (r"?<id>_no\n\n=", "on"),
-    (r"?<id>_no\n\n", "ends"),
-    (r"?<id>_no\n\n", "closes"),
+    *deeds(r"?<id>_no\n\nhello", r"?<id>_no\n\n=\n\n", r"?<id>_no\n\n?<id>_no\n\n"),
+    *deeds(r"?<id>_no\n\n=<id+1>\n\n", r"?<id>_no\n\n="),
+    Deed(r"?<id>_no\n\n", ENDS),
+    Deed(r"?<id>_no\n\n", CLOSES),
 ]
-# The same, where the same read loses it.
-REFUSED_AND_LOST = [
-    (r"?<id>_no\n\nhello", "on"),
-    (r"?<id>_no\n\n=<id>\n\n", "on"),
-    (r"\n?<id>\n\n_!", "on"),
-]
-# To an undo, beside the endings.
+# The same, where the same read loses the engine.
+REFUSED_AND_LOST = deeds(r"?<id>_no\n\nhello", r"?<id>_no\n\n=<id>\n\n", r"\n?<id>\n\n_!")
+# To an undo, besides the endings.
 UNDOES = [
-    *((refusal, "refuses") for refusal in REFUSALS),
-    *(
-        (template, "on")
-        for template in [
-            r"hello\n\n",
-            r"<id>_ok\n\n",
-            r"=<id-1>\n\n",
-            r"=\n\n",
-            r"?<id+1>_no\n\n",
-            r"?_no\n\n",
-        ]
-    ),
-    *(
-        (template, "on")
-        for template in [
-            r"=<id>_as_you_like\n\n",
-            r"\r\n_=00<id>\n\n",
-            "<reply><reply>",
-            "<reply>=",
-            r"<8193*\n>",
-        ]
-    ),
+    *(Deed(refusal, REFUSES) for refusal in REFUSALS),
+    *deeds(r"hello\n\n", r"<id>_ok\n\n", r"=<id-1>\n\n", r"=\n\n", r"?<id+1>_no\n\n", r"?_no\n\n"),
+    *deeds(r"=<id>_as_you_like\n\n", r"\r\n_=00<id>\n\n"),
+    *deeds("<reply><reply>", "<reply>=", r"<8193*\n>"),
     SHUT,
 ]
-# To a handicap.
+# To a handicap: right answers, and wrong ones.
 STONES = [
-    *(
-        r"=<id>_%s\n\n" % right
-        for right in ["<reversed>", "<reversed>", "<lines>", "<lower>", r"_\t<text>_"]
-    ),
-    *(
-        r"=<id>_%s\n\n" % wrong
-        for wrong in [
-            "<text>_A1",
-            "<text>_<text>",
-            "<text>_pass",
-            r"<lines>\nC3",
-            r"<text>\x2c",
-            "<old>",
-        ]
-    ),
-    *(r"=<id>_%s\n\n" % other for other in ["C3_C3", "pass", "A1"]),
+    *answers("<reversed>", "<reversed>", "<lines>", "<lower>", r"_\t<text>_"),
+    *answers("<text>_A1", "<text>_<text>", "<text>_pass", r"<lines>\nC3", r"<text>\x2c", "<old>"),
+    *answers("C3_C3", "pass", "A1"),
     r"=<id>\n\n",
     r"=<id><text>\n\n",
 ]
 # To quit, when the match is over.
 QUITS = [
-    ("", "ends"),
-    ("", "closes"),
-    ("<reply>", "ends"),
-    ("<reply>", "closes"),
-    ("=1", "ends"),
-    (r"hello\n", "on"),
-    (r"?_no\n\n", "on"),
-    (r"<8193*\n>", "on"),
-    ("<reply><reply>", "on"),
+    *(Deed(template, then) for template in ("", "<reply>") for then in (ENDS, CLOSES)),
+    Deed("=1", ENDS),
+    *deeds(r"hello\n", r"?_no\n\n", r"<8193*\n>", "<reply><reply>"),
 ]
 # Before the first command.
 GREETINGS = [
-    ("", "ends"),
-    ("", "closes"),
-    (r"\n_\r\n", "on"),
-    (r"=\n\n", "on"),
-    (r"=1\n\n", "on"),
-    (r"=2\n\n", "on"),
-    (r"?1_no\n\n", "on"),
-    ("=", "on"),
-    ("=1", "on"),
-    (r"hello\n", "on"),
-    ("#", "on"),
-    (r"<8193*\n>", "on"),
+    Deed("", ENDS),
+    Deed("", CLOSES),
+    *deeds(r"\n_\r\n", r"=\n\n", r"=1\n\n", r"=2\n\n", r"?1_no\n\n", "=", "=1"),
+    *deeds(r"hello\n", "#", r"<8193*\n>"),
 ]
 
 # ---- how an engine writes all of its replies

@@ -1,50 +1,117 @@
-"""The match program: what README.md, docs/matches.md and docs/controller.md say of `twogtp`, with engines in memory."""
-import re
-from collections import Counter, namedtuple
+"""The match program, with engines in memory: what README.md and docs/ say of `twogtp`."""
+from __future__ import annotations
+
+from pathlib import Path
+from typing import Mapping, NamedTuple, Optional, Sequence
 
 from ..engine import values
-from ..engine.values import BLACK, WHITE
+from ..engine.values import BLACK, WHITE, Colour
 
 from . import replies, why
-from .controller import DONE, MOST_UNANSWERED, SEND, SIDES, START, Controller, Loss, Setup
-from .faulty import CLOSES, ENDS, FLOODS, LATE, SHUTS
+from .controller import MOST_UNANSWERED, SIDES, Action, Controller, Report, Setup
+from .engines import Engine, Running
+from .faulty import CLOSES, ENDS, FLOODS, LATE, SHUTS, Act
+from .why import Sent
 
-# What is left to the controller, to the processes and to the pipes: how many script commands are unanswered at a time, whether an
-# engine answers as soon as it is sent something or only when it is waited for, and whether a write to an engine that has ended
-# fails. What comes of a drawn match has to be the same for all of these, but for the standard error under `--why`, which says how many
-# commands are unanswered. There `twogtp` sends as many as it may, in one write. And where what it says is a question of time, the
-# timing in which each read brings what was written at once finds out all that may be written. That is so
-# - where an engine writes what is no reply and has other commands to answer: some of those answers may be read with it;
-# - where an engine is sent a script of more than eight commands: how many of them were sent when it fails goes by how many replies each
-#   read brought;
-# - where an engine ends by itself, and is written to after that: the write may fail, or the end of its output is met first.
-Timing = namedtuple("Timing", "most is_quick breaks")
-PATIENT = Timing(MOST_UNANSWERED, False, False)
-TIMINGS = [
-    Timing(MOST_UNANSWERED, True, True),
-    PATIENT,
-    Timing(1, False, True),
-]
 MOST_TURNS = 100_000
-FLOOD = 9000  # how often a text is written that is written without end: more bytes than a reply may have
+FLOOD = 9000  # times that a text is written that is written without end: more than a reply may have
 
-# The number of the game in its own line, with the restarts of both sides; in a line of `--why`; and in one of a retake, with its count.
-GAME_LINE = re.compile(rb"^game (\d+): .* restarts (\d+) (\d+)$", re.MULTILINE)
-WHY_LINE = re.compile(rb"^twogtp: game (\d+): ", re.MULTILINE)
-RETAKE_LINE = re.compile(
-    rb'^twogtp: game (\d+): (?:black|white): 1 unanswered, "\d+ play [bw] \w+": the play was refused \(retake (\d+) of 3\); it wrote "',
-    re.MULTILINE,
-)
 
-# What a match is: the options of `twogtp`, komi as it is spelled, and the engine of each side.
-Match = namedtuple("Match", "size komi handicap games most_moves restarts record show why engines")
+class Timing(NamedTuple):
+    """What is left to the controller, to the processes and to the pipes.
 
-# .. as it is where nothing is said.
-PLAIN = Match(19, "6.5", 0, 1, 1000, 2, False, False, False, None)
+    What comes of a random match has to be the same for all of these, except for the standard error
+    under `--why`, which says how many commands are unanswered. There `twogtp` sends as many as are
+    allowed, in one write. And where what it says is a question of time, the timing in which each
+    read brings what was written at once gives all that may be written. That is so
+    - where an engine writes what is no reply and has other commands to answer: some of those
+      answers may be read with it;
+    - where an engine is sent a script of more than eight commands: how many of them were sent when
+      it fails depends on how many replies each read brought;
+    - where an engine ends by itself, and is written to after that: the write may fail, or the end
+      of its output is met first.
+    """
 
-# What comes of it: the status, the standard output, the lines of the standard error, and what the engines of each side noted. By the
-# reference each of these lines is a list of texts: what is written in this timing, and what may be written in others.
-Result = namedtuple("Result", "status output errors notes")
+    most: int  # script commands that may be unanswered at a time
+    is_quick: bool  # an engine answers as soon as it is sent something, or when it is waited for
+    breaks: bool  # a write to an engine that has ended fails
+
+
+PATIENT = Timing(MOST_UNANSWERED, is_quick=False, breaks=False)
+TIMINGS = [
+    Timing(MOST_UNANSWERED, is_quick=True, breaks=True),
+    PATIENT,
+    Timing(1, is_quick=False, breaks=True),
+]
+
+
+class Match(NamedTuple):
+    """A match: the engines of both sides, and the options of `twogtp`."""
+
+    engines: Mapping[Colour, Engine]
+    size: int = 19
+    komi: str = "6.5"
+    handicap: int = 0
+    games: int = 1
+    most_moves: int = 1000
+    restarts: int = 2
+    record: bool = False
+    show: bool = False
+    why: bool = False
+
+    def options(self) -> list[str]:
+        """Returns the options, except those with their default."""
+        words = []
+        for name, default in self._field_defaults.items():
+            value = getattr(self, name)
+            option = "max-moves" if name == "most_moves" else name
+            if value != default:
+                words.append(f"--{option}" if value is True else f"--{option}={value}")
+        return words
+
+    def command(self, logs: Mapping[Colour, Path]) -> list[str]:
+        """Returns the command of the program, whose engines have these files as logs."""
+        words = ["twogtp", *self.options()]
+        for side in SIDES:
+            words += [f"--{side}", " ".join(self.engines[side].command(str(logs[side])))]
+        return words
+
+
+class Result(NamedTuple):
+    """What comes of a match by the program, and the logs of both engines."""
+
+    status: int
+    output: bytes
+    errors: bytes
+    logs: Mapping[Colour, bytes]
+
+
+class Expected(NamedTuple):
+    """What comes of a match by the reference.
+
+    Each line of the standard error is a list of texts: what is written in this timing, and what may
+    be written in others.
+    """
+
+    status: int
+    output: bytes
+    errors: list[list[bytes]]
+    logs: Mapping[Colour, bytes]
+
+    def in_this_timing(self) -> Result:
+        """Returns what comes of the match in this timing."""
+        errors = b"".join(texts[0] for texts in self.errors)
+        return Result(self.status, self.output, errors, self.logs)
+
+    def allows(self, result: Result, any_errors: bool = False) -> bool:
+        """Returns whether this may come of the match, with any standard error where so asked."""
+        if result._replace(errors=b"") != self.in_this_timing()._replace(errors=b""):
+            return False
+        lines = result.errors.splitlines(keepends=True)
+        return any_errors or (
+            len(lines) == len(self.errors)
+            and all(line in texts for line, texts in zip(lines, self.errors))
+        )
 
 
 class Undetermined(Exception):
@@ -54,28 +121,27 @@ class Undetermined(Exception):
 class Process:
     """An engine in memory that was started."""
 
-    def __init__(self, engine, notes, timing):
-        self.engine, self.notes, self.timing = engine, notes, timing
+    def __init__(self, engine: Running, log: list[bytes], timing: Timing) -> None:
+        self.engine, self.log, self.timing = engine, log, timing
         self.output = b""
-        self.unread = []  # commands that it didn't read yet
+        self.unread: list[tuple[int, bytes]] = []  # commands, each with the number of its write
         self.has_ended = False
         self.has_closed = False  # its output
         self.has_shut = False  # its input
-        self.status = (
-            None  # with which it ends, where that isn't the engine's own; a signal is below zero
-        )
+        # with which it ends, where that isn't the engine's own; a signal is below zero
+        self.status: Optional[int] = None
         self.writes = 0  # to it
         self.reading = 0  # the write of which it reads, or 0 before the first
         self.last = 0  # the one of which it read when it ended
-        self.does(*engine.begins())
+        self.do(engine.begins())
 
-    def does(self, text, then):
-        """It writes this, and does what comes then."""
-        then, _, status = then.partition(":")
+    def do(self, act: Act) -> None:
+        """Does this."""
+        then, _, status = act.then.partition(":")
         if status:
             self.status = int(status)
         if not self.has_closed:
-            self.output += text * (FLOOD if then == FLOODS else 1)
+            self.output += act.text * (FLOOD if then == FLOODS else 1)
         ends = then in (ENDS, LATE)
         if ends and not self.has_ended:
             self.last = self.reading
@@ -83,60 +149,66 @@ class Process:
         self.has_closed = self.has_closed or ends or then == CLOSES
         self.has_shut = self.has_shut or then == SHUTS
 
-    def write(self, lines):
-        """It is sent these commands, in one write. False where the write fails."""
+    def write(self, commands: Sequence[bytes]) -> bool:
+        """Sends these commands in one write, and returns whether the write succeeds."""
         self.writes += 1
         if self.has_shut or (self.has_ended and self.timing.breaks):
             return False
-        self.unread += [(self.writes, line) for line in lines]
+        self.unread += [(self.writes, command) for command in commands]
         if self.timing.is_quick:
-            self.reads_all()
+            self.answer_all()
         return True
 
-    def reads_all(self):
-        """It reads and answers all that it was sent."""
+    def answer_all(self) -> None:
+        """Lets it answer all that it was sent."""
         while self.unread and not self.has_ended:
-            self.reads_on()
+            self.answer_one()
 
-    def reads_on(self):
-        """It reads and answers one command, or all that it was sent where it doesn't cut that into lines."""
+    def answer_one(self) -> None:
+        """Lets it answer one command, or all where it doesn't cut its input into lines."""
         taken = self.unread if self.engine.takes_all else self.unread[:1]
         self.unread = self.unread[len(taken) :]
         self.reading, _ = taken[-1]
-        text = b"".join(line for _, line in taken)
-        if self.engine.notes:
-            self.notes.append(text)
-        self.does(*self.engine.answers(text))
+        text = b"".join(command for _, command in taken)
+        if self.engine.logs:
+            self.log.append(text)
+        self.do(self.engine.answers(text))
 
-    def may_have_broken(self):
-        """May a write to it have failed, since it had ended by then?"""
+    def may_have_broken(self) -> bool:
+        """Returns whether a write to it may have failed, since it had ended by then."""
         return self.has_ended and self.writes > self.last
 
-    def ending(self):
-        """How it had ended when it failed by its pipes. One that goes on, and doesn't soon end, is ended then. Until that its input stays
-        open."""
+    def ending(self) -> str:
+        """Returns how it had ended when it failed by its pipes.
+
+        One that doesn't soon end is ended then. Until that its input stays open.
+        """
         if not self.has_ended and self.status is None:
             return why.RAN_ON
         status = self.engine.status if self.status is None else self.status
         return f"exit status {status}" if status >= 0 else f"signal {-status}"
 
-    def is_silent(self):
-        """Does it go on, and has it written nothing that a controller would take for a reply, or for none?"""
-        return not self.has_closed and not self.has_shut and replies.first(self.output)[0] is None
+    def is_silent(self) -> bool:
+        """Returns whether a controller waits for it for ever."""
+        is_open = not self.has_closed and not self.has_shut
+        return is_open and replies.first(self.output).result is None
 
-    def following(self):
-        """What may come after all that was read, in the same read: nothing, and then what it has written when it has read one command
-        more each time, up to all that it was sent. It is gone then."""
+    def following(self) -> list[bytes]:
+        """Returns what may come after all that was read, in the same read.
+
+        That is nothing, and then what it has written when it has read one command more each time,
+        up to all that it was sent. It is gone then.
+        """
         texts = [self.output]
         while self.unread:
-            self.reads_on()
+            self.answer_one()
             texts.append(self.output)
         return texts
 
-    def read(self):
-        """What it wrote; nothing at the end of its output."""
+    def read(self) -> bytes:
+        """Returns what it wrote; nothing at the end of its output."""
         while self.unread and not self.output and not self.has_ended:
-            self.reads_on()
+            self.answer_one()
         if not self.output and not self.has_closed:
             raise Undetermined("the engine is silent")
         text, self.output = self.output, b""
@@ -146,219 +218,167 @@ class Process:
 class Starter:
     """The engines of both sides, and how many processes of them were started."""
 
-    def __init__(self, engines, timing):
+    def __init__(self, engines: Mapping[Colour, Engine], timing: Timing) -> None:
         self.engines, self.timing = engines, timing
         self.lives = {BLACK: 0, WHITE: 0}
-        self.notes = {BLACK: [], WHITE: []}
+        self.logs: dict[Colour, list[bytes]] = {BLACK: [], WHITE: []}
 
-    def start(self, side):
-        """A new process of this side; none where it can't be started."""
-        engine = self.engines[side].started(self.lives[side] + 1)
-        if engine is None:
-            return None
+    def start(self, side: Colour) -> Process:
+        """Returns a new process of this side."""
         self.lives[side] += 1
-        if self.engines[side].takes_notes:
-            self.notes[side].append(b"start\n")
-        return Process(engine, self.notes[side], self.timing)
-
-    def reason(self, side):
-        """Why no process of this side can be started, and the program that can't."""
-        return self.engines[side].reason, self.engines[side].program
+        engine = self.engines[side]
+        if engine.keeps_log:
+            self.logs[side].append(b"start\n")
+        return Process(engine.started(self.lives[side]), self.logs[side], self.timing)
 
 
-def options(match):
-    """The options of the program for a match; those that it takes where nothing is said aren't named."""
-    words = []
-    for name, value in match._asdict().items():
-        option = {"most_moves": "max-moves"}.get(name, name)
-        if name != "engines" and value != getattr(PLAIN, name):
-            words.append(f"--{option}" if value is True else f"--{option}={value}")
-    return words
-
-
-def command(match, notes):
-    """The command of the program, whose engines note what they are sent in these files."""
-    sides = [
-        [f"--{side}", " ".join(match.engines[side].command(str(notes[side])))] for side in SIDES
-    ]
-    return ["twogtp", *options(match), *sides[0], *sides[1]]
-
-
-def play(match, timing=TIMINGS[0]):
-    """What comes of a match."""
-    wrong = mistake(match)
+def play(match: Match, timing: Timing = TIMINGS[0]) -> Expected:
+    """Returns what comes of a match."""
+    wrong = usage_error(match)
     if wrong:
-        return Result(
-            2,
-            b"",
-            [[f"twogtp: {line}\n".encode()] for line in wrong[: 1 + match.why]],
-            {BLACK: b"", WHITE: b""},
-        )
+        lines = [[f"twogtp: {line}\n".encode()] for line in wrong]
+        return Expected(2, b"", lines[: 1 + match.why], {BLACK: b"", WHITE: b""})
     komi = values.read_komi(match.komi.encode())
+    assert komi is not None
     setup = Setup(match.size, komi, match.handicap, match.most_moves, match.restarts)
     starter = Starter(match.engines, timing)
     output = b""
     errors = []
     status = 0
     for number in range(1, match.games + 1):
-        played = play_game(setup, starter)
-        output += text_of(match, number, played)
-        errors += explained(number, played) if match.why else []
-        status = max(status, status_of(played.verdict))
-    return Result(status, output, errors, {side: b"".join(starter.notes[side]) for side in SIDES})
+        game = Game(setup, starter)
+        game.play()
+        output += text_of(match, number, game.controller)
+        errors += reports(number, game.controller) if match.why else []
+        status = max(status, status_of(game.controller))
+    return Expected(status, output, errors, {side: b"".join(starter.logs[side]) for side in SIDES})
 
+
+# ---- usage errors
 
 KOMI_LIMITS = (
-    "komi may be a multiple of 0.5 from -999999999.5 to 999999999.5, with at most nine digits on each side of the point; "
-    "write a negative one as --komi=-3.5"
+    "komi may be a multiple of 0.5 from -999999999.5 to 999999999.5, with at most nine digits on"
+    " each side of the point; write a negative one as --komi=-3.5"
 )
 
 
-def mistake(match):
-    """The first usage error in the options, and what is allowed, which `--why` reports too; or none."""
+def usage_error(match: Match) -> list[str]:
+    """Returns the first usage error in the options, and what is allowed, which `--why` adds."""
     if values.read_komi(match.komi.encode()) is None:
-        return "bad komi", KOMI_LIMITS
+        return ["bad komi", KOMI_LIMITS]
     if match.handicap and values.handicap_points(match.size, match.handicap) is None:
-        return (
-            "bad handicap",
-            f"on size {match.size} the handicap may {allowed_handicaps(match.size)}",
-        )
-    return None
+        allowed = allowed_handicaps(match.size)
+        return ["bad handicap", f"on size {match.size} the handicap may {allowed}"]
+    return []
 
 
-def allowed_handicaps(size):
-    """How `--why` names the handicaps of a size."""
+def allowed_handicaps(size: int) -> str:
+    """Returns how `--why` names the handicaps of a size."""
     most = max((stones for stones in range(10) if values.handicap_points(size, stones)), default=0)
     return f"be 0, or 2 to {most}" if most else "only be 0"
 
 
-def play_game(setup, starter):
-    """The controller of a game that was played to its end."""
-    controller = Controller(setup, starter.timing.most)
-    processes = {BLACK: None, WHITE: None}
-    for _ in range(MOST_TURNS):
-        action, side = controller.next()
-        if action == DONE:
-            say_quit(controller, processes)
-            return controller
-        take_turn(controller, action, side, processes, starter)
-    raise Undetermined("the match has no end")
+# ---- a game
 
 
-def take_turn(controller, action, side, processes, starter):
-    """Does what comes next. A process that can't be started, a write that fails and the end of an output are `lost`."""
-    if action == START:
-        processes[side] = starter.start(side)
-        controller.started(side)
-        if processes[side] is None:
-            lose(controller, side, [why.not_started(*starter.reason(side))])
-    elif action == SEND:
-        if not processes[side].write(all_for(controller, side)):
-            lose(
-                controller,
-                side,
-                broken(processes[side], why.WRITING_FAILED, controller.writes(side)[:1]),
-            )
-    else:
-        hear(controller, side, processes[side])
+class Game:
+    """A game of a match: the controller, and the processes of both sides."""
+
+    def __init__(self, setup: Setup, starter: Starter) -> None:
+        self.controller = Controller(setup, starter.timing.most)
+        self.starter = starter
+        self.processes: dict[Colour, Process] = {}
+
+    def play(self) -> None:
+        """Plays the game to its end."""
+        for _ in range(MOST_TURNS):
+            action, side = self.controller.next()
+            if side is None:
+                return self.quit()
+            if action == Action.START:
+                self.start(side)
+            elif action == Action.SEND:
+                self.send(side)
+            else:
+                self.read(side)
+        raise Undetermined("the match has no end")
+
+    def start(self, side: Colour) -> None:
+        """Starts an engine of this side. One that can't be started is lost."""
+        self.controller.started(side)
+        program = self.starter.engines[side].program
+        if program and program.reason:
+            self.lose(side, [why.not_started(program.reason, program.word)])
+        else:
+            self.processes[side] = self.starter.start(side)
+
+    def send(self, side: Colour) -> None:
+        """Sends this side all that it is sent before anything else is done."""
+        commands = [self.controller.send(side)]
+        while self.controller.next() == (Action.SEND, side):
+            commands.append(self.controller.send(side))
+        process = self.processes[side]
+        if not process.write(commands):
+            writes = self.controller.writes(side)[:1]
+            self.lose(side, broken(process, why.WRITING_FAILED, writes))
+
+    def read(self, side: Colour) -> None:
+        """Reads what this side wrote.
+
+        Where that loses the side, and the engine has ended, a write before may have failed.
+        """
+        controller, process = self.controller, self.processes[side]
+        writes, before = controller.writes(side), len(controller.reported)
+        text = process.read()
+        if text:
+            controller.receive(side, text, process.following)
+        else:
+            self.lose(side, broken(process, why.OUTPUT_ENDED, writes[:1]))
+        if process.may_have_broken():
+            for report in controller.reported[before:]:
+                if report.is_loss:
+                    report.texts.extend(broken(process, why.WRITING_FAILED, writes))
+
+    def lose(self, side: Colour, texts: list[str]) -> None:
+        """Lets this side fail, of which one of these texts is reported."""
+        self.controller.reported.append(Report(side, texts))
+        self.controller.lost(side)
+
+    def quit(self) -> None:
+        """Asks each side to quit that is up and has answered all."""
+        for side in SIDES:
+            if not self.controller.is_down(side) and not self.controller.has_unanswered(side):
+                process = self.processes[side]
+                process.write([b"quit\n"])
+                process.answer_all()
+                if process.is_silent():
+                    raise Undetermined("the engine is silent when it is asked to quit")
 
 
-def all_for(controller, side):
-    """All commands that this side is sent before anything else is done."""
-    commands = [controller.send(side)]
-    while controller.next() == (SEND, side):
-        commands.append(controller.send(side))
-    return commands
-
-
-def hear(controller, side, process):
-    """Reads what this side wrote. Where it loses the side, and the engine has ended, a write before may have failed."""
-    writes, before = controller.writes(side), len(controller.reported)
-    text = process.read()
-    if text:
-        controller.heard(side, text, process.following)
-    else:
-        lose(controller, side, broken(process, why.OUTPUT_ENDED, writes[:1]))
-    if process.may_have_broken():
-        for lost in controller.reported[before:]:
-            if isinstance(lost, Loss):
-                lost.texts.extend(broken(process, why.WRITING_FAILED, writes))
-
-
-def lose(controller, side, texts):
-    """This side fails, and one of these texts is reported."""
-    controller.reported.append(Loss(side, texts))
-    controller.lost(side)
-
-
-def broken(process, cause, writes):
-    """The texts of a pipe that is broken, with what was unanswered and what had come by then."""
+def broken(process: Process, cause: str, writes: list[tuple[list[Sent], bytes]]) -> list[str]:
+    """Returns the texts of a pipe that is broken, for each write with what had come by then."""
     return [why.cut_off(unanswered, cause, process.ending(), rest) for unanswered, rest in writes]
 
 
-def say_quit(controller, processes):
-    """At the end each side that is up and has answered all is asked to quit."""
-    for side in SIDES:
-        if not controller.is_down(side) and not controller.has_unanswered(side):
-            processes[side].write([b"quit\n"])
-            processes[side].reads_all()
-            if processes[side].is_silent():
-                raise Undetermined("the engine is silent when it is asked to quit")
+# ---- what is printed
 
 
-def text_of(match, number, played):
-    """What is written of a game: its line, its record, its board and an empty line."""
+def text_of(match: Match, number: int, played: Controller) -> bytes:
+    """Returns what is written of a game: its line, its record, its board and an empty line."""
     lines = [played.result_line(number)]
     lines += [played.record_line()] if match.record else []
     lines += [played.game.show(), ""] if match.show else []
     return "".join(line + "\n" for line in lines).encode()
 
 
-def explained(number, played):
-    """What `--why` reports of a game: for each line the texts of which one is written."""
-    return [[why.line(number, side, text) for text in texts] for side, texts in played.reported]
+def reports(number: int, played: Controller) -> list[list[bytes]]:
+    """Returns what `--why` reports of a game: for each line the texts of which one is written."""
+    return [
+        [why.line(number, report.side, text) for text in report.texts] for report in played.reported
+    ]
 
 
-def fits(result, wanted, may_owe_otherwise=False):
-    """Is this what the patient reference wants? Where `may_owe_otherwise`, the standard error isn't looked at."""
-    if not isinstance(wanted, Result) or result._replace(errors=b"") != wanted._replace(errors=b""):
-        return False
-    lines = result.errors.splitlines(keepends=True)
-    return may_owe_otherwise or (
-        len(lines) == len(wanted.errors) and all(map(list.__contains__, wanted.errors, lines))
-    )
-
-
-def has_too_many_lines(result, most_moves):
-    """Does `--why` print more lines of a game than it may? Those of losses are at most the starts: the restarts of both sides and two
-    more, which the game's own line has. Each move number has at most three retakes, counted from 1. So there are at most as many first
-    ones as moves are allowed, no more second ones than first ones, no more third ones than second ones, and no others.
-    """
-    starts = {
-        number: int(black) + int(white) + 2
-        for number, black, white in GAME_LINE.findall(result.output)
-    }
-    lines = Counter(WHY_LINE.findall(result.errors))
-    retakes = {number: Counter() for number in lines}
-    for number, count in RETAKE_LINE.findall(result.errors):
-        retakes[number][int(count)] += 1
-    return any(
-        count - sum(retakes[number].values()) > starts.get(number, 0)
-        or not may_be_counted_so(retakes[number], most_moves)
-        for number, count in lines.items()
-    )
-
-
-def may_be_counted_so(retakes, most_moves):
-    """May a game with at most so many moves have so many retakes of each count?"""
-    return set(retakes) <= {1, 2, 3} and most_moves >= retakes[1] >= retakes[2] >= retakes[3]
-
-
-def as_reported(result):
-    """What comes of a match in the timing of this result alone."""
-    return result._replace(errors=b"".join(texts[0] for texts in result.errors))
-
-
-def status_of(verdict):
-    """1 where a side was unfit or abandoned."""
-    return 1 if verdict.split()[0] in ("unfit", "abandoned") else 0
+def status_of(played: Controller) -> int:
+    """Returns the exit status of a game: 1 where a side was unfit or abandoned."""
+    assert played.verdict is not None
+    return 1 if played.verdict.startswith(("unfit", "abandoned")) else 0

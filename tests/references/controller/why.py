@@ -1,9 +1,14 @@
-"""What `--why` prints on standard error: a line for each time that a side fails, and one for each move that is retaken.
+"""What `--why` prints: a line for each time that a side fails, and for each move that is retaken.
 
     twogtp: game N: SIDE: OWED: CAUSE; it wrote "BYTES"
     twogtp: game N: SIDE: OWED: CAUSE; nothing of it was read
     twogtp: game N: SIDE: not started: REASON: "PROGRAM"
 """
+from __future__ import annotations
+
+from typing import NamedTuple, Sequence
+
+from ..engine.values import Colour
 
 MOST_BYTES = 80
 
@@ -29,37 +34,48 @@ KO = "an illegal move: ko"
 NAMED = {ord('"'): '\\"', ord("\\"): "\\\\", ord("\n"): "\\n", ord("\r"): "\\r", ord("\t"): "\\t"}
 
 
-def line(number, side, text):
-    """The line of a loss or of a retake in the game of this number."""
+class Sent(NamedTuple):
+    """A command that was sent, by its id."""
+
+    id: int
+    command: str
+
+
+Unanswered = Sequence[Sent]  # the oldest first
+
+
+def line(number: int, side: Colour, text: str) -> bytes:
+    """Returns the line of a loss or of a retake in the game of this number."""
     return f"twogtp: game {number}: {side}: {text}\n".encode()
 
 
-def not_started(reason, program):
-    """What is reported of a side whose engine can't be started: why, and the first word of its command."""
+def not_started(reason: str, program: bytes) -> str:
+    """Returns the text for a side whose engine, which is this program, can't be started."""
     return f"not started: {reason}: {quoted(program)}"
 
 
-def lost(unanswered, cause, data):
-    """What is reported of a side that fails by what it wrote: with these commands unanswered, each a pair of its id and its text without a
-    newline, the oldest first; for this cause; and having written this since its last whole reply.
-    """
+def lost(unanswered: Unanswered, cause: str, data: bytes) -> str:
+    """Returns the text for a side that fails by what it wrote since its last whole reply."""
     return f"{owed(unanswered)}: {cause}; it wrote {quoted(data)}"
 
 
-def cut_off(unanswered, cause, ending, data):
-    """What is reported of a side whose pipe is broken, and whose process ended so. Only at the end of its output all that it wrote was read."""
+def cut_off(unanswered: Unanswered, cause: str, ending: str, data: bytes) -> str:
+    """Returns the text for a side whose pipe is broken, and whose process ended so.
+
+    Only at the end of its output is it known that all of its output was read.
+    """
     if data or cause == OUTPUT_ENDED:
         return lost(unanswered, f"{cause}, {ending}", data)
     return f"{owed(unanswered)}: {cause}, {ending}; nothing of it was read"
 
 
-def retaken(count, most):
-    """The cause of a retake, which is no loss: it is this one of so many that its move's number may have."""
+def retaken(count: int, most: int) -> str:
+    """Returns the cause of a retake, of which a move number may have so many."""
     return f"{REFUSED_PLAY} (retake {count} of {most})"
 
 
-def owed(unanswered):
-    """How many commands are unanswered, and the oldest of them."""
+def owed(unanswered: Unanswered) -> str:
+    """Returns how many commands are unanswered, and the oldest of them."""
     if not unanswered:
         return "0 unanswered"
     number, command = unanswered[0]
@@ -67,13 +83,13 @@ def owed(unanswered):
     return f'{len(unanswered)} unanswered,{the_first} "{number} {command}"'
 
 
-def quoted(data):
-    """The first of these bytes in quotes."""
+def quoted(data: bytes) -> str:
+    """Returns the first of these bytes in quotes."""
     return f'"{escaped(data[:MOST_BYTES])}"'
 
 
-def escaped(data):
-    """These bytes as text of one line, from which they can be read again."""
+def escaped(data: bytes) -> str:
+    """Returns these bytes as text of one line, from which they can be read again."""
     return "".join(
         NAMED.get(byte) or (chr(byte) if 32 <= byte <= 126 else f"\\x{byte:02X}") for byte in data
     )
