@@ -46,6 +46,29 @@ for it in twogtp gtp_engine gtp_check; do printf '#!/bin/sh\\necho %s 1.0\\n' $i
 chmod +x bin/*
 """
 CHANGELOG = "echo '## [1.0]' > CHANGELOG.md\n"
+# a release over an earlier one, of which nothing may be left
+RUN = "mkdir dist; touch dist/old; ./release; status=$?; ls -A dist >&2; exit $status"
+NOT_COMMITTED = "is not committed: commit or remove it, since a release is made of a commit alone\n"
+# a PATH on which some tools of a release are missing
+FEW_TOOLS = """\
+rm p/cargo p/dpkg-deb
+for it in bash dirname sed mkdir touch flock find tar gzip awk git ls rm; do
+    ln -s "$(type -P $it)" p
+done
+PATH=$PWD/p
+"""
+# an old cargo, and none of the packages of other crates
+OLD_CARGO = """\
+mkdir p
+printf '#!/bin/sh\\necho "cargo 1.86.0 (x)"\\n' > p/cargo
+printf '#!/bin/sh\\nexit 1\\n' > p/dpkg-query
+chmod +x p/*
+PATH=$PWD/p:$PATH
+"""
+CRATES = ["arrayvec", "thiserror", "rand-pcg", "rand-core", "clap"]
+OF_CRATES = " ".join(f"librust-{crate}-dev" for crate in CRATES)
+# a C compiler that finds no static library
+NO_LIBRARY = "printf '#!/bin/sh\\necho nowhere\\n' > p/cc\n"
 OTHER_VERSION = "sed -i s/1.0/1.1/ bin/gtp_engine\n"
 
 ERRORS = {
@@ -122,6 +145,29 @@ ERRORS = {
             1,
             "..the pages can't be made\n",
         ),
+        (
+            f"{RELEASE}{FEW_TOOLS}{RUN}",
+            1,
+            "there is no dpkg-deb (dpkg)\nrelease: there is no cargo (cargo-web)\n",
+        ),
+        (f"{RELEASE}touch a\n{COMMIT}echo b > a\n{RUN}", 1, f"a {NOT_COMMITTED}"),
+        (f"{RELEASE}{COMMIT}touch new\n{RUN}", 1, f"new {NOT_COMMITTED}"),
+        (
+            f"{RELEASE}{PROGRAMS}echo '## [0.9]' > CHANGELOG.md\n{COMMIT}{RUN}",
+            1,
+            "CHANGELOG.md has no section [1.0]\n",
+        ),
+        (
+            f"{RELEASE}{PROGRAMS}{CHANGELOG}{COMMIT}./release --final",
+            1,
+            "there is no tag v1.0: git tag v1.0\n",
+        ),
+        (
+            f"{RELEASE}{PROGRAMS}{CHANGELOG}{COMMIT}git tag v1.0\ntouch new\n{COMMIT}"
+            "./release --final 2>&1 | sed 's/[0-9a-f]\\{40\\}/ID/' >&2; exit ${PIPESTATUS[0]}",
+            1,
+            "the tag v1.0 names another commit, ID\n",
+        ),
     ],
     "packaging/link": [
         (
@@ -130,6 +176,19 @@ ERRORS = {
             "there is no cc, which finds the C library (apt-get install gcc libc6-dev)\n",
         ),
         (f'{NO_KIT}"$TOP/packaging/link" a b c', 3, "a is not there\n"),
+        (
+            f'{NO_KIT}{NO_LIBRARY}"$TOP/packaging/link" --library',
+            1,
+            "there is no static C library: rcrt1.o is not there (apt-get install gcc libc6-dev)\n",
+        ),
+    ],
+    "packaging/source": [
+        (
+            f'{OLD_CARGO}"$TOP/packaging/source" --look',
+            1,
+            "cargo 1.86.0 (x) is too old: 1.87 or later is needed (apt-get install cargo-web)\n"
+            f"packaging/source: there is no librust-arrayvec-dev (apt-get install {OF_CRATES})\n",
+        ),
     ],
     "packaging/notices": [
         (

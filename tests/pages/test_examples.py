@@ -35,7 +35,7 @@ PAGES = [
 # The pages whose examples aren't run here.
 NOT_RUN = {
     "docs/interop.md": "they need GNU Go and Leela Zero, which they name without a path",
-    "packaging/README.release.md": "tests/stages/release.py runs them in the archive",
+    "packaging/README.release.md": "tests/build/test_release_trees.py runs them",
 }
 OTHER_PROGRAMS = re.compile(r"/usr/games/\w+")
 # The pages that quote code, and where it is.

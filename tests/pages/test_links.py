@@ -12,7 +12,7 @@ from tests.shared.processes import TOP
 FEWEST_PAGES = 20  # of the repository
 PAGES = pages.page_paths()
 NO_FILE = re.compile(r"^cargo/workspace/|NAME|CRATE")  # made by cargo/strip, or any file
-NAMES_LOST_PAGES = "tests/stages/of_release/stopped.py"
+NAMES_LOST_PAGES = "tests/build/test_release_pages.py"
 
 each_page = pytest.mark.parametrize("page", PAGES)
 

@@ -1,1 +1,0 @@
-"""What is looked at in the pages of a release."""
