@@ -1,1 +1,1 @@
-"""Each call of the library in C, for tests/library and tests/stages/cargo.py."""
+"""Each call of the library in C, for tests/library and tests/build."""

@@ -1,1 +1,0 @@
-"""Draws conversations with `gtp_engine`, matches of `twogtp` and courses of `gtp_check`, and compares what two builds do in them."""
