@@ -15,9 +15,8 @@ from typing import Any, Callable, Iterable, NamedTuple
 
 import pytest
 
+from tests.library import each_call
 from tests.shared.processes import TIMEOUT, TOP, run
-from tests.stages.of_library_in_c import each_call
-from tests.stages.of_library_in_c.each_call import Way
 
 from .conftest import PROGRAMS
 from .trials import Trial, checks, conversation, match, trials
@@ -111,22 +110,19 @@ def test_documentation_has_the_contracts(workspace: Path) -> None:
 
 
 @pytest.mark.cc
-@pytest.mark.parametrize("way", each_call.WAYS, ids=lambda way: way.what)
-@pytest.mark.parametrize("library", ["libvintsaky.a", "libvintsaky.so"])
+@pytest.mark.parametrize("way", each_call.WAYS, ids=lambda way: way.name)
+@pytest.mark.parametrize(
+    "file, name", [("libvintsaky.a", "libvintsaky.a"), ("libvintsaky.so", "libvintsaky.so.1")]
+)
 def test_each_call(
-    library: str, way: Way, built: Path, proved_programs: Path, tmp_path: Path
+    file: str, name: str, way: each_call.Way, built: Path, proved_programs: Path, tmp_path: Path
 ) -> None:
-    # where cargo has built the programs in bin/, the tests of the library show this
-    if way.words and not shutil.which(way.words[0]):
-        pytest.skip(f"there is no {way.words[0]}")
-    if way.sanitizer and not each_call.runs(way.sanitizer, tmp_path):
-        pytest.skip("the sanitizer does not run here")
-    file, calls = tmp_path / library.replace(".so", ".so.1"), tmp_path / "calls"
-    shutil.copy(built / library, file)
-    assert each_call.compiled(each_call.SOURCE, calls, file, *way.flags, "-DAT_MOST") == ""
-    environment = {**os.environ, "LD_LIBRARY_PATH": str(tmp_path)}
-    done = run([*way.words, calls], timeout=LONG, env=environment)
-    assert (done.returncode, done.stdout + done.stderr) == (0, "")
+    # where cargo has built the library in bin/, the tests of the library show this
+    if reason := each_call.missing(way, tmp_path):
+        pytest.skip(reason)
+    (tmp_path / "library").mkdir()
+    library = shutil.copy(built / file, tmp_path / "library" / name)
+    each_call.check_each_call(way, library, tmp_path, "-DAT_MOST")
 
 
 # ---- beside the proved programs
