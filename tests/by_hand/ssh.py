@@ -1,182 +1,169 @@
-#!/usr/bin/env python3
-"""Plays tournaments over a real ssh by GNU Parallel, by hand: two machines that are this one, each with an sshd on the loopback.
+"""Tournaments over a real ssh by GNU Parallel: two machines that are this one, each with an sshd.
 
-It wants root, and Debian's packages: apt-get install openssh-server openssh-client parallel. It takes some seconds. bin/ has the programs.
+    python3 -m pytest tests/by_hand/ssh.py
 
-- The games are those of an undisturbed run. A machine that can't be reached leaves the file of machines.
-- The connections to one machine are lost in the middle of games: the other one plays the rest, and what was begun ends.
-- On one machine an engine isn't there: it leaves, and its games are played on the other.
+They need root, and Debian's packages openssh-server, openssh-client and parallel, and take some
+seconds. The games have to be those of an undisturbed run, whatever is done to a machine.
 """
-import contextlib
-import os
+from __future__ import annotations
+
 import shutil
 import signal
-import sys
-import time
+from collections.abc import Callable, Iterator
 from pathlib import Path
+from subprocess import Popen
 
-sys.dont_write_bytecode = True
-sys.path[0] = str(Path(__file__).resolve().parents[2])
+import pytest
 
-from tests.by_hand.slurm import ENGINES, SLOW, free_ports, undisturbed  # noqa: E402
-from tests.shared import checks  # noqa: E402
-from tests.stages.of_tournament import rooms  # noqa: E402
+from tests.shared.processes import wait_until
+from tests.tournament.runner import SCRIPTS, Runner, kill
 
+from .conftest import PLAN
+from .slurm import free_ports
+
+SSHD = "/usr/sbin/sshd"
 SERVER = """\
 Port {port}
 ListenAddress 127.0.0.1
-HostKey {at}/host
-AuthorizedKeysFile {at}/key.pub
-PidFile {at}/{name}.pid
+HostKey {folder}/host
+AuthorizedKeysFile {folder}/key.pub
+PidFile {folder}/{name}.pid
 StrictModes no
 UsePAM no
 PermitRootLogin yes
 MaxStartups 100
 SetEnv {mark} TWOGTP={twogtp} PATH={path}
 """
-CLIENT = "Host {name}\n  HostName 127.0.0.1\n  Port {port}\n"
-ALL = "\nHost *\n  User root\n  IdentityFile {at}/key\n  UserKnownHostsFile {at}/known\n  StrictHostKeyChecking no\n  LogLevel ERROR\n  BatchMode yes\n"
-PLAY = "tournament list {at}/far | parallel --will-cite --retries 5 --sshloginfile machines --ssh 'machine machines'" \
-       " {scripts}/tournament game {at}/far"  # fmt: skip
+CLIENT = """\
+Host {name}
+  HostName 127.0.0.1
+  Port {port}
+"""
+CLIENTS = """\
+
+Host *
+  User root
+  IdentityFile {folder}/key
+  UserKnownHostsFile {folder}/known
+  StrictHostKeyChecking no
+  LogLevel ERROR
+  BatchMode yes
+"""
+PLAY = """\
+tournament list {folder}/far | parallel --will-cite --retries 5 --sshloginfile machines \\
+    --ssh 'machine machines' {scripts}/tournament game {folder}/far
+"""
+
+pytestmark = [
+    pytest.mark.root,
+    pytest.mark.skipif(
+        not all(map(shutil.which, (SSHD, "ssh", "ssh-keygen", "parallel"))),
+        reason="they need openssh-server, openssh-client and parallel (apt-get install ..)",
+    ),
+]
 
 
 class Machines:
-    """Two machines in a room, and a third that nobody answers for."""
+    """Two machines in the folder of a runner, and a third where nobody answers."""
 
-    def __init__(self, here):
-        self.here = here
-        self.servers = {}
-        here.environment |= {"SHELL": "/bin/bash", "HOME": str(here.at)}
+    def __init__(self, runner: Runner) -> None:
+        self.runner = runner
+        self.servers: dict[str, Popen[str]] = {}
+        folder = runner.folder
+        runner.environment |= {"SHELL": "/bin/bash", "HOME": str(folder)}
         for key in ("host", "key"):
-            here.run("ssh-keygen", "-q", "-t", "ed25519", "-N", "", "-f", str(here.at / key))
+            runner.run("ssh-keygen", "-q", "-t", "ed25519", "-N", "", "-f", folder / key)
         Path("/run/sshd").mkdir(exist_ok=True)
-        (here.at / "tools").mkdir()
-        here.script("tools/ssh", f'#!/bin/bash\nexec /usr/bin/ssh -F {here.at}/config "$@"\n')
+        (folder / "tools").mkdir()
+        runner.script("tools/ssh", f'exec /usr/bin/ssh -F {folder}/config "$@"')
         ports = dict(zip(("one", "two", "gone"), free_ports(3)))
         config = "".join(CLIENT.format(name=name, port=port) for name, port in ports.items())
-        (here.at / "config").write_text(config + ALL.format(at=here.at))
+        runner.write("config", config + CLIENTS.format(folder=folder))
         for name in ("one", "two"):
             self.serve(name, ports[name])
-        here.environment["PATH"] = f"{here.at}/tools:{here.environment['PATH']}"
-        (here.at / "machines").write_text("2/one\n2/gone\n2/two\n")
-        self.is_up = here.until(
-            lambda: all(here.run("ssh", name, "true").status == 0 for name in self.servers), 20
-        )
+        runner.environment["PATH"] = f"{folder}/tools:{runner.environment['PATH']}"
+        runner.write("machines", "2/one\n2/gone\n2/two\n")
 
-    def serve(self, name, port):
-        """Starts the server of a machine. Its sessions can be found as all else that is started in the room."""
-        here = self.here
-        (here.at / name).mkdir()
-        path = f"{here.at}/{name}:{here.environment['PATH']}"
+    def serve(self, name: str, port: int) -> None:
+        """Starts the server of a machine. The runner finds its sessions too."""
+        runner, folder = self.runner, self.runner.folder
+        (folder / name).mkdir()
         text = SERVER.format(
             port=port,
-            at=here.at,
+            folder=folder,
             name=name,
-            mark=here.mark,
-            twogtp=here.environment["TWOGTP"],
-            path=path,
+            mark=runner.mark,
+            twogtp=runner.environment["TWOGTP"],
+            path=f"{folder}/{name}:{runner.environment['PATH']}",
         )
-        (here.at / f"{name}.conf").write_text(text)
-        log = open(here.at / f"{name}.log", "wb")  # pylint: disable=consider-using-with
-        self.servers[name] = here.start(
-            "/usr/sbin/sshd",
-            "-D",
-            "-e",
-            "-f",
-            str(here.at / f"{name}.conf"),
-            stdout=log,
-            stderr=log,
+        file = runner.write(f"{name}.conf", text)
+        with open(folder / f"{name}.log", "wb") as log:
+            self.servers[name] = runner.start(SSHD, "-D", "-e", "-f", file, stdout=log, stderr=log)
+
+    def are_up(self) -> bool:
+        """Waits until both servers answer, and tells whether they do."""
+        return wait_until(
+            lambda: all(self.runner.run("ssh", it, "true").status == 0 for it in self.servers)
         )
 
-    def cut(self, name):
-        """Ends the server of a machine with all its connections, and nothing of what was started over them."""
-        tree = [self.servers[name].pid]
-        for pid in tree:
+    def cut(self, name: str) -> None:
+        """Ends a machine's server and its connections, and nothing that was started over them."""
+        pids = [self.servers[name].pid]
+        for pid in pids:
             children = Path(f"/proc/{pid}/task/{pid}/children").read_text().split()
-            tree += [int(it) for it in children if Path(f"/proc/{it}/comm").read_text() == "sshd\n"]
-        for pid in tree:
-            with contextlib.suppress(OSError):
-                os.kill(pid, signal.SIGKILL)
+            names = {child: Path(f"/proc/{child}/comm").read_text() for child in children}
+            pids += [int(child) for child, name in names.items() if name == "sshd\n"]
+        for pid in pids:
+            kill(pid, signal.SIGKILL)
 
-    def end(self):
-        """Ends the servers."""
-        for server in self.servers.values():
+
+@pytest.fixture
+def machines(runner: Runner) -> Iterator[Machines]:
+    """Returns machines that are up, and has the tournament `far` planned there."""
+    made = Machines(runner)
+    try:
+        assert made.are_up()
+        assert runner.tournament("plan", "far", *PLAN).status == 0
+        yield made
+    finally:
+        for server in made.servers.values():  # whose titles hide their environments
             server.kill()
-            server.wait()
 
 
-@contextlib.contextmanager
-def machines():
-    """The machines, with slow engines, in a room."""
-    with rooms.room() as here:
-        here.script("slow", SLOW)
-        made = Machines(here)
-        try:
-            yield made
-        finally:
-            made.end()
+def check_games(
+    machines: Machines, wanted: dict[str, str], disturb: Callable[[], None] = lambda: None
+) -> list[str]:
+    """Plays all games while something is disturbed, and fails where they aren't those wanted.
+
+    Returns the machines of the file of machines, in which `# ` is before one that has left.
+    """
+    runner = machines.runner
+    play = PLAY.format(folder=runner.folder, scripts=SCRIPTS)
+    process = runner.start("bash", "-c", play)
+    disturb()
+    done = runner.finish(process)
+    runner.wait_until(lambda: not runner.named("twogtp") + runner.named("gtp_engine"))
+    assert runner.games("far") == wanted, done.errors
+    lines = (runner.folder / "machines").read_text().splitlines()
+    return [line.split(" left: ")[0] for line in lines]
 
 
-class Ssh(rooms.Case):
-    """The games by GNU Parallel over a real ssh."""
-
-    def setUp(self):
-        if (
-            os.getuid()
-            or not Path("/usr/sbin/sshd").exists()
-            or not all(map(shutil.which, ("ssh", "ssh-keygen", "parallel")))
-        ):
-            self.skip(
-                "a real ssh", "it wants root, openssh-server, openssh-client and GNU Parallel"
-            )
-            self.skipTest("no ssh")
-
-    def plays(self, made, disturb=lambda: None):
-        """Plays all games, disturbed so, and looks at what comes of them."""
-        here = made.here
-        self.check("both machines are up", True, made.is_up)
-        self.check(
-            "the plan", 0, here.run("tournament", "plan", "far", *ENGINES, *rooms.SMALL).status
-        )
-        began = time.monotonic()
-        process = here.start("bash", "-c", PLAY.format(at=here.at, scripts=rooms.SCRIPTS))
-        disturb()
-        _, errors = process.communicate(timeout=rooms.LIMIT)
-        print(f"# it took {time.monotonic() - began:.0f} seconds", flush=True)
-        here.until(lambda: not here.named("twogtp"), 40)
-        wanted, got = undisturbed(), here.games("far")
-        odd = sorted(name for name in {*wanted, *got} if wanted.get(name) != got.get(name))
-        self.check("the same results", ([], ""), (odd, errors if odd else ""))
-        self.check("no engine is left", [], here.named("twogtp") + here.named("gtp_engine"))
-        return [
-            line.split(" left: ")[0] for line in (here.at / "machines").read_text().splitlines()
-        ]
-
-    def test_unreached(self):
-        """A machine that can't be reached leaves, and the others play all games."""
-        with machines() as made:
-            self.check("who is left", ["2/one", "# 2/gone", "2/two"], self.plays(made))
-
-    def test_cut(self):
-        """The connections to a machine are lost: the other one plays the rest."""
-        with machines() as made:
-
-            def disturb():
-                made.here.until(lambda: len(made.here.games("far")) > 1, 60)
-                made.cut("one")
-
-            self.check("who is left", ["# 2/one", "# 2/gone", "2/two"], self.plays(made, disturb))
-
-    def test_without(self):
-        """A machine that has no engine leaves, and the other one plays its games."""
-        with machines() as made:
-            made.here.script("one/gtp_engine", "#!/nowhere\n")
-            self.check("who is left", ["# 2/one", "# 2/gone", "2/two"], self.plays(made))
+def test_machine_that_is_not_reached_leaves(
+    machines: Machines, undisturbed: dict[str, str]
+) -> None:
+    assert check_games(machines, undisturbed) == ["2/one", "# 2/gone", "2/two"]
 
 
-PARSER = checks.Parser(__doc__)
-OPTIONS = PARSER.options(__name__)
+def test_other_machine_plays_the_rest_where_connections_are_lost(
+    machines: Machines, undisturbed: dict[str, str]
+) -> None:
+    def cut() -> None:
+        machines.runner.wait_until(lambda: len(machines.runner.games("far")) > 1)
+        machines.cut("one")
+
+    assert check_games(machines, undisturbed, cut) == ["# 2/one", "# 2/gone", "2/two"]
 
 
-if __name__ == "__main__":
-    checks.main(OPTIONS)
+def test_machine_without_an_engine_leaves(machines: Machines, undisturbed: dict[str, str]) -> None:
+    machines.runner.script("one/gtp_engine", "#!/nowhere\n")
+    assert check_games(machines, undisturbed) == ["# 2/one", "# 2/gone", "2/two"]

@@ -11,6 +11,7 @@ from .processes import TOP
 # directories of what checks and builds leave
 LEFT_OUT = {
     ".git",
+    ".hypothesis",
     ".mypy_cache",
     ".pytest_cache",
     "__pycache__",
