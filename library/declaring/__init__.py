@@ -1,1 +1,1 @@
-"""What `library/declare` is made of: it writes all that declares the library, from the library's own sources."""
+"""The parts of `library/declare`, which writes all that declares the library."""

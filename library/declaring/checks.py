@@ -1,11 +1,11 @@
-"""All that `library/declare --check` looks at: what is made, and whether what is written by hand has each call."""
+"""What `library/declare --check` looks at."""
 from . import files as declared
 from . import names
 from .texts import Mistake
 
 
 def differences(files):
-    """The lines on what differs, by what they are about."""
+    """Returns the lines on what differs, by what they are about."""
     lines = {"what library/declare writes": declared.differing(files)}
     try:
         lines["the names of calls in Rust and Python"] = names.differing(files)

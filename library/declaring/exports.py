@@ -1,6 +1,7 @@
-"""The calls of the library, as the exports in crates/vintsaky/src declare them: their comments, results and arguments.
+"""The calls of the library, as the exports in crates/vintsaky/src declare them.
 
-An argument of an export becomes one or two of C: a slice is a pointer with its length, or with the size of the buffer.
+An argument of an export becomes one or two of C: a slice is a pointer with its length, or with the
+size of the buffer.
 """
 import re
 from dataclasses import dataclass
@@ -11,7 +12,8 @@ FOLDER = "crates/vintsaky/src/"
 ATTRIBUTE = "#[unsafe(no_mangle)]\n"
 EXPORT = re.compile(
     r"((?:^///[^\n]*\n)*)^#\[unsafe\(no_mangle\)\]\n"
-    r'pub (?:unsafe )?extern "C" fn (vintsaky_\w+)\(([^()]*)\)(?:\s*-> (\w+))?(?:\n(?:    [^\n]*\n)*\{\n(.*?)^\}| \{\})$',
+    r'pub (?:unsafe )?extern "C" fn (vintsaky_\w+)\(([^()]*)\)(?:\s*-> (\w+))?'
+    r"(?:\n(?:    [^\n]*\n)*\{\n(.*?)^\}| \{\})$",
     re.MULTILINE | re.DOTALL,
 )
 # what a number is called in C, and in ctypes
@@ -38,7 +40,10 @@ class Argument:
 
 @dataclass(frozen=True)
 class Call:
-    """A call: its name, what its comment says, and what it says of errors; its result in C and in ctypes, and its arguments."""
+    """A call: its comment, and its result and arguments in C and in ctypes.
+
+    What the comment says of errors is in `errors`.
+    """
 
     name: str
     said: str
@@ -52,13 +57,13 @@ class Call:
 
 
 def handle_of(kind):
-    """The object of a handle's type, if it is one: `game` of GameHandle."""
+    """Returns the object of a handle's type, if it is one: `game` of GameHandle."""
     found = re.fullmatch(r"(\w+)Handle", kind)
     return found and found[1].lower()
 
 
 def slice_of(name, kind, is_written):
-    """The two arguments of a slice."""
+    """Returns the two arguments of a slice."""
     length = Argument(f"{name}_length", *NUMBERS["usize"])
     if handle_of(kind) and is_written:  # each handle is borrowed, so it may change
         return [Argument(name, f"vintsaky_{handle_of(kind)} *", f"POINTER({kind})"), length]
@@ -79,7 +84,10 @@ def slice_of(name, kind, is_written):
 
 
 def given(name, kind):
-    """The arguments of C that an argument of an export becomes. KeyError if C has no such type."""
+    """Returns the arguments of C that an argument of an export becomes.
+
+    KeyError if C has no such type.
+    """
     is_slice = re.fullmatch(r"&(mut )?\[(\w+)\]", kind)
     if is_slice:
         return slice_of(name, is_slice[2], bool(is_slice[1]))
@@ -95,7 +103,7 @@ def given(name, kind):
 
 
 def arguments_of(text, where):
-    """The arguments of C that those of an export become."""
+    """Returns the arguments of C that those of an export become."""
     arguments = []
     for name, kind in (" ".join(it.split()).split(": ", 1) for it in text.split(",") if it.strip()):
         try:
@@ -111,30 +119,31 @@ def arguments_of(text, where):
 
 
 def paragraphs(lines):
-    """The text of a comment, its paragraphs one after the other."""
+    """Returns the text of a comment, its paragraphs one after the other."""
     return " ".join(" ".join(line[3:].strip() for line in lines).split())
 
 
 def said_of(comment, where):
-    """What a comment says of a call, and of its errors. What it says of safety is at the head of the header."""
+    """Returns what a comment says of a call, and of its errors.
+
+    What it says of safety is at the head of the header.
+    """
     parts = re.split(r"^/// # (\w+)\n", comment, flags=re.MULTILINE)
     sections = dict(zip(parts[1::2], parts[2::2]))
     if not parts[0].strip() or set(sections) - {"Errors", "Safety"}:
-        raise Mistake(
-            f"{where}: its comment has to say what it does, and then, if it can be rejected, '# Errors'"
-        )
+        wanted = "what it does, and then, if it can be rejected, '# Errors'"
+        raise Mistake(f"{where}: its comment has to say {wanted}")
     return paragraphs(parts[0].splitlines()), paragraphs(sections.get("Errors", "").splitlines())
 
 
 def call_of(found, path):
-    """The call of an export."""
+    """Returns the call of an export."""
     comment, name, arguments, result, body = found.groups()
     where = f"{path}: {name}"
     said, errors = said_of(comment, where)
     if ("code_of(" in (body or "")) != bool(errors):
-        raise Mistake(
-            f"{where}: '# Errors' has to list the errors, and must not be there if it is never rejected"
-        )
+        wanted = "list the errors, and must not be there if it is never rejected"
+        raise Mistake(f"{where}: '# Errors' has to {wanted}")
     if result and result not in NUMBERS:
         raise Mistake(f"{where}: it returns what C can't: {result}")
     c, python = NUMBERS[result] if result else ("void", "None")
@@ -143,7 +152,7 @@ def call_of(found, path):
 
 @once
 def calls_in(path, text):
-    """The calls of a file of exports, in their order there."""
+    """Returns the calls of a file of exports, in their order there."""
     calls = [call_of(it, path) for it in EXPORT.finditer(text)]
     if len(calls) != text.count(ATTRIBUTE) or text.count(ATTRIBUTE) != text.count("no_mangle"):
         raise Mistake(
@@ -153,7 +162,7 @@ def calls_in(path, text):
 
 
 def files_of(section, files):
-    """The files of a section of the header: a module, or a module's folder."""
+    """Returns the files of a section of the header: a module, or a module's folder."""
     names = [
         f"{FOLDER}{section}.rt",
         *(f"{FOLDER}{section}/{it}.rt" for it in ("exports", "searching")),
@@ -162,7 +171,7 @@ def files_of(section, files):
 
 
 def calls_of(section, files):
-    """The calls of a section of the header."""
+    """Returns the calls of a section of the header."""
     calls = [call for path in files_of(section, files) for call in calls_in(path, files[path])]
     if not calls:
         raise Mistake(f"there are no exports in {FOLDER}{section}.rt and {section}/")
@@ -170,7 +179,7 @@ def calls_of(section, files):
 
 
 def all_calls(files):
-    """All calls, by their names."""
+    """Returns all calls, by their names."""
     calls = {}
     for path in [it for it in files if it.startswith(FOLDER)]:
         for call in calls_in(path, files[path]):

@@ -28,13 +28,13 @@ MADE = {
 
 
 def read(top):
-    """Each file that is read: its text, by its path from the top."""
+    """Returns each file that is read: its text, by its path from the top."""
     paths = sorted(path for pattern in READ for path in Path(top).glob(pattern) if path.is_file())
     return {path.relative_to(top).as_posix(): path.read_text(encoding="utf-8") for path in paths}
 
 
 def made(files):
-    """Each file that is made: its text, by its path from the top."""
+    """Returns each file that is made: its text, by its path from the top."""
     return {path: make(files) for path, make in MADE.items()}
 
 
@@ -50,7 +50,7 @@ def write(top):
 
 
 def first_difference(wanted, got):
-    """The number of the first line in which two texts differ, and that line of each."""
+    """Returns the number of the first line in which two texts differ, and that line of each."""
     ours, theirs = wanted.splitlines(), got.splitlines()
     at = next(
         (i for i, (a, b) in enumerate(zip(ours, theirs)) if a != b), min(len(ours), len(theirs))
@@ -60,7 +60,7 @@ def first_difference(wanted, got):
 
 
 def differing(files):
-    """A line for each file that isn't as it is made."""
+    """Returns a line for each file that isn't as it is made."""
     lines = []
     for path, make in MADE.items():
         try:

@@ -1,8 +1,10 @@
 """The C header: vintsaky.h.in, in which the calls and the numbers take the places that are marked.
 
-A mark is `@WORD ..@`. One alone on its line becomes lines: `@values KIND@` the numbers of a kind, a line each with what is said of it;
-`@enums KIND@` the same in short enumerations; `@causes@` the errors; `@calls SECTION@` the calls of a section. Any other becomes a
-number: `@interface@`, `@version@`, `@KIND NAME@` that of a value, `@CRATE NAME@` that of a constant, and `@CRATE NAME + 1@` one more.
+A mark is `@WORD ..@`. One alone on its line becomes lines: `@values KIND@` the numbers of a kind, a
+line each with what is said of it; `@enums KIND@` the same in short enumerations; `@causes@` the
+errors; `@calls SECTION@` the calls of a section. Any other becomes a number: `@interface@`,
+`@version@`, `@KIND NAME@` that of a value, `@CRATE NAME@` that of a constant, and `@CRATE NAME +
+1@` one more.
 """
 import re
 import textwrap
@@ -24,7 +26,10 @@ LAST = "\N{NO-BREAK SPACE}*/"  # the end of a comment, which stays with the last
 
 
 def declaration(call):
-    """The declaration of a call. Where it is too long for a line its arguments go to the next one, or else fill the lines."""
+    """Returns the declaration of a call.
+
+    Where it is too long for a line its arguments go to the next one, or else fill the lines.
+    """
     arguments = [
         it.c + it.name if it.c.endswith("*") else f"{it.c} {it.name}" for it in call.arguments
     ] or ["void"]
@@ -48,7 +53,7 @@ def declaration(call):
 
 
 def in_c(text, causes, where):
-    """A comment for C: without marks of code, and with the names that errors have in C."""
+    """Returns a comment for C: without marks of code, and with the names that errors have in C."""
 
     def word(found):
         if found[1] in causes:
@@ -61,12 +66,12 @@ def in_c(text, causes, where):
 
 
 def wrapped(text):
-    """The lines of a text, as wide as those of a comment are."""
+    """Returns the lines of a text, as wide as those of a comment are."""
     return textwrap.wrap(text, WIDTH - 3, break_long_words=False, break_on_hyphens=False)
 
 
 def comment_of(call, causes):
-    """The comment of a call: what it does, and its errors."""
+    """Returns the comment of a call: what it does, and its errors."""
     said = in_c(call.said, causes, call.name)
     errors = call.errors and f"Errors: {in_c(call.errors, causes, call.name)}"
     lines = wrapped(said if errors else said + LAST) + (wrapped(errors + LAST) if errors else [])
@@ -74,14 +79,17 @@ def comment_of(call, causes):
 
 
 def sections(files):
-    """The sections that have calls, in the order of the header."""
+    """Returns the sections that have calls, in the order of the header."""
     return [
         name for _, what, name in LINE.findall(numbers.text_of(files, TEMPLATE)) if what == "calls"
     ]
 
 
 def calls_of(section, files):
-    """The calls of a section, except the one with the number of the interface, which stands at the head of the header."""
+    """Returns the calls of a section, but the one with the number of the interface.
+
+    That one is at the head of the header.
+    """
     causes = {it.name for it in numbers.causes_of(files)}
     calls = [
         it
@@ -95,7 +103,10 @@ def calls_of(section, files):
 
 
 def lines_of(values):
-    """The lines of an enumeration, with what is said of each value. The comments are aligned."""
+    """Returns the lines of an enumeration, with what is said of each value.
+
+    The comments are aligned.
+    """
     ends = [f"VINTSAKY_{it.name} = {it.number}{',' * (it is not values[-1])}" for it in values]
     width = max(map(len, ends))
     said = [f"/* {it.said} */" if it.said else "" for it in values]
@@ -103,7 +114,7 @@ def lines_of(values):
 
 
 def causes_of(files):
-    """The lines of the errors: each ends with a comma, since later releases add more."""
+    """Returns the lines of the errors: each ends with a comma, since later releases add more."""
     return [
         f"VINTSAKY_{it.name} = {it.number}, /* {it.said} */"
         for it in (cause.value for cause in numbers.causes_of(files))
@@ -120,7 +131,7 @@ def enums_of(values):
 
 
 def number_of(mark, calls, files):
-    """The number of a mark."""
+    """Returns the number of a mark."""
     first, name, plus = mark.groups()
     if first == "interface":
         return numbers.interface_of(calls)
@@ -138,7 +149,7 @@ def number_of(mark, calls, files):
 
 
 def expanded(found, files):
-    """The lines of a mark that is alone on its line."""
+    """Returns the lines of a mark that is alone on its line."""
     indent, what, name = found.groups()
     if what == "calls":
         return calls_of(name, files)
@@ -151,7 +162,7 @@ def expanded(found, files):
 
 
 def made(files):
-    """The header."""
+    """Returns the header."""
     template = numbers.text_of(files, TEMPLATE)
     calls = exports.all_calls(files)
     text = LINE.sub(lambda found: expanded(found, files), template)
@@ -169,7 +180,7 @@ def made(files):
 
 
 def declared_names(text):
-    """The names of all that a header defines in capitals."""
+    """Returns the names of all that a header defines in capitals."""
     text = bare(text, C_COMMENT)
     return set(re.findall(r"\b(VINTSAKY_\w+) = ", text)) | set(
         re.findall(r"^#define (VINTSAKY_\w+)", text, re.MULTILINE)

@@ -1,4 +1,4 @@
-"""Looks whether the Rust crate and the Python package have each call of the library, and whether comments name only calls that there are."""
+"""Compares the calls with those of the Rust crate and the Python package, and those in comments."""
 import re
 
 from . import exports, python
@@ -13,9 +13,11 @@ OBJECTS = {
 }
 # what has another name in Rust, and what is elsewhere there: the beginning of its line
 NAMES = {
-    "place": "new", "finished": "is_finished", "hash": "board_hash", "ended": "is_ended", "next": "next_action", "in_step": "is_in_step",
-    "ok": "is_ok",
-}  # fmt: skip
+    "place": "new",
+    "hash": "board_hash",
+    "next": "next_action",
+    **{name: f"is_{name}" for name in ("finished", "ended", "in_step", "ok")},
+}
 ELSEWHERE = {
     "version": "pub fn version(",
     "cause_text": "impl fmt::Display for Refusal ",
@@ -50,7 +52,7 @@ def in_rust(name, text):
 
 
 def used_in_python(files):
-    """The calls that the Python package makes, as patterns: a part of a name may be filled in."""
+    """Returns the calls of the Python package, as patterns: a part of a name may be filled in."""
     own = (python.DECLARED, python.NUMBERS)
     text = "\n".join(
         text for path, text in files.items() if path.startswith(PACKAGE) and path not in own
@@ -63,7 +65,7 @@ def used_in_python(files):
 
 
 def differing(files):
-    """A line for each call that Rust or Python lacks, and for each that is named and isn't there."""
+    """Returns a line for each call that Rust or Python lacks, and for each that isn't there."""
     calls, used = exports.all_calls(files), used_in_python(files)
     rust = "\n".join(text for path, text in files.items() if path.startswith(RUST))
     lines = []

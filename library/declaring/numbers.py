@@ -1,7 +1,8 @@
-"""The numbers of the library, which crates/vintsaky_calls/src gives to values, and what the comments there say of them.
+"""The numbers of the library, and what the comments say of them.
 
-A number stands in an arm of a match: `Loss::Unfit => 5`, and a comment above the arm says what the value means. The arm's last name is
-that of the number in C. What has another name there, or a longer one, is told so in KINDS.
+They are given to values in crates/vintsaky_calls/src. A number is in an arm of a match:
+`Loss::Unfit => 5`, and a comment above the arm says what the value means. The arm's last name is
+that of the number in C. KINDS has other names, and longer ones.
 """
 import re
 from dataclasses import dataclass, field
@@ -26,7 +27,10 @@ class Value:
 
 @dataclass(frozen=True)
 class Kind:
-    """Numbers that belong together: the module and its functions that have them, what their names begin with, and other names."""
+    """Numbers that belong together: the module and its functions that have them.
+
+    Their names begin with `start`, and `others` are names that differ in C.
+    """
 
     module: str
     functions: tuple
@@ -57,14 +61,14 @@ KINDS = {
 
 
 def text_of(files, path):
-    """The text of a file that has to be there."""
+    """Returns the text of a file that has to be there."""
     if path not in files:
         raise Mistake(f"there is no {path}")
     return files[path]
 
 
 def body_of(text, function, path):
-    """The lines of a function."""
+    """Returns the lines of a function."""
     found = re.search(
         rf"^(?:pub(?:\(crate\))? )?fn {function}\(.*?^\}}$", text, re.MULTILINE | re.DOTALL
     )
@@ -74,7 +78,7 @@ def body_of(text, function, path):
 
 
 def arms_of(kind, body):
-    """The arms of a function that have a number: of each the last name, the number, and what is said of it."""
+    """Yields the last name, the number and the comment of each arm that has a number."""
     for found in kind.arm.finditer(body):
         if kind.arm is ARM_OF_COMMANDS:
             yield found["name"], int(found["number"]), ""
@@ -88,7 +92,7 @@ def arms_of(kind, body):
 
 @once
 def values_in(name, text):
-    """The values of a kind in its module, in the order of their numbers."""
+    """Returns the values of a kind in its module, in the order of their numbers."""
     kind = KINDS[name]
     path = f"{FOLDER}{kind.module}.rt"
     values = []
@@ -104,7 +108,7 @@ def values_in(name, text):
 
 
 def values_of(name, files):
-    """The values of a kind."""
+    """Returns the values of a kind."""
     if name not in KINDS:
         raise Mistake(f"there are no numbers that are called {name}: there are {', '.join(KINDS)}")
     path = f"{FOLDER}{KINDS[name].module}.rt"
@@ -138,7 +142,7 @@ CAUSES = f"{FOLDER}causes.rt"
 
 @once
 def causes_in(text):
-    """The causes, in the order of their numbers."""
+    """Returns the causes, in the order of their numbers."""
     block = re.search(r"^pub enum Cause \{\n(.*?)^\}", text, re.MULTILINE | re.DOTALL)
     comments = {
         name: said
@@ -157,15 +161,14 @@ def causes_in(text):
     for name, comment in comments.items():
         said = " ".join(re.sub(r"^ +///", "", comment, flags=re.MULTILINE).split())
         if not re.fullmatch(r"[A-Z][ -~]*\.", said) or re.search(r'["\\]|\*/', said):
-            raise Mistake(
-                f"{CAUSES}: the comment of {name} has to be a sentence in ASCII, without quotes: '{said}'"
-            )
+            wanted = "a sentence in ASCII, without quotes"
+            raise Mistake(f"{CAUSES}: the comment of {name} has to be {wanted}: '{said}'")
         causes.append(Cause(name, int(numbers[name]), said))
     return sorted(causes, key=lambda it: it.number)
 
 
 def causes_of(files):
-    """The causes."""
+    """Returns the causes."""
     return causes_in(text_of(files, CAUSES))
 
 
@@ -173,7 +176,7 @@ def causes_of(files):
 
 
 def constant_of(crate, name, files):
-    """A constant of a crate, which has one of this name."""
+    """Returns a constant of a crate, which has one of this name."""
     found = []
     for path in [it for it in files if it.startswith(f"crates/{crate}/src/")]:
         found += re.findall(
@@ -185,7 +188,7 @@ def constant_of(crate, name, files):
 
 
 def version_of(files):
-    """The version of the library, as the call spells it that returns it."""
+    """Returns the version of the library, as the call spells it that returns it."""
     path = f"{FOLDER}library.rt"
     found = re.search(
         r"^    (0x[0-9a-f]{6})$", body_of(text_of(files, path), "version", path), re.MULTILINE
@@ -196,7 +199,7 @@ def version_of(files):
 
 
 def interface_of(calls):
-    """The number of the interface, which one call has in its name."""
+    """Returns the number of the interface, which one call has in its name."""
     found = [
         it[len("vintsaky_interface_") :]
         for it in calls

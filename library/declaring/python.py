@@ -17,7 +17,7 @@ HANDLES = {
     "lines": "a reader of command lines",
     "replies": "a reader of replies",
 }
-HEAD_OF_DECLARED = '''"""What the library declares: the constants of vintsaky.h, its handles, and the table of its calls.
+HEAD_OF_DECLARED = '''"""The constants of vintsaky.h, its handles, and the table of its calls.
 
 library/declare writes this module. Names are those of vintsaky.h without the prefix; only calls
 keep their whole names."""
@@ -60,7 +60,7 @@ DONE = "No error."  # what the library says of 0
 
 
 def constants_of(files):
-    """The constants, by their names: the numbers that are no enumeration of `_numbers.py`."""
+    """Returns the constants by their names: the numbers that `_numbers.py` doesn't have."""
     calls = exports.all_calls(files)
     constants = {"INTERFACE": numbers.interface_of(calls), "VERSION": numbers.version_of(files)}
     for kind in [it for it in numbers.KINDS if it not in ENUMS]:
@@ -69,12 +69,12 @@ def constants_of(files):
 
 
 def tuple_of(words):
-    """A tuple of these, as it is written in a line."""
+    """Returns a tuple of these, as it is written in a line."""
     return f"({words[0]},)" if len(words) == 1 else f"({', '.join(words)})"
 
 
 def row_of(call):
-    """The row of a call: in a line where it fits, else its arguments in a line, else each in one."""
+    """Returns the row of a call, which black would leave as it is."""
     arguments = [it.python for it in call.arguments]
     row = f'    "{call.name}": ({call.python}, {tuple_of(arguments)}),\n'
     if len(row) <= WIDTH + 1:
@@ -86,7 +86,7 @@ def row_of(call):
 
 
 def declared(files):
-    """The module of the table."""
+    """Returns the module of the table."""
     constants = "".join(f"{name} = {number}\n" for name, number in constants_of(files).items())
     handles = "".join(HANDLE.format(name.title(), said) for name, said in HANDLES.items())
     rows = [
@@ -96,7 +96,7 @@ def declared(files):
 
 
 def said_of(values):
-    """Each value with what is said of it. What is said of several is said of the first."""
+    """Yields each value with what is said of it. What is said of several is said of the first."""
     said = ""
     for value in values:
         said = value.said or said
@@ -104,7 +104,7 @@ def said_of(values):
 
 
 def lines_of(value, said):
-    """The lines of a docstring about a value."""
+    """Returns the lines of a docstring about a value."""
     return textwrap.wrap(
         f"{value.name}: {said}",
         WIDTH,
@@ -115,7 +115,7 @@ def lines_of(value, said):
 
 
 def enumeration(name, base, head, values):
-    """An enumeration. Its docstring says what each member means, so that `help` does."""
+    """Returns an enumeration. Its docstring says what each member means, so that `help` does."""
     lines = [line for value, said in said_of(values) for line in lines_of(value, said)]
     return CLASS.format(
         name,
@@ -127,7 +127,7 @@ def enumeration(name, base, head, values):
 
 
 def named(files):
-    """The module of the numbers of which much is said."""
+    """Returns the module of the numbers of which much is said."""
     causes = [numbers.Value("DONE", 0, DONE), *(it.value for it in numbers.causes_of(files))]
     losses = [
         numbers.Value(it.name[len("LOSS_") :], it.number, it.said)

@@ -1,6 +1,8 @@
-"""The sentences of the errors where other sources have them: the code and the definition of the call that writes them, and the Rust crate.
+"""The sentences of the errors in the code, in a definition and in the Rust crate.
 
-They come from the comments of the variants of Cause. In the first two only the rows are written, and the rest stays."""
+They are written by the comments of the variants of Cause. In the code and the definition of the
+call that writes them only the rows change.
+"""
 import re
 
 from . import numbers
@@ -19,11 +21,14 @@ DEFINITION_ROWS = re.compile(
     re.MULTILINE,
 )
 HEAD_OF_RUST = """\
-//! The errors: the name and the number of each, and its meaning to users of this crate. `library/declare` writes this file.
+//! The errors: the name and the number of each, and its meaning to users of this crate.
+//!
+//! `library/declare` writes this file.
 
 causes! {
 """
-# errors that the Rust crate explains otherwise: none of its calls returns these, since its types rule them out
+# Errors that the Rust crate explains otherwise. None of its calls returns these, since its types
+# rule them out.
 NEVER = ("BadColour", "BadVertex", "BadRule", "NoRoom", "BadCommand")
 OTHERWISE = {
     "NoId": "The line has no id.",
@@ -33,12 +38,12 @@ OTHERWISE = {
 
 
 def row(front, back, gap, width):
-    """A row in a line, or in two where that is too long."""
+    """Returns a row in a line, or in two where that is too long."""
     return f"{front} {back}" if len(f"{front} {back}") <= width else f"{front}\n{gap}{back}"
 
 
 def with_rows(path, rows, pattern, files):
-    """A source with these rows in place of those that it has."""
+    """Returns a source with these rows in place of those that it has."""
     text = numbers.text_of(files, path)
     if len(pattern.findall(text)) != 1:
         raise Mistake(f"{path}: the rows of the sentences are not found")
@@ -46,7 +51,7 @@ def with_rows(path, rows, pattern, files):
 
 
 def code(files):
-    """The code of the sentences."""
+    """Returns the code of the sentences."""
     rows = [
         row(f"        Cause::{it.name} =>", f'b"{it.sentence}",', " " * 12, CODE_WIDTH)
         for it in numbers.causes_of(files)
@@ -55,7 +60,7 @@ def code(files):
 
 
 def definition(files):
-    """The definition of the sentences."""
+    """Returns the definition of the sentences."""
     rows = [
         row(f"sentence cause.{it.name} =", f'codes "{it.sentence}"', "    ", DEFINITION_WIDTH)
         for it in numbers.causes_of(files)
@@ -64,22 +69,18 @@ def definition(files):
 
 
 def meaning(cause):
-    """The meaning of an error in Rust."""
+    """Returns the meaning of an error in Rust."""
     if cause.name in NEVER:
         return f"{cause.comment.partition(':')[0].rstrip('.')}. No call of this crate returns it."
     return OTHERWISE.get(cause.name, cause.comment)
 
 
 def rust(files):
-    """The rows of the Rust crate."""
+    """Returns the rows of the Rust crate."""
     causes = numbers.causes_of(files)
-    gone = {*NEVER, *OTHERWISE} - {it.name for it in causes}
+    gone = ", ".join(sorted({*NEVER, *OTHERWISE} - {it.name for it in causes}))
     if gone:
-        raise Mistake(
-            f"{numbers.CAUSES}: no cause is called {', '.join(sorted(gone))}, of which library/declaring/sentences.py says more"
-        )
-    return (
-        HEAD_OF_RUST
-        + "".join(f'    {it.name} = {it.number} "{meaning(it)}",\n' for it in causes)
-        + "}\n"
-    )
+        explained = "of which library/declaring/sentences.py says more"
+        raise Mistake(f"{numbers.CAUSES}: no cause is called {gone}, {explained}")
+    rows = "".join(f'    {it.name} = {it.number} "{meaning(it)}",\n' for it in causes)
+    return f"{HEAD_OF_RUST}{rows}}}\n"

@@ -1,4 +1,4 @@
-"""Texts of sources: mistakes in them, names as constants have them, and comments that are left out."""
+"""Texts of sources: mistakes, names as constants have them, and comments that are left out."""
 import re
 from functools import lru_cache
 
@@ -11,7 +11,7 @@ class Mistake(Exception):
 
 
 def snake(name):
-    """A name of several words as constants have it."""
+    """Returns a name of several words as constants have it."""
     return re.sub(r"(?<=[a-z0-9])(?=[A-Z])", "_", name).upper()
 
 
@@ -22,5 +22,5 @@ def blank(found):
 
 @once
 def bare(text, comment):
-    """The text with blanks for its comments, so that all else stays where it is."""
+    """Returns the text with blanks for its comments, so that all else stays where it is."""
     return re.sub(comment, blank, text, flags=re.DOTALL)

@@ -1,14 +1,17 @@
 #!/usr/bin/env python3
-"""An environment for learning, in the form of Gymnasium's vector environments: many games, with a step in all at once.
+"""An environment for learning, in the form of Gymnasium's vector environments.
 
-Observations are planes, as `Games.planes_into` writes them, and actions are numbers of moves. `infos["action_mask"]`
-says which actions are legal, and `infos["refused"]` why a game rejected its action; that game is unchanged. A game that
-is over begins again in the same step, and its final position isn't shown. The reward is that of the side that has just
-moved: 1 if it won, -1 if it lost, else 0.
+It has many games, with a step in all at once.
+Observations are planes, as `Games.planes_into` writes them, and actions are numbers of moves.
+`infos["action_mask"]` says which actions are legal, and `infos["refused"]` why a game rejected its
+action; that game is unchanged. A game that is over begins again in the same step, and its final
+position isn't shown. The reward is that of the side that has just moved: 1 if it won, -1 if it
+lost, else 0.
 
-Arrays are numpy's if numpy is installed, else memoryviews. Each step overwrites them: copy what you want to keep.
+Arrays are numpy's if numpy is installed, else memoryviews. Each step overwrites them: copy what you
+want to keep.
 
-usage: go_env.py [STEPS [SIZE]]    makes STEPS random steps in 256 games, and prints the moves per second
+usage: go_env.py [STEPS [SIZE]]    makes random steps in 256 games, and prints the moves a second
 """
 import importlib
 import random
@@ -20,29 +23,33 @@ from typing import Any, Dict, Tuple
 from vintsaky import BLACK, Games
 
 
-def found(name: str) -> Any:
-    """A module, or None if it isn't installed."""
+def find_module(name: str) -> Any:
+    """Returns a module, or None if it isn't installed."""
     try:
         return importlib.import_module(name)
     except ImportError:
         return None
 
 
-numpy, spaces, vector = found("numpy"), found("gymnasium.spaces"), found("gymnasium.vector")
+numpy, spaces, vector = (
+    find_module("numpy"),
+    find_module("gymnasium.spaces"),
+    find_module("gymnasium.vector"),
+)
 VectorEnv: Any = vector.VectorEnv if vector else object
-batch_space: Any = found("gymnasium.vector.utils").batch_space if vector else None
+batch_space: Any = find_module("gymnasium.vector.utils").batch_space if vector else None
 same_step: Any = vector.AutoresetMode.SAME_STEP if hasattr(vector, "AutoresetMode") else "SameStep"
 
 
-def shaped(room: Any, *shape: int) -> Any:
-    """A view of a buffer as an array of this shape."""
-    view = memoryview(room)
+def shaped(buffer: Any, *shape: int) -> Any:
+    """Returns a view of a buffer as an array of this shape."""
+    view = memoryview(buffer)
     view = view.cast("B").cast(view.format, shape) if len(shape) > 1 else view
     return numpy.asarray(view) if numpy else view
 
 
-class GoEnv(VectorEnv):  # type: ignore[misc]
-    """`num_envs` games of Go, in which both sides play in turn. A game with `limit` moves is truncated."""
+class GoEnv(VectorEnv):  # type: ignore[misc] # its base is any class
+    """Games of Go, in which both sides play in turn. One with `limit` moves is truncated."""
 
     metadata: Dict[str, Any] = {"render_modes": [], "autoreset_mode": same_step}
 
@@ -52,12 +59,11 @@ class GoEnv(VectorEnv):  # type: ignore[misc]
         self.num_envs, self.earlier = num_envs, earlier
         self.made = num_envs, size, komi
         self.limit, actions, planes = limit, size * size + 1, 2 * (1 + earlier)
-        self.room, self.masks = bytearray(num_envs * planes * size * size), bytearray(
-            num_envs * actions
-        )
+        self.boards = bytearray(num_envs * planes * size * size)
+        self.masks = bytearray(num_envs * actions)
         self.causes, self.over = bytearray(num_envs), bytearray(num_envs)
         self.scores, self.won = array("f", [0] * num_envs), array("f", [0] * num_envs)
-        self.planes: Any = shaped(self.room, num_envs, planes, size, size)
+        self.planes: Any = shaped(self.boards, num_envs, planes, size, size)
         self.infos = {
             "action_mask": shaped(self.masks, num_envs, actions),
             "refused": shaped(self.causes, num_envs),
@@ -74,15 +80,16 @@ class GoEnv(VectorEnv):  # type: ignore[misc]
         count, size, komi = self.made
         self.games = Games(count, size, komi, limit=self.limit)
         self.causes[:] = bytes(count)
-        self.games.planes_into(self.room, self.earlier)
+        self.games.planes_into(self.boards, self.earlier)
         self.games.masks_into(self.masks)
         return self.planes, self.infos
 
     def step(self, actions: Any) -> Tuple[Any, Any, Any, Any, Dict[str, Any]]:
-        """Plays a move in each game. Returns observations, rewards, terminations, truncations and infos."""
+        """Makes moves, and returns observations, rewards, terminations, truncations and infos."""
         movers = self.games.turns
-        self.games.step(actions, causes=self.causes, over=self.over, scores=self.scores, planes=self.room,
-                        earlier=self.earlier, masks=self.masks)  # fmt: skip
+        results: Dict[str, Any] = {"causes": self.causes, "over": self.over, "scores": self.scores}
+        boards: Dict[str, Any] = {"planes": self.boards, "masks": self.masks}
+        self.games.step(actions, earlier=self.earlier, **results, **boards)
         for number, score in enumerate(self.scores):
             ahead = (score > 0) - (score < 0)
             self.won[number] = ahead if movers[number] == BLACK else -ahead
@@ -94,7 +101,7 @@ class GoEnv(VectorEnv):  # type: ignore[misc]
         return self.planes, shaped(self.won, self.num_envs), ended, cut, self.infos
 
     def random_actions(self) -> Any:
-        """A legal move for each game: the next one from a random number on, or a pass."""
+        """Returns a legal move for each game: the next one from a random number on, or a pass."""
         each = len(self.masks) // self.num_envs
         starts = range(0, len(self.masks), each)
         return array("I", [self.masks.index(1, at + random.randrange(each)) - at for at in starts])

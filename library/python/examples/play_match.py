@@ -24,7 +24,7 @@ def end(side: Colour) -> None:
 
 
 def take_turn(match: Match, kind: Next, side: Colour, command: str) -> None:
-    """Does what is next. Raises OSError or EOFError if the side is gone. A command is split at spaces."""
+    """Does what is next. Raises OSError or EOFError if the side is gone."""
     if kind is Next.START:
         end(side)
         match.started(side)

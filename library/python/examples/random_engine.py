@@ -1,5 +1,5 @@
 #!/usr/bin/env python3
-"""An engine that plays a random legal point, unless only own stones surround it. The library does the rest.
+"""An engine that plays a random legal point, unless only own stones surround it.
 
 usage: random_engine.py [SEED]
 """
@@ -12,7 +12,7 @@ from vintsaky import PASS, Colour, Game, NoPoint, Point
 
 
 def is_eye(game: Game, colour: Colour, point: Point) -> bool:
-    """Are all the point's neighbours the colour's own stones?"""
+    """Returns whether all neighbours of the point are the colour's own stones."""
     return all(game[near] == colour for near in point.neighbours(game.size))
 
 

@@ -1,5 +1,5 @@
 #!/usr/bin/env python3
-"""A loop of self-play: many games at once, and for each move what a network learns from. It needs numpy."""
+"""A loop of self-play: many games at once, and what a network learns from. It needs numpy."""
 import numpy as np
 import vintsaky
 
@@ -13,7 +13,7 @@ MAPS = [np.array(vintsaky.symmetry_map(SIZE, symmetry)) for symmetry in range(8)
 
 
 def policies_of(planes, masks):
-    """Your network: for each game the probability of each move, 0 where its mask is 0. Here all are equal."""
+    """Your network: the probability of each move, 0 where its mask is 0. Here all are equal."""
     return masks / masks.sum(axis=1, keepdims=True)
 
 

@@ -1,9 +1,9 @@
 #!/usr/bin/env python3
-"""A server of one match: two engines connect to it, and a side whose answer is late loses by a ruling.
+"""A server of one match: two engines connect, and a side that is late loses by a ruling.
 
-It prints the number of its port on the loopback interface. The engine that connects first plays Black. Each side has
-SECONDS for each answer, counted from the last command that was sent to it. At the end it prints the result line of the
-match, and sends both engines `quit`.
+It prints the number of its port on the loopback interface. The engine that connects first plays
+Black. Each side has SECONDS for each answer, counted from the last command that was sent to it. At
+the end it prints the result line of the match, and sends both engines `quit`.
 
 usage: serve_match.py SIZE HALF_KOMI SECONDS
 """
@@ -54,7 +54,10 @@ class Peer:
 
 
 def take_turn(match: Match, kind: Next, side: Colour, peer: Peer) -> None:
-    """Does what is next. An engine that has connected is running already, so its start is only reported."""
+    """Does what is next.
+
+    An engine that has connected is running already, so its start is only reported.
+    """
     if kind is Next.START:
         match.started(side)
     elif kind is Next.SEND:

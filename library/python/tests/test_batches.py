@@ -1,4 +1,7 @@
-"""Many games by one call. Each of them has to be as a single game that is given the same, move by move."""
+"""Many games by one call.
+
+Each of them has to be as a single game that is given the same, move by move.
+"""
 import ctypes
 import random
 import unittest
@@ -18,8 +21,9 @@ CAUSES = {Cause.OFF_BOARD, Cause.FULL, Cause.OCCUPIED, Cause.SUICIDE, Cause.KO}
 class Called:
     """The calls over many games, as they are: games in one piece of memory, begun alike.
 
-    A move is a number: that of its point, row by row from A1 and from 0, or for a pass the number of points. The
-    arrays have an item for each game; planes and masks have the values of one game after those of another.
+    A move is a number: that of its point, row by row from A1 and from 0, or for a pass the number
+    of points. The arrays have an item for each game; planes and masks have the values of one game
+    after those of another.
     """
 
     __slots__ = ("_memory", "_handles")
@@ -51,20 +55,25 @@ class Called:
         return len(self._handles)
 
     def _place(self, number):
-        """The handle of one game, for a call."""
+        """Returns the handle of one game, for a call."""
         return ctypes.byref(self._handles[number])
 
     def _held(self):
-        """The handles, for a call, with their number."""
+        """Returns the handles, for a call, with their number."""
         return self._handles, len(self._handles)
 
     def play(self, moves, causes):
-        """Each game makes its move for the colour whose turn it is. Its cause is 0, or why it refuses the move."""
+        """Returns each game makes its move for the colour whose turn it is.
+
+        Its cause is 0, or why it refuses the move.
+        """
         check(library.vintsaky_games_play(*self._held(), moves, len(moves), causes, len(causes)))
 
     def restart(self, limit, over, half_points):
-        """Tells of each game whether it is over: 1 after two passes, 2 after `limit` moves, else 0. Those that are over
-        are scored in half points, and begin anew."""
+        """Tells of each game whether it is over: 1 after two passes, 2 after `limit` moves, else 0.
+
+        Those that are over are scored in half points, and begin anew.
+        """
         most = int_in_range(limit, "the limit")
         check(
             library.vintsaky_games_restart(
@@ -73,8 +82,9 @@ class Called:
         )
 
     def planes(self, values, earlier=0):
-        """The stones of the colour whose turn it is, and those of the other one, of each game's board and of so many
-        earlier ones. The array is of c_uint8 or of c_float."""
+        """Returns the stones of the colour whose turn it is, and those of the other one, of each
+        game's board and of so many earlier ones. The array is of c_uint8 or of c_float.
+        """
         call = (
             library.vintsaky_games_planes_f32
             if values._type_ is ctypes.c_float
@@ -90,7 +100,10 @@ class Called:
         )
 
     def masks(self, values):
-        """Whether the colour whose turn it is may make the move of each number. The array is of c_uint8 or c_float."""
+        """Returns whether the colour whose turn it is may make the move of each number.
+
+        The array is of c_uint8 or c_float.
+        """
         call = (
             library.vintsaky_games_masks_f32
             if values._type_ is ctypes.c_float
@@ -99,7 +112,7 @@ class Called:
         check(call(*self._held(), values, len(values)))
 
     def rollouts(self, seeds, limit, half_points):
-        """The score of a rollout of each game by its seed, in half points."""
+        """Returns the score of a rollout of each game by its seed, in half points."""
         most = int_in_range(limit, "the limit")
         check(
             library.vintsaky_games_rollouts(
@@ -113,14 +126,14 @@ def other(colour):
 
 
 def turn(game):
-    """The colour whose turn it is, by the record alone."""
+    """Returns the colour whose turn it is, by the record alone."""
     if game.moves:
         return other(game.moves[-1].colour)
     return WHITE if game.handicap else BLACK
 
 
 def vertex_of(game, number):
-    """The vertex of a move's number: no number is higher than that of a pass."""
+    """Returns the vertex of a move's number: no number is higher than that of a pass."""
     column, row = "ABCDEFGHJKLMNOPQRSTUVWXYZ"[number % game.size], number // game.size + 1
     return PASS if number == game.size**2 else f"{column}{row}"
 
@@ -137,7 +150,7 @@ def played(game, number):
 
 
 def over(game, limit):
-    """How a single game is over. It begins anew then."""
+    """Returns how a single game is over. It begins anew then."""
     told = 1 if game.finished else 2 if len(game.moves) >= min(limit, 2000) else 0
     score = round(game.score * 2) if told else 0
     if told:
@@ -149,7 +162,7 @@ def over(game, limit):
 
 
 def planes(game, earlier):
-    """The planes of a single game, point by point."""
+    """Returns the planes of a single game, point by point."""
     values, points, colour = [], range(game.size**2), turn(game)
     board = game.copy()
     for ago in range(1 + earlier):
@@ -162,7 +175,7 @@ def planes(game, earlier):
 
 
 def mask(game):
-    """The mask of a single game, move by move."""
+    """Returns the mask of a single game, move by move."""
     return [
         int(game.legal(turn(game), vertex_of(game, number))) for number in range(game.size**2 + 1)
     ]
@@ -187,7 +200,7 @@ class Beside(unittest.TestCase):
         return met
 
     def drawn(self, draw, game):
-        """The number of a move: mostly of one that may be made."""
+        """Returns the number of a move: mostly of one that may be made."""
         if draw.random() < 0.2:
             return draw.choice(
                 [

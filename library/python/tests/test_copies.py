@@ -1,4 +1,7 @@
-"""Copies, pickles and comparisons of games, and games of moves. What is wanted is what Python's own objects do."""
+"""Copies, pickles and comparisons of games, and games of moves.
+
+What is wanted is what Python's own objects do.
+"""
 import copy
 import multiprocessing
 import pickle
@@ -81,13 +84,13 @@ class Mirrored(Game):
 
 
 def again(game):
-    """The game by each way that makes another one of it."""
+    """Returns the game by each way that makes another one of it."""
     pickled = [pickle.loads(pickle.dumps(game, protocol)) for protocol in PROTOCOLS]
     return [game.copy(), copy.copy(game), copy.deepcopy(game), *pickled]
 
 
 def handicapped():
-    """A game with all that is kept: handicap stones, a komi, a rule, captures and a pass."""
+    """Returns a game with all that is kept: handicap stones, a komi, a rule, captures and a pass."""
     game = Game(9, -3.5, KoRule.POSITIONAL)
     game.place_handicap(2)
     for move in "w A2, b A1, w B1, b pass".split(", "):
@@ -344,7 +347,7 @@ class OfMoves(Refusing):
 
 
 def tampered(**changed):
-    """The pickle of a game in which these of its values are others."""
+    """Returns the pickle of a game in which these of its values are others."""
     made, setup, state = Game(9).__reduce_ex__(2)
     values = {**dict(zip(("kind", "size", "komi", "rule", "handicap", "moves"), setup)), **changed}
 
@@ -401,7 +404,7 @@ class Damaged(unittest.TestCase):
 
 
 def score_of(game):
-    """What a process of a pool does with a game."""
+    """Returns what a process of a pool does with a game."""
     game.play("b", "C3")
     return game
 

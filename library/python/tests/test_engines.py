@@ -93,7 +93,7 @@ class Says(First):
 
 
 def served(engine, said):
-    """What the engine writes that is told this."""
+    """Returns what the engine writes that is told this."""
     sink = io.BytesIO()
     engine.serve(io.BytesIO(said), sink)
     return sink.getvalue()
@@ -241,7 +241,7 @@ class Served(unittest.TestCase):
             self.assertEqual(sink.getvalue(), b"=\n\n=\n\n")
 
     def answered(self, engine, said):
-        """What the engine writes that is told this, and the lines on standard error."""
+        """Returns what the engine writes that is told this, and the lines on standard error."""
         errors = io.StringIO()
         with contextlib.redirect_stderr(errors):
             output = served(engine, said)
@@ -351,7 +351,9 @@ class Served(unittest.TestCase):
 
 
 def run(program, said):
-    """Status, output and standard error of a program in Python that is told this, and whose input stays open."""
+    """Status, output and standard error of a program in Python that is told this, and whose input
+    stays open.
+    """
     pipes = {"stdin": subprocess.PIPE, "stdout": subprocess.PIPE, "stderr": subprocess.PIPE}
     variables = {name: value for name, value in os.environ.items() if name != "PYTHONUNBUFFERED"}
     process = subprocess.Popen([sys.executable, "-c", program], env=variables, **pipes)

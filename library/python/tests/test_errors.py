@@ -27,7 +27,7 @@ OTHER.feed(b"own\n")
 
 
 def handicapped():
-    """A game with handicap stones."""
+    """Returns a game with handicap stones."""
     game = Game(9)
     game.place_handicap(2)
     return game

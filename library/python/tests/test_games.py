@@ -1,4 +1,7 @@
-"""Games. What is wanted comes from the rules of play: area scoring, simple or positional ko, no suicide."""
+"""Games.
+
+What is wanted comes from the rules of play: area scoring, simple or positional ko, no suicide.
+"""
 import copy
 import ctypes
 import unittest
@@ -24,7 +27,7 @@ KO = "b B1, w C1, b A2, w D2, b B3, w C3, b C2, w B2"  # White took C2; Black's 
 
 
 def played(size, moves, **named):
-    """A game with these moves, such as `b A1, w pass`."""
+    """Returns a game with these moves, such as `b A1, w pass`."""
     game = Game(size, **named)
     for move in moves.split(", ") if moves else []:
         game.play(*move.split())
@@ -328,7 +331,9 @@ class Records(Refusing):
             lambda: [move for move in game.moves],
         ):
             byref = mock.patch.object(moves.ctypes, "byref", wraps=ctypes.byref)
-            with byref as referred, mock.patch.object(moves, "MOVE_AT", wraps=moves.MOVE_AT) as made:
+            with byref as referred, mock.patch.object(
+                moves, "MOVE_AT", wraps=moves.MOVE_AT
+            ) as made:
                 self.assertEqual(len(loop()), 400)
             self.assertEqual((made.call_count, referred.call_count), (400, 2))
 

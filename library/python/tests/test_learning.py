@@ -1,4 +1,7 @@
-"""Many games in one call, with their buffers and threads. What is wanted is what single games give, move by move."""
+"""Many games in one call, with their buffers and threads.
+
+What is wanted is what single games give, move by move.
+"""
 import random
 import re
 import threading
@@ -165,7 +168,7 @@ class Made(unittest.TestCase):
 
 
 def uneven(count):
-    """A buffer whose items aren't one after the other."""
+    """Returns a buffer whose items aren't one after the other."""
     return memoryview(bytearray(2 * count))[::2]
 
 
@@ -365,7 +368,9 @@ class Threads(unittest.TestCase):
         self.assertEqual(len(games.game(0).moves), 0)
 
     def test_while_a_call_runs(self):
-        """Rollouts of many large boards take long enough for the others to be refused meanwhile; if not, once more."""
+        """Rollouts of many large boards take long enough for the others to be refused meanwhile; if
+        not, once more.
+        """
         games, buffer, refused, came = Games(1000, 25), bytearray(1000 * 626), set(), []
         calls = {
             "adopt": games.adopt,
@@ -386,8 +391,9 @@ class Threads(unittest.TestCase):
         self.assertEqual((games.step([0] * 1000), set(buffer)), (0, {0}))
 
     def seen_by_others(self, games, calls, refused):
-        """Adds to those that are refused while another thread makes its rollouts, which are returned. The thread has the
-        games before any other call is made, and `adopt` is tried last, once another one was refused.
+        """Adds to those that are refused while another thread makes its rollouts, which are
+        returned. The thread has the games before any other call is made, and `adopt` is tried last,
+        once another one was refused.
         """
         came, adopted = [], threading.Event()
 

@@ -1,4 +1,7 @@
-"""The controller. What is wanted comes from the rules of a match: what is next, what a reply does, how a match ends."""
+"""The controller.
+
+What is wanted comes from the rules of a match: what is next, what a reply does, how a match ends.
+"""
 import dataclasses
 import unittest
 
@@ -21,14 +24,14 @@ from .test_values import Refusing
 
 
 def brought(match, side, number, commands=3):
-    """The side is sent these commands, and confirms them. What it was sent."""
+    """Returns the side is sent these commands, and confirms them. What it was sent."""
     sent = [match.send(side) for _ in range(commands)]
     answers = b"".join(b"=%d\n\n" % each for each in range(number, number + commands))
     return sent, match.hear(side, answers)
 
 
 def begun(**setup):
-    """A match in which both sides were started and brought to the empty board."""
+    """Returns a match in which both sides were started and brought to the empty board."""
     match = Match(**{"size": 2, "komi": 0, **setup})
     for side in (BLACK, WHITE):
         match.started(side)
@@ -38,7 +41,10 @@ def begun(**setup):
 
 
 def said(match, side, reply):
-    """The side is sent what is next, and writes this. What it was sent, and why it fails."""
+    """Returns the side is sent what is next, and writes this.
+
+    What it was sent, and why it fails.
+    """
     assert match.next() == Action(Next.SEND, side), match.next()
     return match.send(side), match.hear(side, reply)
 

@@ -1,4 +1,6 @@
-"""The package: how it finds its library, its documentation, threads, and what can't be done with an object."""
+"""The package: how it finds its library, its documentation, threads, and what can't be done with an
+object.
+"""
 import abc
 import ast
 import copy
@@ -198,7 +200,7 @@ class Objects(unittest.TestCase):
                 self.assertRaisesRegex(TypeError, text, call, kind())
 
     def in_thread(self, call):
-        """What the call raises in another thread."""
+        """Returns what the call raises in another thread."""
         raised = []
 
         def run():
@@ -269,7 +271,7 @@ class Objects(unittest.TestCase):
 
 class Loading(unittest.TestCase):
     def loaded(self, **variables):
-        """What an import prints to standard error at last, and its status."""
+        """Returns what an import prints to standard error at last, and its status."""
         command = [sys.executable, "-c", "import vintsaky"]
         environment = {**os.environ, **variables, "PYTHONPATH": str(PACKAGE.parent)}
         done = subprocess.run(command, env=environment, capture_output=True, text=True, timeout=20)

@@ -1,4 +1,7 @@
-"""The eight symmetries of a board. What is wanted comes from geometry: turns and mirrors of the plane, as matrices."""
+"""The eight symmetries of a board.
+
+What is wanted comes from geometry: turns and mirrors of the plane, as matrices.
+"""
 import itertools
 import unittest
 
@@ -17,7 +20,10 @@ MIRRORED = [
 
 
 def turned(point, size, symmetry):
-    """The point by the matrix of the symmetry, about the centre of the board. All is doubled, so that it is whole."""
+    """Returns the point by the matrix of the symmetry, about the centre of the board.
+
+    All is doubled, so that it is whole.
+    """
     right, up = (TURNS + MIRRORED)[symmetry]
     across, along = 2 * point[0] - size - 1, 2 * point[1] - size - 1
     column, row = (right[place] * across + up[place] * along for place in (0, 1))

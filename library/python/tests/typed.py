@@ -1,4 +1,6 @@
-"""A user's program, which mypy --strict takes as it is: the types of what the package returns and takes."""
+"""A user's program, which mypy --strict takes as it is: the types of what the package returns and
+takes.
+"""
 import copy
 import pickle
 import random
@@ -22,7 +24,7 @@ from vintsaky import (
 
 
 def replayed(game: Game) -> Tuple[Game, List[int]]:
-    """The game, played anew, and the columns of its moves that aren't passes."""
+    """Returns the game, played anew, and the columns of its moves that aren't passes."""
     other, columns = Game(game.size), []
     for colour, vertex in game.moves:
         other.play(colour, vertex)
@@ -32,7 +34,7 @@ def replayed(game: Game) -> Tuple[Game, List[int]]:
 
 
 def rows(moves: List[Move]) -> List[int]:
-    """The rows of moves that aren't passes."""
+    """Returns the rows of moves that aren't passes."""
     return [move.vertex.row for move in moves if move.vertex is not vintsaky.PASS]
 
 

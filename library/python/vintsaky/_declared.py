@@ -1,4 +1,4 @@
-"""What the library declares: the constants of vintsaky.h, its handles, and the table of its calls.
+"""The constants of vintsaky.h, its handles, and the table of its calls.
 
 library/declare writes this module. Names are those of vintsaky.h without the prefix; only calls
 keep their whole names."""

@@ -1,4 +1,6 @@
-//! The errors: the name and the number of each, and its meaning to users of this crate. `library/declare` writes this file.
+//! The errors: the name and the number of each, and its meaning to users of this crate.
+//!
+//! `library/declare` writes this file.
 
 causes! {
     BadColour = 1 "Not a colour or side. No call of this crate returns it.",
