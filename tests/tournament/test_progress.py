@@ -3,19 +3,17 @@ from __future__ import annotations
 
 import os
 import re
-import select
-import subprocess
 from typing import List, NamedTuple
 
 import pytest
 
-from tests.shared.processes import TIMEOUT
-
 from .inside import module
 from .misbehaving import HANGS
 from .runner import Runner, engines
+from .terminal import Terminal
 
 progress = module("progress")
+PLAY = ["tournament", "play", "all", "--jobs", "1"]
 
 
 class Clock:
@@ -113,40 +111,14 @@ def test_pauses_between_lines(
     assert found == pauses
 
 
-class Terminal:
-    """A terminal, which has what was written to it."""
-
-    def __init__(self) -> None:
-        self.end, self.streams = os.openpty()
-        self.text = ""
-
-    def wait_for(self, text: str) -> None:
-        """Waits until this text is written."""
-        while text not in self.text:
-            assert select.select([self.end], [], [], TIMEOUT)[0], self.text
-            self.text += os.read(self.end, 65536).decode().replace("\r\n", "\n")
-
-
-def start(runner: Runner, terminal: Terminal) -> subprocess.Popen[str]:
-    """Begins the tournament `all`, whose standard error is a terminal."""
-    process = runner.start(
-        *("tournament", "play", "all", "--jobs", "1"),
-        stdout=subprocess.DEVNULL,
-        stderr=terminal.streams,
-    )
-    os.close(terminal.streams)
-    return process
-
-
 def test_first_line_comes_at_once_in_a_terminal(runner: Runner) -> None:
     both = engines(one=f"{runner.script('hangs', HANGS)} 1", two="gtp_engine")
     runner.tournament("plan", "all", *both, "--seeds", "4")
     runner.pass_trials()
-    terminal = Terminal()
-    process = start(runner, terminal)
+    terminal = Terminal(runner, *PLAY)
     terminal.wait_for("\n")
     counted = "0 of 8 games have a result, 0 failed; 0.0 games a minute, unknown time left"
-    stops = f"kill {process.pid} stops this run"
+    stops = f"kill {terminal.process.pid} stops this run"
     assert terminal.text.splitlines()[0] == f"tournament: {counted}; {stops}"
 
 
@@ -156,8 +128,7 @@ def test_line_counts_abandoned_sides(runner: Runner) -> None:
     options = ["--gauntlet", "two", "--seeds", "1", "--", "--size", "9", "--restarts", "0"]
     runner.tournament("plan", "all", *some, *options)
     runner.pass_trials()
-    terminal = Terminal()
-    start(runner, terminal)
+    terminal = Terminal(runner, *PLAY)
     # two games are abandoned, and then one hangs
     counted = "2 of 4 games have a result, 2 of them unfit or abandoned, 0 failed; "
     terminal.wait_for(f"tournament: {counted}")
