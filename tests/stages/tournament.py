@@ -12,7 +12,6 @@ from tests.stages.of_tournament.machines import Arrays, Elsewhere, Leaving, Lock
 from tests.stages.of_tournament.exports import ByGnuGo, DamagedNotes, Exported, Opened, Records, Versions  # noqa: E402, F401
 from tests.stages.of_tournament.damaged import Copied, Cut, Damages, Old, Spelled  # noqa: E402, F401
 from tests.stages.of_tournament.damaged import Unread as UnreadResults  # noqa: E402, F401
-from tests.stages.of_tournament.costs import Dear, Filled, Many, OneGame  # noqa: E402, F401
 
 PARSER = checks.Parser(__doc__)
 PARSER.add_argument(
@@ -22,10 +21,7 @@ PARSER.add_argument(
     type=Path,
     help="where both programs are; else bin/",
 )
-PARSER.add_argument("--whole", action="store_true",
-                    help="folders with 100,000 results; some 20 minutes longer")  # fmt: skip
 OPTIONS = PARSER.options(__name__)
-Filled.whole = OPTIONS.whole
 rooms.Room.programs = OPTIONS.programs.resolve()
 
 
