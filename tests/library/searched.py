@@ -9,7 +9,7 @@ from typing import Any, Dict, List, NamedTuple, Optional, Tuple, Union
 
 from tests.references.engine.game import POSITIONAL, SIMPLE, points
 from tests.references.engine.values import BLACK, PASS, WHITE, Colour, Point, Vertex
-from tests.references.search.drawn import Drawn
+from tests.references.search.random_games import RandomGame
 from tests.shared.processes import TOP
 
 
@@ -34,7 +34,7 @@ def load_package(shared_library: Path) -> ModuleType:
 class LibraryGame:
     """A game of the package. Colours, points and vertices are those of the reference."""
 
-    def __init__(self, vintsaky: Any, drawn: Drawn) -> None:
+    def __init__(self, vintsaky: Any, drawn: RandomGame) -> None:
         self.vintsaky = vintsaky
         self.size = drawn.game.size
         self.colours = {BLACK: vintsaky.BLACK, WHITE: vintsaky.WHITE}

@@ -16,9 +16,9 @@ import pytest
 
 from tests.references.engine.game import SIMPLE, Board, Game, points
 from tests.references.engine.values import BLACK, PASS, WHITE, Point, Vertex, other
-from tests.references.search import drawn, hashes, playouts
-from tests.references.search.drawn import Drawn, played
+from tests.references.search import hashes, playouts
 from tests.references.search.generator import Pcg64
+from tests.references.search.random_games import Kind, RandomGame, kinds_of, played
 from tests.shared.processes import TOP, run
 
 from .compiling import WARNINGS, check_compiles
@@ -26,7 +26,7 @@ from .searched import LibraryGame, load_package
 
 COUNT = 200  # games
 TOGETHER = 25  # games that the board by hand plays in one process
-KINDS = range(200)  # drawn games that show all kinds and all mistakes
+KINDS = range(200)  # random games that show all kinds and all mistakes
 
 
 def pytest_generate_tests(metafunc: pytest.Metafunc) -> None:
@@ -137,9 +137,8 @@ def test_words_in_a_row_give_all_candidates() -> None:
         assert sorted(moves) == sorted(candidates), number
 
 
-def test_drawn_games_show_each_kind() -> None:
-    kinds = [drawn.kinds_of(number) for number in KINDS]
-    assert [kind for kind in kinds[0] if not any(found[kind] for found in kinds)] == []
+def test_random_games_show_each_kind() -> None:
+    assert {kind for number in KINDS for kind in kinds_of(number)} == set(Kind)
 
 
 # ---- the board by hand in C, by which the speed of the library is measured
@@ -257,7 +256,7 @@ def positions(number: int, vintsaky: Any) -> Iterator[Tuple[Position, int]]:
         passed.play(other(asked.colour), PASS)
         of_library.play(other(asked.colour), PASS)
         yield from hashed(passed, of_library)
-    played_out = Drawn(after, asked.colour, asked.seed, asked.limit)
+    played_out = RandomGame(after, asked.colour, asked.seed, asked.limit)
     yield from hashed(after, LibraryGame(vintsaky, played_out))
 
 
