@@ -1,6 +1,6 @@
 """The options, statuses and standard error of gtp_engine, and a conversation with each.
 
-All was worked out by hand from docs/protocol.md and docs/policies.md.
+All was worked out by hand from docs/protocol.md and docs/engine.md.
 """
 from __future__ import annotations
 

@@ -1,4 +1,4 @@
-"""The values of the Go Text Protocol (GTP), and how they are spelled: docs/values.md in Python.
+"""The values of the Go Text Protocol (GTP), and how they are spelled: docs/protocol.md in Python.
 
 Texts are bytes. A point is a pair (column, row), both counted from 1 at A1, the lower left corner.
 Komi is a whole number of half points.

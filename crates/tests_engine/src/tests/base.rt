@@ -1,4 +1,4 @@
-//! Examples of values and their spellings, from the tables of docs/values.md.
+//! Examples of values and their spellings, from the tables of docs/protocol.md.
 mod handicaps;
 mod komis;
 mod texts;

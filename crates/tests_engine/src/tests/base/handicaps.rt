@@ -1,4 +1,4 @@
-//! Sizes, and the handicap points of each, as in the table of docs/values.md.
+//! Sizes, and the handicap points of each, as in the table of docs/protocol.md.
 use crate::asserts::{assert_equal_for, some};
 use arrayvec::ArrayVec;
 use go_base::{Size, Vertex, handicap};
