@@ -384,8 +384,13 @@ uint32_t vintsaky_game_position_hash(vintsaky_game *game, uint32_t colour, uint6
 
 /* Plays on at random: this colour first, and then both in turn. Each plays a random point of those where it may play and that aren't
  * its own eyes, or passes if there is none. The playout ends after two passes in a row, where a pass just before the call counts too;
- * after limit moves; or when the record has 2,000. The same game, colour, seed and limit always make the same moves. docs/library.md
- * says how they are chosen.
+ * after limit moves; or when the record has 2,000. The same game, colour, seed and limit always make the same moves, by random words of
+ * 64 bits from the PCG64 generator of the Rust crate rand_pcg, which is made of the seed by its seed_from_u64. At the call the empty
+ * points are listed in board order. At a turn with n points left to choose from, the next word chooses one of the first n: number (word
+ * >> 32) * n >> 32, counted from 0. If the colour may not play there, or it is its own eye, the point changes places with the last of
+ * the n, and n is one less. Otherwise it is played: the last point of the whole list moves to its place, and the points of captured
+ * stones are appended in board order. If no point is left, the colour passes, without a word. The next turn takes the list as it is
+ * then.
  * Errors: VINTSAKY_BAD_COLOUR. The game is unchanged. */
 uint32_t vintsaky_game_playout(vintsaky_game *game, uint32_t colour, uint64_t seed, uint32_t limit);
 

@@ -1,4 +1,4 @@
-"""docs/library.md: its commands play a game, and the code that it shows does what it says."""
+"""The pages on the library: their commands play a game, and the code that they show does it."""
 from __future__ import annotations
 
 import os
@@ -28,11 +28,12 @@ def blocks_in(page: str, language: str) -> list[str]:
     return pages.blocks_in((TOP / page).read_text(), language)
 
 
-PYTHON = blocks_in("docs/library.md", "python")
+PAGES = ["docs/library.md", "docs/search.md", "docs/learning.md", "docs/server.md"]
+PYTHON = [block for page in PAGES for block in blocks_in(page, "python")]
 ENGINES = [block for block in PYTHON if "vintsaky.Engine" in block]
 OTHERS = [block for block in PYTHON if block not in ENGINES]
-ROLLOUTS = [block for block in blocks_in("docs/library.md", "c") if "_rollout(" in block]
-COMMANDS = blocks_in("docs/library.md", "")
+ROLLOUTS = [block for block in blocks_in("docs/search.md", "c") if "_rollout(" in block]
+COMMANDS = [block for page in PAGES for block in blocks_in(page, "")]
 
 
 def test_page_has_one_short_engine_in_python() -> None:
