@@ -26,6 +26,7 @@ PROGRAMS = ["gtp_engine", "twogtp", "gtp_check"]
 PAGES = [
     "README.md",
     "docs/check.md",
+    "docs/engine.md",
     "docs/protocol.md",
     "docs/matches.md",
     "docs/controller.md",

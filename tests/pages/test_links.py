@@ -1,4 +1,4 @@
-"""What the pages lead to, and what they name, is there."""
+"""What the pages lead to, and what they name, is there, and no page is longer than its limit."""
 from __future__ import annotations
 
 import re
@@ -13,6 +13,44 @@ FEWEST_PAGES = 20  # of the repository
 PAGES = pages.page_paths()
 NO_FILE = re.compile(r"^cargo/workspace/|NAME|CRATE")  # made by cargo/strip, or any file
 NAMES_LOST_PAGES = "tests/build/test_release_pages.py"
+
+# The words that a page may have. A longer page loses a section; a limit rises in a commit of its own,
+# which names the task that failed without it.
+LIMITS = {
+    "CHANGELOG.md": 500,
+    "README.md": 970,
+    "bench/README.md": 600,
+    "cargo/README.md": 450,
+    "crates/gtp_check_judge/CALLING.md": 250,
+    "crates/gtp_match/CALLING.md": 500,
+    "crates/gtp_process/CALLING.md": 470,
+    "crates/gtp_session/CALLING.md": 450,
+    "docs/DECISIONS.md": 1450,
+    "docs/check.md": 1400,
+    "docs/controller.md": 1800,
+    "docs/engine.md": 800,
+    "docs/extending.md": 1500,
+    "docs/glossary.md": 450,
+    "docs/headline.md": 1450,
+    "docs/interop.md": 700,
+    "docs/learning.md": 600,
+    "docs/library.md": 1200,
+    "docs/map.md": 1100,
+    "docs/matches.md": 1250,
+    "docs/promises.md": 2000,
+    "docs/protocol.md": 1750,
+    "docs/rules.md": 1350,
+    "docs/search.md": 800,
+    "docs/server.md": 350,
+    "docs/tournaments.md": 1800,
+    "docs/troubleshooting.md": 1800,
+    "interop/README.md": 300,
+    "packaging/README.md": 550,
+    "packaging/README.release.md": 350,
+    "packaging/README.source.md": 220,
+    "tests/README.md": 800,
+    "tests/engines/wrong/README.md": 260,
+}
 
 each_page = pytest.mark.parametrize("page", PAGES)
 
@@ -40,6 +78,11 @@ def test_files_that_a_page_names_in_code_are_there(page: str) -> None:
 
 def test_there_are_pages() -> None:
     assert len(PAGES) >= FEWEST_PAGES
+
+
+@each_page
+def test_page_keeps_its_limit(page: str) -> None:
+    assert len((TOP / page).read_text().split()) <= LIMITS[page]
 
 
 def test_pages_that_other_files_name_are_there() -> None:
