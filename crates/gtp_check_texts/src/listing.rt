@@ -6,8 +6,24 @@ use crate::texts::add_all;
 use gtp_check_course::{LESSONS, Lesson};
 use std::alloc::{AllocError, Global};
 
-/// What each lesson asks, in the order of a course.
+/// What each lesson asks, in the order of a course, and where the rule is: a section of docs/rules.md or
+/// docs/protocol.md.
 static ASKED: [&[u8]; 13] = [
+    b"the first moves, on the smallest board from 5x5 (protocol: Replies)",
+    b"each size, its corners, and points off it (protocol: Values)",
+    b"kos, and what looks like one (rules: Ko)",
+    b"captures of one stone, of several, of chains (rules: A play)",
+    b"moves that leave their own chain no liberty (rules: Suicide)",
+    b"chains that are joined, and their capture (rules: A play)",
+    b"each number of stones on each size (protocol: Handicap points)",
+    b"komis, by the score of an empty board (protocol: Values)",
+    b"random games on several sizes, and points of them (rules)",
+    b"records of nearly 2000 moves (protocol: Commands)",
+    b"moves of the engine, up to a full board (rules: A play)",
+    b"several games in one process (protocol: Commands)",
+    b"games after a new start (protocol: Commands)",
+];
+13] = [
     b"the first moves, on the smallest board from 5x5 on",
     b"each size, its corners, and points that it doesn't have",
     b"kos, and what looks like one",
@@ -23,7 +39,7 @@ static ASKED: [&[u8]; 13] = [
     b"games after a new start",
 ];
 
-/// Returns the lessons, one a line: the name, and what is asked.
+/// Returns the lessons, one a line: the name, what is asked, and where the rule is.
 ///
 /// # Errors
 ///
