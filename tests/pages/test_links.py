@@ -29,7 +29,7 @@ LIMITS = {
     "docs/check.md": 1400,
     "docs/controller.md": 1800,
     "docs/engine.md": 800,
-    "docs/extending.md": 1500,
+    "docs/extending.md": 1600,
     "docs/glossary.md": 450,
     "docs/headline.md": 1450,
     "docs/interop.md": 700,
