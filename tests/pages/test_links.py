@@ -31,7 +31,7 @@ LIMITS = {
     "docs/engine.md": 800,
     "docs/extending.md": 1600,
     "docs/glossary.md": 450,
-    "docs/headline.md": 1450,
+    "docs/headline.md": 1500,
     "docs/interop.md": 700,
     "docs/learning.md": 600,
     "docs/library.md": 1200,
