@@ -8,7 +8,7 @@ from typing import Dict, List, NamedTuple, Optional
 import pytest
 
 from tests.conftest import built
-from tests.shared.processes import TIMEOUT, TOP, run
+from tests.shared.processes import TIMEOUT, run
 
 from .manuals import (
     EXAMPLE_COUNTS,
@@ -184,16 +184,6 @@ def test_causes_are_those_of_help(program: str, help_text: str) -> None:
     causes = re.split(r",\s+|\s+or\s+", re.sub(r"\s+", " ", text))
     description = plain(section(PAGES["twogtp"], "DESCRIPTION"))
     assert [cause for cause in causes if cause not in description] == []
-
-
-def test_statuses_of_the_engine_are_those_of_its_page() -> None:
-    table = (TOP / "docs/protocol.md").read_text()
-    rows = re.findall(r"^\| (\d) \| .* \| (.*) \|$", table, re.MULTILINE)
-    named = items(section(PAGES["gtp_engine"], "EXIT STATUS"))
-    assert list(named) == list(dict.fromkeys(number for number, _ in rows))
-    for number, words in rows:
-        for text in re.findall(r"`gtp_engine: ([^`]*)`", words):
-            assert text in plain(named[number])
 
 
 # ---- examples

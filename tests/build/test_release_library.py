@@ -225,17 +225,15 @@ def test_package_for_python_is_that_of_the_commit(
 # ---- what the page of the library shows
 
 
-def run_block(page: Path, number: int, folder: Path, root: str, **paths: Path) -> None:
-    """Fails unless a block of commands of the page plays a game in this folder.
+def run_block(docs: Path, number: int, folder: Path, root: str, **paths: Path) -> None:
+    """Fails unless a block of commands of the library's pages plays a game in this folder.
 
     The variables name these paths first, and the files of packages lie in `root`.
     """
-    text = page.read_text()
-    blocks = pages.blocks_in(text, "")
+    blocks = pages.library_blocks(docs, "")
     assert len(blocks) == len(BLOCKS)
-    (engine,) = [it for it in pages.blocks_in(text, "python") if "vintsaky.Engine" in it]
-    (name,) = re.findall(r"^With these lines as `([\w.]+)`:", text, re.MULTILINE)
-    (folder / name).write_text(engine)
+    (engine,) = [it for it in pages.library_blocks(docs, "python") if "vintsaky.Engine" in it]
+    (folder / "my_engine.py").write_text(engine)
     hidden = ("PYTHONPATH", "VINTSAKY_LIBRARY")
     own = {name: it for name, it in os.environ.items() if name not in hidden}
     own["PYTHONDONTWRITEBYTECODE"] = "1"
@@ -258,7 +256,7 @@ def test_archive_does_what_its_page_shows(
 ) -> None:
     folder = tmp_path / "archive"
     shutil.copytree(archive_tree, folder, symlinks=True)
-    run_block(folder / "docs/library.md", number, folder, "")
+    run_block(folder / "docs", number, folder, "")
 
 
 @pytest.fixture(scope="module")
@@ -272,9 +270,8 @@ def all_packages(releases: Releases, tmp_path_factory: pytest.TempPathFactory) -
 def test_packages_do_what_their_page_shows(
     number: int, all_packages: Path, tmp_path: Path
 ) -> None:
-    page = all_packages / "usr/share/doc/vintsaky/docs/library.md"
     run_block(
-        page,
+        all_packages / "usr/share/doc/vintsaky/docs",
         number,
         tmp_path,
         str(all_packages),

@@ -23,13 +23,16 @@ pytestmark = RELEASE_MARKS
 LONG = 30 * TIMEOUT
 STRIPPED = ["crates", "others", "shims", "vintsaky"]  # the folders that cargo/strip writes
 OWN = ["CHANGELOG.md", "Cargo.lock", "Cargo.toml", "PROVENANCE", "README.md"]
-PAGES = ["CHANGELOG.md", "README.md", "docs/library.md", "docs/rules.md"]
+PAGES = [
+    "CHANGELOG.md",
+    "README.md",
+    "docs/rules.md",
+    *[f"docs/{page}" for page in pages.OF_LIBRARY],
+]
 # What the README says before its first heading, in this order.
 SAID = [
     "sources of proved programs, with the contracts taken off",
-    "documentation shows the contracts as text",
-    "What cargo builds of it is tested, and not proved",
-    "Not here are the proofs, the definitions",
+    "What cargo builds of them is tested, and not proved",
 ]
 GAME = r"(?:\d+\n)?game 1: \S+ moves \d+ restarts 0 0\n"  # the port of a server comes first
 # What the blocks of the README show, and what each prints.
@@ -262,10 +265,10 @@ def test_program_is_built_and_installed_as_the_readme_says(program: str, built: 
 
 @pytest.mark.parametrize("number", range(len(PAGE_BLOCKS)), ids=PAGE_BLOCKS)
 def test_sources_do_what_the_page_of_the_library_shows(number: int, built: Builder) -> None:
-    text = (built.tree / "docs/library.md").read_text()
-    blocks = pages.blocks_in(text, "")
+    blocks = pages.library_blocks(built.tree / "docs", "")
     assert len(blocks) == len(PAGE_BLOCKS)
-    (engine,) = [it for it in pages.blocks_in(text, "python") if "vintsaky.Engine" in it]
+    shown = pages.library_blocks(built.tree / "docs", "python")
+    (engine,) = [it for it in shown if "vintsaky.Engine" in it]
     (built.tree / "my_engine.py").write_text(engine)
     done = built.run(["bash", "-ec", blocks[number]])
     assert done.returncode == 0, done.stdout + done.stderr

@@ -28,12 +28,11 @@ def blocks_in(page: str, language: str) -> list[str]:
     return pages.blocks_in((TOP / page).read_text(), language)
 
 
-PAGES = ["docs/library.md", "docs/search.md", "docs/learning.md", "docs/server.md"]
-PYTHON = [block for page in PAGES for block in blocks_in(page, "python")]
+PYTHON = pages.library_blocks(TOP / "docs", "python")
 ENGINES = [block for block in PYTHON if "vintsaky.Engine" in block]
 OTHERS = [block for block in PYTHON if block not in ENGINES]
-ROLLOUTS = [block for block in blocks_in("docs/search.md", "c") if "_rollout(" in block]
-COMMANDS = [block for page in PAGES for block in blocks_in(page, "")]
+ROLLOUTS = [it for it in pages.library_blocks(TOP / "docs", "c") if "_rollout(" in it]
+COMMANDS = pages.library_blocks(TOP / "docs", "")
 
 
 def test_page_has_one_short_engine_in_python() -> None:

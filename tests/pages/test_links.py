@@ -14,8 +14,8 @@ PAGES = pages.page_paths()
 NO_FILE = re.compile(r"^cargo/workspace/|NAME|CRATE")  # made by cargo/strip, or any file
 NAMES_LOST_PAGES = "tests/build/test_release_pages.py"
 
-# The words that a page may have. A longer page loses a section; a limit rises in a commit of its own,
-# which names the task that failed without it.
+# The words that a page may have. A longer page loses a section; a limit rises in a commit of its
+# own, which names the task that failed without it.
 LIMITS = {
     "CHANGELOG.md": 500,
     "README.md": 970,

@@ -54,6 +54,16 @@ def blocks_in(text: str, language: str) -> list[str]:
     return [block for of, block in BLOCK.findall(text) if of == language]
 
 
+# the pages on the library, in the docs/ of the repository or of a release
+OF_LIBRARY = ("library.md", "search.md", "learning.md", "server.md")
+
+
+def library_blocks(folder: Path, language: str) -> list[str]:
+    """Returns the blocks in a language of the pages on the library that are in a folder."""
+    texts = [(folder / page).read_text() for page in OF_LIBRARY]
+    return [block for text in texts for block in blocks_in(text, language)]
+
+
 def blank(found: re.Match[str]) -> str:
     """Returns spaces in place of what was found. Lines stay, so that places keep their numbers."""
     return re.sub(r"[^\n]", " ", found[0])

@@ -1,4 +1,4 @@
-"""What genmove plays: docs/policies.md in Python. All of it is own."""
+"""What genmove plays: docs/engine.md in Python. All of it is own."""
 from __future__ import annotations
 
 from typing import TYPE_CHECKING, Optional, Protocol
