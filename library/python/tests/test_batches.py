@@ -63,7 +63,7 @@ class Called:
         return self._handles, len(self._handles)
 
     def play(self, moves, causes):
-        """Returns each game makes its move for the colour whose turn it is.
+        """Makes the move of each game, of the colour whose turn it is.
 
         Its cause is 0, or why it refuses the move.
         """
@@ -72,7 +72,7 @@ class Called:
     def restart(self, limit, over, half_points):
         """Tells of each game whether it is over: 1 after two passes, 2 after `limit` moves, else 0.
 
-        Those that are over are scored in half points, and begin anew.
+        Those that are over are scored in half points, and begin again.
         """
         most = int_in_range(limit, "the limit")
         check(
@@ -82,8 +82,9 @@ class Called:
         )
 
     def planes(self, values, earlier=0):
-        """Returns the stones of the colour whose turn it is, and those of the other one, of each
-        game's board and of so many earlier ones. The array is of c_uint8 or of c_float.
+        """Returns the stones of both colours, of each game's board and of so many earlier ones.
+
+        Those of the colour whose turn it is come first. The array is of c_uint8 or of c_float.
         """
         call = (
             library.vintsaky_games_planes_f32
@@ -150,15 +151,15 @@ def played(game, number):
 
 
 def over(game, limit):
-    """Returns how a single game is over. It begins anew then."""
-    told = 1 if game.finished else 2 if len(game.moves) >= min(limit, 2000) else 0
-    score = round(game.score * 2) if told else 0
-    if told:
+    """Returns how a single game is over. It begins again then."""
+    ending = 1 if game.finished else 2 if len(game.moves) >= min(limit, 2000) else 0
+    score = round(game.score * 2) if ending else 0
+    if ending:
         stones = game.handicap
         game.begin(game.size, game.komi, game.rule)
         if stones:
             game.place_handicap(stones)
-    return told, score
+    return ending, score
 
 
 def planes(game, earlier):
@@ -182,7 +183,7 @@ def mask(game):
 
 
 class Beside(unittest.TestCase):
-    """Drawn games beside single ones."""
+    """Random games, compared with single ones."""
 
     def compared(self, seed, size, count, steps, limit, **named):
         draw = random.Random(seed)
@@ -193,7 +194,7 @@ class Beside(unittest.TestCase):
         for step in range(steps):
             numbers = [self.drawn(draw, it) for it in single]
             met |= set(self.moved(games, single, numbers))
-            self.told(games, single, limit)
+            self.check_scored(games, single, limit)
             self.shown(games, single, draw.choice([0, 0, 1, 2, 7]))
             if step % 20 == 0:
                 self.rolled_out(games, single, [draw.getrandbits(64) for _ in single])
@@ -221,11 +222,10 @@ class Beside(unittest.TestCase):
         )
         return causes[: len(single)]
 
-    def told(self, games, single, limit):
+    def check_scored(self, games, single, limit):
         many = len(single) + SPARE
-        overs, scores = (ctypes.c_uint8 * many)(*[FILL] * many), (ctypes.c_int32 * many)(
-            *[FILL] * many
-        )
+        overs = (ctypes.c_uint8 * many)(*[FILL] * many)
+        scores = (ctypes.c_int32 * many)(*[FILL] * many)
         games.restart(limit, overs, scores)
         wanted = [over(it, limit) for it in single] + [(FILL, FILL)] * SPARE
         self.assertEqual(list(zip(overs, scores)), wanted)
@@ -277,7 +277,7 @@ class Beside(unittest.TestCase):
         for _ in range(2000):
             self.moved(games, [game], [1])
         self.assertEqual(list(self.moved(games, [game], [1])), [Cause.FULL])
-        self.told(games, [game], 2**32 - 1)
+        self.check_scored(games, [game], 2**32 - 1)
 
 
 class Rooms(unittest.TestCase):

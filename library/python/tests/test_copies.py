@@ -90,7 +90,7 @@ def again(game):
 
 
 def handicapped():
-    """Returns a game with all that is kept: handicap stones, a komi, a rule, captures and a pass."""
+    """Returns a game with all that a copy has: handicap, komi, rule, captures and a pass."""
     game = Game(9, -3.5, KoRule.POSITIONAL)
     game.place_handicap(2)
     for move in "w A2, b A1, w B1, b pass".split(", "):
@@ -223,8 +223,8 @@ class Subclasses(unittest.TestCase):
                 super().__init__(3)
 
         game = Newly("new")
-        self.assertEqual([(type(other), other.name, other.size) for other in (game.copy(), copy.deepcopy(game))],
-                         [(Newly, "new", 3)] * 2)  # fmt: skip
+        for other in (game.copy(), copy.deepcopy(game)):
+            self.assertEqual((type(other), other.name, other.size), (Newly, "new", 3))
 
     def test_without_init(self):
         class Lazy(Game):
@@ -244,12 +244,12 @@ class Comparisons(unittest.TestCase):
 
     def test_each_of_five_differs(self):
         game = played(5, "b A1, w B2")
-        others = [
-            played(6, "b A1, w B2"), played(5, "b A1, w B2", komi=0.5), played(5, "b A1, w B2", rule=KoRule.POSITIONAL),
-            played(5, "w B2, b A1"), played(5, "b A1, w B2, b pass"), played(5, "b A1"), Game(5),
-        ]  # fmt: skip
-        for other in others:
-            self.assertNotEqual(game, other)
+        self.assertNotEqual(game, played(6, "b A1, w B2"))
+        self.assertNotEqual(game, played(5, "b A1, w B2", komi=0.5))
+        self.assertNotEqual(game, played(5, "b A1, w B2", rule=KoRule.POSITIONAL))
+        for moves in ("w B2, b A1", "b A1, w B2, b pass", "b A1"):
+            self.assertNotEqual(game, played(5, moves))
+        self.assertNotEqual(game, Game(5))
         stones, placed = Game(9), Game(9)
         for point in ("G7", "C3"):
             stones.play("b", point)
@@ -319,16 +319,17 @@ class OfMoves(Refusing):
         self.refused(Cause.BAD_SIZE, Game.from_moves, [], 26)
 
     def test_a_move_that_is_refused_is_named(self):
+        pair = "is no pair of a colour and a vertex$"
         for moves, kind, text in (
-            ([("b", "A1"), ("w", "A1")], Refused, "^move 2: play w A1: A stone is on the point.$"),
-            ([("x", "A1")], Refused, "^move 1: colour: 'x' is no colour; use 'b'"),
-            ([("b", "A1"), ("b", None)], TypeError, "^move 2: vertex: None is no vertex; "),
-            ([("b", "A1", 1)], TypeError, r"^move 1: \('b', 'A1', 1\) is no pair of a colour and a vertex$"),
-            (["b A1"], TypeError, "^move 1: 'b A1' is no pair of a colour and a vertex$"),
-            ([5], TypeError, "^move 1: 5 is no pair"),
-            ([("b", PASS)] * 2001, Refused, "^move 2001: play b pass: The record is full: it has 2,000 moves, the maximum.$"),
-        ):  # fmt: skip
-            self.assertRaisesRegex(kind, text, Game.from_moves, moves)
+            ([("b", "A1"), ("w", "A1")], Refused, "move 2: play w A1: A stone is on the point.$"),
+            ([("x", "A1")], Refused, "move 1: colour: 'x' is no colour; use 'b'"),
+            ([("b", "A1"), ("b", None)], TypeError, "move 2: vertex: None is no vertex; "),
+            ([("b", "A1", 1)], TypeError, rf"move 1: \('b', 'A1', 1\) {pair}"),
+            (["b A1"], TypeError, f"move 1: 'b A1' {pair}"),
+            ([5], TypeError, f"move 1: 5 {pair}"),
+            ([("b", PASS)] * 2001, Refused, f"move 2001: play b pass: {Cause.FULL.text}$"),
+        ):
+            self.assertRaisesRegex(kind, f"^{text}", Game.from_moves, moves)
         self.refused(Cause.OCCUPIED, Game.from_moves, [("b", "A1"), ("w", "A1")])
         self.assertRaises(TypeError, Game.from_moves, None)
 
@@ -363,19 +364,18 @@ DAMAGED = "^the pickle of a Game is damaged: "
 
 class Damaged(unittest.TestCase):
     def test_what_is_read_is_looked_at(self):
+        moves = "b|b A1, b A1|x A1|b K1|b Z99|b A1 w|, |b A1, |b resign|b \udc80".split("|")
         for name, wrong in {
-            "kind": (int, None, "Game", KoRule, object), "size": (26, 0, -1, "9", None, 2**70, 9.0),
-            "komi": (6.7, 1e30, None, float("nan"), "6.5"), "rule": (3, 0, None, "simple"),
-            "handicap": (1, 10, -1, "2", None),
-            "moves": (
-                None, b"b A1", 5, [], "b", "b A1, b A1", "x A1", "b K1", "b Z99", "b A1 w", ", ", "b A1, ", "b resign",
-                "b \udc80", ", ".join(["b pass"] * 2001),
-            ),
-        }.items():  # fmt: skip
+            "kind": [int, None, "Game", KoRule, object],
+            "size": [26, 0, -1, "9", None, 2**70, 9.0],
+            "komi": [6.7, 1e30, None, float("nan"), "6.5"],
+            "rule": [3, 0, None, "simple"],
+            "handicap": [1, 10, -1, "2", None],
+            "moves": [None, b"b A1", 5, [], *moves, ", ".join(["b pass"] * 2001)],
+        }.items():
             for value in wrong:
-                with self.subTest(**{name: value}), self.assertRaisesRegex(
-                    pickle.UnpicklingError, DAMAGED
-                ):
+                damaged = self.assertRaisesRegex(pickle.UnpicklingError, DAMAGED)
+                with self.subTest(**{name: value}), damaged:
                     pickle.loads(tampered(**{name: value}))
         other = pickle.loads(tampered(size=5, komi=0.5, rule=2, moves="b A1, w B2"))
         self.assertEqual(other, played(5, "b A1, w B2", komi=0.5, rule=2))
@@ -383,12 +383,12 @@ class Damaged(unittest.TestCase):
     def test_what_is_wrong_is_named(self):
         for changed, text in (
             ({"moves": "b A1, w A1"}, "move 2: play w A1: A stone is on the point.$"),
-            ({"size": 26}, "size: 26 is not from 1 to 25$"), ({"kind": int}, "<class 'int'> is no Game"),
+            ({"size": 26}, "size: 26 is not from 1 to 25$"),
+            ({"kind": int}, "<class 'int'> is no Game"),
             ({"moves": 5}, "5 no moves"),
-        ):  # fmt: skip
-            self.assertRaisesRegex(
-                pickle.UnpicklingError, f"{DAMAGED}.*{text}", pickle.loads, tampered(**changed)
-            )
+        ):
+            with self.assertRaisesRegex(pickle.UnpicklingError, f"{DAMAGED}.*{text}"):
+                pickle.loads(tampered(**changed))
 
     def test_any_byte_of_the_moves_may_be_another(self):
         whole, read = pickle.dumps(handicapped()), 0

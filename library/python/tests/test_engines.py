@@ -93,7 +93,7 @@ class Says(First):
 
 
 def served(engine, said):
-    """Returns what the engine writes that is told this."""
+    """Returns what the engine writes that reads this."""
     sink = io.BytesIO()
     engine.serve(io.BytesIO(said), sink)
     return sink.getvalue()
@@ -158,11 +158,13 @@ class InSteps(Refusing):
             self.refused(Cause.BAD_TEXT, steps.set_name, text)
             self.refused(Cause.BAD_TEXT, steps.set_version, text)
         steps.add_command("y" * 32)
-        for cause, name in (
-            (Cause.BAD_LENGTH, ""), (Cause.BAD_LENGTH, "y" * 33), (Cause.BAD_BYTE, "a b"), (Cause.BAD_BYTE, "#"),
-            (Cause.ONLY_DIGITS, "7"), (Cause.IN_TABLE, "play"), (Cause.ADDED_BEFORE, "y" * 32),
-        ):  # fmt: skip
-            self.refused(cause, steps.add_command, name)
+        for name in ("", "y" * 33):
+            self.refused(Cause.BAD_LENGTH, steps.add_command, name)
+        for name in ("a b", "#"):
+            self.refused(Cause.BAD_BYTE, steps.add_command, name)
+        self.refused(Cause.ONLY_DIGITS, steps.add_command, "7")
+        self.refused(Cause.IN_TABLE, steps.add_command, "play")
+        self.refused(Cause.ADDED_BEFORE, steps.add_command, "y" * 32)
         for number in range(31):
             steps.add_command(b"own%d" % number)
         self.refused(Cause.TOO_MANY, steps.add_command, "another")
@@ -190,10 +192,12 @@ class InSteps(Refusing):
 
 class Served(unittest.TestCase):
     def test_any_cuts(self):
-        said = b"boardsize 2\n1 genmove b\n2 genmove w\n name\n3 version\n4 nosuch\n5 kgs-chat a  b\n6 nothing\nfails\n"
-        said += b"stones\nquit\nname\n"
-        replies = b"=\n\n=1 A1\n\n=2 B1\n\n= first\n\n=3 2.5\n\n?4 unknown command\n\n=5 a b\n\n=6\n\n? not today\n\n"
-        replies += b"= 2\n\n=\n\n"
+        said = (
+            b"boardsize 2\n1 genmove b\n2 genmove w\n name\n3 version\n4 nosuch\n5 kgs-chat a  b\n"
+        )
+        said += b"6 nothing\nfails\nstones\nquit\nname\n"
+        replies = b"=\n\n=1 A1\n\n=2 B1\n\n= first\n\n=3 2.5\n\n?4 unknown command\n\n=5 a b\n\n"
+        replies += b"=6\n\n? not today\n\n= 2\n\n=\n\n"
         self.assertEqual(served(First(), said), replies)
         for size in (1, 7, 30):
             pieces = [said[place : place + size] for place in range(0, len(said), size)]
@@ -230,10 +234,12 @@ class Served(unittest.TestCase):
 
     def test_choices_that_are_not_lawful_come_out(self):
         for choice, kind, text in (
-            ("A1", vintsaky.Refused, "A stone is on the point"), ("C1", vintsaky.Refused, "isn't on a board"),
-            (None, TypeError, "None is no choice"), (257, TypeError, "257 is no choice"),
+            ("A1", vintsaky.Refused, "A stone is on the point"),
+            ("C1", vintsaky.Refused, "isn't on a board"),
+            (None, TypeError, "None is no choice"),
+            (257, TypeError, "257 is no choice"),
             ("Z99", vintsaky.Refused, "'Z99' is no choice"),
-        ):  # fmt: skip
+        ):
             engine, sink = Engine(), io.BytesIO()
             engine.choose = lambda game, colour, choice=choice: choice
             with self.assertRaisesRegex(kind, text):
@@ -241,21 +247,24 @@ class Served(unittest.TestCase):
             self.assertEqual(sink.getvalue(), b"=\n\n=\n\n")
 
     def answered(self, engine, said):
-        """Returns what the engine writes that is told this, and the lines on standard error."""
+        """Returns what the engine writes that reads this, and the lines on standard error."""
         errors = io.StringIO()
         with contextlib.redirect_stderr(errors):
             output = served(engine, said)
         return output, errors.getvalue().splitlines()
 
     def test_a_wrong_answer_is_a_failure(self):
+        limit = "may be in no reply; a reply's text has at most 2000 bytes, each a newline"
         for word, text in (
-            ("text", r"text: 'a\n\nb' may be in no reply; a reply's text has at most 2000 bytes, each a newline"),
-            ("long", f"text: '{'x' * 59}.. may be in no reply; a reply's text has at most 2000 bytes"),
-            ("bytes", r"text: b'\xff' may be in no reply"), ("accent", "text: 'é' may be in no reply"),
+            ("text", rf"text: 'a\n\nb' {limit}"),
+            ("long", f"text: '{'x' * 59}.. {limit}"),
+            ("bytes", r"text: b'\xff' may be in no reply"),
+            ("accent", "text: 'é' may be in no reply"),
             ("type", "text: 5 is neither str nor bytes"),
-            ("list", "text: ['a'] is neither str nor bytes"), ("fails", r"text: 'no\n' may be in no reply"),
+            ("list", "text: ['a'] is neither str nor bytes"),
+            ("fails", r"text: 'no\n' may be in no reply"),
             ("refused", "text: ' ' may be in no reply"),
-        ):  # fmt: skip
+        ):
             with self.subTest(word):
                 said = b"1 name\n2 bad %s\n3 genmove b\n4 bad right\n" % word.encode()
                 output, errors = self.answered(Says(), said)
@@ -341,7 +350,8 @@ class Served(unittest.TestCase):
         self.assertEqual(served(Plays(), said), b"=\n\n=1 A1\n\n=2 B2\n\n=\n\n")
 
     def test_positional_ko(self):
-        cycle = b"boardsize 2\nplay b A1\nplay w B1\nplay b A2\nplay w B2\nplay b A1\nplay w A2\n1 play b A1\n"
+        cycle = b"boardsize 2\nplay b A1\nplay w B1\nplay b A2\nplay w B2\nplay b A1\nplay w A2\n"
+        cycle += b"1 play b A1\n"
 
         class Positional(First):
             rule = KoRule.POSITIONAL
@@ -351,9 +361,7 @@ class Served(unittest.TestCase):
 
 
 def run(program, said):
-    """Status, output and standard error of a program in Python that is told this, and whose input
-    stays open.
-    """
+    """Returns what comes of a program in Python that reads this, and whose input stays open."""
     pipes = {"stdin": subprocess.PIPE, "stdout": subprocess.PIPE, "stderr": subprocess.PIPE}
     variables = {name: value for name, value in os.environ.items() if name != "PYTHONUNBUFFERED"}
     process = subprocess.Popen([sys.executable, "-c", program], env=variables, **pipes)
@@ -420,7 +428,8 @@ class Standard(unittest.TestCase):
 
     def test_a_choose_that_raises(self):
         for choice in ('raise ValueError("a fault of its author")', 'return "Z25"', "return None"):
-            engine = f"class Wrong(vintsaky.Engine):\n    def choose(self, game, colour):\n        {choice}\n"
+            method = f"    def choose(self, game, colour):\n        {choice}\n"
+            engine = f"class Wrong(vintsaky.Engine):\n{method}"
             status, output, errors = run(
                 f"import vintsaky\n{engine}Wrong().serve()", b"1 name\n2 genmove b\n3 name\n"
             )

@@ -3,9 +3,18 @@ import re
 import unittest
 from fractions import Fraction
 
-import vintsaky
 from vintsaky import BLACK, PASS, RESIGN, WHITE, Cause, Command, CommandLines, Game, Match, Point
 from vintsaky import Refused, Replies, Steps
+from vintsaky import (
+    command,
+    komi_text,
+    read_colour,
+    read_komi,
+    read_vertex,
+    vertex_text,
+    write_command,
+    write_reply,
+)
 
 HANDICAP = Cause.BAD_HANDICAP.text
 COLOURS = "use 'b', 'w', 'black', 'white' or a Colour"
@@ -69,8 +78,8 @@ TYPES = [
     (lambda: Match(max_moves="9"), "max_moves: '9' is no int; use one from 1 to 2000"),
     (lambda: Match(handicap=None), "handicap: None is no int; use 0, or one from 2 to 9"),
     (lambda: MATCH.retakes("1"), "number: '1' is no int; use one from 0 to 4294967295"),
-    (lambda: vintsaky.read_colour(1), "text: 1 is neither str nor bytes"),
-    (lambda: vintsaky.komi_text(None), "komi: None is a NoneType, and no int, float or Fraction"),
+    (lambda: read_colour(1), "text: 1 is neither str nor bytes"),
+    (lambda: komi_text(None), "komi: None is a NoneType, and no int, float or Fraction"),
     (lambda: Game.from_moves(None), "moves: None is no list of moves"),
     (lambda: GAME.moves["0"], "number: '0' is neither an int nor a slice of them"),
     (
@@ -78,104 +87,147 @@ TYPES = [
         "number: slice('a', None, None) is neither an int nor a slice of them",
     ),
     (lambda: Point(1, 1).neighbours("9"), "size: '9' is no int; use one from 1 to 25"),
-    (lambda: vintsaky.command(5), 'name: 5 is no str; a command has a name, as @command("NAME")'),
-    (lambda: vintsaky.write_reply(5), "text: 5 is neither str nor bytes"),
-    (lambda: vintsaky.write_reply(id="1"), "id: '1' is no int; use one from 0 to 2147483647"),
-    (lambda: vintsaky.write_command("quit"), "command: 'quit' is no Command"),
+    (lambda: command(5), 'name: 5 is no str; a command has a name, as @command("NAME")'),
+    (lambda: write_reply(5), "text: 5 is neither str nor bytes"),
+    (lambda: write_reply(id="1"), "id: '1' is no int; use one from 0 to 2147483647"),
+    (lambda: write_command("quit"), "command: 'quit' is no Command"),
     (
-        lambda: vintsaky.write_command(Command.PLAY, "b"),
+        lambda: write_command(Command.PLAY, "b"),
         "PLAY: 1 argument is given; it takes a colour and a vertex",
     ),
-    (
-        lambda: vintsaky.write_command(Command.QUIT, 1, 2),
-        "QUIT: 2 arguments are given; it takes none",
-    ),
-    (
-        lambda: vintsaky.write_command(Command.BOARDSIZE, "9"),
-        "size: '9' is no int; use one from 1 to 25",
-    ),
+    (lambda: write_command(Command.QUIT, 1, 2), "QUIT: 2 arguments are given; it takes none"),
+    (lambda: write_command(Command.BOARDSIZE, "9"), "size: '9' is no int; use one from 1 to 25"),
 ]
 
-# calls with a wrong value, the cause of the Refused, or None for another ValueError, and its text
-VALUES = [
-    (lambda: Game(26), Cause.BAD_SIZE, "size: 26 is not from 1 to 25"),
-    (lambda: Game(-1), Cause.BAD_SIZE, "size: -1 is not from 1 to 25"),
-    (lambda: Game(2**64 + 9), Cause.BAD_SIZE, "size: 18446744073709551625 is not from 1 to 25"),
-    (lambda: Point(1, 1).neighbours(0), Cause.BAD_SIZE, "size: 0 is not from 1 to 25"),
-    (lambda: Game(9, 6.7), None, "komi: 6.7 is no multiple of 0.5"),
-    (lambda: Game(9, float("nan")), None, "komi: nan is no multiple of 0.5"),
-    (lambda: Game(9, Fraction(1, 3)), None, "komi: Fraction(1, 3) is no multiple of 0.5"),
-    (lambda: Game(9, 10**9), Cause.BAD_KOMI, "komi: 1000000000 is not from -999999999.5 to 999999999.5"),
-    (lambda: Game(9, float("-inf")), Cause.BAD_KOMI, "komi: -inf is not from -999999999.5 to 999999999.5"),
-    (lambda: Game(9, 0, 3), Cause.BAD_RULE, f"rule: 3 is no ko rule; {RULES}"),
-    (lambda: Game(9, 0, -1), Cause.BAD_RULE, f"rule: -1 is no ko rule; {RULES}"),
-    (lambda: GAME.legal("x", "C3"), Cause.BAD_TEXT, f"colour: 'x' is no colour; {COLOURS}"),
-    (lambda: GAME.play(b"\xff", "C3"), Cause.BAD_TEXT, rf"colour: b'\xff' is no colour; {COLOURS}"),
-    (lambda: GAME.play(3, "C3"), Cause.BAD_COLOUR, f"colour: 3 is no colour; {COLOURS}"),
-    (lambda: GAME.captured(-1), Cause.BAD_COLOUR, f"colour: -1 is no colour; {COLOURS}"),
-    (lambda: GAME.play("w", RESIGN), Cause.BAD_VERTEX, f"vertex: RESIGN is no move on a board; {VERTICES}"),
-    (lambda: GAME.play("w", "Z99"), Cause.BAD_TEXT, f"vertex: 'Z99' is no vertex; {VERTICES}"),
-    (lambda: GAME.play("w", "resign"), Cause.BAD_TEXT, f"vertex: 'resign' is no vertex; {VERTICES}"),
-    (lambda: GAME.play("w", Point(0, 0)), Cause.BAD_VERTEX, "vertex: Point(0, 0): a column is from 1 to 25"),
-    (lambda: GAME.play("w", (1, -1)), Cause.BAD_VERTEX, "vertex: (1, -1): a row is from 1 to 25"),
-    (lambda: str(Point(0, 0)), Cause.BAD_VERTEX, "Point(0, 0): a column is from 1 to 25"),
-    (lambda: vintsaky.vertex_text(RESIGN), Cause.BAD_VERTEX, f"vertex: RESIGN is no move on a board; {VERTICES}"),
-    (lambda: GAME["pass"], Cause.BAD_VERTEX, f"point: PASS is no point; {POINTS}"),
-    (lambda: GAME[RESIGN], Cause.BAD_VERTEX, f"point: RESIGN is no point; {POINTS}"),
-    (lambda: GAME.chain(PASS), Cause.BAD_VERTEX, f"point: PASS is no point; {POINTS}"),
-    (lambda: GAME.index("?"), Cause.BAD_TEXT, f"point: '?' is no point; {POINTS}"),
-    (lambda: GAME["K1"], Cause.OFF_BOARD, "point K1: The point isn't on a board of this size."),
-    (lambda: GAME.index("K1"), Cause.OFF_BOARD, "index K1: The point isn't on a board of this size."),
-    (lambda: GAME.chain("A3"), Cause.NO_STONE, "chain A3: No stone is on the point."),
-    (lambda: GAME.chain_points("A3"), Cause.NO_STONE, "chain_points A3: No stone is on the point."),
-    (lambda: GAME.point(81), Cause.OFF_BOARD, "index: 81 is not from 0 to 80"),
-    (lambda: GAME.point(-1), Cause.OFF_BOARD, "index: -1 is not from 0 to 80"),
-    (lambda: handicapped().place_handicap(2), Cause.NOT_EMPTY, f"place_handicap: {Cause.NOT_EMPTY.text}"),
-    (lambda: GAME.undo(), Cause.NOTHING_TO_UNDO, "undo: The record has no move to undo."),
-    (lambda: GAME.rollout("b", -1), None, "seed: -1 is not from 0 to 18446744073709551615"),
-    (lambda: GAME.random_move("b", 2**64), None, "word: 18446744073709551616 is not from 0 to 18446744073709551615"),
-    (lambda: GAME.playout("b", 1, 2**32), None, "limit: 4294967296 is not from 0 to 4294967295"),
-    (lambda: ASKED.choose("K99"), Cause.BAD_TEXT, f"choice: 'K99' is no choice; {CHOICES}"),
-    (lambda: ASKED.choose("Z1"), Cause.OFF_BOARD, "choose Z1: The point isn't on a board of this size."),
-    (lambda: ASKED.choose((0, 1)), Cause.BAD_VERTEX, "choice: (0, 1): a column is from 1 to 25"),
-    (lambda: STEPS.choose("A1"), Cause.NOT_ASKED, f"choose A1: {NOT_ASKED}"),
-    (lambda: STEPS.answer("x"), Cause.NOT_ASKED, f"answer 'x': {NOT_ASKED}"),
-    (lambda: STEPS.decline(), Cause.NOT_ASKED, f"decline: {NOT_ASKED}"),
-    (lambda: OTHER.answer("a\n\nb"), Cause.BAD_TEXT, rf"text: 'a\n\nb' may be in no reply; {REPLY}"),
-    (lambda: OTHER.answer("é"), Cause.BAD_TEXT, f"text: 'é' may be in no reply; {REPLY}"),
-    (lambda: STEPS.set_name(" a"), Cause.BAD_TEXT, f"name: ' a' may be in no reply; {TITLE}"),
-    (lambda: STEPS.set_version("é"), Cause.BAD_TEXT, f"version: 'é' may be in no reply; {TITLE}"),
-    (lambda: STEPS.answer("é"), Cause.NOT_ASKED, f"answer 'é': {NOT_ASKED}"),
-    (lambda: STEPS.add_command("play"), Cause.IN_TABLE, f"add_command 'play': {Cause.IN_TABLE.text}"),
-    (lambda: STEPS.add_command("é"), Cause.BAD_BYTE, f"add_command 'é': {Cause.BAD_BYTE.text}"),
-    (lambda: MATCH.started("w"), Cause.NOT_NEXT, "started w: Not the call that the match expects next."),
-    (lambda: MATCH.send("b"), Cause.NOT_NEXT, "send b: Not the call that the match expects next."),
-    (lambda: MATCH.lost("x"), Cause.BAD_TEXT, f"side: 'x' is no colour; {COLOURS}"),
-    (lambda: MATCH.status("b"), Cause.DOWN, f"status b: {Cause.DOWN.text}"),
-    (lambda: MATCH.owed("w"), Cause.DOWN, f"owed w: {Cause.DOWN.text}"),
-    (lambda: MATCH.result(3), Cause.NOT_OVER, "result 3: The match is not over yet."),
-    (lambda: MATCH.result(-1), None, "number: -1 is not from 0 to 4294967295"),
-    (lambda: Match(26), Cause.BAD_SIZE, "size: 26 is not from 1 to 25"),
-    (lambda: Match(8, handicap=5), Cause.BAD_HANDICAP, f"handicap 5 on size 8: {Cause.BAD_HANDICAP.text}"),
-    (lambda: Match(handicap=-1), Cause.BAD_HANDICAP, f"handicap -1 on size 19: {Cause.BAD_HANDICAP.text}"),
-    (lambda: Match(max_moves=0), Cause.BAD_MAX_MOVES, "max_moves: 0 is not from 1 to 2000"),
-    (lambda: Match(max_restarts=-1), Cause.BAD_MAX_RESTARTS, "max_restarts: -1 is not from 0 to 1000"),
-    (lambda: Game(8).place_handicap(5), Cause.BAD_HANDICAP, f"handicap 5 on size 8: {Cause.BAD_HANDICAP.text}"),
-    (lambda: Game(8).place_handicap(-1), Cause.BAD_HANDICAP, f"handicap -1 on size 8: {Cause.BAD_HANDICAP.text}"),
-    (lambda: Game(8).place_handicap(2**40), Cause.BAD_HANDICAP, f"handicap {2**40} on size 8: {HANDICAP}"),
-    (lambda: vintsaky.read_colour("x"), Cause.BAD_TEXT, "text: 'x' is no colour; use 'b', 'w', 'black' or 'white'"),
-    (lambda: vintsaky.read_vertex("é"), Cause.BAD_TEXT, "text: 'é' is no vertex; use one such as 'D4' or 'pass'"),
-    (lambda: vintsaky.read_komi("6.7"), Cause.BAD_TEXT, "text: '6.7' is no komi; use one such as '6.5' or '-7'"),
-    (lambda: vintsaky.write_reply("\t"), Cause.BAD_TEXT, rf"text: '\t' may be in no reply; {REPLY}"),
-    (lambda: vintsaky.write_reply(id=-1), Cause.BAD_ID, "id: -1 is not from 0 to 2147483647"),
-    (lambda: vintsaky.write_reply(id=2**31), Cause.BAD_ID, "id: 2147483648 is not from 0 to 2147483647"),
-    (lambda: vintsaky.write_command(9), Cause.BAD_COMMAND, "command: 9 is no Command"),
-    (lambda: vintsaky.write_command(-1), Cause.BAD_COMMAND, "command: -1 is no Command"),
-    (lambda: vintsaky.write_command(Command.BOARDSIZE, 0), Cause.BAD_SIZE, "size: 0 is not from 1 to 25"),
-    (lambda: vintsaky.write_command(Command.FIXED_HANDICAP, -1), Cause.BAD_HANDICAP,
-     "stones: -1 is not from 0 to 2147483647"),
-    (lambda: vintsaky.write_command(Command.GENMOVE, 3), Cause.BAD_COLOUR, f"colour: 3 is no colour; {COLOURS}"),
-]  # fmt: skip
+# calls with a wrong value and the text of the error, by the cause, or None for no Refused
+VALUES = {
+    Cause.BAD_SIZE: [
+        (lambda: Game(26), "size: 26 is not from 1 to 25"),
+        (lambda: Game(-1), "size: -1 is not from 1 to 25"),
+        (lambda: Game(2**64 + 9), "size: 18446744073709551625 is not from 1 to 25"),
+        (lambda: Point(1, 1).neighbours(0), "size: 0 is not from 1 to 25"),
+        (lambda: Match(26), "size: 26 is not from 1 to 25"),
+        (lambda: write_command(Command.BOARDSIZE, 0), "size: 0 is not from 1 to 25"),
+    ],
+    None: [
+        (lambda: Game(9, 6.7), "komi: 6.7 is no multiple of 0.5"),
+        (lambda: Game(9, float("nan")), "komi: nan is no multiple of 0.5"),
+        (lambda: Game(9, Fraction(1, 3)), "komi: Fraction(1, 3) is no multiple of 0.5"),
+        (lambda: GAME.rollout("b", -1), "seed: -1 is not from 0 to 18446744073709551615"),
+        (
+            lambda: GAME.random_move("b", 2**64),
+            "word: 18446744073709551616 is not from 0 to 18446744073709551615",
+        ),
+        (lambda: GAME.playout("b", 1, 2**32), "limit: 4294967296 is not from 0 to 4294967295"),
+        (lambda: MATCH.result(-1), "number: -1 is not from 0 to 4294967295"),
+    ],
+    Cause.BAD_KOMI: [
+        (lambda: Game(9, 10**9), "komi: 1000000000 is not from -999999999.5 to 999999999.5"),
+        (lambda: Game(9, float("-inf")), "komi: -inf is not from -999999999.5 to 999999999.5"),
+    ],
+    Cause.BAD_RULE: [
+        (lambda: Game(9, 0, 3), f"rule: 3 is no ko rule; {RULES}"),
+        (lambda: Game(9, 0, -1), f"rule: -1 is no ko rule; {RULES}"),
+    ],
+    Cause.BAD_TEXT: [
+        (lambda: GAME.legal("x", "C3"), f"colour: 'x' is no colour; {COLOURS}"),
+        (lambda: GAME.play(b"\xff", "C3"), rf"colour: b'\xff' is no colour; {COLOURS}"),
+        (lambda: GAME.play("w", "Z99"), f"vertex: 'Z99' is no vertex; {VERTICES}"),
+        (lambda: GAME.play("w", "resign"), f"vertex: 'resign' is no vertex; {VERTICES}"),
+        (lambda: GAME.index("?"), f"point: '?' is no point; {POINTS}"),
+        (lambda: ASKED.choose("K99"), f"choice: 'K99' is no choice; {CHOICES}"),
+        (lambda: OTHER.answer("a\n\nb"), rf"text: 'a\n\nb' may be in no reply; {REPLY}"),
+        (lambda: OTHER.answer("é"), f"text: 'é' may be in no reply; {REPLY}"),
+        (lambda: STEPS.set_name(" a"), f"name: ' a' may be in no reply; {TITLE}"),
+        (lambda: STEPS.set_version("é"), f"version: 'é' may be in no reply; {TITLE}"),
+        (lambda: MATCH.lost("x"), f"side: 'x' is no colour; {COLOURS}"),
+        (lambda: read_colour("x"), "text: 'x' is no colour; use 'b', 'w', 'black' or 'white'"),
+        (lambda: read_vertex("é"), "text: 'é' is no vertex; use one such as 'D4' or 'pass'"),
+        (lambda: read_komi("6.7"), "text: '6.7' is no komi; use one such as '6.5' or '-7'"),
+        (lambda: write_reply("\t"), rf"text: '\t' may be in no reply; {REPLY}"),
+    ],
+    Cause.BAD_COLOUR: [
+        (lambda: GAME.play(3, "C3"), f"colour: 3 is no colour; {COLOURS}"),
+        (lambda: GAME.captured(-1), f"colour: -1 is no colour; {COLOURS}"),
+        (lambda: write_command(Command.GENMOVE, 3), f"colour: 3 is no colour; {COLOURS}"),
+    ],
+    Cause.BAD_VERTEX: [
+        (lambda: GAME.play("w", RESIGN), f"vertex: RESIGN is no move on a board; {VERTICES}"),
+        (lambda: GAME.play("w", Point(0, 0)), "vertex: Point(0, 0): a column is from 1 to 25"),
+        (lambda: GAME.play("w", (1, -1)), "vertex: (1, -1): a row is from 1 to 25"),
+        (lambda: str(Point(0, 0)), "Point(0, 0): a column is from 1 to 25"),
+        (lambda: vertex_text(RESIGN), f"vertex: RESIGN is no move on a board; {VERTICES}"),
+        (lambda: GAME["pass"], f"point: PASS is no point; {POINTS}"),
+        (lambda: GAME[RESIGN], f"point: RESIGN is no point; {POINTS}"),
+        (lambda: GAME.chain(PASS), f"point: PASS is no point; {POINTS}"),
+        (lambda: ASKED.choose((0, 1)), "choice: (0, 1): a column is from 1 to 25"),
+    ],
+    Cause.OFF_BOARD: [
+        (lambda: GAME["K1"], "point K1: The point isn't on a board of this size."),
+        (lambda: GAME.index("K1"), "index K1: The point isn't on a board of this size."),
+        (lambda: GAME.point(81), "index: 81 is not from 0 to 80"),
+        (lambda: GAME.point(-1), "index: -1 is not from 0 to 80"),
+        (lambda: ASKED.choose("Z1"), "choose Z1: The point isn't on a board of this size."),
+    ],
+    Cause.NO_STONE: [
+        (lambda: GAME.chain("A3"), "chain A3: No stone is on the point."),
+        (lambda: GAME.chain_points("A3"), "chain_points A3: No stone is on the point."),
+    ],
+    Cause.NOT_EMPTY: [
+        (lambda: handicapped().place_handicap(2), f"place_handicap: {Cause.NOT_EMPTY.text}"),
+    ],
+    Cause.NOTHING_TO_UNDO: [
+        (lambda: GAME.undo(), "undo: The record has no move to undo."),
+    ],
+    Cause.NOT_ASKED: [
+        (lambda: STEPS.choose("A1"), f"choose A1: {NOT_ASKED}"),
+        (lambda: STEPS.answer("x"), f"answer 'x': {NOT_ASKED}"),
+        (lambda: STEPS.decline(), f"decline: {NOT_ASKED}"),
+        (lambda: STEPS.answer("é"), f"answer 'é': {NOT_ASKED}"),
+    ],
+    Cause.IN_TABLE: [
+        (lambda: STEPS.add_command("play"), f"add_command 'play': {Cause.IN_TABLE.text}"),
+    ],
+    Cause.BAD_BYTE: [
+        (lambda: STEPS.add_command("é"), f"add_command 'é': {Cause.BAD_BYTE.text}"),
+    ],
+    Cause.NOT_NEXT: [
+        (lambda: MATCH.started("w"), "started w: Not the call that the match expects next."),
+        (lambda: MATCH.send("b"), "send b: Not the call that the match expects next."),
+    ],
+    Cause.DOWN: [
+        (lambda: MATCH.status("b"), f"status b: {Cause.DOWN.text}"),
+        (lambda: MATCH.owed("w"), f"owed w: {Cause.DOWN.text}"),
+    ],
+    Cause.NOT_OVER: [
+        (lambda: MATCH.result(3), "result 3: The match is not over yet."),
+    ],
+    Cause.BAD_HANDICAP: [
+        (lambda: Match(8, handicap=5), f"handicap 5 on size 8: {Cause.BAD_HANDICAP.text}"),
+        (lambda: Match(handicap=-1), f"handicap -1 on size 19: {Cause.BAD_HANDICAP.text}"),
+        (lambda: Game(8).place_handicap(5), f"handicap 5 on size 8: {Cause.BAD_HANDICAP.text}"),
+        (lambda: Game(8).place_handicap(-1), f"handicap -1 on size 8: {Cause.BAD_HANDICAP.text}"),
+        (lambda: Game(8).place_handicap(2**40), f"handicap {2**40} on size 8: {HANDICAP}"),
+        (
+            lambda: write_command(Command.FIXED_HANDICAP, -1),
+            "stones: -1 is not from 0 to 2147483647",
+        ),
+    ],
+    Cause.BAD_MAX_MOVES: [
+        (lambda: Match(max_moves=0), "max_moves: 0 is not from 1 to 2000"),
+    ],
+    Cause.BAD_MAX_RESTARTS: [
+        (lambda: Match(max_restarts=-1), "max_restarts: -1 is not from 0 to 1000"),
+    ],
+    Cause.BAD_ID: [
+        (lambda: write_reply(id=-1), "id: -1 is not from 0 to 2147483647"),
+        (lambda: write_reply(id=2**31), "id: 2147483648 is not from 0 to 2147483647"),
+    ],
+    Cause.BAD_COMMAND: [
+        (lambda: write_command(9), "command: 9 is no Command"),
+        (lambda: write_command(-1), "command: -1 is no Command"),
+    ],
+}
 
 
 class Errors(unittest.TestCase):
@@ -186,7 +238,8 @@ class Errors(unittest.TestCase):
             self.assertEqual(str(caught.exception), text)
 
     def test_a_wrong_value_is_a_value_error(self):
-        for call, cause, text in VALUES:
+        rows = [(cause, *row) for cause, rows in VALUES.items() for row in rows]
+        for cause, call, text in rows:
             with self.subTest(text), self.assertRaises(ValueError) as caught:
                 call()
             self.assertEqual(str(caught.exception), text)
@@ -207,7 +260,7 @@ class Errors(unittest.TestCase):
             ("c1", "play w C1: A stone is on the point."),
             (b"D5", "play w D5: The point isn't on a board of this size."),
             ((1, 1), "play w A1: The new stone's chain would have no liberty."),
-        ):  # fmt: skip
+        ):
             with self.assertRaises(Refused) as caught:
                 game.play("White", vertex)
             self.assertEqual(str(caught.exception), said)
@@ -221,12 +274,16 @@ class Errors(unittest.TestCase):
             self.assertEqual(str(caught.exception), f"number: {number} is no move of a record of 1")
 
     def test_causes_in_a_fixed_order(self):
-        for call, cause in (
-            (lambda: Game(26, 10**9, 3), Cause.BAD_RULE), (lambda: Game(26, 10**9), Cause.BAD_SIZE),
-            (lambda: GAME.play(3, RESIGN), Cause.BAD_COLOUR), (lambda: Match(26, 10**9, 99), Cause.BAD_SIZE),
-            (lambda: Match(9, 10**9, 99), Cause.BAD_KOMI), (lambda: Match(9, 0, 99, 0), Cause.BAD_HANDICAP),
-            (lambda: Match(9, 0, 1, 0), Cause.BAD_HANDICAP), (lambda: Match(9, 0, 0, 0, -1), Cause.BAD_MAX_MOVES),
-        ):  # fmt: skip
+        for cause, call in (
+            (Cause.BAD_RULE, lambda: Game(26, 10**9, 3)),
+            (Cause.BAD_SIZE, lambda: Game(26, 10**9)),
+            (Cause.BAD_COLOUR, lambda: GAME.play(3, RESIGN)),
+            (Cause.BAD_SIZE, lambda: Match(26, 10**9, 99)),
+            (Cause.BAD_KOMI, lambda: Match(9, 10**9, 99)),
+            (Cause.BAD_HANDICAP, lambda: Match(9, 0, 99, 0)),
+            (Cause.BAD_HANDICAP, lambda: Match(9, 0, 1, 0)),
+            (Cause.BAD_MAX_MOVES, lambda: Match(9, 0, 0, 0, -1)),
+        ):
             with self.assertRaises(Refused) as caught:
                 call()
             self.assertIs(caught.exception.cause, cause)
@@ -237,7 +294,10 @@ class Errors(unittest.TestCase):
         self.assertIs(caught.exception.cause, Cause.NOT_EMPTY)
 
     def test_no_number_of_the_interface_is_in_a_text(self):
-        for call in [*(row[0] for row in TYPES), *(row[0] for row in VALUES)]:
+        for call in [
+            *(row[0] for row in TYPES),
+            *(call for rows in VALUES.values() for call, _ in rows),
+        ]:
             with self.assertRaises((TypeError, ValueError)) as caught:
                 call()
             self.assertIsNone(

@@ -23,7 +23,8 @@ from vintsaky import (
 
 from .test_values import Refusing
 
-KO = "b B1, w C1, b A2, w D2, b B3, w C3, b C2, w B2"  # White took C2; Black's C2 would take B2, and is the ko
+# White took C2; Black's C2 would take B2, and is the ko
+KO = "b B1, w C1, b A2, w D2, b B3, w C3, b C2, w B2"
 
 
 def played(size, moves, **named):
@@ -297,7 +298,7 @@ class Searches(Refusing):
         self.assertEqual(len(game.moves), 0)
 
     def test_random_moves(self):
-        # all points but A1, Black's eye, and where the stones are: C1, then the second and the third row
+        # all points but A1, Black's eye, and those of stones: C1, then the second and the third row
         game = played(3, "b A2, b B1")
         candidates = ["C1", "B2", "C2", "A3", "B3", "C3"]
         for word in (*range(12), 2**32, 2**63, 2**64 - 1):

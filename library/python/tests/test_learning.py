@@ -21,7 +21,7 @@ except ImportError:
 
 
 class Beside(unittest.TestCase):
-    """Drawn games beside single ones, with all buffers."""
+    """Random games, compared with single ones, with all buffers."""
 
     def compared(self, seed, size, count, limit, earlier, kind, **named):
         draw = random.Random(seed)
@@ -35,12 +35,12 @@ class Beside(unittest.TestCase):
         for _ in range(60):
             numbers = [draw.randrange(points + 2) for _ in single]
             buffers = dict(causes=causes, over=ways, scores=scores, planes=boards, masks=masks)
-            came = games.step(numbers, earlier=earlier, **buffers)
+            rejected = games.step(numbers, earlier=earlier, **buffers)
             wanted = [played(*it) for it in zip(single, numbers)]
             ended = [over(it, limit) for it in single]
             self.assertEqual(list(causes), wanted)
             self.assertEqual([(way, round(2 * score)) for way, score in zip(ways, scores)], ended)
-            self.assertEqual(came, sum(map(bool, wanted)))
+            self.assertEqual(rejected, sum(map(bool, wanted)))
             self.assertEqual(
                 list(boards), [value for it in single for value in planes(it, earlier)]
             )
@@ -368,10 +368,11 @@ class Threads(unittest.TestCase):
         self.assertEqual(len(games.game(0).moves), 0)
 
     def test_while_a_call_runs(self):
-        """Rollouts of many large boards take long enough for the others to be refused meanwhile; if
-        not, once more.
+        """Rollouts of many large boards take so long that the others are refused.
+
+        If they aren't, the rollouts are made once more.
         """
-        games, buffer, refused, came = Games(1000, 25), bytearray(1000 * 626), set(), []
+        games, buffer, refused, scores_of_all = Games(1000, 25), bytearray(1000 * 626), set(), []
         calls = {
             "adopt": games.adopt,
             "step": lambda: games.step([0] * 1000),
@@ -382,25 +383,26 @@ class Threads(unittest.TestCase):
             "turns": lambda: games.turns,
         }
         for _ in range(20):
-            came.append(self.seen_by_others(games, calls, refused))
+            scores_of_all.append(self.seen_by_others(games, calls, refused))
             if refused == set(calls):
                 break
         self.assertEqual(refused, set(calls))
-        self.assertEqual({len(scores) for scores in came}, {1000})
+        self.assertEqual({len(scores) for scores in scores_of_all}, {1000})
         games.adopt()
         self.assertEqual((games.step([0] * 1000), set(buffer)), (0, {0}))
 
     def seen_by_others(self, games, calls, refused):
-        """Adds to those that are refused while another thread makes its rollouts, which are
-        returned. The thread has the games before any other call is made, and `adopt` is tried last,
-        once another one was refused.
+        """Adds to the refused calls while another thread makes its rollouts, and returns these.
+
+        The thread has the games before any other call is made, and `adopt` is called last, once
+        another one was refused.
         """
-        came, adopted = [], threading.Event()
+        scores_of_all, adopted = [], threading.Event()
 
         def roll_out():
             games.adopt()
             adopted.set()
-            came.extend(games.rollouts(range(1000)))
+            scores_of_all.extend(games.rollouts(range(1000)))
 
         owner = threading.Thread(target=roll_out)
         owner.start()
@@ -414,7 +416,7 @@ class Threads(unittest.TestCase):
                     seen |= {name} if "in a call" in str(problem) else set()
         owner.join()
         refused |= seen
-        return came
+        return scores_of_all
 
     def test_moves_that_look_at_the_games(self):
         """They are made into numbers before the games are in a call."""

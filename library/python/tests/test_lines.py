@@ -52,9 +52,9 @@ class Readers(Refusing):
     def test_long_lines(self):
         longest, longer = b"x" * 998 + b" y\n", b"x" * 999 + b" y\n"
         self.assertEqual(CommandLines().feed(longest), [CommandLine(None, ("x" * 998, "y"))])
-        self.assertEqual(CommandLines().feed(b"1 name\n" + longer + b"2 name\n"), [
-            CommandLine(1, ("name",)), CommandLine(None, (), True), CommandLine(2, ("name",)),
-        ])  # fmt: skip
+        lines = CommandLines().feed(b"1 name\n" + longer + b"2 name\n")
+        first, last = CommandLine(1, ("name",)), CommandLine(2, ("name",))
+        self.assertEqual(lines, [first, CommandLine(None, (), True), last])
 
     def test_bytes_of_words(self):
         for text, word in (("é".encode(), "é"), (b"\xff", "\udcff")):
@@ -97,20 +97,28 @@ class Writers(Refusing):
             self.assertEqual(write_command(int(command), *arguments, id=7), b"7 " + line)
 
     def test_refused_commands(self):
-        for cause, command, *arguments in (
-            (Cause.BAD_COMMAND, 9), (Cause.BAD_COMMAND, 0), (Cause.BAD_COMMAND, 2**32 - 1), (Cause.BAD_COMMAND, -1),
-            (Cause.BAD_COMMAND, 2**32 + 8), (Cause.BAD_SIZE, Command.BOARDSIZE, 2**32 + 9),
-            (Cause.BAD_COLOUR, Command.GENMOVE, 2**32 + 1), (Cause.BAD_HANDICAP, Command.FIXED_HANDICAP, 2**31),
-            (Cause.BAD_SIZE, Command.BOARDSIZE, 26), (Cause.BAD_SIZE, Command.BOARDSIZE, -1),
-            (Cause.BAD_KOMI, Command.KOMI, 10**9), (Cause.BAD_HANDICAP, Command.FIXED_HANDICAP, -1),
-            (Cause.BAD_COLOUR, Command.GENMOVE, 3), (Cause.BAD_COLOUR, Command.PLAY, 0, PASS),
-            (Cause.BAD_VERTEX, Command.PLAY, 1, RESIGN), (Cause.BAD_VERTEX, Command.PLAY, 1, (26, 1)),
-        ):  # fmt: skip
-            self.refused(cause, write_command, command, *arguments)
-        for command, *arguments in (
-            (Command.PLAY, "b"), (Command.QUIT, 1), (Command.BOARDSIZE,), (Command.BOARDSIZE, "9"), ("quit",), (None,),
-        ):  # fmt: skip
-            self.assertRaises(TypeError, write_command, command, *arguments)
+        for command in (9, 0, 2**32 - 1, -1, 2**32 + 8):
+            self.refused(Cause.BAD_COMMAND, write_command, command)
+        for cause, command, numbers in (
+            (Cause.BAD_SIZE, Command.BOARDSIZE, (26, -1, 2**32 + 9)),
+            (Cause.BAD_KOMI, Command.KOMI, (10**9,)),
+            (Cause.BAD_HANDICAP, Command.FIXED_HANDICAP, (-1, 2**31)),
+            (Cause.BAD_COLOUR, Command.GENMOVE, (3, 2**32 + 1)),
+        ):
+            for number in numbers:
+                self.refused(cause, write_command, command, number)
+        self.refused(Cause.BAD_COLOUR, write_command, Command.PLAY, 0, PASS)
+        for vertex in (RESIGN, (26, 1)):
+            self.refused(Cause.BAD_VERTEX, write_command, Command.PLAY, 1, vertex)
+        for wrong in (
+            (Command.PLAY, "b"),
+            (Command.QUIT, 1),
+            (Command.BOARDSIZE,),
+            (Command.BOARDSIZE, "9"),
+            ("quit",),
+            (None,),
+        ):
+            self.assertRaises(TypeError, write_command, *wrong)
 
     def test_each_reply(self):
         self.assertEqual(write_reply(), b"=\n\n")

@@ -24,7 +24,7 @@ from .test_values import Refusing
 
 
 def brought(match, side, number, commands=3):
-    """Returns the side is sent these commands, and confirms them. What it was sent."""
+    """Sends these commands to a side, which confirms them. Returns what was sent, and any loss."""
     sent = [match.send(side) for _ in range(commands)]
     answers = b"".join(b"=%d\n\n" % each for each in range(number, number + commands))
     return sent, match.hear(side, answers)
@@ -41,10 +41,7 @@ def begun(**setup):
 
 
 def said(match, side, reply):
-    """Returns the side is sent what is next, and writes this.
-
-    What it was sent, and why it fails.
-    """
+    """Sends a side what is next, and has it write this."""
     assert match.next() == Action(Next.SEND, side), match.next()
     return match.send(side), match.hear(side, reply)
 
@@ -287,11 +284,10 @@ class Limits(Refusing):
 
     def test_sides(self):
         match = Match()
-        calls = {
-            match.started: (), match.send: (), match.hear: (b"",), match.report: (b"",), match.owed: (),
-            match.status: (), match.lost: (), match.in_step: (), match.restarts: (), match.adjudicate: (),
-        }  # fmt: skip
-        for call, more in calls.items():
+        of_a_side = (match.started, match.send, match.owed, match.status, match.lost)
+        others = (match.in_step, match.restarts, match.adjudicate)
+        calls = {call: () for call in (*of_a_side, *others)}
+        for call, more in {**calls, match.hear: (b"",), match.report: (b"",)}.items():
             for side in (0, 3, 257, 2**32 - 1, -1, 2**32 + 1, 2**64 + 1):
                 self.refused(Cause.BAD_COLOUR, call, side, *more)
             for side in (None, 1.0):

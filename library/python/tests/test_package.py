@@ -1,6 +1,4 @@
-"""The package: how it finds its library, its documentation, threads, and what can't be done with an
-object.
-"""
+"""The package: its library, its documentation, threads, and what can't be done with an object."""
 import abc
 import ast
 import copy
@@ -18,6 +16,7 @@ import textwrap
 import threading
 import unittest
 from ctypes.util import find_library
+from functools import partial
 from pathlib import Path
 
 import vintsaky
@@ -56,12 +55,12 @@ def modules():
 
 class Documentation(unittest.TestCase):
     def test_examples(self):
-        tried = 0
+        examples = 0
         for module in modules():
             result = doctest.testmod(module)
             self.assertEqual(result.failed, 0, module)
-            tried += result.attempted
-        self.assertGreater(tried, 30)
+            examples += result.attempted
+        self.assertGreater(examples, 30)
 
     def test_all_that_is_public_is_documented(self):
         for module in modules():
@@ -190,7 +189,7 @@ class Objects(unittest.TestCase):
 
     def test_no_other_object_is_pickled_or_copied(self):
         for kind in self.KINDS[1:]:
-            text = f"^a {kind.__name__} can't be copied or pickled: of the library's objects only a Game can$"
+            text = f"^a {kind.__name__} can't be copied or pickled: .* only a Game can$"
             for call in (
                 pickle.dumps,
                 copy.copy,
@@ -216,13 +215,14 @@ class Objects(unittest.TestCase):
 
     def test_another_thread_is_refused(self):
         game, steps, match, lines, replies = (kind() for kind in self.KINDS)
-        calls = [
-            lambda: game.play("b", "A1"), lambda: game.size, lambda: str(game), lambda: game.moves[:], game.copy,
-            lambda: game["A1"], lambda: Game().become(game), lambda: game.legal_points("b"), lambda: game.taken,
-            game.begin, lambda: steps.feed(b"name\n"), lambda: steps.reply, lambda: steps.game, lambda: steps.line,
-            match.next, lambda: match.hear("b", b""), lambda: match.game, lambda: match.report("b", b""),
-            lambda: lines.feed(b"x\n"), lambda: replies.feed(b"=\n\n"),
-        ]  # fmt: skip
+        calls = [partial(getattr, game, name) for name in ("size", "taken")]
+        calls += [partial(getattr, steps, name) for name in ("reply", "game", "line")]
+        calls += [partial(getattr, match, "game"), partial(str, game)]
+        calls += [game.copy, game.begin, match.next]
+        calls += [lambda: game.moves[:], lambda: game["A1"], lambda: Game().become(game)]
+        calls += [partial(game.play, "b", "A1"), partial(game.legal_points, "b")]
+        calls += [partial(call, "b", b"") for call in (match.hear, match.report)]
+        calls += [partial(it.feed, b"name\n") for it in (steps, lines, replies)]
         for call in calls:
             problem = self.in_thread(call)
             self.assertIsInstance(problem, RuntimeError)

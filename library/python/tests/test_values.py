@@ -112,11 +112,18 @@ class Vertices(Refusing):
 
 class Komis(Refusing):
     def test_reads_each_spelling(self):
-        for text, komi in (
-            ("6.5", 6.5), ("6.50", 6.5), ("0006.5", 6.5), ("7", 7), ("7.", 7), ("+7", 7), (".5", 0.5), ("-0.50", -0.5),
-            ("-0", 0), (".0", 0), ("999999999.5", 999999999.5), ("-999999999.5", -999999999.5), (b"1", 1),
-        ):  # fmt: skip
-            self.assertEqual(vintsaky.read_komi(text), komi)
+        for komi, texts in {
+            6.5: "6.5 6.50 0006.5",
+            7: "7 7. +7",
+            0.5: ".5",
+            -0.5: "-0.50",
+            0: "-0 .0",
+            999999999.5: "999999999.5",
+            -999999999.5: "-999999999.5",
+        }.items():
+            for text in texts.split():
+                self.assertEqual(vintsaky.read_komi(text), komi)
+        self.assertEqual(vintsaky.read_komi(b"1"), 1)
 
     def test_refuses_what_spells_none(self):
         for text in (
@@ -135,17 +142,25 @@ class Komis(Refusing):
             self.refused(Cause.BAD_TEXT, vintsaky.read_komi, text)
 
     def test_writes_one_spelling(self):
-        for komi, text in (
-            (6.5, "6.5"), (7, "7"), (0.5, "0.5"), (-0.5, "-0.5"), (-0.0, "0"), (Fraction(-7, 2), "-3.5"),
-            (Fraction("7.5"), "7.5"), (999999999.5, "999999999.5"),
-        ):  # fmt: skip
-            self.assertEqual(vintsaky.komi_text(komi), text)
+        for text in ("6.5", "0.5", "-0.5", "999999999.5"):
+            self.assertEqual(vintsaky.komi_text(float(text)), text)
+        for text in ("-3.5", "7.5"):
+            self.assertEqual(vintsaky.komi_text(Fraction(text)), text)
+        self.assertEqual([vintsaky.komi_text(komi) for komi in (7, -0.0)], ["7", "0"])
 
     def test_limits(self):
-        for komi in (
-            10**9, -(10**9), 2**30 - 0.5, -(2**30), 2**30, -(2**30) - 1, 2**31, 2**32 + 7, 10**30, 10**400,
-            Fraction(10**9), float("inf"), -float("inf"),
-        ):  # fmt: skip
+        edges = (
+            10**9,
+            -(10**9),
+            2**30 - 0.5,
+            -(2**30),
+            2**30,
+            -(2**30) - 1,
+            2**31,
+            2**32 + 7,
+        )
+        far = (10**30, 10**400, Fraction(10**9), float("inf"), -float("inf"))
+        for komi in (*edges, *far):
             self.refused(Cause.BAD_KOMI, vintsaky.komi_text, komi)
 
     def test_whole_half_points_alone(self):

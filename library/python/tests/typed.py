@@ -1,6 +1,4 @@
-"""A user's program, which mypy --strict takes as it is: the types of what the package returns and
-takes.
-"""
+"""A user's program, which mypy --strict takes: the types of what the package returns and takes."""
 import copy
 import pickle
 import random
@@ -24,7 +22,7 @@ from vintsaky import (
 
 
 def replayed(game: Game) -> Tuple[Game, List[int]]:
-    """Returns the game, played anew, and the columns of its moves that aren't passes."""
+    """Returns the game, played again, and the columns of its moves that aren't passes."""
     other, columns = Game(game.size), []
     for colour, vertex in game.moves:
         other.play(colour, vertex)
