@@ -8,7 +8,6 @@ sys.path[0] = str(Path(__file__).resolve().parents[2])
 
 from tests.shared import checks  # noqa: E402
 from tests.stages.of_tournament import rooms  # noqa: E402
-from tests.stages.of_tournament.machines import Arrays, Elsewhere, Leaving, Locks  # noqa: E402, F401
 from tests.stages.of_tournament.damaged import Copied, Cut, Damages, Old, Spelled  # noqa: E402, F401
 from tests.stages.of_tournament.damaged import Unread as UnreadResults  # noqa: E402, F401
 
