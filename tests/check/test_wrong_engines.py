@@ -15,8 +15,9 @@ import pytest
 
 from tests.engines.wrong.bug import RESTART, Bug
 from tests.engines.wrong.bugs import SUBJECTS, all_bugs, bugs_of
-from tests.engines.wrong.plain import Plain, run
-from tests.references.engine.engine import Engine
+from tests.engines.wrong.plain import Plain
+
+from .checking import RunEngine
 
 BUGS = all_bugs()
 FEWEST, FEWEST_OF_A_SUBJECT = 300, 7
@@ -47,34 +48,14 @@ Converse = Callable[[Type[Plain], Sequence[str], Sequence[str]], Answers]
 
 
 @pytest.fixture
-def converse(tmp_path: Path, monkeypatch: pytest.MonkeyPatch) -> Converse:
+def converse(run_engine: RunEngine, tmp_path: Path) -> Converse:
     """Returns a function that has a conversation with an engine, in memory: each step is a read."""
-    state = tmp_path / "state"
-    monkeypatch.setenv("WRONG_ENGINE_STATE", str(state))
-    unread: List[str] = []
-    written = [""]  # before and after each read
-
-    def receive(engine: Engine) -> str:
-        written.append("")
-        return unread.pop(0) if unread else ""
-
-    def send(engine: Engine, text: str) -> None:
-        written[-1] += text
-
-    monkeypatch.setattr(Engine, "receive", receive)
-    monkeypatch.setattr(Engine, "send", send)
 
     def answers(kind: Type[Plain], steps: Sequence[str], options: Sequence[str]) -> Answers:
-        state.unlink(missing_ok=True)
-        found, statuses = [], []
-        for texts in texts_of_processes(steps):
-            unread[:], written[:] = texts, [""]
-            statuses.append(status_of(kind, options))
-            # what is written before the first read and at the end belongs to the steps there
-            first, *replies = written + [""] * (len(texts) + 1 - len(written))
-            replies[0] = first + replies[0]
-            found += [*replies[: len(texts) - 1], "".join(replies[len(texts) - 1 :])]
-        return Answers(found[:-1], found[-1], statuses)
+        (tmp_path / "state").unlink(missing_ok=True)
+        processes = [run_engine(kind, texts, options) for texts in texts_of_processes(steps)]
+        *before, last = [output for process in processes for output in process.outputs]
+        return Answers(before, last, [process.status for process in processes])
 
     return answers
 
@@ -88,17 +69,6 @@ def texts_of_processes(steps: Sequence[str]) -> List[List[str]]:
         else:
             found[-1].append(step.removeprefix("! ") + "\n")
     return found
-
-
-def status_of(kind: Type[Plain], options: Sequence[str]) -> int:
-    """Runs an engine, and returns the status with which its process would end."""
-    try:
-        run(kind, [*options], "")
-    except SystemExit as end:
-        return int(end.code or 0)
-    except Exception:  # a process would print it
-        return 1
-    return 0
 
 
 # ---- what is right
