@@ -73,6 +73,12 @@ def test_usage_error(words: list[str], named: list[str], gtp_check: Path, tmp_pa
         pytest.param(
             ["./engin"], 'not started: no such file: "./engin"', id="an engine that is not there"
         ),
+        pytest.param(
+            ["my engines/engine"], 'not started: no such file: "my"', id="a path with a space"
+        ),
+        pytest.param(
+            ["/dev/null"], 'not started: not allowed: "/dev/null"', id="a file that is no program"
+        ),
     ],
 )
 def test_own_error(words: list[str], error: str, gtp_check: Path, tmp_path: Path) -> None:

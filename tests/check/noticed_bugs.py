@@ -1,17 +1,18 @@
-"""Which lessons show the bugs of the wrong engines, and which bugs nothing shows.
+"""Which lessons notice the bugs of tests/engines/wrong, and which bugs nothing notices.
 
-A row follows from the bug's source and from the tables of the lessons, in crates/gtp_check_course/src. Most were written before a
-check was run. Some were set after one, and derived then: points_twice, rows_from_the_top, columns_for_rows, the bugs for which the course
-was made longer, and some of UNNOTICED. Where a comment speaks of games that are drawn, a row is only likely. The rows of CHANCE can't be
-derived: what shows these bugs hangs on what the engine draws, so they were found by checks. So were those of some 70 bugs, which were
-written without a look at the lessons.
-
-To change it: a bug that the course notices has its place at the lessons that show it in OTHERS, where that of its subject doesn't; a bug
-that it doesn't notice has the reason in UNNOTICED. No bug may be in both.
+Most rows were worked out from the bug's source and from the tables of the lessons, in
+crates/gtp_check_course/src, before a check was run. A bug that the course notices is in OTHERS with
+the lessons that notice it, unless those of its subject do. A bug that the course doesn't notice is
+in UNNOTICED with the reason.
 """
+from __future__ import annotations
 
-# the lesson that is about what a subject's bugs are about
-SUBJECTS = {
+from typing import Dict, Tuple
+
+Lessons = Tuple[str, ...]
+
+# the lesson about a subject
+SUBJECTS: Dict[str, Lessons] = {
     "replies": ("start",),
     "ids": ("start",),
     "lines": ("start",),
@@ -23,20 +24,21 @@ SUBJECTS = {
     "turns": ("start",),
     "undo": ("ko",),
     "handicap": ("handicaps",),
-    # of a point that is written as another: on a full board the one point that isn't an eye, turned, has a stone
+    # also of a point that is written as another one: on a full board that has a stone
     "genmove": ("genmoves",),
     "records": ("record",),
     "games": ("handicaps",),
     "restarts": ("restarts",),
 }
 
-# the bugs that other lessons show, by these lessons
-OTHERS = {
+# the bugs that other lessons notice
+OTHERS: Dict[Lessons, Tuple[str, ...]] = {
     ("start",): (
         # what every probe takes back
         "nothing_is_taken_back empty_record_is_undone genmoves_stay refused_play_is_undone",
-        "chosen_move_is_not_made byte_order_mark greeting first_read_is_lost first_genmove_is_of_19 undo_needs_a_genmove",
-        # a new start right after a ko, and a probe of its point; an `undo` before any move after a new start
+        "chosen_move_is_not_made byte_order_mark greeting first_read_is_lost",
+        "first_genmove_is_of_19 undo_needs_a_genmove",
+        # after a restart: a probe of the point of a ko, and an `undo` before any move
         "old_ko_stays old_moves_are_undone game_is_resumed_at_its_first_move",
     ),
     ("start", "sizes"): ("old_colour_stays book_has_no_sizes",),
@@ -44,12 +46,14 @@ OTHERS = {
         # ids of three digits: so many commands has one engine in this lesson
         "ids_are_bytes",
         # each point of a board, one after the other, and moves of the engine's own on it
-        "every_second_stone_is_taken nothing_below_is_taken chain_joins_itself taken_stones_are_bytes undo_plays_in_turns",
-        "chosen_point_stays_taken undo_gives_no_room_back marks_are_bytes log_of_4096_lines chains_of_361 two_moves_are_taken_back",
+        "every_second_stone_is_taken nothing_below_is_taken chain_joins_itself",
+        "taken_stones_are_bytes undo_plays_in_turns chosen_point_stays_taken",
+        "undo_gives_no_room_back marks_are_bytes log_of_4096_lines chains_of_361",
+        "two_moves_are_taken_back",
         # two passes on 1x1, and the first `undo` after them
         "last_pass_stays",
         "komi_of_zero_is_unread regions_are_filled_by_recursion result_comes_after_two_passes",
-        # on 1x1 the middle is no move, and there is nothing to draw from
+        # on 1x1 the middle is no move, and no point can be drawn
         "first_move_is_the_middle last_draw_is_played chosen_pass_is_a_point",
         # 9x9 comes after 1x1, which has no neighbours
         "tables_of_another_size neighbours_are_kept room_of_the_first_size",
@@ -58,10 +62,12 @@ OTHERS = {
     ),
     ("sizes", "ko"): ("ids_are_shorts",),
     ("komi",): (
-        "score_runs_into_the_id prisoners_stay_at_undo undo_sets_komi_back prisoners_of_the_game_before",
+        "score_runs_into_the_id prisoners_stay_at_undo undo_sets_komi_back",
+        "prisoners_of_the_game_before",
     ),
     ("captures",): (
-        "note_at_a_capture capture_is_suicide atari_is_no_suicide last_taken_chain_comes_back",
+        "note_at_a_capture capture_is_suicide atari_is_no_suicide",
+        "last_taken_chain_comes_back",
         # a chain gets a liberty by a capture, and a play is legal that was suicide before
         "suicide_is_noted",
     ),
@@ -76,13 +82,15 @@ OTHERS = {
         # refused as suicide, and legal
         "one_liberty_is_suicide first_neighbour_decides",
         "both_chains_die shared_liberty_counts_once prisoners_allow_suicide colours_by_turn",
-        "ko_stays stones_of_the_game_before taken_stones_of_the_game_before boards_of_earlier_games",
+        "ko_stays stones_of_the_game_before taken_stones_of_the_game_before",
+        "boards_of_earlier_games",
     ),
     ("handicaps",): (
         # on 23x23 U20 has a stone of a handicap, and is probed
         "tt_is_a_pass",
-        "rows_are_one_character rows_are_sixteen_apart white_begins_with_a_handicap first_move_is_the_middle_of_a_handicap",
-        # right after a handicap `undo` has nothing to take back
+        "rows_are_one_character rows_are_sixteen_apart white_begins_with_a_handicap",
+        "first_move_is_the_middle_of_a_handicap",
+        # right after a handicap there is no move to undo
         "handicap_is_undone undo_forgets_the_handicap passes_stay_at_undo",
         # scores of each size, by many komis
         "score_has_a_comma even_score_is_a_word",
@@ -90,7 +98,7 @@ OTHERS = {
     ("genmoves",): (
         # the third of five genmoves is of the colour that moved last
         "genmove_out_of_turn",
-        # After a full board with three gaps these are filled, and a move is asked for: the one that was right before is on a stone.
+        # after a full board with three gaps, which are filled before the next move is asked for
         "choice_of_the_game_before",
     ),
     ("record",): ("two_passes_end_the_game",),
@@ -104,28 +112,30 @@ OTHERS = {
         "ends_at_the_third_game colour_of_the_first_genmove",
         "handicap_sets_komi points_for_a_handicap_stay",
     ),
-    # games that are drawn: long chains and play between them, two boards with equal counts, more than eight boards, a board with other
-    # colours, a probe after 100 moves; of their sizes the second is smaller than the first
+    # random games: long chains and play between them, two boards with equal counts, more than eight
+    # boards, a board with other colours, a probe after 100 moves; the second size is smaller than
+    # the first
     ("drawn",): (
-        "sixteen_stones_at_most liberties_have_four_bits names_of_taken_stones_stay third_chain_is_not_joined",
-        "taken_chain_gives_one_liberty eight_boards_alone ko_of_equal_counts third_time_is_refused hash_ignores_colours",
-        "ko_outlives_a_second_move",
-        "refused_suicide_takes_liberties chain_numbers_are_bytes first_of_a_block_stays edges_of_a_larger_board",
+        "sixteen_stones_at_most liberties_have_four_bits names_of_taken_stones_stay",
+        "third_chain_is_not_joined taken_chain_gives_one_liberty eight_boards_alone",
+        "ko_of_equal_counts third_time_is_refused hash_ignores_colours ko_outlives_a_second_move",
+        "refused_suicide_takes_liberties chain_numbers_are_bytes first_of_a_block_stays",
+        "edges_of_a_larger_board",
         # passes in a row, and many boards under positional ko
         "dead_stones_go_after_two_passes numbers_of_fifteen_bits",
     ),
 }
-# bugs that show by chance
-CHANCE = {
-    # what is drawn meets a stone of the wrong colour
+# bugs that are noticed by chance, as checks have shown
+CHANCE: Dict[Lessons, Tuple[str, ...]] = {
+    # a random play meets a stone of the wrong colour
     ("games", "genmoves"): ("no_colour_is_read",),
-    # the engine takes in a ko, and is asked to take back
+    # the engine captures in a ko, and is asked to undo
     ("genmoves", "sizes"): ("ko_after_a_genmove",),
-    # A chain is taken that has two stones beside the play, and later the engine chooses one of its points twice. After a handicap what is
-    # drawn meets White's stones where Black's should be.
+    # A chain is captured that has two stones at the play, and later the engine chooses one of its
+    # points twice. After a handicap random plays meet White's stones where Black's should be.
     ("genmoves",): ("empty_points_are_listed_twice", "handicap_makes_the_engine_white"),
 }
-SHOWN = {
+NOTICED = {
     name: lessons
     for rows in (OTHERS, CHANCE)
     for lessons, names in rows.items()
@@ -134,10 +144,9 @@ SHOWN = {
 
 NOT_SENT = "no command is written in that form"
 NOT_ASKED = "this command isn't asked"
-KEPT_IN_PART = "an engine may keep a part of the history alone, which undos in a row use up"
-# bugs that the course doesn't notice, and why
-# two of its scores differ from their komis' difference by no more than this
+KEPT_IN_PART = "an engine may keep only a part of the history, which undos in a row use up"
 WITHIN_A_UNIT = "its scores contradict each other by no more than one unit of their last digit"
+# bugs that the course doesn't notice, and why
 UNNOTICED = {
     "whole_komi_alone": WITHIN_A_UNIT,
     "komi_of_four_characters": WITHIN_A_UNIT,
@@ -165,9 +174,9 @@ UNNOTICED = {
     "refused_size_counts": "it takes each size that is asked",
     "even_score_has_a_colour": "`B+0` is the number 0",
     "ids_are_floats": "ids stay below 16777217",
-    "komi_is_a_single": "each komi that is sent is a float of 32 bits, which the standard's floats are",
+    "komi_is_a_single": "each komi that is sent is a float of 32 bits, as in the standard",
     "unread_komi_is_zero": "each komi that is sent can be read",
-    "lead_is_a_byte": "no score is asked but that of an empty board",
+    "lead_is_a_byte": "only scores of empty boards are asked",
     "quit_is_not_known": "the answer to `quit` isn't judged",
     "known_by_its_beginning": "any answer to `known_command` is right",
     "refused_size_clears_the_board": "it takes each size that is asked",
@@ -176,34 +185,30 @@ UNNOTICED = {
     "undo_once": KEPT_IN_PART,
     "eight_moves_are_kept": KEPT_IN_PART,
     "ko_forgotten_at_a_suicide": "no ko is open where a suicide is asked",
-    "games_are_counted_in_a_byte": "a point that had a stone 256 games before has had another one since",
+    "games_are_counted_in_a_byte": "there was another stone since that of 256 games before",
     "stones_on_lines_of_their_own": "the points of a handicap are read from all lines of the reply",
 }
 
-# They wait for more input before they answer, so `timeout` has to end them.
+# bugs that make an engine wait for more input before it answers, so that `timeout` has to end it
 WAITING = {
     "one_newline",
     "one_newline_where_there_is_no_text",
     "second_line_of_a_read_is_lost",
     "first_read_is_lost",
+    "replies_are_held",
 }
-WAITING |= {"replies_are_held"}
-
-# What they answer hangs on how the commands are cut, or on what earlier processes have left: pasted into one more process their
-# conversation may have right answers. Those that wait have answered more commands than the conversation has.
-ANEW = {*WAITING, "reads_of_sixty_four", "trial_is_over"}
-ANEW |= {"note_after_a_crash"}
-ANEW |= {
-    "old_game_is_a_book",
-    "old_game_comes_back",
-    "old_board_comes_back_at_undo",
-    "old_moves_are_undone",
-    "old_ko_stays",
+# Bugs whose answers depend on how the commands are cut into reads, or on earlier processes. Pasted
+# into another process, their conversation may be answered rightly.
+NOT_PASTED = {
+    *WAITING,
+    *("reads_of_sixty_four", "id_of_the_last_line_of_a_read", "last_line_of_a_read_is_first"),
+    *("trial_is_over", "note_after_a_crash", "eleventh_start_fails"),
+    *("old_game_is_a_book", "old_game_comes_back", "old_board_comes_back_at_undo"),
+    *("old_moves_are_undone", "old_ko_stays", "game_is_resumed_at_its_first_move"),
+    *("old_colour_stays", "book_has_no_sizes"),
 }
-ANEW |= {"eleventh_start_fails", "id_of_the_last_line_of_a_read", "last_line_of_a_read_is_first"}
-ANEW |= {"game_is_resumed_at_its_first_move", "old_colour_stays", "book_has_no_sizes"}
 
 
-def lessons_of(name, subject):
-    """The lessons that show a bug."""
-    return SHOWN.get(name, SUBJECTS[subject])
+def lessons_of(name: str, subject: str) -> Lessons:
+    """Returns the lessons that notice a bug."""
+    return NOTICED.get(name, SUBJECTS[subject])
