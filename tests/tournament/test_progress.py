@@ -105,7 +105,7 @@ def test_pauses_between_lines(
         found.append(shown.pause())
         clock.seconds += found[-1]
         shown.line = lambda _: line.removeprefix("tournament: ")
-        shown.look(0)
+        shown.show(0)
         stops = "" if number else f"; kill {os.getpid()} stops this run"
         assert capfd.readouterr().err == f"{line}{stops}\n"
     assert found == pauses

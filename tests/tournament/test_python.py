@@ -11,7 +11,7 @@ import pytest
 from .runner import SCRIPTS, TWO, Runner
 
 STANDARD = set(
-    "__future__ array collections contextlib csv ctypes difflib errno fcntl functools gc io"
+    "__future__ array collections contextlib csv ctypes difflib enum errno fcntl functools gc io"
     " itertools json marshal math os random re select shlex signal sys time typing".split()
 )
 # what is in C of a module, which is imported alone where it is there

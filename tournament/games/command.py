@@ -1,140 +1,163 @@
 """The command `tournament`."""
+from __future__ import annotations
+
 import contextlib
 import os
 import signal
+from typing import TYPE_CHECKING, Callable, NamedTuple, Sequence
 
 from . import output, results
-from .folder import make_folders, plan_for, read_plan, write_plan
+from .folder import Folder, make_folders, plan_for, read_plan, write_plan
 from .help import HELP
-from .output import Mistake
+from .model import State
+from .output import STDERR, STDOUT, Mistake
 from .plan import Plan, number, seconds, share, time_left
 from .program import find_twogtp, try_options
 from .words import OF_PLAY, Words, processors
 
+if TYPE_CHECKING:
+    from .openings import Opening
 
-def asked_plan(words):
-    """The plan that the arguments ask for, and whether they have engines or options."""
+TAKEN_BY_DIRECT = ("--move-limit", "--start-limit", "--openings")  # what it leaves out
+
+
+class Prepared(NamedTuple):
+    """What is to be played: the folder with its plan, twogtp, and a warning of equal games."""
+
+    folder: Folder
+    twogtp: str
+    warning: str
+
+
+def asked_plan(words: Words) -> tuple[Plan, bool]:
+    """Returns the plan that the arguments ask for, and whether they have engines or options."""
     plan = Plan()
-    for name, value in words.options:
-        if name == "--engine":
-            plan.name_engine(value)
+    for option in words.options:
+        if option.name == "--engine":
+            (value,) = option.values
+            name, is_named, command = value.partition("=")
+            if not is_named:
+                raise Mistake(f"--engine needs NAME=CMD, and not '{value}'")
+            plan.add_engine(name, command)
     plan.gauntlet = words.last("--gauntlet", lambda _, name: name)
     plan.options = words.after or []
     plan.seeds, plan.limit = words.last("--seeds", number), words.last("--limit", number)
-    plan.move_limit, plan.start_limit = words.last("--move-limit", seconds), words.last(
-        "--start-limit", seconds
-    )
+    plan.move_limit = words.last("--move-limit", seconds)
+    plan.start_limit = words.last("--start-limit", seconds)
     plan.is_direct = words.has("--direct")
-    for option in ("--move-limit", "--start-limit", "--openings"):
-        if plan.is_direct and words.has(option):
-            raise Mistake(f"{option} needs what --direct leaves out: give only one of the two")
+    for left_out in TAKEN_BY_DIRECT:
+        if plan.is_direct and words.has(left_out):
+            raise Mistake(f"{left_out} needs what --direct leaves out: give only one of the two")
     return plan, bool(plan.engines) or words.after is not None
 
 
-def plan_of(words):
-    """The plan that the folder is to have, the program twogtp, and what is to be said of games that are the same."""
+def prepare(words: Words) -> Prepared:
+    """Returns what is to be played by the folder and the arguments."""
     asked, is_given = asked_plan(words)
     openings = words.last("--openings", read_openings) or []
-    asked.openings = [it.text() for it in openings]
-    words.last("--jobs", number), words.last("--task", share), words.last("--time-left", time_left)
-    folder = words.places[0]
-    before = read_plan(folder).same_games() if os.path.exists(f"{folder}/plan") else ""
-    plan = plan_for(asked, is_given, folder)
+    asked.openings = [opening.text() for opening in openings]
+    for name, read in (("--jobs", number), ("--task", share), ("--time-left", time_left)):
+        words.last(name, read)
+    place = words.places[0]
+    before = read_plan(place).same_games() if os.path.exists(f"{place}/plan") else ""
+    folder = plan_for(asked, is_given, place)
     twogtp = find_twogtp()
-    try_options(twogtp, plan.options)
-    if openings and plan is asked:
-        look_at_openings(openings, plan.options)
-    return plan, twogtp, "" if plan.same_games() == before else plan.same_games()
+    try_options(twogtp, folder.plan.options)
+    if openings and folder.is_new:
+        from .openings import check  # which isn't needed elsewhere
+
+        check(openings, folder.plan.options)
+    warning = folder.plan.same_games()
+    return Prepared(folder, twogtp, "" if warning == before else warning)
 
 
-def write(plan, folder, said):
-    """Writes the plan into its folder, and says what is to be said of it."""
-    write_plan(plan, folder)
-    if said:
-        output.complain(said)
+def write(prepared: Prepared) -> None:
+    """Writes the plan into its folder, and the warning."""
+    write_plan(prepared.folder)
+    if prepared.warning:
+        output.report(prepared.warning)
 
 
-def read_openings(_, place):
-    """The openings of the file that an option names."""
+def read_openings(_: str, place: str) -> list[Opening]:
+    """Returns the openings of the file that an option names."""
     from .openings import read  # which isn't needed elsewhere
 
     return read(place)
 
 
-def look_at_openings(openings, options):
-    """Looks for mistakes in the openings of a new plan."""
-    from .openings import look_at
-
-    look_at(openings, options)
-
-
-def do_play(words):
-    """tournament play"""
+def do_play(words: Words) -> int:
+    """Plays a tournament, and returns the status."""
     from .play import Play
     from .run import Run
 
-    (folder,), (plan, twogtp, said) = words.places, plan_of(words)
+    prepared = prepare(words)
+    plan, folder = prepared.folder.plan, prepared.folder
     task, left = words.last("--task", share), words.last("--time-left", time_left)
-    play = Play(
-        Run(plan, folder, twogtp), plan, words.last("--jobs", number) or processors(), task, left
-    )
-    if plan.had:
-        output.complain(plan.had)
-    status = play.try_added()
+    jobs = words.last("--jobs", number) or processors()
+    play = Play(Run(plan, folder.place, prepared.twogtp), plan, jobs, task, left)
+    if folder.surplus:
+        output.report(folder.surplus)
+    status = play.try_added(folder)
     if status is not None:
         return status
-    write(plan, folder, said)
+    write(prepared)
     return play.all(words.has("--again"))
 
 
-def do_plan(words):
-    """tournament plan"""
-    plan, _, said = plan_of(words)
-    if plan.had:
-        raise Mistake(plan.had.replace("all of it is played", "a plan may get more, but not less"))
-    write(plan, words.places[0], said)
-    unkept = [it for it in OF_PLAY if words.has(it)]
-    if unkept:
-        output.complain(
-            f"a plan doesn't keep {' and '.join(unkept)}: give {'them' if unkept[1:] else 'it'} to tournament play"
+def do_plan(words: Words) -> int:
+    """Makes a plan, or adds to one, and returns the status."""
+    prepared = prepare(words)
+    if prepared.folder.surplus:
+        raise Mistake(
+            prepared.folder.surplus.replace(
+                "all of it is played", "a plan may get more, but not less"
+            )
+        )
+    write(prepared)
+    not_kept = [name for name in OF_PLAY if words.has(name)]
+    if not_kept:
+        them = "them" if len(not_kept) > 1 else "it"
+        output.report(
+            f"a plan doesn't keep {' and '.join(not_kept)}: give {them} to tournament play"
         )
     return 0
 
 
-def do_list(words):
-    """tournament list"""
+def do_list(words: Words) -> int:
+    """Prints the games of a plan, and returns the status."""
     (folder,) = words.places
     plan = read_plan(folder)
     games = plan.games()
     names = iter(games)
     if not words.has("--all"):
-        kinds = results.kinds_of(plan, folder)
+        states = results.states_of(plan, folder)
         names = (
             games.name(game)
-            for game, kind in enumerate(kinds)
-            if kind in (results.NONE, results.DAMAGED)
+            for game, state in enumerate(states)
+            if state in (State.MISSING, State.DAMAGED)
         )
-    output.write_all(1, names)
+    output.write_lines(STDOUT, names)
     return 0
 
 
-def do_game(words):
-    """tournament game"""
+def do_game(words: Words) -> int:
+    """Plays a game, and returns the status."""
     from .play import play_one
 
     folder, name = words.places
     plan = read_plan(folder)
     if plan.games().number(name) is None:
         raise Mistake(
-            f"{folder}/plan has no game '{name}': a game is named SEED_BLACK_WHITE, and tournament list --all prints them"
+            f"{folder}/plan has no game '{name}': a game is named SEED_BLACK_WHITE, and "
+            "tournament list --all prints them"
         )
     twogtp = find_twogtp()
     make_folders(folder)
     return play_one(plan, folder, twogtp, name)
 
 
-def do_export(words):
-    """tournament export"""
+def do_export(words: Words) -> int:
+    """Exports the results, and returns the status."""
     from .export import export  # which isn't needed elsewhere
 
     return export(words)
@@ -143,43 +166,38 @@ def do_export(words):
 COMMANDS = {"play": do_play, "plan": do_plan, "list": do_list, "game": do_game, "export": do_export}
 
 
-def main(words):
-    """Does what these words ask for, and returns the status."""
-    if words and words[0] in ("-h", "--help"):
-        return show(1, HELP[None], 0)
-    if not words:
-        return show(2, HELP[None], 2)
-    if words[0] not in COMMANDS:
+def main(arguments: Sequence[str]) -> int:
+    """Does what the arguments ask for, and returns the status."""
+    if not arguments or arguments[0] in ("-h", "--help"):
+        output.write(STDOUT if arguments else STDERR, HELP[None])
+        return 0 if arguments else 2
+    name = arguments[0]
+    if name not in COMMANDS:
         raise Mistake(
-            f"there is no command '{words[0]}': write tournament play, plan, list, game or export"
+            f"there is no command '{name}': write tournament play, plan, list, game or export"
         )
-    asked = Words(words[0], words[1:])
-    return show(1, HELP[words[0]], 0) if asked.is_help else COMMANDS[words[0]](asked)
+    words = Words(name, arguments[1:])
+    if words.is_help:
+        output.write(STDOUT, HELP[name])
+        return 0
+    return COMMANDS[name](words)
 
 
-def show(number, text, status):
-    """Writes a text, and returns the status."""
-    output.write(number, text)
-    return status
-
-
-def run(name, main_of, words):
-    """Runs the main function of a command, and returns its status. A mistake and an error are reported."""
+def run(name: str, main_of: Callable[[Sequence[str]], int], arguments: Sequence[str]) -> int:
+    """Runs the main function of a command, and returns its status. Errors are reported."""
     output.hold_streams()
-    output.program[0] = name
-    signal.signal(
-        signal.SIGCHLD, signal.SIG_DFL
-    )  # whoever started it may ignore the ends of processes
+    output.set_program(name)
+    # whoever started it may ignore the ends of processes
+    signal.signal(signal.SIGCHLD, signal.SIG_DFL)
     try:
-        return main_of(words)
+        return main_of(arguments)
     except Mistake as mistake:
-        for printed in mistake.args[1:]:
-            with contextlib.suppress(OSError):
-                output.write(2, printed)
-        output.complain(mistake.args[0])
+        with contextlib.suppress(OSError):
+            output.write(STDERR, mistake.printed)
+        output.report(mistake.text)
         return 2
     except BrokenPipeError:
         return 128 + signal.SIGPIPE
-    except OSError as problem:
-        output.complain(output.in_words(problem))
+    except OSError as error:
+        output.report(output.description(error))
         return 1

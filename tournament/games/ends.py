@@ -1,98 +1,95 @@
 """How games ended, for the tally and for exports: who won, and who is to blame where nobody did."""
-from typing import NamedTuple, Optional
+from __future__ import annotations
 
-from . import notes, results
+from typing import TYPE_CHECKING, Collection, NamedTuple
+
+from . import notes
+from .model import COLOURS, SIDES, Ending, Result, Way
 from .output import Mistake
 
-FORFEIT = "forfeit "  # how each way begins in which a side forfeits
-FORFEITS = [
-    f"{FORFEIT}({it})" for it in results.FORFEITS
-]  # those of twogtp; a server may have others
+if TYPE_CHECKING:
+    from .plan import Plan
+    from .words import Words
+
+WITHOUT_WINNER = {"0": Way.DRAWN, "limit": Way.LIMIT}
 
 
-class End(NamedTuple):
-    """How a game ended: the side that won and the one that is to blame, Black 0 and White 1, and in which way: `late` is abandoned, since
-    an answer was late, and `time` is lost on time, by a server."""
-
-    winner: Optional[int]
-    blamed: Optional[int]
-    way: str
-
-
-def end_of(verdict):
-    """How a game with this verdict ended."""
-    text = verdict.decode()
-    if text in ("0", "limit"):
-        return End(None, None, text)
-    if text[1] != "+":
-        way, side = text.split(" ")
-        return End(None, ("black", "white").index(side), way)
-    winner, way = "BW".index(text[0]), text[2:]
-    if way[0] in "FT":
-        return End(winner, 1 - winner, "time" if way == "T" else f"{FORFEIT}{way[1:]}")
-    return End(winner, None, "R" if way == "R" else "won")
+def ending_of(verdict: str) -> Ending:
+    """Returns how a game with this verdict ended."""
+    if verdict in WITHOUT_WINNER:
+        return Ending(None, None, WITHOUT_WINNER[verdict])
+    if verdict[1] != "+":
+        way, colour = verdict.split(" ")
+        return Ending(None, SIDES[COLOURS.index(colour)], Way(way))
+    winner, points = SIDES["BW".index(verdict[0])], verdict[2:]
+    if points[0] == "F":
+        return Ending(winner, winner.other, Way.FORFEITED, points[2:-1])
+    if points == "T":
+        return Ending(winner, winner.other, Way.TIME)
+    return Ending(winner, None, Way.RESIGNED if points == "R" else Way.WON)
 
 
-class Ends:
-    """How the games of a folder ended. The ways in which a side loses that else have no winner are given."""
+class Ended(NamedTuple):
+    """How a game ended, and the restarts of both sides, without those that started no engine."""
 
-    def __init__(self, plan, folder, losing=()):
-        self.games, self.folder, self.losing, self.is_direct = (
-            plan.games(),
-            folder,
-            losing,
-            plan.is_direct,
-        )
-        self.known = {}  # of a verdict, how the game ended
-        self.unknown = (
-            0  # games in which a side was abandoned, of which it isn't known whether it was late
-        )
-        self.restarts = (
-            0,
-            0,
-        )  # of both sides in the last game, without those that started no engine
+    ending: Ending
+    restarts: tuple[int, int]
 
-    def of(self, game, parts):
-        """How the game of this number ended, by the parts of its result."""
-        end = self.known.get(parts[1]) or self.known.setdefault(parts[1], end_of(parts[1]))
-        self.restarts = (0, 0) if parts[3] == parts[4] == b"0" else (int(parts[3]), int(parts[4]))
-        return self.abandoned(game, parts, end) if end.way == "abandoned" else end
 
-    def abandoned(self, game, parts, end):
-        """How a game ended in which a side was abandoned, by its notes if they are of this result."""
+class Endings:
+    """How the games of a folder ended. The ways are given in which a side loses, where else nobody
+    would win."""
+
+    def __init__(self, plan: Plan, folder: str, losing: Collection[Way] = ()) -> None:
+        self.games, self.folder, self.losing = plan.games(), folder, losing
+        self.is_direct = plan.is_direct
+        self.known: dict[str, Ending] = {}  # of each verdict
+        self.unknown = 0  # games in which a side was abandoned, and may have been late
+
+    def of(self, game: int, result: Result) -> Ended:
+        """Returns how the game of this number ended."""
+        ending = self.known.get(result.verdict)
+        if ending is None:
+            ending = self.known[result.verdict] = ending_of(result.verdict)
+        if ending.way is Way.ABANDONED:
+            return self.of_abandoned(game, result, ending)
+        return Ended(ending, result.restarts)
+
+    def of_abandoned(self, game: int, result: Result, ending: Ending) -> Ended:
+        """Returns how a game ended in which a side was abandoned, by its notes."""
+        side, (black, white) = ending.blamed, result.restarts
+        assert side is not None
         found = (
             None
             if self.is_direct
-            else notes.late_in(self.folder, self.games.name(game), results.line_of(parts))
+            else notes.late_in(self.folder, self.games.name(game), result.line)
         )
-        self.unknown += found is None
-        if found:
-            self.restarts = tuple(
-                count - ignored for count, ignored in zip(self.restarts, found.ignored)
-            )
-        way = "late" if found and found.late[end.blamed] else "abandoned"
-        return End(1 - end.blamed if way in self.losing else None, end.blamed, way)
+        way = Way.ABANDONED
+        if found is None:
+            self.unknown += 1
+        else:
+            black, white = black - found.ignored[0], white - found.ignored[1]
+            way = Way.LATE if found.late[side] else way
+        winner = side.other if way in self.losing else None
+        return Ended(Ending(winner, side, way), (black, white))
 
 
-def losing_ways(words, plan):
-    """The ways in which a side loses, as the options say."""
+def losing_ways(words: Words, plan: Plan) -> tuple[Way, ...]:
+    """Returns the ways in which a side loses, by the options."""
     for name in ("--abandoned", "--late"):
-        words.last(name, loses)
+        words.last(name, check_loses)
     if words.has("--late") and plan.is_direct:
         raise Mistake(
-            "which side was late is known only where `between` stands: leave out --late, or write --abandoned loses"
+            "which side was late is known only where `between` stands: leave out --late, or write "
+            "--abandoned loses"
         )
-    return (
-        ["abandoned", "late"]
-        if words.has("--abandoned")
-        else ["late"]
-        if words.has("--late")
-        else []
-    )
+    if words.has("--abandoned"):
+        return Way.ABANDONED, Way.LATE
+    return (Way.LATE,) if words.has("--late") else ()
 
 
-def loses(name, value):
-    """The only word that such an option has."""
+def check_loses(name: str, value: str) -> str:
+    """Returns the only value that such an option has."""
     if value != "loses":
         raise Mistake(f"{name} needs the word loses after it, and not '{value}'")
     return value

@@ -1,26 +1,37 @@
 """The tally for other programs, as JSON."""
+from __future__ import annotations
+
 import json
 import math
+from typing import Any
 
-from . import results, scores
-from .tally import Sums, without_result
+from . import scores
+from .model import Side
+from .pairs import Found
+from .sequential import Test
+from .summary import EngineRow, PairingRow, Row, Summary, without_result
+
+ACCEPTED = {None: "go on", 0: "elo0", 1: "elo1"}
 
 
-def text_of(counts, test=None):
-    """The tally, and a sequential test of it, as a text."""
-    sums, same = Sums(counts), counts.pairs.same()
+def json_of(summary: Summary, test: Test | None = None) -> str:
+    """Returns the tally, and a sequential test, as a text."""
+    counts = summary.counts
     name = counts.games.name
+    blames: dict[str, dict[str, int]] = {engine: {} for engine in summary.rows}
+    for engine, cause, count in summary.blames():
+        blames[engine][cause] = count
     found = {
         "games": counts.games.count,
         "results": counts.have,
         "winners": counts.with_winner(),
-        "black_won": counts.won_by(0),
-        "white_won": counts.won_by(1),
-        "ended": {way: counts.ended(way) for way in sorted({end.way for end in counts.all_ends})},
-        "engines": [of_engine(sums, it) for it in sums.order],
-        "pairs": [of_two(sums, *it) for it in sums.two()],
-        "same": [[name(game) for game in group] for group in same],
-        "damaged": counts.kinds.count(results.DAMAGED),
+        "black_won": counts.won_by(Side.BLACK),
+        "white_won": counts.won_by(Side.WHITE),
+        "ended": dict(sorted(counts.descriptions().items())),
+        "engines": [of_engine(row, blames[row.name]) for row in summary.order],
+        "pairs": [of_pairing(row) for row in summary.played()],
+        "same": [[name(game) for game in group] for group in counts.pairs.same()],
+        "damaged": counts.damaged(),
         "no_result": dict(without_result(counts)),
     }
     if test:
@@ -28,47 +39,40 @@ def text_of(counts, test=None):
     return f"{json.dumps(found)}\n"
 
 
-def of_engine(sums, engine):
-    """What an engine has, against all others."""
-    row, *colours = (sums.rows[key] for key in ((engine,), (engine, 0), (engine, 1)))
-    of_colours = {
-        colour: {"won": it.won, "lost": it.decided - it.won}
-        for colour, it in zip(("black", "white"), colours)
+def of_engine(row: EngineRow, blames: dict[str, int]) -> dict[str, Any]:
+    """Returns what an engine has against all others."""
+    colours = {
+        side.colour: {"won": games.won, "lost": games.lost}
+        for side, games in zip(Side, row.by_side)
     }
-    looked = {way: count for name, way, count in sums.to_look_into() if name == engine}
-    points = row.won + row.drawn / 2
     return {
-        "name": engine,
-        "points": points,
-        **of_row(row),
-        **of_colours,
-        "to_look_into": looked,
-        **of_pairs(sums.found[engine,]),
+        "name": row.name,
+        "points": row.games.points,
+        **of_games(row.games),
+        **colours,
+        "to_look_into": blames,
+        **of_pairs(row.pairs),
     }
 
 
-def of_two(sums, one, other):
-    """What two engines have of each other, as the first one sees it."""
+def of_pairing(row: PairingRow) -> dict[str, Any]:
+    """Returns what two engines have of each other, as the first one sees it."""
+    return {"engines": [row.first, row.second], **of_games(row.games), **of_pairs(row.pairs)}
+
+
+def of_games(games: Row) -> dict[str, int]:
+    """Returns how games ended: won, lost, or without a winner, as drawn ones did."""
     return {
-        "engines": [one, other],
-        **of_row(sums.rows[one, other]),
-        **of_pairs(sums.found[one, other]),
+        "games": games.all,
+        "won": games.won,
+        "lost": games.lost,
+        "no_winner": games.all - games.decided,
+        "drawn": games.drawn,
     }
 
 
-def of_row(row):
-    """How some games ended: won, lost, or without a winner, as drawn ones did."""
-    return {
-        "games": row.all,
-        "won": row.won,
-        "lost": row.decided - row.won,
-        "no_winner": row.all - row.decided,
-        "drawn": row.drawn,
-    }
-
-
-def of_pairs(found):
-    """The five counts of pairs, their score and the difference in Elo."""
+def of_pairs(found: Found) -> dict[str, Any]:
+    """Returns the five counts of pairs, their score and the difference in Elo."""
     score, interval = found.score(), found.interval()
     return {
         "pairs": found.every,
@@ -76,24 +80,25 @@ def of_pairs(found):
         "score": score,
         "interval": interval,
         "elo": in_elo(score),
-        "elo_interval": interval and [in_elo(it) for it in interval],
+        "elo_interval": interval and [in_elo(end) for end in interval],
     }
 
 
-def in_elo(score):
-    """A score as a difference in Elo; None where that is infinite, or there is no score."""
-    return None if score is None or not math.isfinite(scores.elo(score)) else scores.elo(score)
+def in_elo(score: float | None) -> float | None:
+    """Returns a score as a difference in Elo; None where that is infinite, or there is no score."""
+    if score is None or not math.isfinite(scores.elo(score)):
+        return None
+    return scores.elo(score)
 
 
-def of_test(test):
-    """What a sequential test says."""
-    said = {None: "go on", 0: "elo0", 1: "elo1"}[test.decision]
+def of_test(test: Test) -> dict[str, Any]:
+    """Returns what a sequential test says."""
     elo0, elo1 = test.differences
     return {
         "engines": test.engines,
         "elo0": elo0,
         "elo1": elo1,
-        "accepted": said,
+        "accepted": ACCEPTED[test.decision],
         "pairs": test.counts,
         "ratio": test.ratio,
         "exact": test.exact,

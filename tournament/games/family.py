@@ -1,11 +1,15 @@
 """The processes below this one: all that it and they started, wherever they went.
 
-This process adopts what loses its parent (a subreaper), so each of them has a way up to it, and comes to it when those between have ended.
+This process adopts what loses its parent (a subreaper), so each of them has a chain of parents up
+to it, and becomes its child when those between have ended.
 """
+from __future__ import annotations
+
 import contextlib
 import os
 import signal
 import time
+from typing import Collection, Iterable
 
 from . import below
 from .below import children_of
@@ -14,16 +18,18 @@ TENTH = 0.1  # seconds from one look to the next
 MOST = 10  # seconds after which what can't be killed is left
 
 
-def adopt():
-    """From now on what a process below loses its parent becomes a child of this one."""
+def adopt_orphans() -> None:
+    """Makes this process the parent of each descendant that loses its own."""
     below.adopt_orphans()
     if not os.path.exists(f"/proc/self/task/{os.getpid()}/children"):
         raise OSError(0, "/proc of this system doesn't list the children of a process")
 
 
-def stand_apart(ending):
-    """Where this process has children by now, it never started them: a shell did, before it became this one by `exec`. Then a fork goes on
-    in its place, so that they, and all that they start, are none of those below. This process passes on these signals, and ends as it.
+def leave_children(ending: Collection[signal.Signals]) -> None:
+    """Continues in a fork where this process has children already.
+
+    It never started them: a shell did, before it became this one by `exec`. So they, and all that
+    they start, aren't below the fork. This process passes on these signals, and ends as the fork.
     """
     if not children_of(os.getpid()):
         return
@@ -33,16 +39,16 @@ def stand_apart(ending):
         if below.end_with_parent(own, signal.SIGTERM):
             os._exit(128 + signal.SIGTERM)
         return
-    ended = 0
+    ended = status = 0
     while not ended:
-        came = signal.sigwait([signal.SIGCHLD, *ending])
-        if came != signal.SIGCHLD:
-            send(came, [process])
+        received = signal.sigwait([signal.SIGCHLD, *ending])
+        if received != signal.SIGCHLD:
+            send(received, [process])
         ended, status = os.waitpid(process, os.WNOHANG)
     os._exit(below.shell_status(status))
 
 
-def send(number, processes):
+def send(number: int, processes: Iterable[int]) -> None:
     """Sends these processes a signal; one may have ended."""
     for process in processes:
         with contextlib.suppress(ProcessLookupError, PermissionError):
@@ -52,14 +58,13 @@ def send(number, processes):
 class Family:
     """The processes below this one."""
 
-    def __init__(self):
-        self.ended = (
-            {}
-        )  # how those ended that are awaited: the status, or the negative number of a signal
-        self.awaited = set()
+    def __init__(self) -> None:
+        self.awaited: set[int] = set()
+        # how those ended that were awaited: the status, or the negative number of a signal
+        self.ended: dict[int, int] = {}
 
-    def reap(self):
-        """Takes note of each child that has ended. Are there others?"""
+    def reap(self) -> bool:
+        """Waits for each child that has ended. Returns whether there are others."""
         try:
             while True:
                 process, status = os.waitpid(-1, os.WNOHANG)
@@ -71,13 +76,15 @@ class Family:
         except ChildProcessError:
             return False
 
-    def others(self, spared):
-        """The children that live or weren't reaped, but for those that are spared."""
-        return [it for it in children_of(os.getpid()) if it not in spared] if self.reap() else []
+    def others(self, spared: Collection[int]) -> list[int]:
+        """Returns the children that live, except those that are spared."""
+        if not self.reap():
+            return []
+        return [child for child in children_of(os.getpid()) if child not in spared]
 
-    def end(self, spared=(), seconds=0):
-        """Ends all children that aren't spared, and what is below them. For so many seconds they get TERM, at each tenth of one, and may
-        end by themselves; then they are killed."""
+    def end(self, spared: Collection[int] = (), seconds: float = 0) -> None:
+        """Ends all children that aren't spared, and what is below them. For so many seconds they
+        get TERM, at each tenth of one, and may end by themselves; then they are killed."""
         began = time.monotonic()
         while True:
             left = self.others(spared)

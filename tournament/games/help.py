@@ -1,4 +1,5 @@
 """What `--help` prints."""
+from __future__ import annotations
 
 HEAD = """\
 usage: tournament play FOLDER --engine NAME=CMD --engine NAME=CMD ..
@@ -70,7 +71,7 @@ LOSSES = """\
   --late loses       count a side that was abandoned because it was late as the
                      loser
 """
-HELP = {
+HELP: dict[str | None, str] = {
     None: "\n".join([HEAD, PLAN + PLAY + OPTION, FILES, STATUS]),
     "play": "\n".join(
         [

@@ -1,122 +1,125 @@
-"""What is played: the command of twogtp for a game, and what `between` has to know of it."""
+"""What is played: the command of twogtp for a game, and the game's file, which `between` reads."""
 from __future__ import annotations
 
 import marshal
 import os
 import re
 import sys
+from typing import TYPE_CHECKING
 
 from . import notes, output, program, results
+from .model import COLOURS, GameId, Side
 
-NAMES = ("black", "white")  # of both sides
-MODULES = (
-    "below",
-    "talk",
-    "between",
-)  # what `between` needs, in the order in which one needs another
+if TYPE_CHECKING:
+    from .notes import Notes
+    from .places import Places
+    from .plan import Plan
+
+# what `between` needs, in the order in which one imports another
+MODULES = ("below", "talk", "between")
 ANNOTATIONS = b"from __future__ import annotations\n"
 # of an engine that answered nothing, by a line of --why without its beginning
 NO_ANSWER = re.compile(r'not started: .*|\d+ unanswered, (?:the first )?"1 boardsize .*')
 
 
 class Match:
-    """The program, the plan, and what follows of it for each game."""
+    """The program, the plan, and what follows from it for each game."""
 
-    def __init__(self, plan, twogtp):
+    def __init__(self, plan: Plan, twogtp: str) -> None:
         self.plan, self.twogtp = plan, twogtp
-        self.limit, self.rule, self.is_direct = plan.limit, results.Rule(plan), plan.is_direct
+        self.limit, self.rule, self.is_direct = plan.limit or 0, results.Rule(plan), plan.is_direct
         self.commands = {name: plan.words(name) for name in plan.engines}
-        self.folder = os.getcwd() if plan.is_old() else plan.folder
-        self.between, self.code = program.between(), None
+        self.folder = os.getcwd() if plan.folder is None else plan.folder
+        self.between = program.between()
+        self.code: bytes | None = None
 
-    def prepare(self):
+    def prepare(self) -> None:
         """Makes what all games need, in the process from which theirs are forked."""
         if self.code is None and not self.is_direct:
             self.code = compiled()
 
-    def command(self, engine, seed):
-        """The words of an engine's command, in a game with this seed."""
-        return [word.replace("%s", seed) for word in self.commands[engine]]
+    def command(self, engine: str, seed: int) -> list[str]:
+        """Returns the words of an engine's command, in a game with this seed."""
+        return [word.replace("%s", str(seed)) for word in self.commands[engine]]
 
-    def words(self, game):
-        """The command of a game."""
-        seed, *engines = game.split("_")
+    def words(self, name: str) -> list[str]:
+        """Returns the command of twogtp for the game of this name."""
+        game = GameId.parse(name)
         if self.is_direct:
-            black, white = (self.plan.engines[it].replace("%s", seed) for it in engines)
+            commands = (self.plan.engines[engine].command for engine in game.engines)
+            black, white = (command.replace("%s", str(game.seed)) for command in commands)
         else:
-            black, white = (f"{self.between} {it}" for it in NAMES)
-        return [
-            self.twogtp,
-            "--why",
-            "--record",
-            *self.plan.options,
-            "--black",
-            black,
-            "--white",
-            white,
-        ]
+            black, white = (f"{self.between} {colour}" for colour in COLOURS)
+        engines = ["--black", black, "--white", white]
+        return [self.twogtp, "--why", "--record", *self.plan.options, *engines]
 
-    def file(self, game, place, held):
-        """What the file of a game has, whose notes are in this place, and whose process holds this pipe."""
-        seed, *engines = game.split("_")
+    def file(self, name: str, notes_place: str, held: int) -> bytes:
+        """Returns the file of a game, whose notes are in this place, and whose process holds this
+        pipe."""
+        game, plan = GameId.parse(name), self.plan
         parts = [
-            f"notes {place}",
+            f"notes {notes_place}",
             f"folder {self.folder}",
             f"held /proc/{os.getpid()}/fd/{held} {os.fstat(held).st_ino}",
         ]
-        parts += [f"limit {it}" for it in [self.plan.start_limit] if it] + [
-            f"move-limit {it}" for it in [self.plan.move_limit] if it
-        ]
-        parts += [f"opening {it}" for it in [self.plan.opening(int(seed))] if it]
-        for colour, engine in zip(NAMES, engines):
-            parts += [f"{colour} {word}" for word in self.command(engine, seed)]
-        return os.fsencode("\0".join([*parts, f"python {sys.version}"])) + b"\0\0" + self.code
+        opening = plan.opening(game.seed)
+        values = {"limit": plan.start_limit, "move-limit": plan.move_limit, "opening": opening}
+        parts += [f"{key} {value}" for key, value in values.items() if value]
+        for colour, engine in zip(COLOURS, game.engines):
+            parts += [f"{colour} {word}" for word in self.command(engine, game.seed)]
+        text = "\0".join([*parts, f"python {sys.version}"])
+        return os.fsencode(text) + b"\0\0" + (self.code or b"")
 
 
-def compiled():
-    """The modules that `between` needs, without what costs time at its start: docstrings, and the
-    import by which annotations aren't evaluated, of which the compiler is told here."""
-    modules = []
+def compiled() -> bytes:
+    """Returns the modules that `between` needs, without what costs time at its start: docstrings,
+    and the import by which annotations aren't evaluated, of which the compiler is told here."""
+    import __future__
+
+    flags, modules = __future__.annotations.compiler_flag, []
     for name in MODULES:
         place = f"{program.HERE}/games/{name}.py"
         with open(place, "rb") as file:
             source = file.read().replace(ANNOTATIONS, b"\n")
-        flags = annotations.compiler_flag
         modules.append((name, compile(source, place, "exec", flags, dont_inherit=True, optimize=2)))
     return marshal.dumps(modules)
 
 
-class Noted:
-    """The notes of a game, and the file by which `between` knows of it. The file has another name for each process that plays the game,
-    so what an earlier one left can't write into the notes."""
+class NotesFile:
+    """The notes of a game that is played, and the file by which `between` knows of it.
 
-    def __init__(self, name, places, match):
+    That file has another name for each process that plays the game, so what an earlier one left
+    can't write into the notes.
+    """
+
+    def __init__(self, name: str, places: Places, match: Match) -> None:
         game = f"{places.at}/game.{os.getpid()}"
-        self.notes, self.place = places.new_notes()
-        output.write(self.notes, f"{name} on {os.uname().nodename}\n")
-        held, self.holds = os.pipe()  # whose end is that of this process, of which alone it is held
+        self.file, self.place = places.new_notes()
+        output.write(self.file, f"{name} on {os.uname().nodename}\n")
+        held, self.holds = os.pipe()  # whose other end only this process holds
         with open(game, "wb") as file:
             file.write(match.file(name, self.place, held))
         os.environ["TOURNAMENT_GAME"] = game
 
-    def read(self):
-        """What the notes say; None where `between` removed them, since they couldn't be written."""
+    def read(self) -> Notes | None:
+        """Returns the notes; None where `between` removed them, since they couldn't be written."""
         return notes.read(self.place)
 
-    def close(self, found, last):
+    def close(self, found: Notes, last: str) -> None:
         """Writes the last lines."""
-        output.write(self.notes, f"thought: {found.times()}\n{last}\n")
+        output.write(self.file, f"thought: {found.times()}\n{last}\n")
         if any(found.late):
-            os.fsync(self.notes)  # it says more than the result
+            os.fsync(self.file)  # it says more than the result
 
 
-def why_not_started(log, side):
-    """Why an engine wasn't started, of which twogtp lost each start before its first answer; None where one answered."""
-    head, why = f"twogtp: game 1: {NAMES[side]}: ", None
+def start_failure(log: str, side: Side) -> str | None:
+    """Returns why an engine wasn't started, of which twogtp lost each start before its first
+    answer; None where one answered."""
+    head, reason = f"twogtp: game 1: {side.colour}: ", None
     with open(log, errors="surrogateescape") as lines:
         for line in lines:
             if line.startswith(head):
-                why = line[len(head) :].rstrip("\n")
-                if not NO_ANSWER.fullmatch(why):
+                reason = line[len(head) :].rstrip("\n")
+                if not NO_ANSWER.fullmatch(reason):
                     return None
-    return why
+    return reason

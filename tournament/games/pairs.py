@@ -1,177 +1,216 @@
-"""The pairs of a folder's games: two games of the same two engines with the same seed, one with each colour.
+"""The pairs of a folder's games: two games of the same two engines with the same seed, one with
+each colour.
 
-Where engines play the same moves again, the later game says nothing new: games with the same engines, colours, opening and moves, more than
-20. A score counts all games. How sure it is follows from clusters: pairs of which one repeats the other count as one there. A test counts
-only pairs that repeat none.
+Where engines play the same moves again, the later game says nothing new: games with the same
+engines, colours, opening and moves, more than 20. A score counts all games. How sure it is follows
+from clusters: pairs of which one repeats the other count as one there. A test counts only pairs
+that repeat none.
 """
+from __future__ import annotations
+
+import enum
 from array import array
 from collections import Counter, defaultdict
+from typing import TYPE_CHECKING, Iterable, Mapping, NamedTuple, Sequence
 
 from . import scores
+from .model import Ending, Result, Side, Way
+from .scores import Cluster
+
+if TYPE_CHECKING:
+    from .plan import Plan
 
 SHORT = 20  # moves up to which games may be the same by chance
-NONE, LOST, HALF, WON, OUT = range(
-    5
-)  # what a game was for Black: no result yet; three scores; not to be counted
+
+
+class Score(enum.IntEnum):
+    """What a game was for Black."""
+
+    NONE = 0  # no result yet
+    LOST = 1
+    HALF = 2
+    WON = 3
+    OUT = 4  # not to be counted
+
+
 # of two games, the first engine's with Black and then its with White: the outcome of the pair
+COUNTED = (Score.LOST, Score.HALF, Score.WON)
 OUTCOMES = {
-    (one, other): one - LOST + WON - other
-    for one in (LOST, HALF, WON)
-    for other in (LOST, HALF, WON)
+    (int(one), int(other)): one - Score.LOST + Score.WON - other
+    for one in COUNTED
+    for other in COUNTED
 }
 
 
+class Pairing(NamedTuple):
+    """Two engines that play each other, and the numbers of their two games within a seed."""
+
+    first: str
+    second: str
+    as_black: int  # the game in which the first one has Black
+    as_white: int
+
+
 class Pairs:
-    """What the games were for Black, and what moves they have, by their numbers. It says of each two engines how their pairs ended."""
+    """What the games were for Black, and what moves they have, by their numbers."""
 
-    def __init__(self, plan, is_out=False):
-        self.games, self.is_out = (
-            plan.games(),
-            is_out,
-        )  # aren't those to be counted that nobody won?
-        self.openings = plan.openings
+    def __init__(self, plan: Plan, is_out: bool = False) -> None:
+        self.games, self.openings = plan.games(), plan.openings
+        self.is_out = is_out  # whether games that nobody won aren't counted
         self.scores = bytearray(self.games.count)
-        self.moves = (
-            array("q", [0]) * self.games.count
-        )  # a number that the opening and the moves give; 0 for few moves
+        # a number of the opening and the moves; 0 for few moves
+        self.moves = array("q", [0]) * self.games.count
 
-    def add(self, game, end, parts):
-        """Takes a game that ended so, and the parts of its result."""
-        if end.winner is not None:
-            self.scores[game] = LOST if end.winner else WON
+    def add(self, game: int, ending: Ending, result: Result) -> None:
+        """Takes a game that ended so."""
+        if ending.winner is not None:
+            self.scores[game] = Score.LOST if ending.winner is Side.WHITE else Score.WON
         else:
-            self.scores[game] = OUT if self.is_out and end.way != "0" else HALF
-        self.moves[game] = self.number(game, parts)
+            is_out = self.is_out and ending.way is not Way.DRAWN
+            self.scores[game] = Score.OUT if is_out else Score.HALF
+        self.moves[game] = self.number_of(game, result)
 
-    def number(self, game, parts):
-        """The number that stands for a game's opening and moves; 0 where there are so few that they may be the same by chance."""
-        opening = (
-            self.openings[game // len(self.games.sides) % len(self.openings)]
-            if self.openings
-            else ""
-        )
-        own = int(parts[2]) - len(opening.split())
-        return hash((opening, parts[5])) if own > SHORT else 0
+    def number_of(self, game: int, result: Result) -> int:
+        """Returns the number of a game's opening and moves; 0 where there are so few that they may
+        be the same by chance."""
+        opening = ""
+        if self.openings:
+            opening = self.openings[game // len(self.games.sides) % len(self.openings)]
+        own = result.length - len(opening.split())
+        return hash((opening, result.vertices)) if own > SHORT else 0
 
-    def engines(self):
-        """Each two engines, with the numbers of their two games of a seed."""
-        return [(*sides, at, at + 1) for at, sides in enumerate(self.games.sides) if not at % 2]
+    def pairings(self) -> list[Pairing]:
+        """Returns each two engines that play each other."""
+        return [
+            Pairing(*sides, at, at + 1) for at, sides in enumerate(self.games.sides) if not at % 2
+        ]
 
-    def of(self, values, side):
-        """These values of all games of two engines with these colours, by the seed."""
-        return values[side :: len(self.games.sides)]
+    def scores_of(self, number: int) -> bytearray:
+        """Returns the scores of the games with this number within a seed, by the seed."""
+        return self.scores[number :: len(self.games.sides)]
 
-    def of_two(self, one, other):
-        """The pairs of two engines, whose games of a seed have these numbers."""
-        first, second = self.of(self.scores, one), self.of(self.scores, other)
-        every, repeats = counts_of(zip(first, second)), self.repeats(one, other)
-        return Found(every, clusters_of(every, first, second, repeats))
+    def moves_of(self, number: int) -> array[int]:
+        """Returns the moves of the games with this number within a seed, by the seed."""
+        return self.moves[number :: len(self.games.sides)]
 
-    def repeats(self, one, other):
-        """The pairs of which a game is the same as one in an earlier pair that repeats none itself: the seed of each, and that of the first
-        such pair."""
-        sides = [self.of(self.moves, it) for it in (one, other)]
-        if not any(has_twice(it) for it in sides):
+    def of_two(self, pairing: Pairing) -> Found:
+        """Returns the pairs of two engines."""
+        first, second = self.scores_of(pairing.as_black), self.scores_of(pairing.as_white)
+        counts = counts_of(zip(first, second))
+        return Found(counts, clusters_of(counts, first, second, self.repeats(pairing)))
+
+    def repeats(self, pairing: Pairing) -> dict[int, int]:
+        """Returns the pairs of which a game is the same as one in an earlier pair that repeats none
+        itself: of the seed of each, the seed of the first such pair."""
+        sides = [self.moves_of(pairing.as_black), self.moves_of(pairing.as_white)]
+        if not any(has_twice(moves) for moves in sides):
             return {}
-        known, found = ({}, {}), {}
-        for seed, ends in enumerate(zip(self.of(self.scores, one), self.of(self.scores, other))):
+        known: tuple[dict[int, int], dict[int, int]] = ({}, {})  # of moves, their first seed
+        found = {}
+        first, second = self.scores_of(pairing.as_black), self.scores_of(pairing.as_white)
+        for seed, ends in enumerate(zip(first, second)):
             if ends in OUTCOMES:
-                played = [it[seed] for it in sides]
-                before = [at[it] for it, at in zip(played, known) if it in at]
+                played = [moves[seed] for moves in sides]
+                before = [seeds[moves] for moves, seeds in zip(played, known) if moves in seeds]
                 if before:
                     found[seed] = min(before)
                 else:
-                    for it, at in zip(played, known):
-                        at.update({it: seed} if it else {})
+                    for moves, seeds in zip(played, known):
+                        seeds.update({moves: seed} if moves else {})
         return found
 
-    def in_order(self, one, other):
-        """The pairs of two engines that a sequential test counts: those that are new, up to the first that isn't whole."""
-        first, second = self.of(self.scores, one), self.of(self.scores, other)
-        ends = [it for it in (first.find(NONE), second.find(NONE)) if it >= 0]
+    def in_order(self, pairing: Pairing) -> list[int]:
+        """Returns the counts of pairs of two engines that a sequential test counts: those that are
+        new, up to the first that isn't whole."""
+        first, second = self.scores_of(pairing.as_black), self.scores_of(pairing.as_white)
+        ends = [end for end in (first.find(Score.NONE), second.find(Score.NONE)) if end >= 0]
         until = min(ends, default=len(first))
         first, second = first[:until], second[:until]
-        return without(
-            counts_of(zip(first, second)),
-            first,
-            second,
-            [seed for seed in self.repeats(one, other) if seed < until],
-        )
+        repeated = [seed for seed in self.repeats(pairing) if seed < until]
+        return without(counts_of(zip(first, second)), first, second, repeated)
 
-    def same(self):
-        """The games that are the same, move by move: the numbers of each such group, in the plan's order."""
+    def same(self) -> list[list[int]]:
+        """Returns the numbers of games that are the same, move by move, in groups and in the plan's
+        order."""
         found = []
-        for side in range(len(self.games.sides)):
-            played = self.of(self.moves, side)
+        for number in range(len(self.games.sides)):
+            played = self.moves_of(number)
             if has_twice(played):
                 groups = defaultdict(list)
                 for seed, moves in enumerate(played):
                     if moves:
-                        groups[moves].append(seed * len(self.games.sides) + side)
-                found += [it for it in groups.values() if len(it) > 1]
+                        groups[moves].append(seed * len(self.games.sides) + number)
+                found += [group for group in groups.values() if len(group) > 1]
         return sorted(found)
 
 
 class Found:
-    """The pairs of two engines: how many have each outcome, and how many clusters there are of so many pairs and so many half points. A pair
-    is in one with the earlier pair that it repeats, and else alone."""
+    """The pairs of two engines: how many have each outcome, and how many clusters there are of each
+    kind. A pair is in one with the earlier pair that it repeats, and else alone."""
 
-    def __init__(self, every=(0,) * 5, clusters=()):
-        self.every, self.clusters = list(every), Counter(clusters)
+    def __init__(
+        self, every: Sequence[int] = (0,) * 5, clusters: Mapping[Cluster, int] | None = None
+    ) -> None:
+        self.every, self.clusters = list(every), Counter(clusters or {})
 
-    def add(self, other):
+    def add(self, other: Found) -> None:
         """Adds other pairs."""
         self.every = [one + more for one, more in zip(self.every, other.every)]
         self.clusters.update(other.clusters)
 
-    def turned(self):
-        """The same pairs, as the other engine sees them."""
-        return Found(
-            self.every[::-1],
-            {(size, 4 * size - won): count for (size, won), count in self.clusters.items()},
-        )
+    def turned(self) -> Found:
+        """Returns the same pairs, as the other engine sees them."""
+        clusters = {
+            Cluster(size, 4 * size - won): count for (size, won), count in self.clusters.items()
+        }
+        return Found(self.every[::-1], clusters)
 
-    def score(self):
-        """The score; None where there is no pair."""
+    def score(self) -> float | None:
+        """Returns the score; None where there is no pair."""
         return scores.moments(self.every)[0] if any(self.every) else None
 
-    def interval(self):
-        """The 95 % interval of the score; None where there is no pair."""
+    def interval(self) -> tuple[float, float] | None:
+        """Returns the 95 % interval of the score; None where there is no pair."""
         return scores.interval(self.clusters) if self.clusters else None
 
 
-def clusters_of(counts, first, second, repeats):
-    """How many clusters there are of so many pairs and so many half points, where these seeds repeat others."""
-    found, several = Counter(scores.alone(counts)), {}
+def clusters_of(
+    counts: Sequence[int], first: bytearray, second: bytearray, repeats: Mapping[int, int]
+) -> Counter[Cluster]:
+    """Returns how many clusters there are of each kind, where these seeds repeat others."""
+    found = Counter(scores.alone(counts))
+    several: dict[int, list[int]] = {}  # of a seed, the outcomes of its pair and those like it
     for seed, before in repeats.items():
         ends = several.setdefault(before, [OUTCOMES[first[before], second[before]]])
         ends.append(OUTCOMES[first[seed], second[seed]])
     for ends in several.values():
-        found.subtract((1, it) for it in ends)
-        found[len(ends), sum(ends)] += 1
+        found.subtract(Cluster(1, end) for end in ends)
+        found[Cluster(len(ends), sum(ends))] += 1
     return +found
 
 
-def has_twice(moves):
-    """Is the same number there twice, but for 0?"""
+def has_twice(moves: Sequence[int]) -> bool:
+    """Returns whether a number other than 0 is there twice."""
     if len(moves) < 2:
         return False
-    played = [it for it in moves if it]
+    played = [number for number in moves if number]
     return len(set(played)) < len(played)
 
 
-def counts_of(ends):
-    """How many of these pairs of games have each outcome."""
-    found = [0] * 5
+def counts_of(ends: Iterable[tuple[int, int]]) -> list[int]:
+    """Returns how many of these pairs of games have each outcome."""
+    counts = [0] * 5
     for end, count in Counter(ends).items():
         if end in OUTCOMES:
-            found[OUTCOMES[end]] += count
-    return found
+            counts[OUTCOMES[end]] += count
+    return counts
 
 
-def without(counts, first, second, seeds):
-    """The counts but for the pairs of these seeds."""
+def without(
+    counts: list[int], first: bytearray, second: bytearray, seeds: Sequence[int]
+) -> list[int]:
+    """Returns the counts without the pairs of these seeds."""
     if not seeds:
         return counts
-    left = counts_of((first[it], second[it]) for it in seeds)
-    return [all_of - some for all_of, some in zip(counts, left)]
+    removed = counts_of((first[seed], second[seed]) for seed in seeds)
+    return [all_of - some for all_of, some in zip(counts, removed)]

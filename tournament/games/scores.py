@@ -1,109 +1,122 @@
-"""What pairs of games say. A pair is two games of the same two engines with the same seed, one with each colour.
+"""What pairs of games say. A pair is two games of the same two engines with the same seed, one with
+each colour.
 
-A game is 1, 1/2 or 0 for an engine, so a pair has one of five outcomes: 0, 1/2, 1, 3/2 or 2. Here pairs are five counts, how many have each
-outcome. Their score is the mean, as a share of the 2 that can be won: from 0 to 1.
+A game is 1, 1/2 or 0 for an engine, so a pair has one of five outcomes: 0, 1/2, 1, 3/2 or 2. Here
+pairs are five counts, how many have each outcome. Their score is the mean, as a share of the 2 that
+can be won: from 0 to 1.
 """
+from __future__ import annotations
+
 import math
+from typing import Mapping, NamedTuple, Sequence
 
 Z = 1.959963984540054  # of a 95 % interval
-BOUND = math.log(
-    19
-)  # of the log likelihood ratio, where both errors are to be 5 %: ln(0.95 / 0.05)
+BOUND = math.log(19)  # of the log likelihood ratio, where both errors are to be 5 %: 0.95 / 0.05
 FEWEST = 16  # pairs from which on a test says anything
-FEWEST_OTHERS = (
-    10  # of them that aren't of the most frequent outcome: before, their variance isn't known
-)
+FEWEST_OTHERS = 10  # pairs unlike the most frequent ones, before which their variance isn't known
 ADDED = 0.001  # to each count in a test, so that there is a variance
 HALVINGS = 60  # which find a number to the last digits
 
 
-def moments(counts):
-    """The mean and the variance of pairs, as shares of what can be won."""
+class Cluster(NamedTuple):
+    """Pairs that repeat each other: how many, and how many half points they have."""
+
+    pairs: int
+    half_points: int
+
+
+def moments(counts: Sequence[float]) -> tuple[float, float]:
+    """Returns the mean and the variance of pairs, as shares of what can be won."""
     total = sum(counts)
     mean = sum(count * at for at, count in enumerate(counts)) / (4 * total)
     return mean, sum(count * (at / 4 - mean) ** 2 for at, count in enumerate(counts)) / total
 
 
-def interval(clusters):
-    """The 95 % interval of the score: 1.96 standard errors to each side. It is given how many clusters there are of so many pairs and so many
-    half points: pairs that repeat an earlier one are a cluster with it, and others are alone. One cluster is added, as large as a pair's is
-    on average, half of it won twice and half of it lost twice. So few clusters, or those that are all alike, don't look certain.
+def interval(clusters: Mapping[Cluster, int]) -> tuple[float, float]:
+    """Returns the 95 % interval of the score: 1.96 standard errors to each side.
+
+    It is given the number of clusters of each kind: pairs that repeat an earlier one are a cluster
+    with it, and others are alone. One cluster is added, as large as a pair's is on average, half of
+    it won twice and half of it lost twice. So few clusters, or those that are all alike, don't look
+    certain.
     """
     pairs = sum(count * size for (size, _), count in clusters.items())
-    added = (
-        sum(count * size**2 for (size, _), count in clusters.items()) / pairs
-    )  # how many pairs it has
-    mean = (sum(count * won / 4 for (_, won), count in clusters.items()) + added / 2) / (
-        pairs + added
-    )
+    # how many pairs the added cluster has
+    added = sum(count * size**2 for (size, _), count in clusters.items()) / pairs
+    won = sum(count * won / 4 for (_, won), count in clusters.items())
+    mean = (won + added / 2) / (pairs + added)
     squares = sum(count * (won / 4 - size * mean) ** 2 for (size, won), count in clusters.items())
     squares += added**2 * (mean**2 + (1 - mean) ** 2) / 2
     half = Z * math.sqrt(squares / (pairs + added) / pairs)
     return max(0.0, mean - half), min(1.0, mean + half)
 
 
-def alone(counts):
-    """Pairs that are clusters of one each."""
-    return {(1, at): count for at, count in enumerate(counts) if count}
+def alone(counts: Sequence[int]) -> dict[Cluster, int]:
+    """Returns the clusters of pairs that repeat no other."""
+    return {Cluster(1, at): count for at, count in enumerate(counts) if count}
 
 
-def elo(score):
-    """The difference in Elo that has this score; infinite where all is won or lost."""
-    return (
-        math.copysign(math.inf, score - 0.5)
-        if score in (0, 1)
-        else 400 * math.log10(score / (1 - score))
-    )
+def elo(score: float) -> float:
+    """Returns the difference in Elo that has this score; infinite where all is won or lost."""
+    if score in (0, 1):
+        return math.copysign(math.inf, score - 0.5)
+    return 400 * math.log10(score / (1 - score))
 
 
-def expected(difference):
-    """The score that a difference in Elo has."""
-    return 1 / (1 + 10 ** (-difference / 400))
+def expected(difference: float) -> float:
+    """Returns the score that a difference in Elo has."""
+    score: float = 1 / (1 + 10 ** (-difference / 400))
+    return score
 
 
-def ratio(counts, elo0, elo1):
-    """The log likelihood ratio of two differences in Elo: how much better the second one explains the pairs."""
+def ratio(counts: Sequence[int], elo0: float, elo1: float) -> float:
+    """Returns the log likelihood ratio of two differences in Elo: how much better the second one
+    explains the pairs."""
     first, second = expected(elo0), expected(elo1)
     mean, variance = moments([count + ADDED for count in counts])
     return sum(counts) * (second - first) * (2 * mean - first - second) / (2 * variance)
 
 
-def shares(counts, mean):
-    """The shares of the five outcomes that explain pairs best, of all that have this mean: of each count divided by 1 + lean * (outcome -
-    mean), where the lean is such that they have it."""
+def shares(counts: Sequence[float], mean: float) -> tuple[float, ...]:
+    """Returns the shares of the five outcomes that explain pairs best, of all with this mean: of
+    each count divided by 1 + lean * (outcome - mean), where the lean is such that they have it."""
     low, high = -1 / (1 - mean), 1 / mean  # between these no share is below 0
     for _ in range(HALVINGS):
         lean = (low + high) / 2
         found = [count / (1 + lean * (at / 4 - mean)) for at, count in enumerate(counts)]
-        off = sum(it * (at / 4 - mean) for at, it in enumerate(found))
-        low, high = (lean, high) if off > 0 else (low, lean)
-    return tuple(it / sum(found) for it in found)
+        excess = sum(share * (at / 4 - mean) for at, share in enumerate(found))
+        low, high = (lean, high) if excess > 0 else (low, lean)
+    return tuple(share / sum(found) for share in found)
 
 
-def exact_ratio(counts, elo0, elo1):
-    """The same ratio without a variance: how much likelier the outcomes are by the shares that explain them best with the second one."""
-    counts = [count + ADDED for count in counts]
-    first, second = (shares(counts, expected(it)) for it in (elo0, elo1))
-    return sum(count * math.log(more / less) for count, less, more in zip(counts, first, second))
+def exact_ratio(counts: Sequence[int], elo0: float, elo1: float) -> float:
+    """Returns the same ratio without a variance: how much likelier the outcomes are by the shares
+    that explain them best with the second difference."""
+    added = [count + ADDED for count in counts]
+    first, second = (shares(added, expected(difference)) for difference in (elo0, elo1))
+    return sum(count * math.log(more / less) for count, less, more in zip(added, first, second))
 
 
-def others(counts):
-    """How many pairs aren't of the most frequent outcome."""
+def others(counts: Sequence[int]) -> int:
+    """Returns how many pairs aren't of the most frequent outcome."""
     return sum(counts) - max(counts)
 
 
-def decision(counts, elo0, elo1):
-    """Which of two differences a sequential test accepts, 0 or 1; None where it needs more pairs. Both ratios have to say so: the first one
-    takes the mean of pairs for normal and the variance for known, and errs where outcomes are rare or differences great.
+def decision(counts: Sequence[int], elo0: float, elo1: float) -> int | None:
+    """Returns which of two differences a sequential test accepts, 0 or 1; None where it needs more
+    pairs.
+
+    Both ratios have to say so: the first one takes the mean of pairs for normal and the variance
+    for known, and errs where outcomes are rare or differences great.
     """
     if sum(counts) < FEWEST or others(counts) < FEWEST_OTHERS:
         return None
-    found = accepted(ratio(counts, elo0, elo1))
-    return (
-        found if found is not None and accepted(exact_ratio(counts, elo0, elo1)) == found else None
-    )
+    first = accepted(ratio(counts, elo0, elo1))
+    if first is None or accepted(exact_ratio(counts, elo0, elo1)) != first:
+        return None
+    return first
 
 
-def accepted(found):
-    """Which difference a ratio accepts; None where it is between the bounds."""
+def accepted(found: float) -> int | None:
+    """Returns which difference a ratio accepts; None where it is between the bounds."""
     return 1 if found >= BOUND else 0 if found <= -BOUND else None

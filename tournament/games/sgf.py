@@ -1,47 +1,76 @@
-"""A game's record as SGF has it (FF[4]): a column and a row of letters, from the upper left."""
-from .rules import COLUMNS, handicap_points
+"""A game's record in SGF (FF[4]): a column and a row of letters, from the upper left."""
+from __future__ import annotations
+
+from typing import TYPE_CHECKING, Sequence
+
+from .model import Ending, Side, Way
+from .rules import PASS, column_and_row, handicap_points
 from .setup import Setup
+
+if TYPE_CHECKING:
+    from .export import Row
+
+LETTERS = {Side.BLACK: "B", Side.WHITE: "W"}
+WON_BY = {Way.RESIGNED: "R", Way.LATE: "T", Way.TIME: "T"}  # without points, and else by forfeit
 
 
 class Board:
     """The board of a plan: its size, its komi, and its handicap stones."""
 
-    def __init__(self, options):
+    def __init__(self, options: Sequence[str]) -> None:
         setup = Setup(options)
         self.size, self.handicap, self.komi = setup.rows(), setup.stones(), setup.komi
+        self.stones = handicap_points(self.size, self.handicap)
 
-    def record(self, row, end, moves):
-        """The record of a game."""
-        stones = "".join(f"[{self.point(it)}]" for it in handicap_points(self.size, self.handicap))
-        head = {"FF": 4, "GM": 1, "CA": "UTF-8", "AP": row["twogtp_version"] and f"twogtp:{escaped(row['twogtp_version'])}", "SZ": self.size,
-                "KM": self.komi, "HA": self.handicap or None, "PB": row["black"], "PW": row["white"], "RE": result(row["verdict"], end),
-                "GN": row["game"], "C": row["verdict"]}  # fmt: skip
-        root = "".join(f"{name}[{value}]" for name, value in head.items() if value is not None) + (
-            f"AB{stones}" if stones else ""
+    def first(self) -> Side:
+        """Returns the side that moves first."""
+        return Side.WHITE if self.stones else Side.BLACK
+
+    def record(self, row: Row) -> str:
+        """Returns the record of a game."""
+        version = row.twogtp_version
+        properties = {
+            "FF": 4,
+            "GM": 1,
+            "CA": "UTF-8",
+            "AP": version and f"twogtp:{escaped(version)}",
+            "SZ": self.size,
+            "KM": self.komi,
+            "HA": self.handicap or None,
+            "PB": row.black,
+            "PW": row.white,
+            "RE": result(row.verdict, row.ending),
+            "GN": row.game,
+            "C": row.verdict,
+        }
+        root = "".join(
+            f"{name}[{value}]" for name, value in properties.items() if value is not None
         )
-        colours = "WB" if stones else "BW"
-        played = "".join(f";{colours[at % 2]}[{self.of(move)}]" for at, move in enumerate(moves))
-        return f"(;{root}\n{played})\n"
+        if self.stones:
+            root += "AB" + "".join(f"[{self.point(*stone)}]" for stone in self.stones)
+        moves = row.result.moves(self.first())
+        nodes = "".join(f";{LETTERS[side]}[{self.vertex(vertex)}]" for side, vertex in moves)
+        return f"(;{root}\n{nodes})\n"
 
-    def of(self, move):
-        """A move; a pass is empty."""
-        return "" if move == "pass" else self.point((COLUMNS.index(move[0]) + 1, int(move[1:])))
+    def vertex(self, vertex: str) -> str:
+        """Returns a move; a pass is empty."""
+        return "" if vertex == PASS else self.point(*column_and_row(vertex))
 
-    def point(self, place):
-        """A column and a row, which are counted from the lower left, from 1 up."""
-        return "".join(chr(ord("a") + it) for it in (place[0] - 1, self.size - place[1]))
+    def point(self, column: int, row: int) -> str:
+        """Returns a point, whose column and row are counted from 1, from the lower left."""
+        return "".join(chr(ord("a") + at) for at in (column - 1, self.size - row))
 
 
-def result(verdict, end):
-    """How a game ended that ended so."""
-    if end.way == "0":
+def result(verdict: str, ending: Ending) -> str:
+    """Returns the result of a game that ended so."""
+    if ending.way is Way.DRAWN:
         return "0"
-    if end.winner is None:
+    if ending.winner is None:
         return "Void"
-    won = {"won": verdict[2:], "R": "R", "late": "T", "time": "T"}.get(end.way, "F")
-    return f"{'BW'[end.winner]}+{won}"
+    won = verdict[2:] if ending.way is Way.WON else WON_BY.get(ending.way, "F")
+    return f"{LETTERS[ending.winner]}+{won}"
 
 
-def escaped(text):
-    """A text within brackets, before or behind a colon."""
-    return "".join(f"\\{it}" if it in "\\]:" else it for it in text)
+def escaped(text: str) -> str:
+    """Returns a text within brackets, in front of a colon or behind it."""
+    return "".join(f"\\{each}" if each in "\\]:" else each for each in text)

@@ -247,7 +247,7 @@ class Spelled(checks.Case):
                 found = {
                     it
                     for it in near
-                    if rule.parts_of(f"game 1: {it} moves 2 restarts 0 0\npass pass\n".encode())
+                    if rule.parse(f"game 1: {it} moves 2 restarts 0 0\npass pass\n".encode())
                 }
                 self.check(
                     f"the scores of {size}x{size} with komi {text}", scores_of(size, komi), found
@@ -271,7 +271,7 @@ class Spelled(checks.Case):
                 found = {
                     it
                     for it in near
-                    if rule.parts_of(
+                    if rule.parse(
                         f"game 1: limit moves 3 restarts 0 0\n{place.format(it)}\n".encode()
                     )
                 }
@@ -289,7 +289,7 @@ class Spelled(checks.Case):
             self.check(
                 f"{line[:20]}..: it is none",
                 None,
-                rule.parts_of(f"game 1: limit {line}\nA1\n".encode()),
+                rule.parse(f"game 1: limit {line}\nA1\n".encode()),
             )
 
     def test_plans(self):
