@@ -17,7 +17,7 @@ NO_END = f"still running after {TIMEOUT} seconds"
 
 
 class Result(NamedTuple):
-    """What an engine has written by its end, and how it has ended."""
+    """How an engine has ended, and what it has written."""
 
     status: Union[int, str]
     output: bytes
@@ -25,7 +25,7 @@ class Result(NamedTuple):
 
 
 def feed_at_once(program: Path, arguments: Sequence[str], data: bytes) -> Result:
-    """Returns what comes of an engine that is given all of its input at once."""
+    """Returns the result of an engine that is given all of its input at once."""
     try:
         done = run([program, *arguments], data)
     except subprocess.TimeoutExpired as expired:
@@ -34,7 +34,7 @@ def feed_at_once(program: Path, arguments: Sequence[str], data: bytes) -> Result
 
 
 def feed_bytewise(program: Path, arguments: Sequence[str], data: bytes) -> Result:
-    """Returns what comes of an engine that is given one byte after the other."""
+    """Returns the result of an engine that is given one byte after the other."""
     with running_engine(program, arguments) as running:
         for place in range(len(data)):
             running.write(data[place : place + 1])
@@ -45,10 +45,10 @@ def feed_bytewise(program: Path, arguments: Sequence[str], data: bytes) -> Resul
 def feed_in_pieces(
     program: Path, arguments: Sequence[str], conversation: Conversation, rng: random.Random
 ) -> Result:
-    """Returns what comes of an engine whose input comes in random pieces.
+    """Returns the result of an engine that is given its input in random pieces.
 
-    At times the next piece is held back until each reply has come that is due by then. After
-    `quit` the input stays open, and the engine has to end all the same.
+    At times the next piece is held back until each reply is there that is due by then. After `quit`
+    the input stays open, and the engine has to end all the same.
     """
     reference = engine.start(conversation.options)
     assert reference is not None
@@ -64,7 +64,7 @@ def feed_in_pieces(
             if not running.write(piece) and not reference.ended:
                 return running.result("its input was closed")
             if rng.random() < patience and not running.has_written(due):
-                return running.result(f"replies were due after {place} bytes, and did not come")
+                return running.result(f"replies that were due after {place} bytes are missing")
         if not reference.ended:
             running.close_input()
         return running.result()
@@ -104,7 +104,7 @@ class RunningEngine:
             self.process.stdin.close()
 
     def has_written(self, due: bytes) -> bool:
-        """Waits for this output, and returns whether that has come, and nothing else."""
+        """Waits for this output, and returns whether the engine has written only that."""
         with self.arrival:
             self.arrival.wait_for(
                 lambda: len(self.output) >= len(due) or not due.startswith(self.output), TIMEOUT
@@ -112,7 +112,7 @@ class RunningEngine:
             return self.output.startswith(due)
 
     def result(self, failure: Optional[str] = None) -> Result:
-        """Returns what has come of the engine. Where nothing has failed, waits for its end."""
+        """Returns the result of the engine. Where nothing has failed, waits for its end."""
         status: Union[int, str]
         try:
             status = failure or self.process.wait(TIMEOUT)

@@ -109,7 +109,7 @@ RANDOM_MOVES = "boardsize 9\n" + 30 * "genmove b\ngenmove w\n"
 
 
 def converse(engine: Path, text: str, *options: Option) -> CompletedProcess[str]:
-    """Returns what comes of an engine with these options that reads this text."""
+    """Returns the result of an engine with these options that reads this text."""
     return run([engine, *options], text)
 
 

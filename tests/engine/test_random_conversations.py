@@ -14,7 +14,7 @@ from .trials import PIECES, Trial, number_of, positional_refusals
 
 COUNT = 100  # conversations of a kind
 # How many plays only positional ko refuses, for each conversation of these kinds, so that the rule
-# is tried often enough: 1,000 in all.
+# is tested often enough: 1,000 in all.
 FEWEST_REFUSALS = {"returns": 7, "handicap": 3}
 
 
@@ -29,10 +29,10 @@ def trials(request: pytest.FixtureRequest, program: Path, kind: str) -> list[Tri
 def test_engine_writes_what_the_reference_writes(
     request: pytest.FixtureRequest, gtp_engine: Path, kind: str
 ) -> None:
-    tried = trials(request, gtp_engine, kind)
+    all_trials = trials(request, gtp_engine, kind)
     with positional_refusals() as refusals:
-        for trial in tried:
+        for trial in all_trials:
             if not trial.agrees():
                 pytest.fail(trial.difference(), pytrace=False)
-    if len(tried) >= COUNT:
-        assert len(refusals) >= FEWEST_REFUSALS.get(kind, 0) * len(tried)
+    if len(all_trials) >= COUNT:
+        assert len(refusals) >= FEWEST_REFUSALS.get(kind, 0) * len(all_trials)

@@ -76,18 +76,18 @@ class Trial:
         self.in_pieces = kind == PIECES and self.wanted(self.conversation.data).status == 0
 
     def wanted(self, data: bytes) -> Result:
-        """Returns what comes of the reference that is given this input."""
+        """Returns the result of the reference that is given this input."""
         return Result(*engine.run(self.conversation.options, data))
 
     def got(self, data: bytes) -> Result:
-        """Returns what comes of the engine that is given this input."""
+        """Returns the result of the engine that is given this input."""
         if not self.in_pieces:
             return feed_at_once(self.program, self.arguments, data)
         changed = self.conversation._replace(data=data)
         return feed_in_pieces(self.program, self.arguments, changed, random.Random(self.seed))
 
     def agrees(self, data: Optional[bytes] = None) -> bool:
-        """Returns whether the same comes of both; of the whole input where none is given."""
+        """Returns whether both results are equal, for the whole input where none is given."""
         data = self.conversation.data if data is None else data
         return self.got(data) == self.wanted(data)
 

@@ -1,4 +1,4 @@
-"""Mistakes that people make with the command of an engine, and what comes of each in a match.
+"""Mistakes that people make with the command of an engine, and the result of each in a match.
 
 Most are in the order of docs/troubleshooting.md. All was worked out by hand from README.md,
 docs/matches.md and docs/protocol.md.
@@ -39,7 +39,7 @@ class Spoken:
 
 @dataclass(frozen=True)
 class Mistake:
-    """A command of an engine, the file that it names or should name, and what comes of it."""
+    """A command of an engine, the file that it names or should name, and the result."""
 
     name: str
     line: str  # of the game
@@ -56,8 +56,8 @@ class Mistake:
     folder: str = "."  # in which the match is played
     errors: Union[str, Spoken] = ""
     why: str = ""  # the standard error where `--why` is one of the options
-    # How the engine ends, where it ends before it reads anything. Then it is a question of time
-    # whether twogtp meets the end of its output first, or fails to write to it.
+    # How the engine ends, where that is before it reads anything. Then time decides whether twogtp
+    # first meets the end of its output, or fails to write to it.
     early_end: str = ""
     search_path: Optional[str] = None  # the PATH of twogtp, where it has another one
     limits: Tuple[str, ...] = ()  # of twogtp, as `prlimit` reads them

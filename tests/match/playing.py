@@ -37,7 +37,7 @@ class Player(NamedTuple):
             yield process
 
     def play(self, match: Match) -> Result:
-        """Returns what comes of a match, of which no process may be left."""
+        """Returns the result of a match, of which no process may be left."""
         with self.start(match, stdin=DEVNULL, stdout=PIPE, stderr=PIPE) as process:
             output, errors = process.communicate()
             assert wait_until(lambda: not is_alive(process.pid)), "a process is left"

@@ -51,7 +51,7 @@ def test_engine_that_is_not_there(twogtp: Path, closed: Closed, tmp_path: Path) 
     white = NotingEngine("white", tmp_path)
     sides = ["--black", str(tmp_path / "nothing"), "--white", white.command()]
     result = run_closed([twogtp, "--restarts", "0", "--why", *sides], closed, tmp_path)
-    lines = [it for it in result.errors.splitlines() if it != "white speaks"]
+    lines = [line for line in result.errors.splitlines() if line != "white speaks"]
     status, output = 1, "game 1: abandoned black moves 0 restarts 0 0\n"
     reported = ["twogtp: game 1: black: not started: no such file"]
     if closed & {OUTPUT, ERRORS}:

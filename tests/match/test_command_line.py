@@ -15,7 +15,7 @@ Environment = Mapping[str, str]
 
 
 def play(folder: Path, environment: Environment, *options: str) -> CompletedProcess[str]:
-    """Returns what comes of a match in this folder between engines that only leave a file."""
+    """Returns the result of a match in this folder between engines that only leave a file."""
     command = ["twogtp", "--black", ENGINE, "--white", ENGINE, *options]
     return run(command, cwd=folder, env=environment)
 

@@ -1,4 +1,4 @@
-"""Matches in which the command of an engine is a mistake: twogtp ends them so, and says why."""
+"""Matches in which the command of an engine is a mistake: how twogtp ends them, and why."""
 from __future__ import annotations
 
 import contextlib
@@ -18,7 +18,7 @@ OTHER_USER = ["setpriv", "--reuid=64321", "--regid=64321", "--clear-groups"]  # 
 
 
 class Result(NamedTuple):
-    """What comes of a match."""
+    """The result of a match."""
 
     status: int
     output: str
@@ -56,7 +56,7 @@ def make_engine(mistake: Mistake, folder: Path) -> Path:
 def play(
     mistake: Mistake, twogtp: Path, environment: Mapping[str, str], folder: Path, *options: str
 ) -> Result:
-    """Returns what comes of the match with these further options."""
+    """Returns the result of the match with these further options."""
     engine = make_engine(mistake, folder)
     cwd = folder / mistake.folder
     cwd.mkdir(exist_ok=True)
@@ -81,7 +81,7 @@ def spoken_by(spoken: Spoken, environment: Mapping[str, str]) -> str:
     return text
 
 
-each_mistake = pytest.mark.parametrize("mistake", MISTAKES, ids=lambda it: it.name)
+each_mistake = pytest.mark.parametrize("mistake", MISTAKES, ids=lambda row: row.name)
 
 
 @each_mistake

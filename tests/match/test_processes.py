@@ -1,4 +1,4 @@
-"""What twogtp does with its engines' processes, and with its own streams, beside the game."""
+"""What twogtp does with its engines' processes and with its own streams."""
 from __future__ import annotations
 
 import fcntl
@@ -159,10 +159,10 @@ def test_nothing_grows_in_many_games(
         assert wait_until(lambda: not is_alive(process.pid))
     assert lines == [f"game {number}: {result}\n" for number in range(1, games + 1)]
     assert len(usages) > 10
-    assert 0 < max(it.peak_memory for it in usages) < 8192
+    assert 0 < max(usage.peak_memory for usage in usages) < 8192
     # The first few games may still bring in what all need, and while a process is started there is
     # a little more for a moment.
     first, last = usages[10:60], usages[-50:]
-    assert min(it.data for it in last) <= max(it.data for it in first)
+    assert min(usage.data for usage in last) <= max(usage.data for usage in first)
     # three streams, two pipes for each engine, and for a moment the other ends of the pipes
-    assert 0 < max(it.open_files for it in usages) < 16
+    assert 0 < max(usage.open_files for usage in usages) < 16

@@ -31,7 +31,7 @@ def pytest_generate_tests(metafunc: pytest.Metafunc) -> None:
 
 
 def reference_result(match: Match) -> Expected:
-    """Returns what comes of a match by the reference, which may not be a question of time."""
+    """Returns the result of a match by the reference, which may not be a question of time."""
     results = {timing: matches.play(match, timing) for timing in TIMINGS}
     wanted = results[PATIENT]
     for timing, result in results.items():

@@ -87,6 +87,6 @@ RUNS = [
 
 
 @pytest.mark.cc
-@pytest.mark.parametrize("refused", RUNS, ids=lambda it: it.name)
+@pytest.mark.parametrize("refused", RUNS, ids=lambda row: row.name)
 def test_refused_memory(refused: Run, refuser: Refuser, twogtp: Path, gtp_engine: Path) -> None:
     refuser.check(refused)

@@ -11,8 +11,7 @@ from tests.shared.processes import TOP, run
 
 Play = Callable[[str], str]
 
-# Black has B2 and C3, White A1, and each empty point is beside both colours or reaches both: 2
-# points to 1.
+# Black has B2 and C3, White A1, and each empty point reaches both colours: 2 points to 1.
 RECORD = "B2 A1 C3 pass pass\n"
 
 
@@ -53,13 +52,13 @@ def test_example_is_short() -> None:
     assert len(source.read_text().splitlines()) <= 60
 
 
-def test_unlawful_moves_are_passed_over(play: Play) -> None:
+def test_unlawful_moves_are_ignored(play: Play) -> None:
     # A1 is occupied, Z9 off the board, `hello` no move. After its last line the engine passes.
     output = play("printf 'B2\\nA1\\nZ9\\nhello\\nC3\\n'")
     assert output == f"game 1: B+1 moves 5 restarts 0 0\n{RECORD}"
 
 
-def test_engine_that_is_killed_goes_on_in_its_next_start(play: Play) -> None:
+def test_engine_that_is_killed_continues_in_its_next_start(play: Play) -> None:
     # The first start writes one move, and then nothing. The engine is killed while it waits.
     output = play(
         """\

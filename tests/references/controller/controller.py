@@ -1,7 +1,7 @@
 """The controller of a match: docs/controller.md in Python, as literal as can be.
 
-A controller is told what happened, and says what to do next. A side is named by the colour that it
-plays.
+The caller says what happened, and the controller what to do next. A side is named by the colour
+that it plays.
 """
 from __future__ import annotations
 
@@ -60,7 +60,7 @@ class Report(NamedTuple):
 
 
 class Rest(NamedTuple):
-    """What came since the last whole reply, and how many commands were confirmed then."""
+    """What was read since the last whole reply, and how many commands were confirmed then."""
 
     confirmed: int
     data: bytes
@@ -73,7 +73,7 @@ class Up:
         self.confirmed = 0  # script commands
         self.unanswered: list[Sent] = []  # the oldest first
         self.sent = 0  # commands
-        self.rest = b""  # what came since the last whole reply
+        self.rest = b""  # what was read since the last whole reply
         self.rests: list[Rest] = []  # that after each call of `receive`
 
 
@@ -95,10 +95,10 @@ class Controller:
         self.pending: Optional[Colour] = None
         self.verdict: Optional[str] = None
         self.reported: list[Report] = []
-        # what came last: a whole reply with what was before it, or each text that may be shown of
-        # what is no reply
+        # what was read last: a whole reply with what was before it, or each text that may be shown
+        # of what is no reply
         self.pieces: list[bytes] = []
-        self.follows_another = False  # whether that came in one read with a reply before it
+        self.follows_another = False  # whether the same read had a reply before that
 
     # ---- what the tables speak of
 
@@ -242,7 +242,7 @@ class Controller:
     def receive(
         self, side: Colour, data: bytes, following: Callable[[], list[bytes]] = lambda: [b""]
     ) -> None:
-        """Takes in what this side wrote, which came in one read.
+        """Takes in what this side wrote, by one read.
 
         The bytes of a side that is down change nothing, and so do all bytes after a verdict.
         `following` returns what that read might have brought besides, if it had come later:
@@ -258,7 +258,7 @@ class Controller:
                 up.rests.append(Rest(up.confirmed, up.rest))
                 return
             if isinstance(result, NoReply):
-                # more is shown than the bytes up to the one at fault: what came with them too
+                # more is shown than the bytes up to the one at fault: what was read with them too
                 self.pieces = [up.rest + data + more for more in following()]
                 no_status = result is NoReply.NO_STATUS
                 self.report(side, why.NO_STATUS if no_status else why.OVERLONG)
@@ -379,7 +379,7 @@ class Controller:
     # ---- why a side fails
 
     def report(self, side: Colour, cause: str) -> None:
-        """Reports that a side fails by what came last.
+        """Reports that a side fails by what was read last.
 
         Where it was sent fewer commands by then, as many answers fewer may come after what is no
         reply.
@@ -411,9 +411,9 @@ class Controller:
         """Returns other commands that may be unanswered where this side has written its failure.
 
         While an engine is sent a script of more than eight commands, that is a question of time: as
-        many are sent as replies came with the read before. When the failure comes, all of them up
-        to the command at which it comes were sent, and those that could be sent when the reply
-        before was read, unless both came in one read.
+        many are sent as there were replies in the read before. At the failure all of them up to the
+        command that fails were sent, and those that could be sent when the reply before was read,
+        unless one read had both.
         """
         confirmed, length = self.up(side).confirmed, len(self.script())
         if length - confirmed <= 1:
@@ -430,9 +430,9 @@ class Controller:
     def writes(self, side: Colour) -> list[tuple[list[Sent], bytes]]:
         """Returns the last write to this side, or each that may be the first that fails.
 
-        For each that is what is unanswered then, and what came since the last whole reply. Where
-        the engine has ended, and is sent a script of more than eight commands, there may be a write
-        after each reply; the command at which it ended was sent before.
+        For each that is what is unanswered then, and what was read since the last whole reply.
+        Where the engine has ended, and is sent a script of more than eight commands, there may be a
+        write after each reply; the command at which it ended was sent before.
         """
         up = self.up(side)
         length = len(self.script())

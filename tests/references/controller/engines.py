@@ -134,7 +134,7 @@ class Timed(Planned):
 
 
 class Ours(Engine):
-    """Our own engine. In memory it is the reference of it.
+    """Our own engine. In memory this is its reference.
 
     What it answered once to a list of commands is kept, since the reference is slow.
     """
@@ -210,7 +210,7 @@ class FaultyReference:
         return Act(reply, ENDS) if self.engine.ended else Act(reply)
 
     def fault(self, reply: bytes) -> Act:
-        """Returns what comes in place of this reply."""
+        """Returns what takes the place of this reply."""
         if self.kind == "stop":
             return Act(b"", ENDS)
         if self.kind == "cut":

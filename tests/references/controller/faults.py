@@ -123,7 +123,7 @@ MORE = [
     r"<reply>hello",
     r"<reply>\x01!",
 ]
-# A reply, and at once the front of another, which the next reply goes on.
+# A reply, and at once the front of another, which the next reply continues.
 FRONTS = [
     r"<reply>=",
     r"<reply>?",

@@ -220,11 +220,11 @@ class Faulty:
 
 def parts(template: str) -> list[str]:
     """Returns a template cut into what is in angle brackets, and what is between."""
-    found = []
+    pieces = []
     for piece in template.split("<"):
         inside, closes, rest = piece.partition(">")
-        found += ["<" + inside + ">", rest] if closes else [piece]
-    return found
+        pieces += ["<" + inside + ">", rest] if closes else [piece]
+    return pieces
 
 
 def literal(text: str) -> bytes:

@@ -20,7 +20,7 @@ FLOOD = 9000  # times that a text is written that is written without end: more t
 class Timing(NamedTuple):
     """What is left to the controller, to the processes and to the pipes.
 
-    What comes of a random match has to be the same for all of these, except for the standard error
+    The result of a random match has to be the same for all of these, except for the standard error
     under `--why`, which says how many commands are unanswered. There `twogtp` sends as many as are
     allowed, in one write. And where what it says is a question of time, the timing in which each
     read brings what was written at once gives all that may be written. That is so
@@ -78,7 +78,7 @@ class Match(NamedTuple):
 
 
 class Result(NamedTuple):
-    """What comes of a match by the program, and the logs of both engines."""
+    """The result of a match by the program, with the logs of both engines."""
 
     status: int
     output: bytes
@@ -87,7 +87,7 @@ class Result(NamedTuple):
 
 
 class Expected(NamedTuple):
-    """What comes of a match by the reference.
+    """The result of a match by the reference.
 
     Each line of the standard error is a list of texts: what is written in this timing, and what may
     be written in others.
@@ -99,12 +99,12 @@ class Expected(NamedTuple):
     logs: Mapping[Colour, bytes]
 
     def in_this_timing(self) -> Result:
-        """Returns what comes of the match in this timing."""
+        """Returns the result in this timing."""
         errors = b"".join(texts[0] for texts in self.errors)
         return Result(self.status, self.output, errors, self.logs)
 
     def allows(self, result: Result, any_errors: bool = False) -> bool:
-        """Returns whether this may come of the match, with any standard error where so asked."""
+        """Returns whether this may be the result, with any standard error where so asked."""
         if result._replace(errors=b"") != self.in_this_timing()._replace(errors=b""):
             return False
         lines = result.errors.splitlines(keepends=True)
@@ -175,11 +175,11 @@ class Process:
         self.do(self.engine.answers(text))
 
     def may_have_broken(self) -> bool:
-        """Returns whether a write to it may have failed, since it had ended by then."""
+        """Returns whether a write may have failed, since the process had ended by then."""
         return self.has_ended and self.writes > self.last
 
     def ending(self) -> str:
-        """Returns how it had ended when it failed by its pipes.
+        """Returns how the process has ended when its pipe is broken.
 
         One that doesn't soon end is ended then. Until that its input stays open.
         """
@@ -233,7 +233,7 @@ class Starter:
 
 
 def play(match: Match, timing: Timing = TIMINGS[0]) -> Expected:
-    """Returns what comes of a match."""
+    """Returns the result of a match."""
     wrong = usage_error(match)
     if wrong:
         lines = [[f"twogtp: {line}\n".encode()] for line in wrong]
@@ -356,7 +356,7 @@ class Game:
 
 
 def broken(process: Process, cause: str, writes: list[tuple[list[Sent], bytes]]) -> list[str]:
-    """Returns the texts of a pipe that is broken, for each write with what had come by then."""
+    """Returns the texts of a pipe that is broken, for each write with what was read by then."""
     return [why.cut_off(unanswered, cause, process.ending(), rest) for unanswered, rest in writes]
 
 

@@ -218,7 +218,7 @@ def undoes(deed: Deed) -> Turn:
     return Turn([Fault(1, ["u1"], deed)], REFUSES_ONE, moves=3)
 
 
-# All that engines do, each with the places at which nearly every match comes by.
+# All that engines do, each with places that nearly every match reaches.
 EARLY: list[Union[Turn, ProgramTurn, KoTurn]] = [
     *(once(ANYWHERE, deed) for deed in faults.ENDINGS),
     *(once(ANYWHERE, Deed(template)) for kind in faults.ANY for template in kind),

@@ -35,11 +35,11 @@ class Reading(NamedTuple):
 
 
 def first(data: bytes) -> Reading:
-    """Returns the first thing in these bytes, which are all that came since the last reply.
+    """Returns the first thing in these bytes, which are all that was read since the last reply.
 
-    They are counted as they came, and byte 8,193 is too many, whatever byte that is (own). CR and
-    all other control characters except HT and LF are removed, and HT becomes a space. Spaces and
-    newlines before a reply are skipped (own). A reply begins with = or ?, and ends with two
+    They are counted as they were read, and byte 8,193 is too many, whatever byte that is (own). CR
+    and all other control characters except HT and LF are removed, and HT becomes a space. Spaces
+    and newlines before a reply are skipped (own). A reply begins with = or ?, and ends with two
     newlines. (The standard, response structure.)
     """
     reply = bytearray()

@@ -1,7 +1,7 @@
 """Random conversations, each from a seed of its own, which are near the edges of the rules.
 
-A conversation is made beside a reference engine that reads it too, so that moves can aim at chains
-that are nearly captured, at ko and at suicide. Nothing here says what the replies have to be.
+While a conversation is made a reference engine reads it, so that moves can aim at chains that are
+nearly captured, at ko and at suicide. Nothing here says what the replies have to be.
 """
 from __future__ import annotations
 
@@ -29,7 +29,7 @@ SMALL_SIZES = [1, 2, 2, 3, 3, 3, 4, 4, 5, 5]
 TIGHT_SIZES = [1, 2, 2, 3, 3, 3, 3, 4, 4, 5]
 SEEDS = [0, 1, 2, 7, 2147483648, 4294967295]
 # Around a stone of Black, H: X and O are stones of Black and White. In the first, White takes H by
-# 2, and then Black takes 2 by H. In the second, Black sends 1 beside H, White takes both by 2, and
+# 2, and then Black takes 2 by H. In the second, Black plays 1 next to H, White takes both by 2, and
 # then Black takes 2 by H.
 PATTERNS = [
     ("..OX.", ".OH2X", "..OX."),

@@ -339,7 +339,7 @@ def start(options: Options) -> Optional[Engine]:
 
 
 def run(options: Options, data: bytes) -> Result:
-    """Returns what comes of the program with these options and this input. (Own.)"""
+    """Returns the result of the program with these options and this input. (Own.)"""
     engine = start(options)
     if engine is None:
         return Result(2, b"", b"gtp_engine: bad book\n")

@@ -48,8 +48,8 @@ def is_on(size: int, point: Point) -> bool:
 def neighbours(size: int, point: Point) -> list[Point]:
     """Returns the points that share a side with this one: left, right, below, above."""
     column, row = point
-    beside = [(column - 1, row), (column + 1, row), (column, row - 1), (column, row + 1)]
-    return [near for near in beside if is_on(size, near)]
+    around = [(column - 1, row), (column + 1, row), (column, row - 1), (column, row + 1)]
+    return [near for near in around if is_on(size, near)]
 
 
 class Board(Dict[Point, Colour]):
@@ -102,13 +102,13 @@ class Game:
         self.board = Board()
         self.moves: list[Move] = []
         self.boards: list[Board] = []  # the board before each of the moves
-        self.near = {point: self.beside(point) for point in points(size)}
+        self.near = {point: self.neighbours(point) for point in points(size)}
 
     def first_board(self) -> Board:
         """Returns the board before the first move."""
         return self.boards[0] if self.boards else self.board
 
-    def beside(self, point: Point) -> list[Point]:
+    def neighbours(self, point: Point) -> list[Point]:
         """Returns the points that are neighbours of this one."""
         return neighbours(self.size, point)
 
@@ -148,7 +148,7 @@ class Game:
     def captures(self, board: Board, colour: Colour, point: Point) -> set[Point]:
         """Returns the stones that a stone of this colour on this point takes.
 
-        That stone is on the board already. Only chains beside the stone can have lost a liberty.
+        That stone is on the board already. Only chains next to the stone can have lost a liberty.
         """
         return self.dead(board, other(colour), self.near[point])
 

@@ -326,7 +326,7 @@ class NeighboursAreKept(Bug):
     def kept_beside(self, point):
         """Returns a point's neighbours on the first board that had it, if this one has them."""
         if point not in self.kept:
-            self.kept[point] = self.beside(point)
+            self.kept[point] = self.neighbours(point)
         return [near for near in self.kept[point] if is_on(self.size, near)]
 
 

@@ -12,7 +12,7 @@ from ..matches import Match
 
 
 class Row(NamedTuple):
-    """A match, and what comes of it."""
+    """A match, and its result."""
 
     match: Match
     status: Optional[int]  # None where the match waits for ever
