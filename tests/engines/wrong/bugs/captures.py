@@ -93,7 +93,7 @@ class TwoChainsAreTaken(OneChainIsTaken):
     most = 2
 
 
-@instead_of("beside", on(5, "b E1 w D1 w E2", "play w E1"), "=")
+@instead_of("neighbours", on(5, "b E1 w D1 w E2", "play w E1"), "=")
 def edges_are_joined(self, right, point):
     """The last point of a row is a neighbour of the first point of the next row: the array has no
     margin."""
@@ -207,7 +207,7 @@ class TakenStonesGiveNoLiberty(Counted):
     gained = 0
 
 
-@instead_of("beside", on(5, "b A1 w A2 w B1", "play w A1"), "=")
+@instead_of("neighbours", on(5, "b A1 w A2 w B1", "play w A1"), "=")
 def edges_wrap_round(self, right, point):
     """Left of column A is the last column, and below row 1 the top row: an index of -1 is an
     array's last place."""

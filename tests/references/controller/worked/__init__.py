@@ -18,25 +18,42 @@ from ..engines import Engine, Other, Ours, Planned
 from . import failures, games, refusals
 from .rows import Row
 
-KINDS = {
-    "whole games": games.whole_games,
-    "games that are broken off": games.broken_games,
-    "engines that go down": games.going_down,
-    "single replies": games.replies,
-    "engines that are asked to quit": games.at_the_end,
-    "engines that make the match wait": games.waits,
-    "silent engines behind timeout": games.behind_timeout,
-    "refused moves": refusals.refusals,
-    "undoes that are not answered": refusals.undoes_that_are_not_answered,
-    "retakes": refusals.retakes,
-    "sides that can't be started": failures.starts,
-    "answers that are no moves": failures.moves,
-    "what is no reply": failures.no_replies,
-    "what is no reply, and answers after it": failures.no_replies_and_answers,
-    "commands that fail": failures.failed_commands,
-    "broken pipes": failures.broken_pipes,
-    "values that aren't allowed": failures.mistakes,
-}
+KINDS = [
+    games.whole_games,
+    games.games_that_are_shown,
+    games.broken_games,
+    games.broken_games_with_captures_or_handicap,
+    games.sides_that_go_down,
+    games.sides_that_go_down_at_a_move,
+    games.replies_to_a_genmove,
+    games.replies_to_the_script,
+    games.engines_that_are_asked_to_quit,
+    games.engines_that_make_the_match_wait,
+    games.silent_engines_behind_timeout,
+    refusals.refused_moves,
+    refusals.what_is_sent_after_refusals,
+    refusals.refusals_by_positional_ko,
+    refusals.refusals_and_restarts,
+    refusals.undoes_that_fail,
+    refusals.undoes_that_are_not_answered,
+    refusals.sides_that_refuse_and_go_down,
+    refusals.retakes,
+    refusals.lines_of_retakes,
+    refusals.retakes_and_losses,
+    failures.sides_that_are_not_started,
+    failures.answers_that_are_no_moves,
+    failures.illegal_moves,
+    failures.no_replies,
+    failures.what_is_read_with_a_reply,
+    failures.programs_without_gtp,
+    failures.no_replies_and_answers,
+    failures.no_replies_in_a_long_script,
+    failures.commands_that_fail,
+    failures.broken_pipes,
+    failures.endings_of_engines,
+    failures.writes_that_fail,
+    failures.values_that_are_not_allowed,
+]
 
 
 def name_of_engine(engine: Engine) -> str:
@@ -61,4 +78,6 @@ def name_of(kind: str, row: Row) -> str:
 
 def rows() -> list[tuple[str, Row]]:
     """Returns all rows, each with its name."""
-    return [(name_of(kind, row), row) for kind, make in KINDS.items() for row in make()]
+    return [
+        (name_of(kind.__name__.replace("_", " "), row), row) for kind in KINDS for row in kind()
+    ]

@@ -20,7 +20,7 @@ from .rows import (
     PASSED,
     REFUSED,
     Row,
-    SMALL,
+    small,
     UNASKED,
     UNFIT,
     WRONG_ID,
@@ -48,8 +48,8 @@ def unread(owed: str, how: str) -> list[str]:
     return [f"black: {owed}: writing failed, {how}; nothing of it was read"]
 
 
-def starts() -> Iterator[Row]:
-    """Why sides can't be started."""
+def sides_that_are_not_started() -> Iterator[Row]:
+    """Yields sides that can't be started."""
     # Black is started first, so White isn't asked for where neither can be.
     for name, reason in (("no_such_program", "no such file"), ("/", "not allowed")):
         for white in (FIRST, Other(name)):
@@ -71,8 +71,8 @@ def starts() -> Iterator[Row]:
         )
 
 
-def moves() -> Iterator[Row]:
-    """Why answers to a genmove are no moves."""
+def answers_that_are_no_moves() -> Iterator[Row]:
+    """Yields answers to a genmove that are no moves, and resignations."""
     # A script has three commands, which are sent at once, so the first genmove to Black has the id
     # 4.
     yield game(PASSED, FIRST, FIRST, size=1, why=True)
@@ -88,44 +88,30 @@ def moves() -> Iterator[Row]:
         ("=<id>_C1", "illegal move", "an illegal move: off the board", "=4 C1"),
     ]:
         black = passing(rf"1/g1/{reply}\n\n/on")
-        yield game(
+        yield small(
             f"W+F({verdict}) moves 0 restarts 0 0",
             black,
             FIRST,
             lost(GENMOVE, cause, rf"{shown}\n\n"),
-            **SMALL,
         )
-    yield game(
-        "W+R moves 0 restarts 0 0", passing(r"1/g1/=<id>_resign\n\n/on"), FIRST, why=True, **SMALL
-    )
+    yield small("W+R moves 0 restarts 0 0", passing(r"1/g1/=<id>_resign\n\n/on"), FIRST, why=True)
     reported = lost(GENMOVE, NO_POINT, f"=4 {77 * 'x'}")  # 80 bytes
-    yield game(
-        "W+F(no vertex) moves 0 restarts 0 0",
-        passing(r"1/g1/=<id>_<90*x>\n\n/on"),
-        FIRST,
-        reported,
-        **SMALL,
+    yield small(
+        "W+F(no vertex) moves 0 restarts 0 0", passing(r"1/g1/=<id>_<90*x>\n\n/on"), FIRST, reported
     )
+
+
+def illegal_moves() -> Iterator[Row]:
+    """Yields answers to a genmove that are illegal moves."""
     reported = lost(
-        '1 unanswered, "5 genmove w"',
-        "an illegal move: the point is occupied",
-        r"=5 A1\n\n",
-        WHITE,
+        '1 unanswered, "5 genmove w"', "an illegal move: the point is occupied", r"=5 A1\n\n", WHITE
     )
-    yield game(
-        "B+F(illegal move) moves 1 restarts 0 0",
-        FIRST,
-        passing(r"1/g1/=<id>_A1\n\n/on"),
-        reported,
-        **SMALL,
+    yield small(
+        "B+F(illegal move) moves 1 restarts 0 0", FIRST, passing(r"1/g1/=<id>_A1\n\n/on"), reported
     )
     reported = lost('1 unanswered, "10 genmove b"', "an illegal move: suicide", r"=10 B2\n\n")
-    yield game(
-        "W+F(illegal move) moves 6 restarts 0 0",
-        playing("A1 B1 A2 B2"),
-        passing(),
-        reported,
-        **SMALL,
+    yield small(
+        "W+F(illegal move) moves 6 restarts 0 0", playing("A1 B1 A2 B2"), passing(), reported
     )
     # White's A1 takes B1.
     reported = lost('1 unanswered, "10 genmove b"', "an illegal move: ko", r"=10 B1\n\n")
@@ -139,7 +125,7 @@ def moves() -> Iterator[Row]:
 
 
 def no_replies() -> Iterator[Row]:
-    """What is no reply, or none to what was asked."""
+    """Yields what is no reply, or none to what was asked."""
     # Bytes after a whole reply count for the next one. Of what is no reply all is shown that was
     # read; so here it comes in answer to the last command that was sent, after which nothing is
     # written.
@@ -166,38 +152,39 @@ def no_replies() -> Iterator[Row]:
         ("c3/<reply><reply>", "0 unanswered", UNASKED, r"=3\n\n"),
     ]:
         reported = lost(owes, cause, shown)
-        yield game("0 moves 2 restarts 1 0", passing(f"1/{plan}/on"), passing(), reported, **SMALL)
-        yield game(
+        yield small("0 moves 2 restarts 1 0", passing(f"1/{plan}/on"), passing(), reported)
+        yield small(
             "abandoned black moves 0 restarts 1 0",
             passing(f"*/{plan}/on"),
             passing(),
             reported,
             reported,
-            **SMALL,
         )
-    # A line after the answer to genmove comes with it: the move counts, and the side goes down.
+
+
+def what_is_read_with_a_reply() -> Iterator[Row]:
+    """Yields what is no reply, and is read with a reply or after it."""
+    # A line after the answer to genmove is read with the answer: the move counts, and the side goes
+    # down.
     reported = lost("0 unanswered", NO_REPLY, r"playouts 1000\n")
     black = passing(r"*/g1/<reply>playouts_1000\n/on")
     yield game("abandoned black moves 3 restarts 1 0", black, FIRST, reported, reported)
-    # What came in reads before it, since the last whole reply, is shown too.
+    # What was read before, since the last whole reply, is shown too.
     reported = lost('1 unanswered, "3 clear_board"', NO_REPLY, r" \x07\nhello\n\n")
     black = passing(r"1/c2/<reply>_\x07\n/on,1/c3/hello\n\n/on")
-    yield game("0 moves 2 restarts 1 0", black, passing(), reported, **SMALL)
+    yield small("0 moves 2 restarts 1 0", black, passing(), reported)
+
+
+def programs_without_gtp() -> Iterator[Row]:
+    """Yields what programs write that don't speak GTP."""
     # Our engine's junk, and a program that repeats in one write what it was sent in one.
     reported = lost(GENMOVE, NO_REPLY, r"hello\n\n")
-    yield game(
-        "abandoned black moves 0 restarts 0 0",
-        first("junk:1"),
-        FIRST,
-        reported,
-        restarts=0,
-        **SMALL,
+    yield small(
+        "abandoned black moves 0 restarts 0 0", first("junk:1"), FIRST, reported, restarts=0
     )
     script = r"1 boardsize 2\n2 komi 0\n3 clear_board\n"
     reported = lost('3 unanswered, the first "1 boardsize 2"', NO_REPLY, script)
-    yield game(
-        "abandoned black moves 0 restarts 0 0", Other("cat"), FIRST, reported, restarts=0, **SMALL
-    )
+    yield small("abandoned black moves 0 restarts 0 0", Other("cat"), FIRST, reported, restarts=0)
     # What GNU Go 3.8 writes where no mode is named, and, in short, in the mode for a person.
     reported = lost(ALL, NO_REPLY, r"\x01\xA1\xA0\x80")
     yield game(
@@ -222,7 +209,7 @@ def no_replies() -> Iterator[Row]:
 
 
 def no_replies_and_answers() -> Iterator[Row]:
-    """What is no reply, and answers after it that may be read with it."""
+    """Yields what is no reply, and answers after it that may be read with it."""
     for plan, owed, shown in [
         ("c1/hello", ALL, wrote("hello", *answers(2, 3))),
         ("c2/hello", ALL_BUT_ONE, wrote("hello", *answers(3, 3))),
@@ -256,54 +243,42 @@ def no_replies_and_answers() -> Iterator[Row]:
         lost(ALL, NO_REPLY, prompts),
         restarts=0,
     )
+
+
+def no_replies_in_a_long_script() -> Iterator[Row]:
+    """Yields what is no reply to a script of more than eight commands."""
     # Black is started again after 10 moves: its script has 13 commands, of which eight are sent at
     # once, and then as many as there were replies in the read before. There are answers after it to
     # no more commands than were sent.
-    third = 'unanswered, the first "3 clear_board"'
-    ended = "its output ended, exit status 0"
+    boardsize, komi, ended = '"1 boardsize 9"', '"2 komi 6.5"', "its output ended, exit status 0"
+    late = [
+        line
+        for sent in (8, 9, 10)
+        for line in lost(
+            f'{sent - 2} unanswered, the first "3 clear_board"',
+            NO_REPLY,
+            wrote("hello", *answers(4, sent)),
+        )
+    ]
+    early = wrote(r"hello\n", *answers(1, 8))
+    second = f"8 unanswered, the first {komi}"
     for plan, reported in [
-        (
-            "c3/hello/on",
-            [
-                line
-                for sent in (8, 9, 10)
-                for line in lost(f"{sent - 2} {third}", NO_REPLY, wrote("hello", *answers(4, sent)))
-            ],
-        ),
+        ("c3/hello/on", late),
         ("c13/hello/on", lost('1 unanswered, "13 play w pass"', NO_REPLY, "hello")),
-        (
-            r"0/hello\n/on",
-            lost(
-                '8 unanswered, the first "1 boardsize 9"',
-                NO_REPLY,
-                wrote(r"hello\n", *answers(1, 8)),
-            ),
-        ),
-        ("c1//ends", lost('8 unanswered, the first "1 boardsize 9"', ended, "")),
+        (r"0/hello\n/on", lost(f"8 unanswered, the first {boardsize}", NO_REPLY, early)),
+        ("c1//ends", lost(f"8 unanswered, the first {boardsize}", ended, "")),
         # The first read that brings a reply may be followed by a write, which may fail; or that
         # write goes through.
-        (
-            "c2//ends",
-            [
-                *lost('8 unanswered, the first "2 komi 6.5"', ended, ""),
-                *unread('8 unanswered, the first "2 komi 6.5"', "exit status 0"),
-            ],
-        ),
+        ("c2//ends", [*lost(second, ended, ""), *unread(second, "exit status 0")]),
     ]:
-        first = lost('1 unanswered, "14 genmove b"', ended, "")
+        before = lost('1 unanswered, "14 genmove b"', ended, "")
         black = Planned(1, 0, "<reply>", f"1/g6//ends,2/{plan}")
-        yield game(
-            "abandoned black moves 10 restarts 1 0",
-            black,
-            passing(),
-            first,
-            reported,
-            most_moves=11,
-        )
+        line = "abandoned black moves 10 restarts 1 0"
+        yield game(line, black, passing(), before, reported, most_moves=11)
 
 
-def failed_commands() -> Iterator[Row]:
-    """Commands of the script that fail."""
+def commands_that_fail() -> Iterator[Row]:
+    """Yields commands of the script that fail."""
     stones: dict[str, Any] = {"handicap": 2}
     asked = '1 unanswered, "4 fixed_handicap 2"'
     rows: list[tuple[str, str, str, str, dict[str, Any]]] = [
@@ -329,12 +304,12 @@ def failed_commands() -> Iterator[Row]:
 
 
 def broken_pipes() -> Iterator[Row]:
-    """Pipes that are broken."""
+    """Yields outputs that end."""
     # White's second engine is sent three moves, and refuses the first.
     reported = lost('1 unanswered, "7 genmove w"', "its output ended, exit status 0", "", WHITE)
     more = lost('3 unanswered, the first "4 play b A1"', REFUSED, r"?4 no\n\n", WHITE)
     white = passing(f"1/g2//ends,2/p1/{NO}/on")
-    yield game("B+F(refused play) moves 3 restarts 0 1", FIRST, white, reported, more, **SMALL)
+    yield small("B+F(refused play) moves 3 restarts 0 1", FIRST, white, reported, more)
     owed = '2 unanswered, the first "2 komi 0"'
     for plan, shown in (
         ("c2//ends", ""),
@@ -342,19 +317,20 @@ def broken_pipes() -> Iterator[Row]:
         (r"c1/<reply>\n/on,1/c2//ends", r"\n"),
     ):
         reported = lost(owed, "its output ended, exit status 0", shown)
-        yield game("0 moves 2 restarts 1 0", passing(f"1/{plan}"), passing(), reported, **SMALL)
+        yield small("0 moves 2 restarts 1 0", passing(f"1/{plan}"), passing(), reported)
     reported = lost(
         '3 unanswered, the first "1 boardsize 2"', "its output ended, but it ran on", "=1"
     )
-    yield game(
-        "0 moves 2 restarts 1 0", passing("1/c1/<reply:2>/closes"), passing(), reported, **SMALL
-    )
+    yield small("0 moves 2 restarts 1 0", passing("1/c1/<reply:2>/closes"), passing(), reported)
     for fault, shown in (("stop:1", ""), ("cut:1:3", "=4 ")):
         reported = lost(GENMOVE, "its output ended, exit status 4", shown)
         black = first(fault)
-        yield game(
-            "abandoned black moves 0 restarts 0 0", black, FIRST, reported, restarts=0, **SMALL
-        )
+        yield small("abandoned black moves 0 restarts 0 0", black, FIRST, reported, restarts=0)
+
+
+def endings_of_engines() -> Iterator[Row]:
+    """Yields the ways in which engines end, or close their output."""
+    given_up = "abandoned black moves 0 restarts 1 0"
     # It ends, or closes its output and may be about to end, for which it has some 200 milliseconds.
     for then, shown, how in [
         ("/ends", "", "exit status 0"),
@@ -366,19 +342,11 @@ def broken_pipes() -> Iterator[Row]:
         ("/closes:-15", "", "signal 15"),
     ]:
         reported = lost(GENMOVE, f"its output ended, {how}", shown)
-        yield game(
-            "abandoned black moves 0 restarts 1 0",
-            passing(f"*/g1/{then}"),
-            FIRST,
-            reported,
-            reported,
-        )
+        yield game(given_up, passing(f"*/g1/{then}"), FIRST, reported, reported)
     # At its start, before it reads anything. It may have ended when it is sent something, or a
     # moment later.
     reported = lost(ALL, "its output ended, but it ran on", "")
-    yield game(
-        "abandoned black moves 0 restarts 1 0", passing("*/0//closes"), FIRST, reported, reported
-    )
+    yield game(given_up, passing("*/0//closes"), FIRST, reported, reported)
     ending: list[tuple[Engine, str, list[str]]] = [
         (Other("echo hello"), "exit status 0", lost(ALL, NO_REPLY, r"hello\n")),
         (
@@ -395,7 +363,11 @@ def broken_pipes() -> Iterator[Row]:
     ]
     for engine, how, said in ending:
         reported = [*said, *unread(ALL, how)]
-        yield game("abandoned black moves 0 restarts 1 0", engine, passing(), reported, reported)
+        yield game(given_up, engine, passing(), reported, reported)
+
+
+def writes_that_fail() -> Iterator[Row]:
+    """Yields writes that fail, and lines of a second game."""
     # A write that fails: nothing is read after that. What was read since the last whole reply is
     # shown.
     for template, shown in (
@@ -404,7 +376,7 @@ def broken_pipes() -> Iterator[Row]:
     ):
         text = f'black: 1 unanswered, "5 play w A1": writing failed, but it ran on; {shown}'
         shut = passing(f"*/g1/{template}/shuts")
-        yield game("abandoned black moves 2 restarts 0 0", shut, FIRST, text, restarts=0, **SMALL)
+        yield small("abandoned black moves 2 restarts 0 0", shut, FIRST, text, restarts=0)
     # As often as it may be started: none of White's A1, B1 and C1 can be written.
     lines = [
         unread(f'1 unanswered, "{number} play w {vertex}"', "but it ran on")
@@ -419,8 +391,8 @@ def broken_pipes() -> Iterator[Row]:
     yield Row(two_games, 0, games, [[f"twogtp: game 2: {text}\n"]])
 
 
-def mistakes() -> Iterator[Row]:
-    """Values that aren't allowed: nothing is started."""
+def values_that_are_not_allowed() -> Iterator[Row]:
+    """Yields matches whose values aren't allowed: nothing is started."""
     # With `--why` a second line says what is allowed. Komi is looked at before the handicap.
     handicap = "twogtp: on size {} the handicap may {}\n"
     rows: list[tuple[dict[str, Any], str, str]] = [

@@ -15,6 +15,7 @@ from .rows import (
     Row,
     SETUP,
     SMALL,
+    small,
     book,
     both_sides,
     first,
@@ -69,7 +70,7 @@ def wall(fault: str = "none") -> Engine:
 
 
 def whole_games() -> Iterator[Row]:
-    """Whole games."""
+    """Yields whole games."""
     yield game(PASSED, FIRST, FIRST, size=1)
     # Komi below zero is Black's: nobody has a point of the board, and so Black wins by it. The
     # score comes before the limit of moves.
@@ -97,9 +98,13 @@ def whole_games() -> Iterator[Row]:
     yield game(f"{PASSED}\n{EMPTY_19}", book(""), book(""), size=19, restarts=2, show=True)
     yield game(PASSED, book(""), book(""), size=25, most_moves=2000, restarts=1000)
     yield game("limit moves 1 restarts 0 0", book(""), book(""), size=1, most_moves=1, restarts=0)
+
+
+def games_that_are_shown() -> Iterator[Row]:
+    """Yields games whose record and board are shown."""
     for record, show in ((True, True), (True, False), (False, True), (False, False)):
         ended = "limit moves 10 restarts 0 0" + record * TWO_RECORD + show * TWO_BOARD
-        yield game(ended, FIRST, FIRST, record=record, show=show, **SMALL)
+        yield small(ended, FIRST, FIRST, record=record, show=show)
     yield game(
         f"B+8.5 moves 7 restarts 0 0{WALL_BOARD}", wall(), wall(), size=3, komi="0.5", show=True
     )
@@ -118,15 +123,21 @@ def whole_games() -> Iterator[Row]:
 
 
 def walls(
-    black, white, restarts, most=3, line="B+8.5 moves 7", moves=WALL_RECORD, board=WALL_BOARD
-):
-    """The game of both walls, in which Black moves at 1, 3, 5 and 7."""
+    black: Engine,
+    white: Engine,
+    restarts: str,
+    most: int = 3,
+    line: str = "B+8.5 moves 7",
+    moves: str = WALL_RECORD,
+    board: str = WALL_BOARD,
+) -> Row:
+    """Returns the game of both walls, in which Black moves at 1, 3, 5 and 7."""
     ended = f"{line} restarts {restarts}{moves}{board}"
     return game(ended, black, white, size=3, komi="0.5", restarts=most, record=True, show=True)
 
 
 def broken_games() -> Iterator[Row]:
-    """Games that are broken off: the same record and board."""
+    """Yields games in which engines fail: the same record and board."""
     # Our engine counts the genmoves that succeed since it was started, so it fails at each second
     # one: Black at move 3, and then each new engine of Black at the move after the one that it is
     # asked for first: 5 and 7. White moves at 2, 4 and 6.
@@ -152,14 +163,15 @@ def broken_games() -> Iterator[Row]:
     # longer.
     for fault, restarts in (("stop:3", 1), ("cut:3:6", 1), ("cut:3:100", 1), ("cut:4:100", 0)):
         yield walls(wall(fault), wall(), f"{restarts} 0")
+
+
+def broken_games_with_captures_or_handicap() -> Iterator[Row]:
+    """Yields the same with captures, and with handicap."""
     # With captures: of five genmoves the fourth is for move 7 of Black and move 8 of White; a new
     # engine is asked for two more or one.
     game_of_two: dict[str, Any] = {**SMALL, "record": True, "show": True}
     yield game(
-        f"limit moves 10 restarts 1 0{TWO_RECORD}{TWO_BOARD}",
-        first("stop:4"),
-        FIRST,
-        **game_of_two,
+        f"limit moves 10 restarts 1 0{TWO_RECORD}{TWO_BOARD}", first("stop:4"), FIRST, **game_of_two
     )
     yield game(
         f"limit moves 10 restarts 0 1{TWO_RECORD}{TWO_BOARD}",
@@ -177,61 +189,51 @@ def broken_games() -> Iterator[Row]:
     )
 
 
-def going_down() -> Iterator[Row]:
-    """Engines that go down."""
+def given_up(engine: Engine, black_moves: int, white_moves: int) -> Iterator[Row]:
+    """Yields games in which this engine is given up, as Black and as White, after so many moves."""
+    black = f"abandoned black moves {black_moves} restarts 1 0"
+    white = f"abandoned white moves {white_moves} restarts 0 1"
+    return both_sides(engine, FIRST, black, white)
+
+
+def sides_that_go_down() -> Iterator[Row]:
+    """Yields games with engines that go down before a move."""
     for name in ("no_such_program", "/", "true", "echo hello", "cat"):
-        yield from both_sides(
-            Other(name),
-            FIRST,
-            "abandoned black moves 0 restarts 1 0",
-            "abandoned white moves 0 restarts 0 1",
-        )
+        yield from given_up(Other(name), 0, 0)
     yield game("abandoned white moves 0 restarts 0 2", FIRST, Other("no_such_program"), restarts=2)
     # Their first reply, or the second, is none. They are started again, and then given up.
     # It ends, or closes its output: at its start, when it is sent something, in the middle of its
     # reply, or after it.
-    given_up = "0//ends 0//closes c1//ends c1//closes c1/<reply:2>/ends c1/<reply:3>/ends"
+    plans = "0//ends 0//closes c1//ends c1//closes c1/<reply:2>/ends c1/<reply:3>/ends"
     # Another id, or none; a second reply, or replies without end.
-    given_up += r" c1/<reply>/ends c2/=1\n\n/on c1/=\n\n/on c1/=<id+1>\n\n/on c1/<reply><reply>/on"
+    plans += r" c1/<reply>/ends c2/=1\n\n/on c1/=\n\n/on c1/=<id+1>\n\n/on c1/<reply><reply>/on"
     # What is no reply, or has no end.
-    given_up += r" 0/=1\n\n/floods c1/hello/on 0/Welcome_to_Go\n/on c1/<8193*\n>/on"
-    given_up += r" c1/<fill:8193:_><reply>/on 0/<1000*\n>/floods 0/=1_/floods"
-    for plan in given_up.split(" "):
-        engine = passing(f"*/{plan}")
-        yield from both_sides(
-            engine,
-            FIRST,
-            "abandoned black moves 0 restarts 1 0",
-            "abandoned white moves 0 restarts 0 1",
-        )
+    plans += r" 0/=1\n\n/floods c1/hello/on 0/Welcome_to_Go\n/on c1/<8193*\n>/on"
+    plans += r" c1/<fill:8193:_><reply>/on 0/<1000*\n>/floods 0/=1_/floods"
+    for plan in plans.split(" "):
+        yield from given_up(passing(f"*/{plan}"), 0, 0)
     yield game(PASSED, passing("1/c1/<fill:8192:_><reply>/on"), passing())
     # Black is brought into the game before White is, so it is Black that is given up. White was
     # started all the same.
     for plan in ("*/0//ends", r"*/0/<1000*\n>/floods"):
         yield game("abandoned black moves 0 restarts 1 0", passing(plan), passing(plan))
+
+
+def sides_that_go_down_at_a_move() -> Iterator[Row]:
+    """Yields games whose engines go down at moves."""
     # At a move, again and again; before White is asked, Black has made one.
     for plan in ("g1//ends", "g1/<reply:5>/ends", r"g1/=<id>_pass\n/ends", "g1//closes"):
-        engine = passing(f"*/{plan}")
-        yield from both_sides(
-            engine,
-            FIRST,
-            "abandoned black moves 0 restarts 1 0",
-            "abandoned white moves 1 restarts 0 1",
-        )
+        yield from given_up(passing(f"*/{plan}"), 0, 1)
     # The first reply is a move, the second puts the side down. As Black it passes, White plays A1,
     # it passes as a new process, and is given up. As White it passes after Black's A1 and after
     # Black's second move. Where the other side passes too, the game is over before Black would be
     # needed again, and with White's first reply.
     twice = passing("*/g1/<reply><reply>/on")
-    yield from both_sides(
-        twice, FIRST, "abandoned black moves 3 restarts 1 0", "abandoned white moves 4 restarts 0 1"
-    )
+    yield from given_up(twice, 3, 4)
     yield from both_sides(twice, passing(), "W+6.5 moves 2 restarts 1 0", PASSED)
     # The write of White's move fails. Where White passes too, the game is over before.
     shut = passing("*/g1/<reply>/shuts")
-    yield from both_sides(
-        shut, FIRST, "abandoned black moves 4 restarts 1 0", "abandoned white moves 5 restarts 0 1"
-    )
+    yield from given_up(shut, 4, 5)
     yield game(PASSED, shut, passing())
     # It replies to the move that it is sent as it did to the genmove before: as Black after the
     # moves 2 and 4, as White after 3 and 5.
@@ -241,14 +243,11 @@ def going_down() -> Iterator[Row]:
     # It goes down when it is sent a move, and is sent all moves again. As Black it has passed, and
     # White has played A1; then its own pass is the first move that it is sent.
     half = passing("*/p1/<reply:2>/ends")
-    yield from both_sides(
-        half, FIRST, "abandoned black moves 2 restarts 1 0", "abandoned white moves 1 restarts 0 1"
-    )
+    yield from given_up(half, 2, 1)
 
 
-def replies() -> Iterator[Row]:
-    """Single replies."""
-    # To a genmove, on 2x2 where Black is asked first.
+def replies_to_a_genmove() -> Iterator[Row]:
+    """Yields replies to a genmove, on 2x2 where Black is asked first."""
     for reply, end in [
         ("?<id>_no", "F(no move)"),
         ("?<id>_A1", "F(no move)"),
@@ -285,6 +284,10 @@ def replies() -> Iterator[Row]:
             most_moves=1,
             record=True,
         )
+
+
+def replies_to_the_script() -> Iterator[Row]:
+    """Yields replies to the script, and to all commands."""
     # To the script. A handicap has to be answered by its points.
     no = passing(f"1/c1/{NO}/on")
     yield from both_sides(
@@ -313,8 +316,8 @@ def replies() -> Iterator[Row]:
     yield from both_sides(passing(odd), book(""), *2 * ["B+74.5 moves 2 restarts 0 0"], handicap=2)
 
 
-def at_the_end() -> Iterator[Row]:
-    """Engines that are asked to quit: the game is over by two passes, and stays what it is."""
+def engines_that_are_asked_to_quit() -> Iterator[Row]:
+    """Yields games that are over by two passes, whatever the engines do at quit."""
     # It ends without a reply, or late; closes its output; replies and doesn't end, or is stopped;
     # writes what is no reply, or without end.
     for plan in (
@@ -330,8 +333,15 @@ def at_the_end() -> Iterator[Row]:
         yield from both_sides(passing(f"*/q/{plan}"), book(""), PASSED, PASSED)
 
 
-def waits() -> Iterator[Row]:
-    """Engines that make the match wait."""
+def waiting(
+    sent: dict[Colour, str], black: Engine, white: Engine, output: str = "", **values: Any
+) -> Row:
+    """Returns a match that waits for ever, once these are sent and this is written."""
+    return Row(match(black, white, **values), None, output, sent=sent)
+
+
+def engines_that_make_the_match_wait() -> Iterator[Row]:
+    """Yields matches that wait for ever."""
     # A reply ends with two newlines. Until it does, the match waits. Up to eight commands of the
     # script are sent without waiting, and of these there are three, so all three are sent to an
     # engine of whose replies none is whole.
@@ -355,15 +365,8 @@ def waits() -> Iterator[Row]:
     yield waiting(both_games, passing("2/c1-9//refuses"), book(""), line, games=2)
 
 
-def waiting(
-    sent: dict[Colour, str], black: Engine, white: Engine, output: str = "", **values: Any
-) -> Row:
-    """Returns a match that waits for ever, once these are sent and this is written."""
-    return Row(match(black, white, **values), None, output, sent=sent)
-
-
-def behind_timeout() -> Iterator[Row]:
-    """Silent engines behind `timeout`."""
+def silent_engines_behind_timeout() -> Iterator[Row]:
+    """Yields games with engines that `timeout` ends."""
     black, white = (lost(ALL, "its output ended, exit status 124", "", side) for side in Colour)
     yield game("abandoned black moves 0 restarts 0 0", timed("c1-9"), FIRST, black, restarts=0)
     yield game("abandoned black moves 0 restarts 1 0", timed("c1-9"), FIRST, black, black)

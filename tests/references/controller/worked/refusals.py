@@ -17,7 +17,7 @@ from .rows import (
     REFUSED,
     Row,
     SETUP,
-    SMALL,
+    small,
     UNASKED,
     book,
     game,
@@ -28,21 +28,23 @@ from .rows import (
 )
 
 
-def refusals() -> Iterator[Row]:
-    """Refused moves."""
+def refused_moves() -> Iterator[Row]:
+    """Yields refusals."""
     # On 2x2 Black's A1 is refused. It plays A1 again, and then B1 and A2; B2 would be suicide, so
     # it passes. White passes each time. The fourth refusal of one number is a forfeit.
     for places in (["1/p1"], ["1/p1-2"], ["1/p1-3"], ["1/p2-4"], ["1/p1-3", "1/p5-7", "1/p9-11"]):
-        yield game("B+4 moves 7 restarts 0 0", FIRST, refusing(*places), **SMALL)
-    yield game("B+F(refused play) moves 1 restarts 0 0", FIRST, refusing("1/p1-4"), **SMALL)
-    yield game(
-        "B+F(refused play) moves 3 restarts 0 0", FIRST, refusing("1/p4-7", "1/p1-2"), **SMALL
-    )
+        yield small("B+4 moves 7 restarts 0 0", FIRST, refusing(*places))
+    yield small("B+F(refused play) moves 1 restarts 0 0", FIRST, refusing("1/p1-4"))
+    yield small("B+F(refused play) moves 3 restarts 0 0", FIRST, refusing("1/p4-7", "1/p1-2"))
     # It plays A1, is asked to take it back, and plays it once more: nothing else is on the board.
     shown = "B+F(refused play) moves 1 restarts 0 0\nA1\n. . 2\nX . 1\nA B\ncaptures B 0 W 0\n"
-    yield game(shown, FIRST, refusing("1/p1-2000"), record=True, show=True, **SMALL)
+    yield small(shown, FIRST, refusing("1/p1-2000"), record=True, show=True)
     # As Black it has passed before it is sent a move.
     yield game("W+F(refused play) moves 2 restarts 0 0", refusing("1/p1-2000"), FIRST)
+
+
+def what_is_sent_after_refusals() -> Iterator[Row]:
+    """Yields what engines are sent that refuse, and whose moves are refused."""
     # What both are sent.
     asked = "".join(f"{number} genmove b\n{number + 1} undo\n" for number in (4, 6, 8))
     sent = {
@@ -64,124 +66,115 @@ def refusals() -> Iterator[Row]:
     for place in ("1/p1", "1/p1-3"):
         yield game("W+87.5 moves 4 restarts 0 0", refusing(place), book(",C3"))
         yield game(PASSED, book(",C3"), refusing(place))
+
+
+def refusals_by_positional_ko() -> Iterator[Row]:
+    """Yields refusals of an engine that knows the positional rule of ko."""
     # An engine of the positional rule refuses the seventh move, which makes the board that stood
     # after the first. Black makes it again each time. It doesn't play such a move itself, and
     # passes, and so does White, whose play would be suicide.
     forfeit = "B+F(refused play) moves 7 restarts 0 0"
     shown = f"{forfeit}\nA1 B1 A2 B2 A1 A2 A1\n. . 2\nX . 1\nA B\ncaptures B 3 W 3\n"
-    yield game(shown, FIRST, POSITIONAL_FIRST, record=True, show=True, **SMALL)
+    yield small(shown, FIRST, POSITIONAL_FIRST, record=True, show=True)
     said = [rf"?{number} illegal move\n\n" for number in (10, 11, 12, 13)]
     lines = [retaken(WHITE, "play b A1", count, 9 + count, said[count - 1]) for count in (1, 2, 3)]
     last = lost('1 unanswered, "13 play b A1"', REFUSED, said[3], WHITE)
-    yield game(forfeit, FIRST, POSITIONAL_FIRST, *lines, last, **SMALL)
+    yield small(forfeit, FIRST, POSITIONAL_FIRST, *lines, last)
     for white in (FIRST, POSITIONAL_FIRST):
         shown = "W+4 moves 8 restarts 0 0\nO O 2\n. O 1\nA B\ncaptures B 0 W 3\n"
-        yield game(shown, POSITIONAL_FIRST, white, show=True, **SMALL)
+        yield small(shown, POSITIONAL_FIRST, white, show=True)
+
+
+def refusals_and_restarts() -> Iterator[Row]:
+    """Yields refusals of engines that are started again."""
     # The count of a number is kept when the side that refuses is started again, and when it takes
     # the move in between.
-    yield game(
-        "B+F(refused play) moves 1 restarts 0 1",
-        FIRST,
-        passing(f"*/p1-2/{NO}/on,*/p3//ends"),
-        **SMALL,
+    yield small(
+        "B+F(refused play) moves 1 restarts 0 1", FIRST, passing(f"*/p1-2/{NO}/on,*/p3//ends")
     )
-    yield game(
-        "B+4 moves 7 restarts 0 1",
-        FIRST,
-        passing(f"1/p1-2/{NO}/on,1/p3//ends,2/p1/{NO}/on"),
-        **SMALL,
+    yield small(
+        "B+4 moves 7 restarts 0 1", FIRST, passing(f"1/p1-2/{NO}/on,1/p3//ends,2/p1/{NO}/on")
     )
-    yield game(
+    yield small(
         "B+F(refused play) moves 1 restarts 0 1",
         FIRST,
         passing(f"1/p1-3/{NO}/on,1/g1//ends,2/p1/{NO}/on"),
-        **SMALL,
     )
     # When it is sent the game again, it may refuse neither an earlier move of the other side nor
     # one of its own.
-    yield game(
-        "B+F(refused play) moves 3 restarts 0 1",
-        FIRST,
-        passing(f"1/g2//ends,2/p1/{NO}/on"),
-        **SMALL,
+    yield small(
+        "B+F(refused play) moves 3 restarts 0 1", FIRST, passing(f"1/g2//ends,2/p1/{NO}/on")
     )
-    yield game(
-        "B+F(refused play) moves 3 restarts 0 1",
-        FIRST,
-        passing(f"1/g2//ends,2/p2/{NO}/on"),
-        **SMALL,
+    yield small(
+        "B+F(refused play) moves 3 restarts 0 1", FIRST, passing(f"1/g2//ends,2/p2/{NO}/on")
     )
-    yield game("B+4 moves 7 restarts 0 1", FIRST, passing(f"1/g2//ends,2/p3/{NO}/on"), **SMALL)
-    yield game(
+    yield small("B+4 moves 7 restarts 0 1", FIRST, passing(f"1/g2//ends,2/p3/{NO}/on"))
+    yield small(
         "W+F(refused play) moves 1 restarts 1 0",
         passing(f"1/g1/<reply><reply>/on,2/p1/{NO}/on"),
         FIRST,
-        **SMALL,
     )
+
+
+def undoes_that_fail() -> Iterator[Row]:
+    """Yields undoes that fail."""
     # The side that made the move fails to take it back: the side that refused it forfeits.
     for reply in ("?<id>_no", "?<id>", "?0<id>_no"):
         undoes = passing(rf"1/u1/{reply}\n\n/on")
-        yield game("B+F(refused play) moves 1 restarts 0 0", undoes, refusing("1/p1"), **SMALL)
-    yield game(
+        yield small("B+F(refused play) moves 1 restarts 0 0", undoes, refusing("1/p1"))
+    yield small(
         "W+F(refused play) moves 2 restarts 0 0",
         refusing("1/p1"),
         Planned(1, 0, "<reply>", f"1/u1/{NO}/on"),
-        **SMALL,
     )
 
 
 def undoes_that_are_not_answered() -> Iterator[Row]:
-    """Undoes that are not answered."""
+    """Yields undoes that are not answered."""
     # The side that made a refused move goes down before it says that the move is taken back, or the
     # other side does.
     for plan in ("", "hello", "=<id+1>", "=<id-1>", "=", "?", "?<id+1>", r"<8193*\n>"):
         reply = plan + r"\n\n" if plan else plan
         then = "on" if plan else "ends"
         # The move leaves the record. Started again, Black passes again, and White takes it.
-        yield game(
-            "0 moves 2 restarts 1 0", passing(f"1/u1/{reply}/{then}"), refusing("1/p1"), **SMALL
-        )
-        yield game(
+        yield small("0 moves 2 restarts 1 0", passing(f"1/u1/{reply}/{then}"), refusing("1/p1"))
+        yield small(
             "abandoned black moves 0 restarts 1 0",
             passing(f"*/u1/{reply}/{then}"),
             refusing("1/p1-2"),
-            **SMALL,
         )
         white = Planned(1, 0, "<reply>", f"*/u1/{reply}/{then}")
-        yield game("abandoned white moves 1 restarts 0 1", refusing("1/p1-2"), white, **SMALL)
-    yield game("0 moves 2 restarts 1 0", passing("1/u1/<reply>/ends"), refusing("1/p1"), **SMALL)
-    yield game(
-        "0 moves 2 restarts 1 0", passing("1/u1/<reply><reply>/on"), refusing("1/p1"), **SMALL
-    )
+        yield small("abandoned white moves 1 restarts 0 1", refusing("1/p1-2"), white)
+    yield small("0 moves 2 restarts 1 0", passing("1/u1/<reply>/ends"), refusing("1/p1"))
+    yield small("0 moves 2 restarts 1 0", passing("1/u1/<reply><reply>/on"), refusing("1/p1"))
     # The move is taken when it comes again. For its next move that engine plays it too, which is
     # illegal.
     white = passing(r"*/g1-9/=<id>_C3\n\n/on,*/u1//ends")
     yield game("B+F(illegal move) moves 3 restarts 0 1", refusing("1/p1"), white)
+
+
+def sides_that_refuse_and_go_down() -> Iterator[Row]:
+    """Yields sides that go down when they refuse a move, or when theirs is refused."""
     # The side that refused the move goes down at once. Where it can be started again, the move is
     # taken back before that; where it can't, the match is over, and the move stays.
     falls = passing(f"1/p1/{NO}hello/on")
-    yield game("0 moves 2 restarts 0 1", passing(), falls, **SMALL)
-    yield game("abandoned white moves 1 restarts 0 0", passing(), falls, restarts=0, **SMALL)
-    yield game("B+F(refused play) moves 1 restarts 0 0", passing(f"1/u1/{NO}/on"), falls, **SMALL)
-    yield game(
+    yield small("0 moves 2 restarts 0 1", passing(), falls)
+    yield small("abandoned white moves 1 restarts 0 0", passing(), falls, restarts=0)
+    yield small("B+F(refused play) moves 1 restarts 0 0", passing(f"1/u1/{NO}/on"), falls)
+    yield small(
         "abandoned black moves 0 restarts 1 0",
         passing("*/u1//ends"),
         passing(f"1/p1/{NO}/on,1/p2/{NO}hello/on"),
-        **SMALL,
     )
-    yield game("0 moves 2 restarts 1 1", passing("1/u1//ends"), falls, **SMALL)
+    yield small("0 moves 2 restarts 1 1", passing("1/u1//ends"), falls)
     # White goes down after each of its moves. Black is sent the move before White's next engine is
     # sent the game, so nothing has to be taken back; the fourth refusal is a forfeit all the same.
     white = Planned(1, 0, "<reply>", "*/g1/<reply><reply>/on")
-    yield game(
-        "W+F(refused play) moves 2 restarts 0 4", refusing("1/p1-4"), white, restarts=4, **SMALL
-    )
+    yield small("W+F(refused play) moves 2 restarts 0 4", refusing("1/p1-4"), white, restarts=4)
     # Black's next engine is sent the game first, so it has the move, and takes it back; then it
     # makes its own, and goes down.
     black = passing("*/g1/<reply><reply>/on")
-    yield game(
-        "B+F(refused play) moves 1 restarts 4 0", black, refusing("1/p1-4"), restarts=4, **SMALL
-    )
+    yield small("B+F(refused play) moves 1 restarts 4 0", black, refusing("1/p1-4"), restarts=4)
 
 
 def retaken(
@@ -194,23 +187,16 @@ def retaken(
 
 
 def retakes() -> Iterator[Row]:
-    """Refusals that are met by a retake, a line each."""
+    """Yields refusals that are retaken, a line each."""
     # White is sent its first play as its fourth command, and Black answers an undo, and plays A1
     # again, before White's next one.
     one, two, three = (retaken(WHITE, "play b A1", count, count + 3) for count in (1, 2, 3))
-    yield game("B+4 moves 7 restarts 0 0", FIRST, refusing("1/p1"), one, **SMALL)
-    yield game("B+4 moves 7 restarts 0 0", FIRST, refusing("1/p1-3"), one, two, three, **SMALL)
+    yield small("B+4 moves 7 restarts 0 0", FIRST, refusing("1/p1"), one)
+    yield small("B+4 moves 7 restarts 0 0", FIRST, refusing("1/p1-3"), one, two, three)
     # The fourth refusal is a loss, by White's seventh command.
     last = r'white: 1 unanswered, "7 play b A1": the play was refused; it wrote "?7 no\n\n"'
-    yield game(
-        "B+F(refused play) moves 1 restarts 0 0",
-        FIRST,
-        refusing("1/p1-4"),
-        one,
-        two,
-        three,
-        last,
-        **SMALL,
+    yield small(
+        "B+F(refused play) moves 1 restarts 0 0", FIRST, refusing("1/p1-4"), one, two, three, last
     )
     # Each number is counted by itself: after A1 White is asked for its move by the sixth command,
     # and sent B1 by the seventh.
@@ -222,58 +208,52 @@ def retakes() -> Iterator[Row]:
     # Another move takes the place of one that was refused: A1, then B1. It is the same number, and
     # so its second retake. Then A2 stays.
     other = retaken(WHITE, "play b B1", 2, 5)
-    yield game(
-        "B+4 moves 3 restarts 0 0",
-        playing("A1 B1 A2 pass"),
-        refusing("1/p1-2"),
-        one,
-        other,
-        **SMALL,
+    yield small(
+        "B+4 moves 3 restarts 0 0", playing("A1 B1 A2 pass"), refusing("1/p1-2"), one, other
     )
     # So with an engine that reads J as the tenth column, and refuses J3 and J8: Black plays D4
     # then, and both pass.
     columns = [retaken(WHITE, "play b J3", 1, 4), retaken(WHITE, "play b J8", 2, 5)]
     line = "B+74.5 moves 3 restarts 0 0\nD4 pass pass"
     yield game(line, playing("J3 J8 D4 pass"), refusing("1/p1-2"), *columns, record=True)
+
+
+def lines_of_retakes() -> Iterator[Row]:
+    """Yields what is shown of a retake."""
+    one = retaken(WHITE, "play b A1", 1, 4)
     # Both refuse.
     black = passing(rf"1/g1-2/=<id>_A1\n\n/on,1/p1/{NO}/refuses")
     mine = retaken(BLACK, "play w pass", 1, 7)
-    yield game("B+4 moves 3 restarts 0 0", black, refusing("1/p1"), one, mine, **SMALL)
+    yield small("B+4 moves 3 restarts 0 0", black, refusing("1/p1"), one, mine)
     # Blank lines before the refusal are shown too, and 80 bytes of a long one.
     for reply, shown in ((r"\n_?<id>\n\n", r"\n ?4\n\n"), (r"?<id>_<90*x>\n\n", "?4 " + 77 * "x")):
         text = retaken(WHITE, "play b A1", 1, 4, shown)
-        yield game(
-            "B+4 moves 7 restarts 0 0", FIRST, passing(f"1/p1/{reply}/refuses"), text, **SMALL
-        )
+        yield small("B+4 moves 7 restarts 0 0", FIRST, passing(f"1/p1/{reply}/refuses"), text)
     # The undo fails: Black fails by it, after White's retake.
     kept = lost('1 unanswered, "5 undo"', KEPT_MOVE, r"?5 no\n\n")
     refused = retaken(WHITE, "play b pass", 1, 4)
-    yield game(
+    yield small(
         "B+F(refused play) moves 1 restarts 0 0",
         passing(f"1/u1/{NO}/on"),
         refusing("1/p1"),
         refused,
         kept,
-        **SMALL,
     )
+
+
+def retakes_and_losses() -> Iterator[Row]:
+    """Yields retakes of sides that go down."""
+    refused = retaken(WHITE, "play b pass", 1, 4)
     # A retake and a loss in one read: the retake comes first, also where no undo follows, since
     # White has no start left.
     falls = passing(f"1/p1/{NO}hello/on")
     hello = lost("0 unanswered", NO_REPLY, "hello", WHITE)
-    yield game("0 moves 2 restarts 0 1", passing(), falls, refused, hello, **SMALL)
-    yield game(
-        "abandoned white moves 1 restarts 0 0",
-        passing(),
-        falls,
-        refused,
-        hello,
-        restarts=0,
-        **SMALL,
+    yield small("0 moves 2 restarts 0 1", passing(), falls, refused, hello)
+    yield small(
+        "abandoned white moves 1 restarts 0 0", passing(), falls, refused, hello, restarts=0
     )
     stray = lost("0 unanswered", UNASKED, r"?4 no\n\n", WHITE)
-    yield game(
-        "0 moves 2 restarts 0 1", passing(), passing(f"1/p1/{NO}{NO}/on"), refused, stray, **SMALL
-    )
+    yield small("0 moves 2 restarts 0 1", passing(), passing(f"1/p1/{NO}{NO}/on"), refused, stray)
     texts = [text for count in (1, 2, 3) for text in (retaken(WHITE, "play b A1", count, 4), hello)]
     yield game(
         "abandoned white moves 1 restarts 0 2",
@@ -292,7 +272,7 @@ def retakes() -> Iterator[Row]:
         for text in (down, retaken(BLACK, "play w A1", count, count + 4))
     ]
     final = lost('1 unanswered, "8 play w A1"', REFUSED, r"?8 no\n\n")
-    yield game(
+    yield small(
         "W+F(refused play) moves 2 restarts 0 4",
         refusing("1/p1-4"),
         white,
@@ -300,5 +280,4 @@ def retakes() -> Iterator[Row]:
         down,
         final,
         restarts=4,
-        **SMALL,
     )

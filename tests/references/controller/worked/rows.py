@@ -11,6 +11,9 @@ from ..engines import Engine, Ours, Planned, Timed
 from ..matches import Match
 
 
+Texts = Union[str, Sequence[str]]  # the texts of which a line is one, or the only one
+
+
 class Row(NamedTuple):
     """A match, and its result."""
 
@@ -92,7 +95,7 @@ def game(
     line: str,
     black: Engine,
     white: Engine,
-    *errors: Union[str, Sequence[str]],
+    *errors: Texts,
     sent: Optional[Mapping[Colour, str]] = None,
     **values: Any,
 ) -> Row:
@@ -110,6 +113,11 @@ def game(
     )
 
 
+def small(line: str, black: Engine, white: Engine, *errors: Texts, **values: Any) -> Row:
+    """Returns the same on 2x2 without komi, and with at most ten moves."""
+    return game(line, black, white, *errors, **SMALL, **values)
+
+
 def both_sides(
     engine: Engine, other: Engine, black: str, white: str, **values: Any
 ) -> Iterator[Row]:
@@ -118,9 +126,7 @@ def both_sides(
     yield game(white, other, engine, **values)
 
 
-def lost(
-    owed: str, cause: str, texts: Union[str, Sequence[str]], side: Colour = BLACK
-) -> list[str]:
+def lost(owed: str, cause: str, texts: Texts, side: Colour = BLACK) -> list[str]:
     """Returns the line of a side that is lost, owes this and wrote this, or one of these texts."""
     wrote = [texts] if isinstance(texts, str) else texts
     return [f'{side}: {owed}: {cause}; it wrote "{text}"' for text in wrote]
