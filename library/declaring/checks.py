@@ -1,10 +1,14 @@
 """What `library/declare --check` looks at."""
+from __future__ import annotations
+
+from typing import Dict, List
+
 from . import files as declared
 from . import names
-from .texts import Mistake
+from .texts import Files, Mistake
 
 
-def differences(files):
+def differences(files: Files) -> Dict[str, List[str]]:
     """Returns the lines on what differs, by what they are about."""
     lines = {"what library/declare writes": declared.differing(files)}
     try:

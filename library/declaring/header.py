@@ -6,11 +6,16 @@ errors; `@calls SECTION@` the calls of a section. Any other becomes a number: `@
 `@version@`, `@KIND NAME@` that of a value, `@CRATE NAME@` that of a constant, and `@CRATE NAME +
 1@` one more.
 """
+from __future__ import annotations
+
 import re
 import textwrap
+from typing import Iterable, List, Match, Sequence, Set
 
 from . import exports, numbers
-from .texts import C_COMMENT, Mistake, bare, snake
+from .exports import Call
+from .numbers import Value
+from .texts import C_COMMENT, Files, Mistake, bare, snake
 
 PATH = "library/vintsaky.h"
 TEMPLATE = "library/declaring/vintsaky.h.in"
@@ -25,7 +30,7 @@ LAST = "\N{NO-BREAK SPACE}*/"  # the end of a comment, which stays with the last
 # ---- calls
 
 
-def declaration(call):
+def declaration(call: Call) -> str:
     """Returns the declaration of a call.
 
     Where it is too long for a line its arguments go to the next one, or else fill the lines.
@@ -52,10 +57,10 @@ def declaration(call):
     return "\n".join(lines).replace("\N{NO-BREAK SPACE}", " ")
 
 
-def in_c(text, causes, where):
+def in_c(text: str, causes: Set[str], where: str) -> str:
     """Returns a comment for C: without marks of code, and with the names that errors have in C."""
 
-    def word(found):
+    def word(found: Match[str]) -> str:
         if found[1] in causes:
             return f"VINTSAKY_{snake(found[1])}"
         if re.fullmatch(r"[A-Z][a-z]\w*", found[1]):
@@ -65,27 +70,28 @@ def in_c(text, causes, where):
     return re.sub(r"\[?`([^`]*)`\]?", word, text)
 
 
-def wrapped(text):
+def wrapped(text: str) -> List[str]:
     """Returns the lines of a text, as wide as those of a comment are."""
     return textwrap.wrap(text, WIDTH - 3, break_long_words=False, break_on_hyphens=False)
 
 
-def comment_of(call, causes):
+def comment_of(call: Call, causes: Set[str]) -> str:
     """Returns the comment of a call: what it does, and its errors."""
-    said = in_c(call.said, causes, call.name)
-    errors = call.errors and f"Errors: {in_c(call.errors, causes, call.name)}"
+    said = in_c(call.comment.text, causes, call.name)
+    errors = in_c(call.comment.errors, causes, call.name)
+    errors = errors and f"Errors: {errors}"
     lines = wrapped(said if errors else said + LAST) + (wrapped(errors + LAST) if errors else [])
     return "/* " + "\n * ".join(lines).replace(LAST, " */")
 
 
-def sections(files):
+def sections(files: Files) -> List[str]:
     """Returns the sections that have calls, in the order of the header."""
     return [
         name for _, what, name in LINE.findall(numbers.text_of(files, TEMPLATE)) if what == "calls"
     ]
 
 
-def calls_of(section, files):
+def calls_of(section: str, files: Files) -> str:
     """Returns the calls of a section, but the one with the number of the interface.
 
     That one is at the head of the header.
@@ -102,7 +108,7 @@ def calls_of(section, files):
 # ---- numbers
 
 
-def lines_of(values):
+def lines_of(values: Sequence[Value]) -> List[str]:
     """Returns the lines of an enumeration, with what is said of each value.
 
     The comments are aligned.
@@ -113,7 +119,7 @@ def lines_of(values):
     return [f"{end:{width}} {comment}".rstrip() for end, comment in zip(ends, said)]
 
 
-def causes_of(files):
+def causes_of(files: Files) -> List[str]:
     """Returns the lines of the errors: each ends with a comma, since later releases add more."""
     return [
         f"VINTSAKY_{it.name} = {it.number}, /* {it.said} */"
@@ -121,7 +127,7 @@ def causes_of(files):
     ]
 
 
-def enums_of(values):
+def enums_of(values: Sequence[Value]) -> List[str]:
     """Short enumerations of values of which nothing is said here."""
     shown = [f"VINTSAKY_{it.name} = {it.number}" for it in values]
     return [
@@ -130,7 +136,7 @@ def enums_of(values):
     ]
 
 
-def number_of(mark, calls, files):
+def number_of(mark: Match[str], calls: Iterable[str], files: Files) -> str:
     """Returns the number of a mark."""
     first, name, plus = mark.groups()
     if first == "interface":
@@ -148,20 +154,20 @@ def number_of(mark, calls, files):
 # ---- all of it
 
 
-def expanded(found, files):
+def expanded(found: Match[str], files: Files) -> str:
     """Returns the lines of a mark that is alone on its line."""
     indent, what, name = found.groups()
     if what == "calls":
         return calls_of(name, files)
-    lines = {
-        "causes": lambda: causes_of(files),
-        "values": lambda: lines_of(numbers.values_of(name, files)),
-        "enums": lambda: enums_of(numbers.values_of(name, files)),
-    }[what]()
+    if what == "causes":
+        lines = causes_of(files)
+    else:
+        values = numbers.values_of(name, files)
+        lines = lines_of(values) if what == "values" else enums_of(values)
     return "\n".join(indent + line for line in lines)
 
 
-def made(files):
+def made(files: Files) -> str:
     """Returns the header."""
     template = numbers.text_of(files, TEMPLATE)
     calls = exports.all_calls(files)
@@ -179,7 +185,7 @@ def made(files):
     return text
 
 
-def declared_names(text):
+def declared_names(text: str) -> Set[str]:
     """Returns the names of all that a header defines in capitals."""
     text = bare(text, C_COMMENT)
     return set(re.findall(r"\b(VINTSAKY_\w+) = ", text)) | set(

@@ -1,7 +1,11 @@
 """Compares the calls with those of the Rust crate and the Python package, and those in comments."""
+from __future__ import annotations
+
 import re
+from typing import List, Set
 
 from . import exports, python
+from .texts import Files
 
 RUST, PACKAGE = "library/rust/src/", "library/python/vintsaky/"
 OBJECTS = {
@@ -26,19 +30,15 @@ ELSEWHERE = {
     "write_reply": "pub fn reply(",
     "game_copy": "impl Clone for Game ",
     "game_board_text": "impl fmt::Display for Game ",
-    **{
-        f"read_{name}": f"impl FromStr for {name.title()} " for name in ("colour", "vertex", "komi")
-    },
-    **{
-        f"{name}_text": f"impl fmt::Display for {name.title()} "
-        for name in ("colour", "vertex", "komi")
-    },
 }
+for _name in ("colour", "vertex", "komi"):
+    ELSEWHERE[f"read_{_name}"] = f"impl FromStr for {_name.title()} "
+    ELSEWHERE[f"{_name}_text"] = f"impl fmt::Display for {_name.title()} "
 NOT_IN_RUST = r"interface_\d+|[a-z]+_(?:bytes|align)|games_\w+"  # on linking, memory and many games
 
 
-def in_rust(name, text):
-    """Has the Rust crate this call? A method has to be in the type of its object."""
+def is_in_rust(name: str, text: str) -> bool:
+    """Returns whether the Rust crate has this call. A method is in the type of its object."""
     if name in ELSEWHERE:
         return f"\n{ELSEWHERE[name]}" in text
     kind, _, verb = name.partition("_")
@@ -51,7 +51,7 @@ def in_rust(name, text):
     )
 
 
-def used_in_python(files):
+def used_in_python(files: Files) -> Set[str]:
     """Returns the calls of the Python package, as patterns: a part of a name may be filled in."""
     own = (python.DECLARED, python.NUMBERS)
     text = "\n".join(
@@ -64,25 +64,21 @@ def used_in_python(files):
     }
 
 
-def differing(files):
+def differing(files: Files) -> List[str]:
     """Returns a line for each call that Rust or Python lacks, and for each that isn't there."""
     calls, used = exports.all_calls(files), used_in_python(files)
     rust = "\n".join(text for path, text in files.items() if path.startswith(RUST))
     lines = []
     for name, call in calls.items():
         short = name[len("vintsaky_") :]
-        if not re.fullmatch(NOT_IN_RUST, short) and not in_rust(short, rust):
+        if not re.fullmatch(NOT_IN_RUST, short) and not is_in_rust(short, rust):
             lines.append(f"{name} is in the exports, and not in {RUST}")
         if not any(re.fullmatch(it, name) for it in used):
             lines.append(f"{name} is in the exports, and {PACKAGE} makes it nowhere")
-        lost = [
-            it
-            for it in re.findall(r"\[`(vintsaky_\w+)`\]", call.said + call.errors)
-            if it not in calls
-        ]
-        lines += [f"the comment of {name} names {it}, which is not in the exports" for it in lost]
-    return lines + [
-        f"{PACKAGE} makes {it}, which is not in the exports"
-        for it in used
-        if not any(re.fullmatch(it, name) for name in calls)
-    ]
+        for other in re.findall(r"\[`(vintsaky_\w+)`\]", call.comment.text + call.comment.errors):
+            if other not in calls:
+                lines.append(f"the comment of {name} names {other}, which is not in the exports")
+    for pattern in used:
+        if not any(re.fullmatch(pattern, name) for name in calls):
+            lines.append(f"{PACKAGE} makes {pattern}, which is not in the exports")
+    return lines

@@ -4,10 +4,14 @@ They are given to values in crates/vintsaky_calls/src. A number is in an arm of 
 `Loss::Unfit => 5`, and a comment above the arm says what the value means. The arm's last name is
 that of the number in C. KINDS has other names, and longer ones.
 """
+from __future__ import annotations
+
 import re
 from dataclasses import dataclass, field
+from functools import lru_cache
+from typing import Dict, Iterable, Iterator, List, Pattern, Tuple
 
-from .texts import Mistake, once, snake
+from .texts import Files, Mistake, snake
 
 FOLDER = "crates/vintsaky_calls/src/"
 ARM = re.compile(r"((?:^ +// [^\n]*\n)*)^ +(\w[^\n]*?) => \(?(\d+)\b", re.MULTILINE)
@@ -33,10 +37,10 @@ class Kind:
     """
 
     module: str
-    functions: tuple
+    functions: Tuple[str, ...]
     start: str = ""
-    others: dict = field(default_factory=dict)
-    arm: re.Pattern = ARM
+    others: Dict[str, str] = field(default_factory=dict)
+    arm: Pattern[str] = ARM
 
 
 KINDS = {
@@ -60,14 +64,14 @@ KINDS = {
 }
 
 
-def text_of(files, path):
+def text_of(files: Files, path: str) -> str:
     """Returns the text of a file that has to be there."""
     if path not in files:
         raise Mistake(f"there is no {path}")
     return files[path]
 
 
-def body_of(text, function, path):
+def body_of(text: str, function: str, path: str) -> str:
     """Returns the lines of a function."""
     found = re.search(
         rf"^(?:pub(?:\(crate\))? )?fn {function}\(.*?^\}}$", text, re.MULTILINE | re.DOTALL
@@ -77,28 +81,29 @@ def body_of(text, function, path):
     return found[0]
 
 
-def arms_of(kind, body):
-    """Yields the last name, the number and the comment of each arm that has a number."""
+def arms_of(kind: Kind, body: str) -> Iterator[Value]:
+    """Yields the value of each arm that has a number."""
+
+    def value(name: str, number: str, comment: str) -> Value:
+        text = " ".join(re.sub(r"^ +//", "", comment, flags=re.MULTILINE).split())
+        return Value(kind.start + kind.others.get(name, snake(name)), int(number), text)
+
     for found in kind.arm.finditer(body):
         if kind.arm is ARM_OF_COMMANDS:
-            yield found["name"], int(found["number"]), ""
+            yield value(found["name"], found["number"], "")
             continue
         names = re.findall(r"\b[A-Z]\w*", found[2])
         if names and names[-1] != "None":
-            yield names[-1], int(found[3]), " ".join(
-                re.sub(r"^ +//", "", found[1], flags=re.MULTILINE).split()
-            )
+            yield value(names[-1], found[3], found[1])
 
 
-@once
-def values_in(name, text):
+@lru_cache(maxsize=64)
+def values_in(name: str, text: str) -> List[Value]:
     """Returns the values of a kind in its module, in the order of their numbers."""
     kind = KINDS[name]
     path = f"{FOLDER}{kind.module}.rt"
-    values = []
-    for function in kind.functions:
-        for word, number, said in arms_of(kind, body_of(text, function, path)):
-            values.append(Value(kind.start + kind.others.get(word, snake(word)), number, said))
+    bodies = [body_of(text, function, path) for function in kind.functions]
+    values = [value for body in bodies for value in arms_of(kind, body)]
     values.sort(key=lambda it: it.number)
     if not values or len({it.number for it in values}) != len(values):
         raise Mistake(
@@ -107,7 +112,7 @@ def values_in(name, text):
     return values
 
 
-def values_of(name, files):
+def values_of(name: str, files: Files) -> List[Value]:
     """Returns the values of a kind."""
     if name not in KINDS:
         raise Mistake(f"there are no numbers that are called {name}: there are {', '.join(KINDS)}")
@@ -127,12 +132,12 @@ class Cause:
     comment: str
 
     @property
-    def sentence(self):
+    def sentence(self) -> str:
         """The sentence as a call writes it."""
         return self.comment.replace("`", "")
 
     @property
-    def value(self):
+    def value(self) -> Value:
         """The cause as a number of C."""
         return Value(snake(self.name), self.number, self.sentence)
 
@@ -140,8 +145,8 @@ class Cause:
 CAUSES = f"{FOLDER}causes.rt"
 
 
-@once
-def causes_in(text):
+@lru_cache(maxsize=64)
+def causes_in(text: str) -> List[Cause]:
     """Returns the causes, in the order of their numbers."""
     block = re.search(r"^pub enum Cause \{\n(.*?)^\}", text, re.MULTILINE | re.DOTALL)
     comments = {
@@ -167,7 +172,7 @@ def causes_in(text):
     return sorted(causes, key=lambda it: it.number)
 
 
-def causes_of(files):
+def causes_of(files: Files) -> List[Cause]:
     """Returns the causes."""
     return causes_in(text_of(files, CAUSES))
 
@@ -175,7 +180,7 @@ def causes_of(files):
 # ---- others
 
 
-def constant_of(crate, name, files):
+def constant_of(crate: str, name: str, files: Files) -> int:
     """Returns a constant of a crate, which has one of this name."""
     found = []
     for path in [it for it in files if it.startswith(f"crates/{crate}/src/")]:
@@ -187,7 +192,7 @@ def constant_of(crate, name, files):
     return int(found[0])
 
 
-def version_of(files):
+def version_of(files: Files) -> str:
     """Returns the version of the library, as the call spells it that returns it."""
     path = f"{FOLDER}library.rt"
     found = re.search(
@@ -198,7 +203,7 @@ def version_of(files):
     return found[1]
 
 
-def interface_of(calls):
+def interface_of(calls: Iterable[str]) -> str:
     """Returns the number of the interface, which one call has in its name."""
     found = [
         it[len("vintsaky_interface_") :]

@@ -2,9 +2,16 @@
 
 `_declared.py` has the table of the calls, and `_numbers.py` has numbers and what they mean.
 """
+from __future__ import annotations
+
 import textwrap
+from dataclasses import replace
+from typing import Dict, Iterable, Iterator, List, Sequence
 
 from . import exports, header, numbers
+from .exports import Call
+from .numbers import Value
+from .texts import Files
 
 DECLARED = "library/python/vintsaky/_declared.py"
 NUMBERS = "library/python/vintsaky/_numbers.py"
@@ -59,7 +66,7 @@ class {}({}):
 DONE = "No error."  # what the library says of 0
 
 
-def constants_of(files):
+def constants_of(files: Files) -> Dict[str, str]:
     """Returns the constants by their names: the numbers that `_numbers.py` doesn't have."""
     calls = exports.all_calls(files)
     constants = {"INTERFACE": numbers.interface_of(calls), "VERSION": numbers.version_of(files)}
@@ -68,12 +75,12 @@ def constants_of(files):
     return {**constants, "RESIGN": str(numbers.constant_of("vintsaky_calls", "RESIGN", files))}
 
 
-def tuple_of(words):
+def tuple_of(words: Sequence[str]) -> str:
     """Returns a tuple of these, as it is written in a line."""
     return f"({words[0]},)" if len(words) == 1 else f"({', '.join(words)})"
 
 
-def row_of(call):
+def row_of(call: Call) -> str:
     """Returns the row of a call, which black would leave as it is."""
     arguments = [it.python for it in call.arguments]
     row = f'    "{call.name}": ({call.python}, {tuple_of(arguments)}),\n'
@@ -85,7 +92,7 @@ def row_of(call):
     return f'    "{call.name}": (\n        {call.python},\n{inner}    ),\n'
 
 
-def declared(files):
+def declared(files: Files) -> str:
     """Returns the module of the table."""
     constants = "".join(f"{name} = {number}\n" for name, number in constants_of(files).items())
     handles = "".join(HANDLE.format(name.title(), said) for name, said in HANDLES.items())
@@ -95,18 +102,18 @@ def declared(files):
     return f"{HEAD_OF_DECLARED}\n{constants}{handles}{HEAD_OF_TABLE}{''.join(rows)}}}\n"
 
 
-def said_of(values):
-    """Yields each value with what is said of it. What is said of several is said of the first."""
-    said = ""
+def explained(values: Iterable[Value]) -> Iterator[Value]:
+    """Yields the values, of which each is explained: else as the one before."""
+    text = ""
     for value in values:
-        said = value.said or said
-        yield value, said
+        text = value.said or text
+        yield replace(value, said=text)
 
 
-def lines_of(value, said):
+def lines_of(value: Value) -> List[str]:
     """Returns the lines of a docstring about a value."""
     return textwrap.wrap(
-        f"{value.name}: {said}",
+        f"{value.name}: {value.said}",
         WIDTH,
         initial_indent="    ",
         subsequent_indent="        ",
@@ -114,30 +121,22 @@ def lines_of(value, said):
     )
 
 
-def enumeration(name, base, head, values):
+def enumeration(name: str, base: str, head: str, values: Iterable[Value]) -> str:
     """Returns an enumeration. Its docstring says what each member means, so that `help` does."""
-    lines = [line for value, said in said_of(values) for line in lines_of(value, said)]
-    return CLASS.format(
-        name,
-        base,
-        head,
-        "\n".join(lines),
-        "".join(f"    {it.name} = {it.number}\n" for it in values),
-    )
+    lines = [line for value in explained(values) for line in lines_of(value)]
+    members = "".join(f"    {it.name} = {it.number}\n" for it in values)
+    return CLASS.format(name, base, head, "\n".join(lines), members)
 
 
-def named(files):
+def named(files: Files) -> str:
     """Returns the module of the numbers of which much is said."""
     causes = [numbers.Value("DONE", 0, DONE), *(it.value for it in numbers.causes_of(files))]
-    losses = [
-        numbers.Value(it.name[len("LOSS_") :], it.number, it.said)
-        for it in numbers.values_of("losses", files)
-    ]
+    found = numbers.values_of("losses", files)
+    losses = [replace(it, name=it.name[len("LOSS_") :]) for it in found]
+    endings = numbers.values_of("endings", files)
     return (
         HEAD_OF_NUMBERS
         + enumeration("Cause", "Explained", "Why a call is rejected: its error.", causes)
         + enumeration("Loss", "IntEnum", "Why a side fails by its output.", losses)
-        + enumeration(
-            "Ending", "IntEnum", "How a match ended.", numbers.values_of("endings", files)
-        )
+        + enumeration("Ending", "IntEnum", "How a match ended.", endings)
     )

@@ -3,10 +3,14 @@
 They are written by the comments of the variants of Cause. In the code and the definition of the
 call that writes them only the rows change.
 """
+from __future__ import annotations
+
 import re
+from typing import Iterable, Pattern
 
 from . import numbers
-from .texts import Mistake
+from .numbers import Cause
+from .texts import Files, Mistake
 
 CODE = "crates/vintsaky_calls/src/library.rt"
 DEFINITION = "crates/vintsaky_calls/specs/Library.antt"
@@ -37,12 +41,12 @@ OTHERWISE = {
 }
 
 
-def row(front, back, gap, width):
+def row(front: str, back: str, gap: str, width: int) -> str:
     """Returns a row in a line, or in two where that is too long."""
     return f"{front} {back}" if len(f"{front} {back}") <= width else f"{front}\n{gap}{back}"
 
 
-def with_rows(path, rows, pattern, files):
+def with_rows(path: str, rows: Iterable[str], pattern: Pattern[str], files: Files) -> str:
     """Returns a source with these rows in place of those that it has."""
     text = numbers.text_of(files, path)
     if len(pattern.findall(text)) != 1:
@@ -50,7 +54,7 @@ def with_rows(path, rows, pattern, files):
     return pattern.sub(lambda _: "".join(f"{it}\n" for it in rows), text)
 
 
-def code(files):
+def code(files: Files) -> str:
     """Returns the code of the sentences."""
     rows = [
         row(f"        Cause::{it.name} =>", f'b"{it.sentence}",', " " * 12, CODE_WIDTH)
@@ -59,7 +63,7 @@ def code(files):
     return with_rows(CODE, rows, CODE_ROWS, files)
 
 
-def definition(files):
+def definition(files: Files) -> str:
     """Returns the definition of the sentences."""
     rows = [
         row(f"sentence cause.{it.name} =", f'codes "{it.sentence}"', "    ", DEFINITION_WIDTH)
@@ -68,14 +72,14 @@ def definition(files):
     return with_rows(DEFINITION, rows, DEFINITION_ROWS, files)
 
 
-def meaning(cause):
+def meaning(cause: Cause) -> str:
     """Returns the meaning of an error in Rust."""
     if cause.name in NEVER:
         return f"{cause.comment.partition(':')[0].rstrip('.')}. No call of this crate returns it."
     return OTHERWISE.get(cause.name, cause.comment)
 
 
-def rust(files):
+def rust(files: Files) -> str:
     """Returns the rows of the Rust crate."""
     causes = numbers.causes_of(files)
     gone = ", ".join(sorted({*NEVER, *OTHERWISE} - {it.name for it in causes}))
