@@ -15,12 +15,6 @@ from .runner import RANDOM, SCRIPTS, Runner
 SAMPLE = SCRIPTS / "engine.py"
 
 
-def test_it_is_as_short_as_the_page_says() -> None:
-    page = (TOP / "docs/tournaments.md").read_text()
-    (lines,) = re.findall(r"`engine.py` \| is an engine of (\d+) lines", page)
-    assert len(SAMPLE.read_text().splitlines()) <= int(lines) + 5
-
-
 def replies(program: Path, text: str, pattern: str) -> List[str]:
     """Returns what an engine replies to commands, as far as a pattern finds it."""
     return re.findall(pattern, run([program], text).stdout, re.MULTILINE)
