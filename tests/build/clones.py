@@ -175,4 +175,4 @@ def last_line(output: str) -> str:
 def path_without_kit() -> str:
     """Returns a PATH on which there is no rt."""
     folders = os.environ["PATH"].split(os.pathsep)
-    return os.pathsep.join(it for it in folders if not os.access(Path(it) / "rt", os.X_OK))
+    return os.pathsep.join(folder for folder in folders if not shutil.which("rt", path=folder))

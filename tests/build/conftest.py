@@ -47,8 +47,8 @@ class Trees(NamedTuple):
 def archives(releases: Releases, tmp_path_factory: pytest.TempPathFactory) -> Trees:
     """Returns the folders of the archives."""
     folder = tmp_path_factory.mktemp("archives")
-    both = {"one": releases.one, "final": releases.final}
-    return Trees(*(unpacked_archive(it.archive, folder / name) for name, it in both.items()))
+    one = unpacked_archive(releases.one.archive, folder / "one")
+    return Trees(one, unpacked_archive(releases.final.archive, folder / "final"))
 
 
 @pytest.fixture(scope="session")
@@ -75,5 +75,5 @@ def library_packages(releases: Releases, tmp_path_factory: pytest.TempPathFactor
 def source_trees(releases: Releases, tmp_path_factory: pytest.TempPathFactory) -> Trees:
     """Returns the folders of the archives of sources."""
     folder = tmp_path_factory.mktemp("sources").resolve()
-    both = {"one": releases.one, "final": releases.final}
-    return Trees(*(unpacked_archive(it.sources, folder / name) for name, it in both.items()))
+    one = unpacked_archive(releases.one.sources, folder / "one")
+    return Trees(one, unpacked_archive(releases.final.sources, folder / "final"))

@@ -5,6 +5,7 @@ import hashlib
 import os
 import re
 import shutil
+import sys
 from concurrent.futures import ThreadPoolExecutor
 from pathlib import Path
 from subprocess import CompletedProcess
@@ -12,6 +13,7 @@ from typing import Dict, List, NamedTuple, Optional
 
 import pytest
 
+from tests.shared import pages
 from tests.shared.processes import TIMEOUT, TOP, run
 
 PROGRAMS = ["twogtp", "gtp_engine", "gtp_check"]
@@ -20,6 +22,14 @@ PACKAGES = ["vintsaky", "libvintsaky1", "libvintsaky-dev", "python3-vintsaky"]
 GATE = "12345 passed, 0 failed, at https://gate.example/7"
 DATE = "2026-11-25T00:00:00Z"
 LONG = 10 * TIMEOUT
+GAME = r"(?:\d+\n)?game 1: \S+ moves \d+ restarts 0 0\n"  # the port of a server comes first
+# A game in Python: whether White may play on A1 and on B1, once Black has played on A1.
+CALLS = """
+import vintsaky
+game = vintsaky.Game(9)
+game.play("b", "A1")
+print(vintsaky.version(), game.legal("w", "A1"), game.legal("w", "B1"))
+"""
 # A release needs these, and proved programs. All tests of it run in one process, which makes it.
 RELEASE_MARKS = [pytest.mark.kit, pytest.mark.cargo, pytest.mark.xdist_group("release")]
 
@@ -60,10 +70,12 @@ class Releases(NamedTuple):
     commit: str
     version: str
 
-    def paths(self) -> List[bytes]:
-        """Returns the paths of those who built them."""
+    def files_with_own_paths(self, folder: Path) -> List[Path]:
+        """Returns the files below a folder that have the path of one of the copies."""
         copies = [self.one.copy, self.other.copy, self.final.copy, TOP]
-        return [str(copy).encode() for copy in copies]
+        paths = [str(copy).encode() for copy in copies]
+        files = {file: file.read_bytes() for file in folder.rglob("*") if file.is_file()}
+        return [file for file, data in files.items() if any(path in data for path in paths)]
 
 
 def missing_for_a_release() -> Optional[str]:
@@ -180,7 +192,7 @@ def make_releases(folder: Path) -> Releases:
             pool.submit(release, other, umask=0o077, **elsewhere),
             pool.submit(release, final, "--gate", GATE, "--final"),
         ]
-    for done in (it.result() for it in runs):
+    for done in (future.result() for future in runs):
         assert (done.returncode, done.stderr) == (0, "")
     commit_id = git(one, "rev-parse", "HEAD").strip()
     name = f"{version}+git.{commit_id[:12]}"
@@ -219,3 +231,27 @@ def examples_of(page: Path) -> Dict[str, str]:
     """Returns what a page shows below each of its commands."""
     blocks = re.findall(r"^```\n\$ (.*)\n((?:.*\n)*?)```$", page.read_text(), re.MULTILINE)
     return dict(blocks)
+
+
+# ---- the library
+
+
+def check_calls_in_python(folder: Path, **environment: str) -> None:
+    """Fails unless the package for Python that is in a folder calls the library."""
+    own = {"PYTHONPATH": str(folder), "PYTHONDONTWRITEBYTECODE": "1", **environment}
+    done = run([sys.executable, "-c", CALLS], env={**os.environ, **own})
+    assert (done.returncode, done.stdout, done.stderr) == (0, "(1, 0, 0) False True\n", "")
+
+
+def engine_in_python(docs: Path) -> str:
+    """Returns the engine in Python that the pages on the library show."""
+    shown = pages.library_blocks(docs, "python")
+    (engine,) = [block for block in shown if "vintsaky.Engine" in block]
+    return engine
+
+
+def check_game(done: CompletedProcess[str]) -> None:
+    """Fails unless a command has played a game, without a warning."""
+    assert done.returncode == 0, done.stdout + done.stderr
+    assert re.fullmatch(GAME, done.stdout), done.stdout
+    assert re.findall(r".*\b(?:warning|error):.*|Traceback", done.stderr) == []

@@ -80,9 +80,12 @@ class Built(NamedTuple):
 def built(killed: Killed, folder: Path) -> Dict[str, Built]:
     """Builds in the same clone, and at the same time in another one."""
     clones = {"after a killed build": killed.clone, "in a new clone": make_clone(folder, "two")}
+
+    def build(clone: Clone) -> Built:
+        return Built(clone, clone.run("./build", "small"))
+
     with ThreadPoolExecutor(len(clones)) as pool:
-        builds = {name: pool.submit(it.run, "./build", "small") for name, it in clones.items()}
-    return {name: Built(clone, builds[name].result()) for name, clone in clones.items()}
+        return dict(zip(clones, pool.map(build, clones.values())))
 
 
 class Gated(NamedTuple):

@@ -131,7 +131,7 @@ OPTIONS = [
 
 @pytest.mark.parametrize("program, option", OPTIONS)
 def test_option_is_the_same_in_help(program: str, option: Option, help_text: str) -> None:
-    (helped,) = [it for it in help_options(help_text) if it.name == option.name]
+    (helped,) = [other for other in help_options(help_text) if other.name == option.name]
     assert option._replace(words="") == helped._replace(words="")
     assert [value for value in values(helped.words) if value not in option.words] == []
 
@@ -144,8 +144,8 @@ def test_option_is_in_the_synopsis(program: str, option: Option) -> None:
 
 @pytest.mark.parametrize("program", ["gtp_engine"])
 def test_values_of_the_engine_are_found(program: str, help_text: str) -> None:
-    options = help_options(help_text)
-    assert {it.name: values(it.words) for it in options if it.takes_value} == ENGINE_VALUES
+    options = [option for option in help_options(help_text) if option.takes_value]
+    assert {option.name: values(option.words) for option in options} == ENGINE_VALUES
 
 
 def letters(text: str) -> str:

@@ -33,7 +33,7 @@ def test_sums_are_those_of_the_files(releases: Releases) -> None:
 
 def test_release_is_the_same_wherever_it_is_made(releases: Releases) -> None:
     # in a folder with another name, with another umask, time zone, language and home
-    one, other = (sums_below(it.copy / "dist") for it in (releases.one, releases.other))
+    one, other = (sums_below(release.copy / "dist") for release in (releases.one, releases.other))
     assert one == other
 
 

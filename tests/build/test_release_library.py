@@ -4,7 +4,6 @@ from __future__ import annotations
 import os
 import re
 import shutil
-import sys
 import zipfile
 from pathlib import Path
 from typing import Dict, List
@@ -19,7 +18,10 @@ from .releases import (
     PACKAGES,
     RELEASE_MARKS,
     Releases,
+    check_calls_in_python,
+    check_game,
     control_field,
+    engine_in_python,
     sum_of,
     sums_below,
     unpacked_packages,
@@ -29,13 +31,6 @@ pytestmark = RELEASE_MARKS
 
 LIBRARIES = "usr/lib/x86_64-linux-gnu"
 MODULES = "usr/lib/python3/dist-packages"
-# A game in Python: whether White may play on A1 and on B1, once Black has played on A1.
-CALLS = """
-import vintsaky
-game = vintsaky.Game(9)
-game.play("b", "A1")
-print(vintsaky.version(), game.legal("w", "A1"), game.legal("w", "B1"))
-"""
 DEPENDS = {
     "libvintsaky1": "",
     "libvintsaky-dev": "libvintsaky1 (= {0})",
@@ -43,7 +38,6 @@ DEPENDS = {
 }
 # What the page of the library shows, in this order.
 BLOCKS = ["an engine in C", "an engine in Python", "a search in C", "a server"]
-GAME = r"(?:\d+\n)?game 1: \S+ moves \d+ restarts 0 0\n"  # the port of a server comes first
 
 
 def check_calls_in_c(flags: List[object], library: Path, folder: Path) -> None:
@@ -54,13 +48,6 @@ def check_calls_in_c(flags: List[object], library: Path, folder: Path) -> None:
     assert (done.returncode, done.stdout + done.stderr) == (0, "")
     done = run([calls], env={**os.environ, "LD_LIBRARY_PATH": str(library)})
     assert (done.returncode, done.stdout + done.stderr) == (0, "")
-
-
-def check_calls_in_python(folder: Path, **environment: str) -> None:
-    """Fails unless the package for Python that is in a folder calls the library."""
-    own = {"PYTHONPATH": str(folder), "PYTHONDONTWRITEBYTECODE": "1", **environment}
-    done = run([sys.executable, "-c", CALLS], env={**os.environ, **own})
-    assert (done.returncode, done.stdout, done.stderr) == (0, "(1, 0, 0) False True\n", "")
 
 
 def pkg_config_flags(folder: Path) -> List[str]:
@@ -109,7 +96,7 @@ def test_archive_has_the_examples_of_the_commit(
 def test_pkg_config_finds_the_library_of_the_archive(archive_tree: Path, tmp_path: Path) -> None:
     flags = pkg_config_flags(archive_tree / "lib/pkgconfig")
     folders = [Path(flag[2:]).resolve() for flag in flags if re.match("-[IL]", flag)]
-    assert [it for it in folders if archive_tree.resolve() not in it.parents] == []
+    assert [folder for folder in folders if archive_tree.resolve() not in folder.parents] == []
     check_calls_in_c(list(flags), archive_tree / "lib", tmp_path)
 
 
@@ -196,9 +183,7 @@ def test_packages_have_the_library(library_packages: Path) -> None:
 def test_no_file_of_the_packages_has_a_path_of_its_builder(
     releases: Releases, library_packages: Path
 ) -> None:
-    files = [file for file in library_packages.rglob("*") if file.is_file()]
-    found = [it for it in files if any(path in it.read_bytes() for path in releases.paths())]
-    assert found == []
+    assert releases.files_with_own_paths(library_packages) == []
 
 
 def test_pkg_config_names_the_folders_of_debian(library_packages: Path) -> None:
@@ -232,8 +217,7 @@ def run_block(docs: Path, number: int, folder: Path, root: str, **paths: Path) -
     """
     blocks = pages.library_blocks(docs, "")
     assert len(blocks) == len(BLOCKS)
-    (engine,) = [it for it in pages.library_blocks(docs, "python") if "vintsaky.Engine" in it]
-    (folder / "my_engine.py").write_text(engine)
+    (folder / "my_engine.py").write_text(engine_in_python(docs))
     hidden = ("PYTHONPATH", "VINTSAKY_LIBRARY")
     own = {name: it for name, it in os.environ.items() if name not in hidden}
     own["PYTHONDONTWRITEBYTECODE"] = "1"
@@ -241,10 +225,7 @@ def run_block(docs: Path, number: int, folder: Path, root: str, **paths: Path) -
         own[variable] = os.pathsep.join(filter(None, [str(path), own.get(variable)]))
     in_packages = r"(?<![\w/])/usr/(?=games/gtp_engine|share/doc/)"
     block = re.sub(in_packages, f"{root}/usr/", blocks[number])
-    done = run(["bash", "-ec", block], cwd=folder, env=own, timeout=10 * TIMEOUT)
-    assert done.returncode == 0, done.stdout + done.stderr
-    assert re.fullmatch(GAME, done.stdout), done.stdout
-    assert re.findall(r".*\b(?:warning|error):.*|Traceback", done.stderr) == []
+    check_game(run(["bash", "-ec", block], cwd=folder, env=own, timeout=10 * TIMEOUT))
 
 
 each_block = pytest.mark.parametrize("number", range(len(BLOCKS)), ids=BLOCKS)

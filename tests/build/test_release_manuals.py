@@ -32,7 +32,7 @@ def test_mandoc_finds_nothing(program: str, archive_tree: Path) -> None:
     if not shutil.which("mandoc"):
         pytest.skip("there is no mandoc (apt-get install mandoc)")
     lines = run(["mandoc", "-T", "lint", in_archive(program, archive_tree)]).stdout.splitlines()
-    assert [line for line in lines if not any(it in line for it in ALLOWED)] == []
+    assert [line for line in lines if not any(text in line for text in ALLOWED)] == []
 
 
 @each_program

@@ -15,8 +15,18 @@ from tests.shared.processes import TIMEOUT, TOP, run
 
 from .clones import path_without_kit
 from .conftest import Trees
-from .releases import PROGRAMS, RELEASE_MARKS, Releases, modes_below, sum_of, sums_below
-from .test_release_library import check_calls_in_python
+from .releases import (
+    GAME,
+    PROGRAMS,
+    RELEASE_MARKS,
+    Releases,
+    check_calls_in_python,
+    check_game,
+    engine_in_python,
+    modes_below,
+    sum_of,
+    sums_below,
+)
 
 pytestmark = RELEASE_MARKS
 
@@ -34,7 +44,6 @@ SAID = [
     "sources of proved programs, with the contracts taken off",
     "What cargo builds of them is tested, and not proved",
 ]
-GAME = r"(?:\d+\n)?game 1: \S+ moves \d+ restarts 0 0\n"  # the port of a server comes first
 # What the blocks of the README show, and what each prints.
 README_BLOCKS = {
     "a build and a match": GAME,
@@ -71,7 +80,7 @@ def tree(source_trees: Trees) -> Path:
 def test_both_archives_have_a_folder_of_their_name(
     releases: Releases, source_trees: Trees
 ) -> None:
-    names = [f"vintsaky-{it.name}-src" for it in (releases.one, releases.final)]
+    names = [f"vintsaky-{release.name}-src" for release in (releases.one, releases.final)]
     assert [tree.name for tree in source_trees] == names
 
 
@@ -82,7 +91,7 @@ def test_files_at_the_top(tree: Path) -> None:
 
 def test_pages_are_there(tree: Path) -> None:
     found = [str(page.relative_to(tree)) for page in tree.rglob("*.md")]
-    assert sorted(it for it in found if not it.startswith(("others/", "library/"))) == PAGES
+    assert sorted(path for path in found if not path.startswith(("others/", "library/"))) == PAGES
 
 
 @pytest.fixture(scope="module")
@@ -106,7 +115,8 @@ def test_manifest_is_what_cargo_strip_writes(tree: Path, stripped: Path) -> None
 def test_library_has_what_the_commit_has_for_c_and_python(releases: Releases, tree: Path) -> None:
     own = sums_below(releases.one.copy / "library")
     kept = ("vintsaky.h", "examples/", "python/")
-    assert sums_below(tree / "library") == {it: own[it] for it in own if it.startswith(kept)}
+    wanted = {path: file_sum for path, file_sum in own.items() if path.startswith(kept)}
+    assert sums_below(tree / "library") == wanted
 
 
 def test_each_crate_is_there(tree: Path) -> None:
@@ -115,21 +125,18 @@ def test_each_crate_is_there(tree: Path) -> None:
 
 
 def test_own_crates_have_only_rust_and_manifests(tree: Path) -> None:
-    files = [it for name in ("crates", "shims", "vintsaky") for it in (tree / name).rglob("*")]
+    files = [file for name in ("crates", "shims", "vintsaky") for file in (tree / name).rglob("*")]
     kinds = {file.suffix for file in files if file.is_file()}
     assert kinds <= {".rs", ".toml", ""}  # the last is .gitignore
 
 
 def test_nothing_is_of_the_kit_or_of_a_build(tree: Path) -> None:
-    # the folder in which a build of the tests leaves files is made by tests below
-    found = [it for it in tree.rglob("*") if it.suffix in (".rt", ".antt") or it.name == "target"]
-    assert found == []
+    names = [file.name for file in tree.rglob("*")]
+    assert [name for name in names if name.endswith((".rt", ".antt")) or name == "target"] == []
 
 
 def test_no_file_has_a_path_of_its_maker(releases: Releases, tree: Path) -> None:
-    files = [file for file in tree.rglob("*") if file.is_file()]
-    found = [it for it in files if any(path in it.read_bytes() for path in releases.paths())]
-    assert found == []
+    assert releases.files_with_own_paths(tree) == []
 
 
 def test_scripts_alone_may_be_executed(releases: Releases, tree: Path) -> None:
@@ -175,13 +182,13 @@ def test_notices_say_that_our_crates_have_no_licence(tree: Path) -> None:
 
 
 def test_each_other_crate_has_its_licence(tree: Path) -> None:
-    assert [it for it in other_crates(tree) if not list(it.glob("LICENSE*"))] == []
+    assert [crate for crate in other_crates(tree) if not list(crate.glob("LICENSE*"))] == []
 
 
 def test_each_changed_manifest_says_so(tree: Path) -> None:
     manifests = [crate / "Cargo.toml" for crate in other_crates(tree)]
     begin = "# Changed by cargo/strip"
-    assert [it for it in manifests if not it.read_text().startswith(begin)] == []
+    assert [file for file in manifests if not file.read_text().startswith(begin)] == []
 
 
 # ---- pages
@@ -189,7 +196,7 @@ def test_each_changed_manifest_says_so(tree: Path) -> None:
 
 def test_readme_says_what_this_is(releases: Releases, tree: Path) -> None:
     text = (tree / "README.md").read_text()
-    places = [text.partition("\n## ")[0].find(it) for it in SAID]
+    places = [text.partition("\n## ")[0].find(text) for text in SAID]
     assert -1 not in places
     assert places == sorted(places)
     assert text.startswith(f"# Vintsaky {releases.one.name}: ")
@@ -267,13 +274,8 @@ def test_program_is_built_and_installed_as_the_readme_says(program: str, built: 
 def test_sources_do_what_the_page_of_the_library_shows(number: int, built: Builder) -> None:
     blocks = pages.library_blocks(built.tree / "docs", "")
     assert len(blocks) == len(PAGE_BLOCKS)
-    shown = pages.library_blocks(built.tree / "docs", "python")
-    (engine,) = [it for it in shown if "vintsaky.Engine" in it]
-    (built.tree / "my_engine.py").write_text(engine)
-    done = built.run(["bash", "-ec", blocks[number]])
-    assert done.returncode == 0, done.stdout + done.stderr
-    assert re.fullmatch(GAME, done.stdout), done.stdout
-    assert re.findall(r".*\b(?:warning|error):.*|Traceback", done.stderr) == []
+    (built.tree / "my_engine.py").write_text(engine_in_python(built.tree / "docs"))
+    check_game(built.run(["bash", "-ec", blocks[number]]))
 
 
 def test_wheel_is_made_as_the_readme_says(built: Builder, tmp_path: Path) -> None:
@@ -298,14 +300,12 @@ def test_program_elsewhere_needs_one_line_in_its_manifest(built: Builder) -> Non
     assert (done.returncode, done.stdout, done.stderr) == (0, "=\n\n= A1\n\n=\n\n", "")
     programs = target / "release"
     players = ["--black", programs / "mine", "--white", programs / "gtp_engine"]
-    done = built.run([programs / "twogtp", "--size", "5", *players])
-    assert (done.returncode, done.stderr) == (0, "")
-    assert re.fullmatch(GAME, done.stdout)
+    check_game(built.run([programs / "twogtp", "--size", "5", *players]))
 
 
 def test_cargo_changes_no_source(tree: Path, built: Builder) -> None:
     sums = sums_below(built.tree)
-    assert [name for name, it in sums_below(tree).items() if sums.get(name) != it] == []
+    assert [name for name, before in sums_below(tree).items() if sums.get(name) != before] == []
 
 
 def test_cargo_takes_nothing_from_elsewhere(built: Builder) -> None:
