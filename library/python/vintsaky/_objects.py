@@ -112,10 +112,7 @@ def ascii_of(text: Union[str, bytes], what: str) -> bytes:
 
 
 def bytes_of(data: Bytes, what: str = "data") -> bytes:
-    """Returns what is fed to an object.
-
-    Errors: TypeError if it isn't bytes, a bytearray or a memoryview.
-    """
+    """Returns what is fed. Errors: TypeError if it isn't bytes, a bytearray or a memoryview."""
     if isinstance(data, bytes):
         return data
     if not isinstance(data, (bytearray, memoryview)):

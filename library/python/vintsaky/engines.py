@@ -127,10 +127,7 @@ class Steps(LibraryObject):
         check(cause, f"answer {shown(text)}")
 
     def decline(self) -> None:
-        """Answers a command that isn't in the protocol's table by `unknown command`.
-
-        Errors: NOT_ASKED.
-        """
+        """Answers an unknown command by `unknown command`. Errors: NOT_ASKED."""
         check(library.vintsaky_engine_decline(self._pointer()), "decline")
 
     def set_name(self, name: Union[str, bytes]) -> None:
@@ -227,10 +224,7 @@ class Engine:
 
     @property
     def game(self) -> Game:
-        """A copy of the current game, for a custom command, say.
-
-        Errors: RuntimeError if the engine isn't serving.
-        """
+        """A copy of the current game. Errors: RuntimeError if the engine doesn't serve."""
         if self._steps is None:
             raise RuntimeError(f"{type(self).__name__} doesn't serve")
         return self._steps.game

@@ -5,7 +5,7 @@ import ctypes
 from copy import deepcopy
 from functools import partial
 from pickle import UnpicklingError
-from typing import Any, Callable, Dict, Iterable, List, NamedTuple, Optional, Tuple, Type, TypeVar
+from typing import Any, Dict, Iterable, List, NamedTuple, Optional, Tuple, Type, TypeVar
 
 from . import _declared
 from ._attributes import attributes_of, give_attributes
@@ -14,25 +14,10 @@ from ._objects import LibraryObject, clamped, integer, int_in_range
 from ._library import library, text_of
 from ._numbers import Cause
 from ._refused import Refused, check, shown
-from .moves import Moves, moves_by_text, text_of_move
-from .values import (
-    POINTS,
-    VERTICES,
-    AnyColour,
-    AnyVertex,
-    Colour,
-    Komi,
-    KoRule,
-    Point,
-    Vertex,
-    colour_number,
-    half_points,
-    refused_point,
-    rule_number,
-    shown_vertex,
-    size_number,
-    vertex_number,
-)
+from .moves import Moves, moves_by_text, play_numbered, text_of_move
+from .values import POINTS, VERTICES, AnyColour, AnyVertex, Colour, Komi, KoRule, Point, Vertex
+from .values import colour_number, half_points, refused_point, rule_number, shown_vertex
+from .values import size_number, vertex_number
 
 MOST_POINTS = 625  # of the largest board
 MOST_WORD = 2**64 - 1
@@ -213,10 +198,7 @@ class Game(LibraryObject):
         return Colour(library.vintsaky_game_turn(self._pointer()))
 
     def play(self, colour: AnyColour, vertex: AnyVertex) -> None:
-        """Plays a move.
-
-        Errors: BAD_COLOUR, BAD_VERTEX, FULL, OFF_BOARD, OCCUPIED, SUICIDE or KO.
-        """
+        """Plays a move. Errors: BAD_COLOUR, BAD_VERTEX, FULL, OFF_BOARD, OCCUPIED, SUICIDE, KO."""
         number, point = colour_number(colour), vertex_number(vertex)
         cause = library.vintsaky_game_play(self._pointer(), number, point)
         if cause:
@@ -252,10 +234,7 @@ class Game(LibraryObject):
         return self._points_of(library.vintsaky_game_legal_points, colour_number(colour))
 
     def _points_of(self, call: Any, number: int, what: str = "") -> List[Point]:
-        """Returns the points that this call lists for a number.
-
-        If it rejects a point, the error names the call.
-        """
+        """Returns the points that this call lists for a number. An error for a point has `what`."""
         points, count = (ctypes.c_uint32 * MOST_POINTS)(), ctypes.c_size_t()
         cause = call(self._pointer(), number, points, MOST_POINTS, ctypes.byref(count))
         if cause:
@@ -298,18 +277,12 @@ class Game(LibraryObject):
         return Chain(stones.value, liberties.value)
 
     def chain_points(self, point: AnyVertex) -> List[Point]:
-        """Returns the stones of the chain on a point, row by row from A1.
-
-        Errors: those of `chain`.
-        """
+        """Returns the stones of a chain, row by row from A1. Errors: those of `chain`."""
         number = vertex_number(point, "point")
         return self._points_of(library.vintsaky_game_chain_points, number, "chain_points")
 
     def chain_liberties(self, point: AnyVertex) -> List[Point]:
-        """Returns the liberties of the chain on a point, row by row from A1.
-
-        Errors: those of `chain`.
-        """
+        """Returns the liberties of a chain, row by row from A1. Errors: those of `chain`."""
         number = vertex_number(point, "point")
         return self._points_of(library.vintsaky_game_chain_liberties, number, "chain_liberties")
 
@@ -366,10 +339,7 @@ class Game(LibraryObject):
         library.vintsaky_game_board(self._pointer(), buffer.items, len(buffer.items))
 
     def legal_into(self, colour: AnyColour, mask: Any) -> None:
-        """Writes what `legal_mask` returns into a buffer of size * size bytes (`B` or `?`).
-
-        Errors: BAD_COLOUR.
-        """
+        """Writes `legal_mask` into a buffer of size * size items (`B`, `?`). Errors: BAD_COLOUR."""
         buffer = buffer_of(mask, "mask", (self.size, self.size), (BYTE, FLAG))
         written_to = buffer.items, len(buffer.items), ctypes.byref(ctypes.c_size_t())
         number = colour_number(colour)
@@ -392,9 +362,9 @@ class Game(LibraryObject):
         return bool(holds.value)
 
     def ko_point(self, colour: AnyColour) -> Optional[Point]:
-        """Returns the empty point where ko forbids this colour to play, or None.
+        """Returns the empty point where ko forbids a play, or None. Errors: BAD_COLOUR.
 
-        A play there would bring back the board before the last move. Errors: BAD_COLOUR.
+        A play of the colour there would bring back the board before the last move.
         """
         number, vertex = colour_number(colour), ctypes.c_uint32()
         check(library.vintsaky_game_ko_point(self._pointer(), number, ctypes.byref(vertex)))
@@ -424,10 +394,7 @@ class Game(LibraryObject):
         check(library.vintsaky_game_playout(self._pointer(), *numbers))
 
     def rollout(self, colour: AnyColour, seed: int, limit: int = 2000) -> float:
-        """Returns the score after a `playout` like this, in points.
-
-        The game is unchanged. Errors: BAD_COLOUR.
-        """
+        """Returns the score after such a `playout`. The game is unchanged. Errors: BAD_COLOUR."""
         numbers, halves = playout_numbers(colour, seed, limit), ctypes.c_int32()
         check(library.vintsaky_game_rollout(self._pointer(), *numbers, ctypes.byref(halves)))
         return halves.value / 2
@@ -493,22 +460,6 @@ def playout_numbers(colour: AnyColour, seed: int, limit: int) -> Tuple[int, int,
 
 
 # ---- how games are made
-
-
-def play_numbered(play: Callable[[Any, Any], None], number: int, move: Any) -> None:
-    """Plays the move with this number, which an error names."""
-    try:
-        colour, vertex = move
-    except (TypeError, ValueError):
-        raise TypeError(
-            f"move {number}: {shown(move)} is no pair of a colour and a vertex"
-        ) from None
-    try:
-        play(colour, vertex)
-    except Refused as refused:
-        raise Refused(refused.cause, f"move {number}: {refused.what}", refused.said) from None
-    except TypeError as problem:  # which may be that of a subclass's own play
-        raise TypeError(f"move {number}: {problem}") from problem
 
 
 def new_game(kind: Type[Kind]) -> Kind:

@@ -133,10 +133,7 @@ class Replies(LibraryObject):
 
     @property
     def fault(self) -> Optional[ReplyEvent]:
-        """NO_REPLY or LONG_REPLY after such bytes, else None.
-
-        After a fault nothing is read.
-        """
+        """NO_REPLY or LONG_REPLY after such bytes, else None. After a fault nothing is read."""
         return self._fault
 
     def feed(self, data: Bytes) -> List[Reply]:

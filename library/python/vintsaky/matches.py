@@ -244,10 +244,7 @@ class Match(LibraryObject):
         return Report(Loss(loss.value) if loss.value else None, retake.value, owed)
 
     def owed(self, side: AnyColour) -> Owed:
-        """Returns what the side owes.
-
-        Errors: DOWN if it wasn't started or went down, or the match is over.
-        """
+        """Returns what the side owes. Errors: DOWN if it isn't up, or the match is over."""
         buffers, number = OwedBuffers(), side_number(side)
         cause = library.vintsaky_match_owed(self._pointer(), number, *buffers.arguments())
         check(cause, f"owed {Colour(number)}")

@@ -4,7 +4,7 @@ from __future__ import annotations
 import ctypes
 from collections.abc import Sequence
 from functools import lru_cache
-from typing import TYPE_CHECKING, Dict, Iterator, List, NamedTuple, Union, overload
+from typing import TYPE_CHECKING, Any, Callable, Dict, Iterator, List, NamedTuple, Union, overload
 
 from ._library import library, untyped
 from ._numbers import Cause
@@ -44,10 +44,7 @@ def moves_by_text() -> Dict[str, Move]:
 
 
 class Moves(Sequence[Move]):
-    """The current moves of a game's record.
-
-    A loop goes over the moves that there are when it begins.
-    """
+    """The moves of a game's record. A loop goes over the moves that there are at its beginning."""
 
     __slots__ = ("_game",)
 
@@ -97,3 +94,19 @@ class Moves(Sequence[Move]):
 
     def __repr__(self) -> str:
         return f"<vintsaky.Moves {' '.join(str(move.vertex) for move in self)}>"
+
+
+def play_numbered(play: Callable[[Any, Any], None], number: int, move: Any) -> None:
+    """Plays the move with this number, which an error names."""
+    try:
+        colour, vertex = move
+    except (TypeError, ValueError):
+        raise TypeError(
+            f"move {number}: {shown(move)} is no pair of a colour and a vertex"
+        ) from None
+    try:
+        play(colour, vertex)
+    except Refused as refused:
+        raise Refused(refused.cause, f"move {number}: {refused.what}", refused.said) from None
+    except TypeError as problem:  # which may be that of a subclass's own play
+        raise TypeError(f"move {number}: {problem}") from problem

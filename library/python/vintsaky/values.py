@@ -130,10 +130,7 @@ VERTICES: Dict[int, Vertex] = {_declared.PASS: PASS, **POINTS}
 
 
 def written(call: Any, *arguments: Any, what: str = "") -> str:
-    """Returns the text that this call writes with its length.
-
-    If it is rejected, the error names `what`.
-    """
+    """Returns the text that this call writes. If it is rejected, the error names `what`."""
     length = 256
     while True:
         text = ctypes.create_string_buffer(length)
@@ -155,10 +152,7 @@ MOST_KOMI = 999_999_999.5  # points
 
 
 def colour_number(colour: AnyColour, what: str = "colour") -> int:
-    """Returns the number of a colour, which may be given as text.
-
-    Errors: BAD_COLOUR, or BAD_TEXT for text.
-    """
+    """Returns the number of a colour. Errors: BAD_COLOUR, or BAD_TEXT for text."""
     if type(colour) is Colour:
         return colour
     if isinstance(colour, (str, bytes)):
