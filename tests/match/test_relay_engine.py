@@ -29,15 +29,21 @@ def play(
     environment: dict[str, str],
     tmp_path: Path,
 ) -> Play:
-    """Returns a function that plays a game on 3x3 in which a shell script writes Black's moves."""
+    """Returns a function that plays a game on 3x3 in which a shell script writes Black's moves.
 
-    def play_script(script: str) -> str:
-        mover = tmp_path / "mover"
-        mover.write_text(f"#!/bin/sh\ncd {tmp_path}\n{script}")
-        mover.chmod(0o755)
-        black, white = f"{relay_engine} {mover}", f"{gtp_engine} --policy book --book ,A1"
-        command = [str(twogtp), "--size", "3", "--komi", "0", "--record"]
-        command += ["--black", black, "--white", white]
+    The script finds what White is sent in the file `sent`.
+    """
+
+    def script(name: str, text: str) -> Path:
+        file = tmp_path / name
+        file.write_text(f"#!/bin/sh\ncd {tmp_path}\n{text}")
+        file.chmod(0o755)
+        return file
+
+    def play_script(text: str) -> str:
+        white = script("white", f"tee sent | {gtp_engine} --policy book --book ,A1")
+        command = [twogtp, "--size", "3", "--komi", "0", "--record"]
+        command += ["--black", f"{relay_engine} {script('mover', text)}", "--white", white]
         # a file, since a mover that lives on has the output open
         with open(tmp_path / "output", "w") as output:
             done = run(command, env=environment, stdout=output, stderr=output)
@@ -59,15 +65,16 @@ def test_unlawful_moves_are_ignored(play: Play) -> None:
 
 
 def test_engine_that_is_killed_continues_in_its_next_start(play: Play) -> None:
-    # The first start writes one move, and then nothing. The engine is killed while it waits.
+    # The first start writes one move, and then nothing. The engine is killed once White is sent it.
     output = play(
         """\
 if mkdir started 2> /dev/null; then
     echo B2
     engine=$PPID
-    grep -qx example_relay_engine /proc/$engine/comm || read -r _ _ _ engine _ < /proc/$engine/stat
-    (sleep 1; kill -9 $engine) &
-    exec sleep 50
+    grep -q "^example_relay" /proc/$engine/comm || read -r _ _ _ engine _ < /proc/$engine/stat
+    until grep -qs "play b B2" sent; do sleep 0.1; done
+    kill -9 $engine
+    exec sleep 600
 fi
 echo C3
 """
