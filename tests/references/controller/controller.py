@@ -66,6 +66,13 @@ class Rest(NamedTuple):
     data: bytes
 
 
+class Write(NamedTuple):
+    """A write to a side: what is unanswered then, and what was read since the last whole reply."""
+
+    unanswered: list[Sent]
+    rest: bytes
+
+
 class Up:
     """What is kept of a side that is up: from the start of its engine until it goes down."""
 
@@ -427,23 +434,21 @@ class Controller:
         """Returns what is unanswered of an engine that was sent and has confirmed so much."""
         return [Sent(*row) for row in enumerate(self.script(), 1)][confirmed:sent]
 
-    def writes(self, side: Colour) -> list[tuple[list[Sent], bytes]]:
+    def writes(self, side: Colour) -> list[Write]:
         """Returns the last write to this side, or each that may be the first that fails.
 
-        For each that is what is unanswered then, and what was read since the last whole reply.
         Where the engine has ended, and is sent a script of more than eight commands, there may be a
         write after each reply; the command at which it ended was sent before.
         """
         up = self.up(side)
         length = len(self.script())
-        writes = [(list(up.unanswered), up.rest)]
+        writes = [Write(list(up.unanswered), up.rest)]
         if length > max(self.most, up.confirmed + 1):
             first = max(1, up.confirmed + 2 - self.most)
-            writes += [
-                (self.of_script(rest.confirmed, min(length, rest.confirmed + self.most)), rest.data)
-                for rest in up.rests
-                if rest.confirmed >= first
-            ]
+            for rest in up.rests:
+                if rest.confirmed >= first:
+                    sent = min(length, rest.confirmed + self.most)
+                    writes.append(Write(self.of_script(rest.confirmed, sent), rest.data))
         return writes
 
     def what_is_illegal(self, side: Colour, vertex: Vertex) -> str:

@@ -8,10 +8,9 @@ from ..engine import values
 from ..engine.values import BLACK, WHITE, Colour
 
 from . import replies, why
-from .controller import MOST_UNANSWERED, SIDES, Action, Controller, Report, Setup
+from .controller import MOST_UNANSWERED, SIDES, Action, Controller, Report, Setup, Write
 from .engines import Engine, Running
 from .faulty import CLOSES, ENDS, FLOODS, LATE, SHUTS, Act
-from .why import Sent
 
 MOST_TURNS = 100_000
 FLOOD = 9000  # times that a text is written that is written without end: more than a reply may have
@@ -355,7 +354,7 @@ class Game:
                     raise Undetermined("the engine is silent when it is asked to quit")
 
 
-def broken(process: Process, cause: str, writes: list[tuple[list[Sent], bytes]]) -> list[str]:
+def broken(process: Process, cause: str, writes: Sequence[Write]) -> list[str]:
     """Returns the texts of a pipe that is broken, for each write with what was read by then."""
     return [why.cut_off(unanswered, cause, process.ending(), rest) for unanswered, rest in writes]
 
