@@ -32,9 +32,8 @@ class Outcome(NamedTuple):
 
 
 def outcome_of(folder: Path, files: Dict[str, str], *words: str) -> Outcome:
-    """Returns how a copy of ./test ends, which has these files and a single stage."""
+    """Returns how a copy of ./test ends, which has these files and a single test."""
     script = (TOP / "test").read_text()
-    script = re.sub(r"(?<=<< 'STAGES'\n).*(?=\nSTAGES\n)", "tests/stage", script, flags=re.DOTALL)
     script = re.sub(r"^must_fail=\d+", "must_fail=1", script, flags=re.MULTILINE)
     standard = {
         "test": script,
@@ -42,7 +41,6 @@ def outcome_of(folder: Path, files: Dict[str, str], *words: str) -> Outcome:
         "packaging/built": NOTHING,
         "rt": saying("1 passed, 0 failed"),
         "crates/low/must-fail/wrong.edit": "",
-        "tests/stage": saying("1 passed, 0 failed"),
         "tests/test_one.py": PASSING,
     }
     for name, text in {**standard, **files}.items():
@@ -57,32 +55,6 @@ def outcome_of(folder: Path, files: Dict[str, str], *words: str) -> Outcome:
     return Outcome(done.returncode, [it for it in lines if it.startswith("FAILED")], lines[-1])
 
 
-def stage(second: str = "pass", last_row: int = 2) -> str:
-    """Returns a stage of four checks, the second of which does this. Its rows are 1 and 2."""
-    return f"""\
-#!/usr/bin/env python3
-import os, sys
-sys.path[0] = {str(TOP)!r}
-from tests.shared import checks
-
-class Cases(checks.Case):
-    def test_first(self):
-        \'\'\'one is one.\'\'\'
-        self.same(1, 1)
-    def test_second(self):
-        \'\'\'one is two.\'\'\'
-        {second}
-
-@checks.table([1, 2], lambda it: f"row {{it}}")
-class Rows(checks.Case):
-    def row(self, row):
-        self.same(row, [1, {last_row}][row - 1])
-
-if __name__ == "__main__":
-    checks.main()
-"""
-
-
 @dataclass(frozen=True)
 class Run:
     """A run of ./test programs that has these files: what fails in it, and its last line."""
@@ -95,11 +67,11 @@ class Run:
 
 ENDED = "with 0 passed and none failed"
 RUNS = [
-    Run("all pass", {}, "2 passed, 0 failed"),
+    Run("all pass", {}, "1 passed, 0 failed"),
     Run(
         "a test fails",
         {"tests/test_one.py": PASSING + "def test_two(): assert 1 == 2\n"},
-        "2 passed, 1 failed",
+        "1 passed, 1 failed",
         ["FAILED tests/test_one.py::test_two - assert 1 == 2"],
     ),
     Run(
@@ -108,78 +80,35 @@ RUNS = [
             "tests/test_one.py": "import pytest\n@pytest.fixture\ndef it(): raise KeyError\n"
             "def test_one(it): pass\ndef test_two(): pass\n"
         },
-        "2 passed, 1 failed",
+        "1 passed, 1 failed",
     ),
     Run(
         "a test is skipped",
         {"tests/test_two.py": "import pytest\ndef test_two(): pytest.skip('so')\n"},
-        "2 passed, 0 failed",
+        "1 passed, 0 failed",
     ),
     Run(
         "a file of tests can't be read",
         {"tests/test_two.py": "import nothing_of_this_name\n"},
-        "2 passed, 1 failed",
+        "1 passed, 1 failed",
     ),
     Run(
         "there is no test",
         {"tests/test_one.py": ""},
-        "1 passed, 1 failed",
+        "0 passed, 1 failed",
         [f"FAILED: 'by_pytest' ended with status 5, {ENDED}"],
     ),
     Run(
         "conftest.py is broken",
         {"tests/conftest.py": "import nothing_of_this_name\n"},
-        "1 passed, 1 failed",
+        "0 passed, 1 failed",
         [f"FAILED: 'by_pytest' ended with status 4, {ENDED}"],
     ),
     Run(
         "pytest is killed",
         {"tests/conftest.py": "import os\nos.kill(os.getpid(), 9)\n"},
-        "1 passed, 1 failed",
+        "0 passed, 1 failed",
         [f"FAILED: 'by_pytest' ended with status 137, {ENDED}"],
-    ),
-    Run("all checks of a stage pass", {"tests/stage": stage()}, "5 passed, 0 failed"),
-    Run(
-        "a check of a stage fails",
-        {"tests/stage": stage("self.same(1, 2)")},
-        "4 passed, 1 failed",
-        ["FAILED: one is two"],
-    ),
-    Run(
-        "a check within a check of a stage fails",
-        {"tests/stage": stage("self.check('1 is 2', 1, 2)")},
-        "4 passed, 1 failed",
-        ["FAILED: 1 is 2"],
-    ),
-    Run(
-        "a check of a stage raises an error",
-        {"tests/stage": stage("raise KeyError")},
-        "4 passed, 1 failed",
-        ["FAILED: one is two"],
-    ),
-    Run(
-        "a row of a stage fails",
-        {"tests/stage": stage(last_row=3)},
-        "4 passed, 1 failed",
-        ["FAILED: row 2"],
-    ),
-    Run(
-        "a stage fails after its checks",
-        {"tests/stage": saying("1 passed, 0 failed", 3)},
-        "2 passed, 1 failed",
-        ["FAILED: 'tests/stage' ended with status 3, with 1 passed and none failed"],
-    ),
-    Run(
-        "a stage checks nothing",
-        {"tests/stage": saying("0 passed, 0 failed")},
-        "1 passed, 1 failed",
-        [f"FAILED: 'tests/stage' ended with status 0, {ENDED}"],
-    ),
-    Run(
-        "a stage is killed",
-        {"tests/stage": "#!/bin/bash\nkill -9 $$\n"},
-        "1 passed, 1 failed",
-        [f"FAILED: 'tests/stage' ended with status 137, {ENDED}"],
     ),
 ]
 
@@ -218,5 +147,12 @@ REFUSED = "rt: must-fail low/wrong.edit: refused, as it must be"
 )
 def test_edit_has_to_be_refused(said: str, reason: Optional[str], tmp_path: Path) -> None:
     status, _, last = outcome_of(tmp_path, {"rt": saying(f"{said}\n1 passed, 0 failed")})
-    # rt ci, the edits, the library, pytest and the stage
-    assert (status, last) == ((1, "4 passed, 1 failed") if reason else (0, "5 passed, 0 failed"))
+    # rt ci, the edits, the library and pytest
+    assert (status, last) == ((1, "3 passed, 1 failed") if reason else (0, "4 passed, 0 failed"))
+
+
+def test_part_that_ends_badly_after_its_checks_is_counted(tmp_path: Path) -> None:
+    proving = saying(f"{REFUSED}\n1 passed, 0 failed", 3)
+    status, failed, _ = outcome_of(tmp_path, {"rt": proving})
+    assert status == 1
+    assert "FAILED: 'gate' ended with status 3, with 2 passed and none failed" in failed
