@@ -14,7 +14,7 @@ from typing import Any, Dict, Iterator, List, NamedTuple
 
 from tests.shared.processes import TIMEOUT, TOP, Process, process_tree, run, wait_until
 
-LONG = 30 * TIMEOUT  # a proof of these crates takes seconds, and beside others minutes
+LONG = 30 * TIMEOUT  # a proof of these crates takes seconds, and on a busy machine minutes
 COPIED = ["build", "demo", "test", "release", "packaging"]
 FILES = {
     "HANDLES": "Handles allowed: none.\n",

@@ -1,4 +1,4 @@
-"""./build beside `rt ci`, in clones with three small crates.
+"""What ./build leaves, before and after `rt ci`, in clones with three small crates.
 
 What a build leaves, whole or killed in the middle, `rt ci` doesn't take for a part of the
 repository, and what is in bin/ is still good after `rt ci`.
@@ -70,7 +70,7 @@ def killed(folder: Path) -> Killed:
 
 
 class Built(NamedTuple):
-    """A clone, and what came of a build there."""
+    """A clone, and the result of a build there."""
 
     clone: Clone
     done: CompletedProcess[str]
@@ -92,7 +92,7 @@ class Gated(NamedTuple):
     """A clone after another `rt ci`: the library was built over what the first one left."""
 
     clone: Clone
-    program: str  # the sum of what the build had made
+    program: str  # the sum of the program before that
     over: CompletedProcess[str]  # the build of the library over what `rt ci` left
     older: CompletedProcess[str]  # the build where that is older than it has to be
     gate: Gate

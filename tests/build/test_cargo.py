@@ -125,7 +125,7 @@ def test_each_call(
     each_call.check_each_call(way, library, tmp_path, "-DAT_MOST")
 
 
-# ---- beside the proved programs
+# ---- compared with the proved programs
 
 
 class Result(NamedTuple):

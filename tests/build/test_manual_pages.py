@@ -1,4 +1,4 @@
-"""The manual pages beside what the programs say of themselves, and their examples."""
+"""The manual pages, compared with what the programs say of themselves, and their examples."""
 from __future__ import annotations
 
 import re
@@ -113,7 +113,7 @@ def test_example_of_help_runs(
     assert re.fullmatch(PRINTED[program], done.stdout)
 
 
-# ---- the pages beside --help
+# ---- the pages, compared with --help
 
 
 @each_program

@@ -12,7 +12,7 @@ from typing import Iterator
 
 import pytest
 
-from tests.shared.processes import TIMEOUT, process_tree, run, wait_until
+from tests.shared.processes import process_tree, run, wait_until
 
 from .releases import (
     LONG,
@@ -99,14 +99,16 @@ def test_full_disk(size: str, copy: Path) -> None:
 
 
 def test_release_that_is_ended(copy: Path) -> None:
-    # it has begun to write, and no other one may begin beside it
+    # once it has begun to write; no other one may begin meanwhile
     notices = copy / "dist/.making/notices"
     unseen = dict.fromkeys(["stdin", "stdout", "stderr"], subprocess.DEVNULL)
     with process_tree(["./release"], LONG, cwd=copy, **unseen) as process:
-        assert wait_until(lambda: notices.exists() or process.poll() is not None)
+        assert wait_until(lambda: notices.exists() or process.poll() is not None, LONG)
+        os.killpg(process.pid, signal.SIGSTOP)  # however slow this machine is
         other = release(copy)
         process.send_signal(signal.SIGTERM)
-        status = process.wait(TIMEOUT)
+        os.killpg(process.pid, signal.SIGCONT)
+        status = process.wait(LONG)
     report = "release: another ./release runs in this clone\n"
     assert (other.returncode, other.stderr) == (1, report)
     assert (status, list((copy / "dist").iterdir())) == (143, [])

@@ -319,7 +319,7 @@ TRIALS = [
 
 
 def outcome(done: CompletedProcess[str]) -> List[Any]:
-    """Returns what came of a command."""
+    """Returns the status of a command, and what it has written."""
     return [done.returncode, done.stdout, done.stderr]
 
 
