@@ -10,7 +10,7 @@ import threading
 from array import array
 from contextlib import contextmanager
 from threading import get_ident
-from typing import Any, Iterator, List, NoReturn, Optional, Sequence, Tuple
+from typing import Any, Dict, Iterator, List, NoReturn, Optional, Sequence, Tuple
 
 from . import _declared
 from ._buffers import BYTE, FLOAT, Buffer, buffer_of, buffer_or_none, check_disjoint
@@ -172,18 +172,8 @@ class Games:
         Errors: TypeError and ValueError for wrong moves and buffers. Then no move is made.
         """
         earlier, numbers = int_in_range(earlier, "earlier", 0, MOST_MOVES), self._numbers(moves)
-        each, shape = (len(self._handles),), self._plane_shape(earlier)
-        buffers = {
-            "causes": buffer_or_none(causes, "causes", each, (BYTE,)),
-            "over": buffer_or_none(over, "over", each, (BYTE,)),
-            "scores": buffer_or_none(scores, "scores", each, (FLOAT,)),
-            "planes": buffer_or_none(planes, "planes", shape),
-            "masks": buffer_or_none(masks, "masks", self._mask_shape()),
-        }
-        check_disjoint(buffers)
-        if planes is None and earlier:
-            wanted = f"{earlier} boards are asked for, and no planes to write them into"
-            raise ValueError(f"earlier: {wanted}")
+        given = {"causes": causes, "over": over, "scores": scores, "planes": planes, "masks": masks}
+        buffers = self._buffers_of(given, earlier)
         with self._in_call() as (handles, _):
             refused = self._play(handles, numbers, buffers["causes"])
             self._restart(handles, buffers["over"], buffers["scores"])
@@ -305,6 +295,22 @@ class Games:
         """Raises ValueError unless there is one of these for each game."""
         if len(values) != len(self):
             raise ValueError(f"{what}: there are {len(values)}, and not {len(self)}, one a game")
+
+    def _buffers_of(self, given: Dict[str, Any], earlier: int) -> Dict[str, Optional[Buffer]]:
+        """Returns the buffers of a step, by their names. Errors: those of `step`."""
+        each = (len(self._handles),)
+        buffers = {
+            "causes": buffer_or_none(given["causes"], "causes", each, (BYTE,)),
+            "over": buffer_or_none(given["over"], "over", each, (BYTE,)),
+            "scores": buffer_or_none(given["scores"], "scores", each, (FLOAT,)),
+            "planes": buffer_or_none(given["planes"], "planes", self._plane_shape(earlier)),
+            "masks": buffer_or_none(given["masks"], "masks", self._mask_shape()),
+        }
+        check_disjoint(buffers)
+        if given["planes"] is None and earlier:
+            wanted = f"{earlier} boards are asked for, and no planes to write them into"
+            raise ValueError(f"earlier: {wanted}")
+        return buffers
 
     def _play(self, handles: Any, numbers: Any, causes: Optional[Buffer]) -> int:
         """Plays the moves. Returns how many are rejected."""
