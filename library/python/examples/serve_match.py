@@ -54,10 +54,7 @@ class Peer:
 
 
 def take_turn(match: Match, kind: Next, side: Colour, peer: Peer) -> None:
-    """Does what is next.
-
-    An engine that has connected is running already, so its start is only reported.
-    """
+    """Does what is next. An engine that has connected runs already, so it isn't started."""
     if kind is Next.START:
         match.started(side)
     elif kind is Next.SEND:
