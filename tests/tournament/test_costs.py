@@ -69,7 +69,7 @@ TRIES = 3  # of which the best one counts
 @pytest.fixture(scope="module")
 def count(request: pytest.FixtureRequest) -> int:
     """Returns how many results there are, of which --count may ask for more, such as 100000."""
-    return max(1000, request.config.getoption("--count") or 20_000)
+    return max(1000, request.config.getoption("--count") or 10_000)
 
 
 def processor_seconds(runner: Runner, *command: object) -> float:
