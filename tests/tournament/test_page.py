@@ -1,4 +1,4 @@
-"""What people copy from docs/tournaments.md: its commands, as the page has them."""
+"""What people do by docs/tournaments.md: the blocks that they copy, and other advice."""
 from __future__ import annotations
 
 import os
@@ -6,6 +6,7 @@ import re
 import shlex
 import shutil
 import subprocess
+import textwrap
 from typing import Iterable, List, Sequence, Tuple
 
 import pytest
@@ -21,15 +22,9 @@ TINY = ["--seeds", "1", "--", "--size", "2"]
 
 def block(words: str) -> str:
     """Returns the block of the page that has these words."""
-    blocks = re.findall(r"^```\n(.*?)^```$", PAGE, re.MULTILINE | re.DOTALL)
-    (found,) = (text for text in blocks if words in text)
-    return str(found)
-
-
-def command(words: str) -> str:
-    """Returns the command between backquotes that begins with these words."""
-    (found,) = {text for text in re.findall(r"`([^`\n]+)`", PAGE) if text.startswith(words)}
-    return str(found)
+    blocks = re.findall(r"^( *)```\n(.*?)^\1```$", PAGE, re.MULTILINE | re.DOTALL)
+    (found,) = (textwrap.dedent(text) for _, text in blocks if words in text)
+    return found
 
 
 MOVES = {"B": "D4", "W": "D4 D16"}  # of a game that this side wins, as the other one resigns
@@ -54,9 +49,6 @@ LOOP = block("for ((seeds")
 ONE_WINS, BLACK_WINS = ("B", "W"), ("B", "B")
 ABANDONED = ("abandoned", "B")
 MANY = [ONE_WINS, ONE_WINS, BLACK_WINS] * 50
-CONTINUED = LOOP.replace("|| break\n", command("|| [ $?") + "\n", 1).replace(
-    "0 10", f"0 10 {command('--abandoned')}"
-)
 
 
 @pytest.mark.parametrize(
@@ -72,9 +64,6 @@ CONTINUED = LOOP.replace("|| break\n", command("|| [ $?") + "\n", 1).replace(
         ),
         pytest.param(
             [ABANDONED, *MANY], LOOP, "200 of 200 games have a result", 1, id="an abandoned side"
-        ),
-        pytest.param(
-            [ABANDONED, *MANY], CONTINUED, "one - two: 10 Elo", 4, id="an abandoned side loses"
         ),
         pytest.param(
             [BLACK_WINS] * 200,
@@ -97,30 +86,12 @@ def test_loop_of_a_test(
 # ---- other commands
 
 
-def test_games_of_the_other_engines(runner: Runner) -> None:
-    words = [*TWO, *engines(three="./three")]
-    runner.tournament("plan", "night", *words, *TINY)
-    runner.shell(block("grep -vE").replace("NAME", "three"))
-    assert sorted(runner.games("night")) == ["1_one_two", "1_two_one"]
-
-
 def test_new_directory_with_old_games(runner: Runner) -> None:
     words = [*TWO, *TINY]
     runner.tournament("play", "night", *words)
-    runner.shell(f"{command('mkdir new')}\n{command('cp -a')}")
+    runner.shell("mkdir new && cp -a night/games night/logs night/notes new")
     done = runner.tournament("play", "new", "--move-limit", "9", *words)
     assert done == (0, "2 of 2 games have a result\n", "")
-    night, new = (sorted((runner.folder / name / "games").iterdir()) for name in ("night", "new"))
-    times = [[place.stat().st_mtime_ns for place in places] for places in (night, new)]
-    assert times[0] == times[1]
-    runner.shell(command("find new/games").replace("NAME", "two"))
-    assert runner.games("new") == {}
-
-
-def test_games_with_an_abandoned_side(runner: Runner) -> None:
-    write_games(runner, [("B", "abandoned"), ("W", "B")])
-    found = runner.shell(command("grep -r ")).output
-    assert found == "night/games/1_two_one:game 1: abandoned black moves 0 restarts 2 0\n"
 
 
 def test_plan_that_is_made_again(runner: Runner) -> None:
@@ -143,8 +114,6 @@ def test_run_that_survives_a_logout(runner: Runner) -> None:
     assert shell.stdout
     number = shell.stdout.readline().strip()
     runner.wait_for("game 1_one_two")
-    found = dict(line.split(" ", 1) for line in runner.shell(command("pgrep")).output.splitlines())
-    assert found[number].endswith("tournament play night --jobs 2")
     runner.run("kill", number)
     runner.finish(shell)
     log = runner.folder / "night.log"
@@ -156,8 +125,7 @@ def test_run_that_survives_a_logout(runner: Runner) -> None:
 
 
 def test_tap_with_the_seed_in_its_log(runner: Runner) -> None:
-    tap = command("tap LOG.%s").replace("LOG", f"{runner.folder}/log")
-    words = engines(one=f"{tap} gtp_engine", two=f"{RANDOM} %s")
+    words = engines(one=f"tap {runner.folder}/log.%s gtp_engine", two=f"{RANDOM} %s")
     runner.tournament("play", "night", *words, "--seeds", "2", "--", "--size", "2")
     # each seed has two games, and the first one the trial before them
     starts = ["1.1", "1.2", "1.3", "2.1", "2.2"]
@@ -166,17 +134,31 @@ def test_tap_with_the_seed_in_its_log(runner: Runner) -> None:
     assert "name" in (runner.folder / "log.1.1.commands").read_text()
 
 
+# ---- several machines
+
+
+def test_shared_directory(runner: Runner) -> None:
+    (runner.folder / "shared").mkdir()
+    for name in ("one", "two"):
+        runner.script(f"shared/{name}", "exec gtp_engine")
+    lines = block("tournament plan /shared/far").replace("/shared", f"{runner.folder}/shared")
+    done = runner.shell(lines.replace("500", "1 -- --size 2"))
+    assert (done[::2], len(runner.games("shared/far"))) == ((0, ""), 2)
+
+
 def test_gnu_parallel(runner: Runner) -> None:
-    # nothing is in the PATH of the machine, so twogtp is found beside the scripts
+    # nothing is in the PATH of the machine, so twogtp is found in ../bin, seen from the scripts
     use_parallel(runner, "env", "-u", "TWOGTP", shlex.quote(f"PATH={os.environ['PATH']}"))
+    shared = runner.folder / "shared"
     for folder in ("one", "shared/bin"):
         (runner.folder / folder).mkdir(parents=True)
-    shutil.copytree(SCRIPTS, runner.folder / "shared/scripts")
-    shutil.copy(runner.programs / "twogtp", runner.folder / "shared/bin")
+    shutil.copytree(SCRIPTS, shared / "scripts")
+    shutil.copy(runner.programs / "twogtp", shared / "bin")
     engine = runner.programs / "gtp_engine"
     words = engines(one=str(engine), two=f"{engine} --policy random --seed %s")
     runner.tournament("plan", "shared/far", *words, "--seeds", "2", *SMALL)
     runner.write("hosts", "4/one\n")
-    line = block("--sshloginfile hosts").replace("/shared/", f"{runner.folder}/shared/")
-    done = runner.shell(line.replace("parallel ", "parallel --will-cite "))
+    options = "--will-cite --retries 5 --sshloginfile hosts --ssh 'machine hosts'"
+    game = f"{shared}/scripts/tournament game {shared}/far"
+    done = runner.shell(f"tournament list shared/far | parallel {options} {game}")
     assert (done.status, len(runner.games("shared/far"))) == (0, 4)
