@@ -12,7 +12,7 @@ from tests.engines.wrong.plain import Plain
 from .checking import WRONG, Checker, RunEngine, only
 from .reports import Choice, Complaint
 
-MOST_SHOWN = 30  # lines of a conversation, in place of hundreds
+MOST_SHOWN = 40  # lines of a conversation, in place of hundreds
 
 
 def right_answers(run_engine: RunEngine, lines: Sequence[str]) -> Dict[str, str]:
@@ -108,7 +108,7 @@ def test_answer_with_one_newline(
     kind: str, lesson: str, checker: Checker, run_engine: RunEngine
 ) -> None:
     engine = f"{WRONG}/unended {kind}"
-    complaint = only_complaint(checker, engine, "--only", lesson)
+    complaint = only_complaint(checker, engine, "--only", lesson, "--trials", "30")
     assert complaint.ran_on
     assert not complaint.left_out and len(complaint.lines) <= MOST_SHOWN
     lines = (*complaint.lines, *complaint.ahead)

@@ -15,7 +15,7 @@ FREE = PYTHON + " tests/engines/right/free {} --seed {} --ko {}"
 SCORES = ("komi", "games")
 HISTORY = ("start", "drawn", "record", "genmoves", "games")
 SUICIDES = ("suicide", "drawn", "genmoves", "games")
-PLAYS = ("start", "ko", "captures", "suicide", "joining", "drawn", "genmoves", "games")
+PLAYS = ("ko", "captures", "suicide", "genmoves", "games")
 FREEDOMS: Dict[str, Sequence[str]] = {
     "rounds_komi": SCORES,
     "refuses_komi": SCORES,
@@ -32,7 +32,7 @@ FREEDOMS: Dict[str, Sequence[str]] = {
     "keeps_one_move": ("start", "drawn", "genmoves", "games"),
     "allows_suicide": SUICIDES,
     "allows_suicide_of_chains": SUICIDES,
-    "has_all_freedoms": (*PLAYS, "record", "komi"),
+    "has_all_freedoms": ("captures", "komi", *SUICIDES),
 }
 # how often an engine is tried that can say the same score three times by chance, and is blamed then
 TRIED, MOST_BLAMED = 12, 3

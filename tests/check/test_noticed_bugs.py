@@ -24,7 +24,7 @@ from .reports import Complaint
 
 BUGS = all_bugs()
 OF_A_SUBJECT = 8  # bugs that are tried of each subject, at most
-QUICK_LESSONS = ("start", "komi", "games", "restarts")
+QUICK_LESSONS = ("start", "komi", "games")
 
 
 def pytest_generate_tests(metafunc: pytest.Metafunc) -> None:
@@ -125,7 +125,7 @@ def first_pasted(subject: str) -> Type[Bug]:
 def test_shorter_conversation(subject: str, checker: Checker, run_engine: RunEngine) -> None:
     bug = first_pasted(subject)
     lessons = only(*lessons_of(bug.name, subject))
-    check = checker.check(engine_of(bug), "--trials", "12", "--restarts", "1", *lessons)
+    check = checker.check(engine_of(bug), "--trials", "12", "--restarts", "0", *lessons)
     for complaint in check.report.complaints:
         assert not complaint.left_out
         check_is_real(run_engine, bug, complaint)

@@ -52,6 +52,8 @@ def dressed(form: str, *lessons: str, notes: Sequence[str] = ()) -> Right:
 
 # lessons that have each kind of answer, except that nothing is refused as suicide or ko
 EACH_ANSWER = ("start", "komi", "games", "restarts")
+# lessons that ask what random games ask too
+SKIPPED = ("--skip", "captures", "--skip", "suicide", "--skip", "joining")
 ENGINES = [
     Right(
         "the reference by first, simple ko",
@@ -63,13 +65,7 @@ ENGINES = [
         REFERENCE.format("random", 3, "positional"),
         ["--ko", "positional", "--seed", "3", *only("ko", "drawn", "record", "restarts")],
     ),
-    # the lessons that are left out ask what random games ask too
-    Right(
-        "the sample engine",
-        SAMPLE,
-        ["--seed", "8", "--skip", "captures", "--skip", "suicide", "--skip", "joining"],
-        lacks("final_score"),
-    ),
+    Right("the sample engine", SAMPLE, ["--seed", "8", *SKIPPED], lacks("final_score")),
     Right(
         "ours with a book",
         "gtp_engine --policy book --book C3,C4,,D3,resign,D4",
@@ -94,7 +90,7 @@ ENGINES = [
     dressed(
         "nineteen", "start", "sizes", "komi", "drawn", "games", notes=refuses(range(5, 19), 19)
     ),
-    dressed("bare", notes=lacks("undo", "fixed_handicap", "final_score")),
+    Right("bare", DRESSED.format("bare"), SKIPPED, lacks("undo", "fixed_handicap", "final_score")),
     dressed(
         "short_history",
         *("komi", "games", "record"),

@@ -15,7 +15,7 @@ import pytest
 
 from tests.shared.processes import wait_until
 
-from .checking import OURS, WRONG, Checker
+from .checking import OURS, WRONG, Checker, only
 from .test_hostile_engines import SILENT
 
 CLEAR = "\x1b[K"
@@ -82,7 +82,7 @@ def is_progress(text: str) -> bool:
 @pytest.mark.parametrize(
     "engine, options, is_right",
     [
-        pytest.param(OURS, ["--quick"], True, id="a right engine"),
+        pytest.param(OURS, only("start", "komi", "games"), True, id="a right engine"),
         pytest.param(
             f"{WRONG}/engine --bug sign_is_lost",
             ["--restarts", "1", "--only", "komi", "--singly", "--trials", "6"],
