@@ -114,7 +114,7 @@ class ChainsAreSlanting(Bug):
         }
 
     def is_joined(self, board, stone):
-        """Does a stone of its colour that is free touch it at a corner?"""
+        """Tells whether a stone of its colour that is free touches this one at a corner."""
         around = {far for near in self.near[stone] for far in self.near[near]}
         corners = [far for far in around if far[0] != stone[0] and far[1] != stone[1]]
         same = [far for far in corners if board[far] == board[stone]]
@@ -144,7 +144,7 @@ class Counted(Bug):
         self.kept = self.heads, self.free
 
     def put(self, colour, point):
-        """The board after a play, by the counts; they are kept for `move`."""
+        """Returns the board after a play, by the counts, which are kept for `move`."""
         board, heads, free = Board(self.board), dict(self.heads), dict(self.free)
         board[point], heads[point] = colour, point
         own = {self.heads[near] for near in self.near[point] if board[near] == colour}
@@ -158,12 +158,12 @@ class Counted(Bug):
         return board
 
     def joined_count(self, board, point, own):
-        """The liberties of the new stone's chain, which joins these chains."""
+        """Returns how many liberties the new stone's chain has, which joins these chains."""
         return len(self.liberties(board, self.chain(board, point)))
 
     def take(self, board, heads, free, head):
-        """Takes a chain off. Each chain beside a stone of it has a liberty more."""
-        for stone in [stone for stone, its in heads.items() if its == head]:
+        """Removes a chain. Each chain beside a stone of it gets a liberty."""
+        for stone in [stone for stone, name in heads.items() if name == head]:
             del board[stone], heads[stone]
             for beside in {
                 heads[near] for near in self.near[stone] if heads.get(near, head) != head
@@ -241,7 +241,7 @@ class Named(Keeping):
         return found
 
     def namesakes(self, board, stones):
-        """The other stones of this colour that have a name of these stones."""
+        """Returns the other stones of this colour that have a name of these stones."""
         names = {self.kept[stone] for stone in stones if stone in self.kept}
         colour = board[next(iter(stones))]
         return {
@@ -318,7 +318,7 @@ class TakenChainGivesOneLiberty(Counted):
     touched."""
 
     def take(self, board, heads, free, head):
-        stones = [stone for stone, its in heads.items() if its == head]
+        stones = [stone for stone, name in heads.items() if name == head]
         for stone in stones:
             del board[stone], heads[stone]
         for beside in {
@@ -340,7 +340,7 @@ class ChainJoinsItself(Keeping):
         self.kept = {point: point for point in points}
 
     def ring(self, stone):
-        """The stones of a ring."""
+        """Returns the stones of a ring."""
         found = [stone]
         while self.kept[found[-1]] != stone:
             found.append(self.kept[found[-1]])

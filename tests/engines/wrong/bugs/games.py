@@ -19,7 +19,7 @@ def record_stays(self, right, arguments):
 
 @shown_by(on(5, KO, "clear_board", "play b B1"), "=")
 class KoStays(Bug):
-    """The noted point of a ko stays at `clear_board`, so the first play of the next game can be
+    """The kept point of a ko stays at `clear_board`, so the first play of the next game can be
     refused."""
 
     kept = None
@@ -81,7 +81,7 @@ class GameOverStays(Bug):
 
 @shown_by(["boardsize 5", *on(3, "b C1 w B1 w C2", "play w C1")], "=")
 class EdgesOfALargerBoard(Bug):
-    """The table of edges is made anew only for a larger board, so a smaller one has liberties
+    """The table of edges is made again only for a larger board, so a smaller one has liberties
     outside."""
 
     edge = 0
@@ -156,7 +156,7 @@ class ChoiceOfTheGameBefore(Bug):
 
 @instead_of("do_clear_board", on(5, "b A5", "clear_board", "play w A5"), "=")
 def stones_of_the_game_before(self, right, arguments):
-    """`clear_board` empties the rows up to the last but one, so the top row keeps its stones."""
+    """`clear_board` empties all rows except the last one, so the top row keeps its stones."""
     kept = {point: stone for point, stone in self.board.items() if point[1] == self.size > 1}
     right(arguments)
     self.board = Board(kept)
@@ -184,7 +184,7 @@ class TakenStonesOfTheGameBefore(Bug):
 
     def __init__(self, *options):
         super().__init__(*options)
-        self.taken = []  # each a move's number, a point's number and its stone
+        self.taken = []  # of each stone a move's number, a point's number and the colour
 
     def move(self, colour, point):
         before = self.board

@@ -207,8 +207,8 @@ def tried_captures_stay(self, right, colour):
     """The engine tries what the other side can take on its own board, and doesn't put those stones
     back."""
     chosen = right(colour)
-    tried = [point for point in points(self.size) if self.is_legal(other(colour), point)]
-    boards = [self.put(other(colour), point) for point in tried]
+    legal = [point for point in points(self.size) if self.is_legal(other(colour), point)]
+    boards = [self.put(other(colour), point) for point in legal]
     self.board = Board(
         {
             place: stone
@@ -242,7 +242,7 @@ class EmptyPointsAreListedTwice(Keeping):
         return empty
 
     def choose(self, colour):
-        """The last point of the list where a play is no suicide, no ko and no eye."""
+        """Returns the last point of the list where a play is no suicide, no ko and no eye."""
         for point in reversed(self.kept):
             board = self.put(colour, point)
             is_eye = all(board[near] == colour for near in self.near[point])

@@ -6,7 +6,7 @@ from tests.references.engine.values import WHITE
 
 
 def placed(size, stones):
-    """A fresh board and a handicap."""
+    """Returns a new game with a handicap."""
     return on(size, "", f"fixed_handicap {stones}")
 
 
@@ -73,7 +73,7 @@ def no_handicap_below_nine(self, right):
 
 @instead_of("low_line", on(25, "", "fixed_handicap 2"), "points D4 W22")
 def fifth_line_past_19(self, right):
-    """Past 19x19 the handicap points are on the fifth line: the author goes on from the third and
+    """Past 19x19 the handicap points are on the fifth line: the author continues from the third and
     the fourth."""
     return 5 if self.size > 19 else right()
 
@@ -224,19 +224,19 @@ def handicap_is_transposed(self, right, points):
 
 @shown_by(on(9, "", "! fixed_handicap 10", "fixed_handicap 2"), "points C3 G7")
 class RefusedHandicapCounts(Bug):
-    """That there is a handicap is noted before its number is looked at, so after a refused one the
+    """That there is a handicap is kept before its number is looked at, so after a refused one the
     next one fails."""
 
-    noted = False
+    known = False
 
     def begin(self, size):
         super().begin(size)
-        self.noted = False
+        self.known = False
 
     def do_fixed_handicap(self, arguments):
-        if self.noted:
+        if self.known:
             raise Failure("board not empty")
-        self.noted = True
+        self.known = True
         return super().do_fixed_handicap(arguments)
 
 

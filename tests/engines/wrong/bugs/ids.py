@@ -54,13 +54,14 @@ def ids_have_commas(self, right, good, number, text):
 
 @shown_by(["1 name", "2 version"], "= 1", plain=False)
 class IdOfTheCommandBefore(Bug):
-    """A reply has the id of the command before: it is noted once the reply was written."""
+    """A reply has the id of the command before: the engine reads an id once the reply is
+    written."""
 
-    noted = None
+    known = None
 
     def reply(self, good, number, text):
-        shown = number if self.noted is None else self.noted
-        self.noted = number
+        shown = number if self.known is None else self.known
+        self.known = number
         return super().reply(good, shown, text)
 
 

@@ -57,15 +57,15 @@ def ko_outlives_a_pass(self, right, board, colour, point):
     return number > 0 and board == self.boards[number - 1]
 
 
-class Noted(Keeping):
-    """An engine that notes who may not play where by simple ko: a colour and a point, or None. It
-    is right; bugs here and elsewhere change it."""
+class KoPoint(Keeping):
+    """An engine that keeps who may not play where by simple ko: a colour and a point, or None. The
+    engine is right; bugs here and elsewhere change it."""
 
     def fresh(self):
         return None
 
     def kept_after(self, before, colour, point):
-        """What a move notes: a stone alone has taken one stone, and has no other liberty."""
+        """Returns who may not play where: a stone alone has taken one, and has no other liberty."""
         taken = removed(before, self.board)
         if len(taken) != 1:
             return None
@@ -77,8 +77,8 @@ class Noted(Keeping):
 
 
 @shown_by(on(5, KO + " b E5", "play b B1"), "=")
-class KoOutlivesAThreat(Noted):
-    """The noted point is forgotten only at the next capture, so a ko can't be retaken after a
+class KoOutlivesAThreat(KoPoint):
+    """The point of a ko is forgotten only at the next capture, so a ko can't be retaken after a
     threat."""
 
     def kept_after(self, before, colour, point):
@@ -88,16 +88,16 @@ class KoOutlivesAThreat(Noted):
 
 
 @shown_by(on(5, KO, "play w B1"), "=")
-class KoForbidsBothColours(Noted):
-    """The noted point is forbidden for the colour that took, too, which may fill it."""
+class KoForbidsBothColours(KoPoint):
+    """The point of a ko is also forbidden for the colour that captured, which may fill it."""
 
     def is_ko(self, board, colour, point):
         return self.kept is not None and point == self.kept[1]
 
 
 @shown_by(on(5, "w A1 b B1 b A3 w B2 w B3 w A4 b A2", "play w A1"), "=")
-class KoAfterAChain(Noted):
-    """A point is noted whenever one stone was taken, also where the stone that took it joined
+class KoAfterAChain(KoPoint):
+    """A point is kept whenever one stone was taken, also where the stone that took it joined
     others."""
 
     def kept_after(self, before, colour, point):
@@ -123,7 +123,7 @@ def ko_of_equal_counts(self, right, board, colour, point):
 
 @shown_by(on(5, KO, "! play b B1", "play b B1"), "?")
 class KoForgottenAtARefusal(Bug):
-    """A retake is refused once: the refusal forgets the noted point."""
+    """A retake is refused once: the refusal forgets the point of the ko."""
 
     forgotten = None
 
@@ -205,9 +205,9 @@ class HashIgnoresColours(Keeping):
 
 
 @shown_by(on(5, KO + " w E5", "play b B1"), "=")
-class KoOutlivesASecondMove(Noted):
-    """The noted point is forgotten at a move of the colour that may not play there, and not at one
-    of the other."""
+class KoOutlivesASecondMove(KoPoint):
+    """The point of a ko is forgotten at a move of the colour that may not play there, and not at
+    one of the other."""
 
     def kept_after(self, before, colour, point):
         return super().kept_after(before, colour, point) or (
@@ -217,7 +217,7 @@ class KoOutlivesASecondMove(Noted):
 
 @shown_by(on(5, KO, "! play b A2", "play b B1"), "?")
 class KoForgottenAtAnOccupiedPoint(Counting):
-    """The board is noted before a play is looked at, so ko isn't noticed after a play on a stone
+    """The board is kept before a play is looked at, so ko isn't noticed after a play on a stone
     was refused."""
 
     def refuse(self, colour, point):
@@ -230,9 +230,9 @@ class KoForgottenAtAnOccupiedPoint(Counting):
 
 # B19 is point 343
 @shown_by(on(19, "b A18 w C19 b B19 w B18 w A19", "play b B19"), "?")
-class KoIsComparedByIs(Noted):
-    """The noted point is compared by `is`, which in Python finds equal numbers to be one up to 256
-    alone."""
+class KoIsComparedByIs(KoPoint):
+    """The point of a ko is compared by `is`, which in Python finds equal numbers to be one up to
+    256 alone."""
 
     def is_ko(self, board, colour, point):
         return self.index(point) <= 256 and super().is_ko(board, colour, point)
@@ -241,8 +241,8 @@ class KoIsComparedByIs(Noted):
 # Black may not play E5.
 @shown_by(on(5, f"{NO_LIBERTY_AT_E5} {KO}", "! play b E5", "play b B1"), "?")
 class KoForgottenAtASuicide(Counting):
-    """A play forgets the noted point before it looks at suicide, so there is no ko after a suicide
-    was refused."""
+    """A play forgets the point of a ko before it looks at suicide, so there is no ko after a
+    suicide was refused."""
 
     def refuse(self, colour, point):
         self.number += self.dies(colour, point)
@@ -267,7 +267,7 @@ def refused_retake_takes_the_stone(self, right, colour, point):
 
 
 def drawn():
-    """Numbers of fifteen bits, as `rand` of an old C library gives them."""
+    """Yields numbers of fifteen bits, as `rand` of an old C library."""
     state = 1
     while True:
         state = (state * 214013 + 2531011) % 2**32
@@ -288,7 +288,7 @@ class NumbersOfFifteenBits(Keeping):
         return []
 
     def sum_of(self, board):
-        """The sum of the numbers of a board's stones, bit by bit."""
+        """Returns the sum of the numbers of a board's stones, bit by bit."""
         total = 0
         for point, stone in board.items():
             total ^= self.numbers[self.index(point)][stone == WHITE]

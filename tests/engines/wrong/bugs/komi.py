@@ -9,7 +9,7 @@ from tests.references.engine.values import BLACK, PASS, Point
 
 
 def scored(*komi):
-    """A fresh board, these komis, and the score."""
+    """Returns a new game with these komis, and the score."""
     return on(5, "", *(f"komi {number}" for number in komi), "final_score")
 
 
@@ -181,11 +181,11 @@ def score_with_two_signs(self, right, halves):
 class ScoreIsNoted(Bug):
     """`final_score` is counted once in a process, and answered again whatever komi is by then."""
 
-    noted = None
+    known = None
 
     def do_final_score(self, arguments):
-        self.noted = self.noted or super().do_final_score(arguments)
-        return self.noted
+        self.known = self.known or super().do_final_score(arguments)
+        return self.known
 
 
 @instead_of("do_komi", on(5, "", "komi 6.5", "! komi six", "final_score"), "= W+6.5")
@@ -227,7 +227,7 @@ class RegionsAreFilledByRecursion(Bug):
         return found
 
     def fill(self, board, point, found):
-        """Finds what is joined to a point and isn't found yet. Its number of points."""
+        """Adds what is joined to a point to what is found, and returns how many points that is."""
         found.add(point)
         same = (
             near

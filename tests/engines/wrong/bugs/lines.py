@@ -52,7 +52,7 @@ def second_line_of_a_read_is_lost(self, right, data):
     "=",
 )
 def reads_of_sixty_four(self, right, data):
-    """A read takes 64 bytes, and a line that goes on in the next read is taken as two."""
+    """A read takes 64 bytes, and a line that continues in the next read is taken as two."""
     return [
         line for start in range(0, len(data), 64) for line in data[start : start + 64].split("\n")
     ]

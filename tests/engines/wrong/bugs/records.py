@@ -5,7 +5,7 @@ from tests.references.engine.game import EMPTY, filled, points
 from tests.references.engine.values import PASS, other
 
 from .captures import Named
-from .ko import Noted
+from .ko import KoPoint
 from .undo import UndoOnce
 
 # Each round takes four stones on 2x2 in four plays.
@@ -161,8 +161,8 @@ def first_of_a_block_stays(self, right):
 
 
 @shown_by(on(5, KO + " " + passes(256), "play b B1"), "=")
-class KoComesBack(Noted):
-    """The move that a ko was noted at is a byte, so the ko is there again 256 moves later."""
+class KoComesBack(KoPoint):
+    """The number of the move that made a ko is a byte, so the ko is there again 256 moves later."""
 
     def kept_after(self, before, colour, point):
         note = super().kept_after(before, colour, point)
@@ -174,14 +174,14 @@ class KoComesBack(Noted):
         )
 
     def is_now(self, number):
-        """Is this the number of moves, as far as the engine can see?"""
+        """Tells whether this is the number of moves, as far as the engine can see."""
         return number % 256 == len(self.moves) % 256
 
 
 @shown_by(on(5, passes(256) + KO, "play b B1"), "?")
 class NoKoPastAByte(KoComesBack):
-    """The move that a ko was noted at is a byte and the number of moves is none, so there is no ko
-    after 255 moves."""
+    """The number of the move that made a ko is a byte, and the number of moves isn't, so there
+    is no ko after 255 moves."""
 
     def is_now(self, number):
         return number % 256 == len(self.moves)
@@ -189,7 +189,7 @@ class NoKoPastAByte(KoComesBack):
 
 @shown_by([*on(5, ""), *["\n".join(["play b C3", "undo"] * 50)] * 10, "play b C3"], "=")
 class UndoGivesNoRoomBack(MovesOfAllGames):
-    """A game has room for 500 moves, and `undo` doesn't give the room of its move back."""
+    """A game has space for 500 moves, and `undo` doesn't free that of its move."""
 
     room = 500
 

@@ -44,7 +44,7 @@ class LockStays(Kept):
         super().run()
 
     def find_it_running(self):
-        """What it does where the file says so."""
+        """Does what follows if the file says so."""
         raise SystemExit(1)
 
     def do_quit(self, arguments):
@@ -59,7 +59,7 @@ class KeptBoard(Kept):
         self.keep([self.size, list(self.board.items())])
 
     def bring_back(self):
-        """Brings back the board of the file, once, where it has this size."""
+        """Restores the board of the file, once, if that has this size."""
         size, stones = self.old or (0, [])
         if size == self.size:
             self.board = Board(((column, row), Colour(stone)) for (column, row), stone in stones)
@@ -361,7 +361,7 @@ class BookHasNoSizes(Bug):
         self.book = dict(line.rstrip("\n").split(":") for line in self.pages())
 
     def pages(self):
-        """The lines of the file, each the moves, a colon and the answer."""
+        """Returns the lines of the file, each the moves, a colon and the answer."""
         if not os.path.exists(self.file):
             return []
         with open(self.file, encoding="ascii") as file:

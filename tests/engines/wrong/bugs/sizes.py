@@ -87,8 +87,8 @@ def row_past_the_board_ends(self, right, vertex):
 
 @shown_by(["boardsize 9", "! boardsize 26", "clear_board", "play b K10"], "?")
 class RefusedSizeCounts(Bug):
-    """A size that is refused is noted before it is looked at, and `clear_board` makes a board of
-    it."""
+    """A size is kept before it is looked at, and `clear_board` makes a board of it, also if it was
+    refused."""
 
     asked = None
 

@@ -179,17 +179,17 @@ class PrisonersAllowSuicide(Keeping):
 # White's A2 has no liberty but A1, until White takes A3
 @shown_by(on(5, "w A2 b A3 b B2 b B1", "! play w A1", *plays("w A4 w B3"), "play w A1"), "=")
 class SuicideIsNoted(Bug):
-    """That a play is suicide is noted until a point beside it changes, so a liberty that its chain
+    """That a play is suicide is kept until a point beside it changes, so a liberty that its chain
     gets elsewhere isn't seen."""
 
     def begin(self, size):
         super().begin(size)
-        self.noted = {}
+        self.known = {}
 
     def is_legal(self, colour, point):
         if point == PASS or point in self.board:
             return super().is_legal(colour, point)
         beside = [self.board[near] for near in self.near[point]]
         if self.dies(colour, point):
-            self.noted[colour, point] = beside
-        return self.noted.get((colour, point)) != beside and super().is_legal(colour, point)
+            self.known[colour, point] = beside
+        return self.known.get((colour, point)) != beside and super().is_legal(colour, point)

@@ -159,7 +159,7 @@ def pass_brings_stones_back(self, right):
 
 @shown_by(on(5, "b A1 w A2", "undo", "play w B1", "play b A1"), "?")
 class LibertiesStayAtUndo(Counted):
-    """`undo` mends the board, and not the numbers of liberties that the engine keeps."""
+    """`undo` restores the board, and not the numbers of liberties that the engine keeps."""
 
     def undo(self):
         heads, free = self.heads, self.free
@@ -277,7 +277,7 @@ def taken_stones_are_bytes(self, right):
 # A1 takes B1, and then A2
 @instead_of("undo", on(5, "b A3 b B2 b C1 w A2 w B1 b A1", "undo", "play w B1"), "?")
 def last_taken_chain_comes_back(self, right):
-    """A play has one list of captured stones, which each chain begins anew, so `undo` brings back
+    """A play has one list of captured stones, which each chain empties first, so `undo` restores
     the last chain."""
     (colour, point), after = self.moves[-1], self.board
     right()
