@@ -18,7 +18,7 @@ from subprocess import Popen
 
 import pytest
 
-from tests.shared.processes import TOP, kill_tree, wait_until
+from tests.shared.processes import kill_tree, wait_until
 from tests.tournament.runner import SCRIPTS, Runner, kill
 
 from .conftest import PLAN, SLOW
@@ -48,6 +48,11 @@ SlurmdParameters=config_overrides
 NodeName=one NodeHostname={host} NodeAddr=127.0.0.1 Port={one} CPUs=2
 NodeName=two NodeHostname={host} NodeAddr=127.0.0.1 Port={two} CPUs=2
 PartitionName=all Nodes=ALL Default=YES State=UP
+"""
+EACH = """\
+#!/bin/bash
+#SBATCH --cpus-per-task={jobs} --time={minutes}
+exec tournament play far --jobs {jobs} --time-left "$(squeue -h -j $SLURM_JOB_ID -o %L)"
 """
 NODES = ["one", "two"]
 TASKS = 4
@@ -151,17 +156,11 @@ class Cluster:
         return self.output("sbatch", "--parsable", numbers, *options, script, "far", tasks).strip()
 
     def submit_to_each(self, jobs: int, minutes: int) -> list[str]:
-        """Submits the page's script for a job of one's own once for each node.
+        """Submits a job of one's own once for each node, with so many games at once and minutes.
 
-        Returns the numbers of the jobs. The script is changed to so many games at once, and to so
-        many minutes.
+        Returns the numbers of the jobs.
         """
-        page = (TOP / "docs/tournaments.md").read_text()
-        found = re.search(r"  (#!/bin/bash\n  #SBATCH [^`]*)", page)
-        assert found
-        text = found[1].replace("\n  ", "\n")
-        text = re.sub(r"(--time=)[0-9:]+", rf"\g<1>{minutes}", text)
-        text = re.sub(r"(--jobs |--cpus-per-task=)[0-9]+", rf"\g<1>{jobs}", text)
+        text = EACH.replace("{jobs}", str(jobs)).replace("{minutes}", str(minutes))
         script = self.runner.script("each", text)
         return [self.output("sbatch", "--parsable", "-w", it, script).strip() for it in NODES]
 
