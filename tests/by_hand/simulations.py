@@ -41,15 +41,15 @@ DIFFERENCES = [
 def print_errors(count: int) -> None:
     """Prints how often tests err, also by the first ratio alone."""
     for differences, kind in product(DIFFERENCES, simulation.KINDS):
-        likely = [kind(simulation.scores.expected(it)) for it in differences]
-        if any(min(it) < -1e-9 or max(it) >= 1 for it in likely):
+        likely = [kind(simulation.scores.expected(elo)) for elo in differences]
+        if any(min(shares) < -1e-9 or max(shares) >= 1 for shares in likely):
             continue  # pairs of this kind can't have such a score
         is_long = differences[1] - differences[0] <= 10
         tests = min(count, max(1000, count // 8)) if is_long else count
         for decide in (simulation.scores.decision, simulation.by_ratio):
             rates = simulation.error_rates(kind, differences, tests, decide)
-            said = ", ".join(f"{100 * it.errors:.1f} % in {it.pairs:.0f} pairs" for it in rates)
-            print(*differences, kind.__name__, decide.__name__, said, flush=True)
+            said = [f"{100 * rate.errors:.1f} % in {rate.pairs:.0f} pairs" for rate in rates]
+            print(*differences, kind.__name__, decide.__name__, *said, flush=True)
 
 
 def print_year(folder: Path, seeds: int) -> None:
@@ -62,7 +62,7 @@ def print_year(folder: Path, seeds: int) -> None:
     inside = simulation.count_inside(found, elos)
     print(f"{inside} of {len(found['pairs'])} intervals hold the true difference")
     order = [engine["name"] for engine in found["engines"]]
-    print("the order is the true one:", order == sorted(elos, key=lambda it: -elos[it]))
+    print("the order is the true one:", order == sorted(elos, key=lambda name: -elos[name]))
 
 
 def print_ratings(folder: Path) -> None:

@@ -1,4 +1,4 @@
-"""Engines that hang, that can only be killed, or that wait until they are told to begin."""
+"""Engines that hang, that can only be killed, or that wait for a file before they begin."""
 from __future__ import annotations
 
 # It moves along an edge of 9x9. At its genmove of the first argument's number it hangs, or ends by

@@ -30,7 +30,7 @@ OVER = "between: black: the game is over\n"
 
 
 def ask(process: Popen[str], text: str) -> None:
-    """Writes a text to a process, whose input goes on."""
+    """Writes a text to a process, whose input does not end."""
     assert process.stdin
     process.stdin.write(text)
     process.stdin.flush()
@@ -130,7 +130,7 @@ def test_engine_ends_with_it(runner: Runner) -> None:
 
 
 class Pipe(NamedTuple):
-    """A pipe that stands for the process of a game: once its writer is closed, the game is over."""
+    """A pipe in place of the process of a game: once its writer is closed, the game is over."""
 
     reader: BinaryIO
     writer: BinaryIO

@@ -167,7 +167,7 @@ def scores_of(size: int, komi: float) -> Set[str]:
     """Returns the scores that a board can have, by the points of both colours."""
     points = range(size**2 + 1)
     scores = {black - white - komi for black in points for white in points[: len(points) - black]}
-    return {f"{'B' if it > 0 else 'W'}+{abs(it):g}" if it else "0" for it in scores}
+    return {f"{'B' if score > 0 else 'W'}+{abs(score):g}" if score else "0" for score in scores}
 
 
 @pytest.mark.parametrize(
@@ -188,8 +188,8 @@ def test_scores(size: int, komi: float, written: str, runner: Runner) -> None:
     near = ["0", "00", *(f"{side}+{half / 2:g}" for side in "BW" for half in halves)]
     lines = [f"option --size={size}", f"option --komi={written}"]
     end = "moves 2 restarts 0 0\npass pass"
-    whole = whole_results(runner, lines, [f"{it} {end}" for it in near])
-    assert {it.partition(" ")[0] for it in whole} == scores_of(size, komi)
+    whole = whole_results(runner, lines, [f"{verdict} {end}" for verdict in near])
+    assert {result.partition(" ")[0] for result in whole} == scores_of(size, komi)
 
 
 @pytest.mark.parametrize("size", [1, 2, 8, 9, 10, 11, 19, 20, 25])
@@ -218,7 +218,7 @@ def test_moves(size: int, runner: Runner) -> None:
     ],
 )
 def test_plan_whose_board_is_impossible(option: str, why: str, runner: Runner) -> None:
-    write_plan(runner.folder / "all", "ab", 1, *(f"option {it}" for it in option.split()))
+    write_plan(runner.folder / "all", "ab", 1, *(f"option {word}" for word in option.split()))
     status, output, errors = runner.tournament("export", "all", "--sgf", "records")
     assert (status, output) == (2, "")
     assert errors.startswith(f"tournament: the plan has --{why}: it is ")

@@ -21,7 +21,7 @@ HEAD = (
 
 @pytest.fixture
 def written(runner: Runner) -> Runner:
-    """Returns what runs the scripts beside the tournament that was written by hand."""
+    """Returns what runs the scripts where the tournament is that was written by hand."""
     write_games(runner)
     return runner
 
@@ -78,7 +78,9 @@ def lines_of_json(runner: Runner) -> List[Dict[str, Any]]:
 
 def test_json(written: Runner) -> None:
     rows = lines_of_json(written)
-    texts = [{key: "" if it is None else str(it) for key, it in row.items()} for row in rows]
+    texts = [
+        {key: str("" if value is None else value) for key, value in row.items()} for row in rows
+    ]
     assert texts == table(written.tournament("export", "all", "--csv").output)
     # numbers are numbers, and what isn't known is null
     values = [rows[0][key] for key in ("seed", "moves", "black_seconds", "opening")]
@@ -122,7 +124,7 @@ def tags_in(output: str) -> List[Dict[str, str]]:
 def test_pgn(written: Runner) -> None:
     games = tags_in(written.tournament("export", "all", "--pgn").output)
     assert [tags["Result"] for tags in games] == [game.pgn for game in GAMES.values()]
-    assert [tags["Termination"] for tags in games] == [it.termination for it in GAMES.values()]
+    assert [tags["Termination"] for tags in games] == [game.termination for game in GAMES.values()]
     assert games[0] == {
         "Event": "all",
         "Site": "far",
@@ -158,7 +160,7 @@ def test_results_of_a_server(runner: Runner) -> None:
     ]
     assert runner.tournament("export", "all", "--sgf", "records").status == 0
     records = runner.files("records")
-    assert [result_of(records[f"{it}.sgf"]) for it in ("1_a_b", "1_b_a")] == ["W+T", "B+F"]
+    assert [result_of(records[f"{game}.sgf"]) for game in ("1_a_b", "1_b_a")] == ["W+T", "B+F"]
 
 
 def test_openings(runner: Runner) -> None:

@@ -15,7 +15,7 @@ from tests.shared.processes import run
 from .exported import write_games
 from .runner import TWO, Played, Runner
 
-# ---- what was noted of games that were played
+# ---- what is known of games that were played
 
 
 def test_machine_versions_and_times(small: Played) -> None:
@@ -87,8 +87,8 @@ def shown(text: str) -> Position:
 def read_by_gnugo(record: Path) -> Position:
     """Returns the position that GNU Go has at the end of a record, whose komi is 7.5."""
     asked = ["list_stones black", "list_stones white", "captures black", "captures white"]
-    commands = [f"loadsgf {record}", *asked, "query_boardsize", "get_komi", "quit"]
-    done = run(["/usr/games/gnugo", "--mode", "gtp"], "".join(f"{it}\n" for it in commands))
+    commands = [f"loadsgf {record}", *asked, "query_boardsize", "get_komi", "quit", ""]
+    done = run(["/usr/games/gnugo", "--mode", "gtp"], "\n".join(commands))
     answers = [answer.strip().lstrip("= ") for answer in done.stdout.split("\n\n")]
     _, black, white, by_black, by_white, size, komi, *_ = answers
     assert float(komi) == 7.5

@@ -241,4 +241,4 @@ def test_process_that_may_not_be_killed_is_left(runner: Runner, open_folder: Pat
     process.stdin.write("name\n")
     process.stdin.flush()
     assert process.wait() == 124
-    assert [it.command.strip() for it in runner.processes()] == ["sleep 1001"]
+    assert [process.command.strip() for process in runner.processes()] == ["sleep 1001"]

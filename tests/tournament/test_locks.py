@@ -41,7 +41,7 @@ def test_what_a_run_clears_before_it_begins(
     if has_result:
         (runner.folder / "all/games/1_one_two").touch()
     runner.tournament("play", "all", "--time-left", "1")  # in which no game begins
-    assert (sorted(it.name for it in place.iterdir()) if place.exists() else None) == left
+    assert (sorted(path.name for path in place.iterdir()) if place.exists() else None) == left
 
 
 def test_no_lock_is_made_of_a_game_that_another_process_has_ended(
@@ -116,7 +116,7 @@ limit 600
 
 @pytest.fixture
 def earlier(runner: Runner, small_results: Dict[str, str]) -> Runner:
-    """Returns what runs the scripts beside a tournament of earlier ones.
+    """Returns what runs the scripts where earlier ones have left a tournament.
 
     It has two results, and what was written of two games when everything was killed.
     """

@@ -101,7 +101,7 @@ def test_late_side(
     write_plan(runner.folder / "all", "ab", 1)
     write_notes(runner, "1_a_b", f"abandoned {side} moves 3 restarts {restarts}", *notes)
     tally = json.loads(runner.tally("all", "--json").output)
-    found = {it["name"]: it["to_look_into"] for it in tally["engines"]}
+    found = {engine["name"]: engine["to_look_into"] for engine in tally["engines"]}
     assert found == {name: blamed.get(name, {}) for name in "ab"}
 
 
@@ -149,7 +149,7 @@ def test_move_that_is_refused_is_taken_back(runner: Runner) -> None:
     assert line == "game 1: B+F(refused play) moves 7 restarts 0 0"
     assert record_of(notes) == record.split()
     taken_back = ["7 black A1 S", "7 black undone"] * 3 + ["7 black A1 S"]
-    assert [without_seconds(it) for it in notes if it.startswith("7 ")] == taken_back
+    assert [without_seconds(line) for line in notes if line.startswith("7 ")] == taken_back
 
 
 def test_with_direct_there_are_none(runner: Runner) -> None:

@@ -28,7 +28,7 @@ def pair_of_a(found: Dict[str, Any]) -> Dict[str, Any]:
         "score": 1 - pair["score"],
         "interval": [1 - high, 1 - low],
         "elo": pair["elo"] and -pair["elo"],
-        "elo_interval": [it and -it for it in pair["elo_interval"][::-1]],
+        "elo_interval": [end and -end for end in pair["elo_interval"][::-1]],
     }
 
 
@@ -232,7 +232,7 @@ def test_nothing_was_played(runner: Runner) -> None:
 def test_moves_behind_the_opening_are_compared(
     openings: List[str], pairs: List[Pair], same: List[List[str]], clusters: int, runner: Runner
 ) -> None:
-    write_pairs(runner.folder / "all", pairs, lines=[f"opening {it}" for it in openings])
+    write_pairs(runner.folder / "all", pairs, lines=[f"opening {moves}" for moves in openings])
     found = tally(runner)
     assert found["same"] == same
     assert pair_of_a(found)["pairs_in_interval"] == clusters

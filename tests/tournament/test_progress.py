@@ -17,7 +17,7 @@ PLAY = ["tournament", "play", "all", "--jobs", "1"]
 
 
 class Clock:
-    """A clock that goes on when it is told."""
+    """A clock whose seconds the test sets."""
 
     seconds = 100.0
 

@@ -66,7 +66,7 @@ def conversation(seed: int) -> List[str]:
 
 def test_same_moves_are_legal_as_in_gtp_engine(gtp_engine: Path) -> None:
     text = "".join(line for seed in range(1, 41) for line in conversation(seed))
-    own, wanted = (replies(it, text, r"^[=?]\d+") for it in (SAMPLE, gtp_engine))
+    own, wanted = (replies(engine, text, r"^[=?]\d+") for engine in (SAMPLE, gtp_engine))
     assert own == wanted
     assert len(own) == text.count("\n")
 

@@ -49,7 +49,7 @@ def test_children_of_a_shell_live_on(
     if number:
         killed = process.pid if name == "tournament" else runner.named(name)[0]
         kill(killed, number)
-        runner.wait_until(lambda: killed not in [it.pid for it in runner.processes()])
+        runner.wait_until(lambda: killed not in {process.pid for process in runner.processes()})
     runner.write("go", "")
     assert runner.finish(process).status == status
     runner.wait_until(lambda: commands(runner) == STAY)

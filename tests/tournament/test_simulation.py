@@ -51,5 +51,5 @@ def test_tally_of_twelve_engines(runner: Runner) -> None:
     assert len(found["pairs"]) == 66
     assert simulation.count_inside(found, elos) >= 60  # of intervals that hold it in 95 %
     wanted = range(11 * 40, -1, -40)
-    places = [abs(elos[it["name"]] - elo) for it, elo in zip(found["engines"], wanted)]
+    places = [abs(elos[engine["name"]] - elo) for engine, elo in zip(found["engines"], wanted)]
     assert max(places) <= 40  # no engine is two places off

@@ -20,7 +20,7 @@ OTHERWISE = [WON if pair is LOST else LOST if pair is WON else EVEN for pair in 
 
 def sprt(differences: Differences) -> List[str]:
     """Returns the options of a test of these differences."""
-    return ["--sprt", *(f"{it:g}" for it in differences)]
+    return ["--sprt", *(f"{elo:g}" for elo in differences)]
 
 
 # ---- the ratios
@@ -67,7 +67,7 @@ def test_exact_ratio(
     counts: Counts, differences: Differences, ratio: float, off: float, runner: Runner
 ) -> None:
     write_pairs(runner.folder / "all", pairs_of(counts))
-    words = ["--sprt", *(f"{it:.3f}" for it in differences)]
+    words = ["--sprt", *(f"{elo:.3f}" for elo in differences)]
     found = json.loads(runner.tally("all", *words, "--json").output)["sprt"]
     assert found["exact"] == pytest.approx(ratio, abs=off)
 
@@ -75,7 +75,7 @@ def test_exact_ratio(
 # ---- what is accepted
 
 
-# Decisions are beside ln(19) = 2.9444390. By the same two ways the ratio and the exact one are as
+# Decisions are near ln(19) = 2.9444390. By the same two ways the ratio and the exact one are as
 # the comments say.
 @pytest.mark.parametrize(
     "counts, differences, status",
@@ -182,7 +182,8 @@ def write_three_engines(runner: Runner) -> None:
             verdicts[f"{seed}_{one}_{other}"] = pair.first
             verdicts[f"{seed}_{other}_{one}"] = pair.second
     write_plan(runner.folder / "three", "abc", 50)
-    write_results(runner.folder / "three", {it: f"{end} {ENDED}" for it, end in verdicts.items()})
+    results = {game: f"{verdict} {ENDED}" for game, verdict in verdicts.items()}
+    write_results(runner.folder / "three", results)
 
 
 @pytest.mark.parametrize(

@@ -16,7 +16,7 @@ def lines(text: str) -> "list[str]":
 
 @pytest.fixture
 def unreadable(runner: Runner) -> Runner:
-    """Returns what runs the scripts beside six results, of which two can't be read."""
+    """Returns what runs the scripts where there are six results, of which two can't be read."""
     runner.tournament("play", "all", *TWO, "--seeds", "3", "--", "--size", "2")
     for name in ("1_one_two", "2_one_two"):
         (runner.folder / "all/games" / name).unlink()
@@ -34,7 +34,7 @@ NONE = [
 def test_list(unreadable: Runner) -> None:
     status, output, errors = unreadable.tournament("list", "all")
     assert (status, output) == (0, "1_one_two\n2_one_two\n")
-    assert lines(errors) == [f"tournament: {it}" for it in NONE]
+    assert lines(errors) == [f"tournament: {why}" for why in NONE]
 
 
 def test_tally(unreadable: Runner) -> None:
@@ -47,14 +47,14 @@ def test_tally(unreadable: Runner) -> None:
             f"  2_one_two: its file can't be read: {FOLDER}",
         ],
     )
-    assert lines(errors) == [f"tally: {it}" for it in NONE]
+    assert lines(errors) == [f"tally: {why}" for why in NONE]
 
 
 def test_export(unreadable: Runner) -> None:
     status, output, errors = unreadable.tournament("export", "all", "--csv")
     assert (status, output.count("\n")) == (0, 5)
     missing = "tournament: without a result, and so not exported: 2 of 6 games"
-    assert lines(errors) == sorted([*(f"tournament: {it}" for it in NONE), missing])
+    assert lines(errors) == sorted([*(f"tournament: {why}" for why in NONE), missing])
 
 
 def test_play_and_game(unreadable: Runner) -> None:
