@@ -15,4 +15,4 @@ def module(name: str) -> ModuleType:
     folder = str(alone.compiled(SCRIPTS))
     if folder not in sys.path:
         sys.path.insert(0, folder)
-    return importlib.import_module(f"games.{name}")
+    return importlib.import_module(f"vintsaky_tournament.{name}")

@@ -10,7 +10,7 @@ from typing import Any, Callable, Dict, List, NamedTuple, Optional, Sequence, Tu
 
 from .inside import module
 
-scores = module("scores")
+scores = module("stats.scores")
 
 LONGEST = 10**6  # pairs of a test
 Differences = Tuple[float, float]

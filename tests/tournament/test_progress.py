@@ -12,7 +12,7 @@ from .misbehaving import HANGS
 from .runner import Runner, engines
 from .terminal import Terminal
 
-progress = module("progress")
+progress = module("play.progress")
 PLAY = ["tournament", "play", "all", "--jobs", "1"]
 
 

@@ -12,11 +12,11 @@ from .runner import SCRIPTS, TWO, Runner
 
 STANDARD = set(
     "__future__ array collections contextlib csv ctypes difflib enum errno fcntl functools gc io"
-    " itertools json marshal math os random re select shlex signal sys time typing".split()
+    " itertools json marshal math os random re select shlex signal sys time types typing".split()
 )
 # what is in C of a module, which is imported alone where it is there
 IN_C = {"_ctypes", "_signal"}
-OWN = {"games"}
+OWN = {"vintsaky_tournament"}
 
 
 def is_python(place: Path) -> bool:

@@ -1,0 +1,204 @@
+"""The command `tournament`."""
+from __future__ import annotations
+
+import contextlib
+import os
+import signal
+from typing import TYPE_CHECKING, Callable, NamedTuple, Sequence
+
+from . import output
+from .config.arguments import OF_PLAY, Words, processors
+from .config.folder import Folder, make_folders, plan_for, read_plan, write_plan
+from .config.help import HELP
+from .config.plan import Plan, number, seconds, share, time_left
+from .model import State
+from .output import STDERR, STDOUT, Mistake
+from .play.programs import find_twogtp, try_options
+from .store import results
+
+if TYPE_CHECKING:
+    from .config.openings import Opening
+
+TAKEN_BY_DIRECT = ("--move-limit", "--start-limit", "--openings")  # what it leaves out
+
+
+class Prepared(NamedTuple):
+    """What is to be played: the folder with its plan, twogtp, and a warning of equal games."""
+
+    folder: Folder
+    twogtp: str
+    warning: str
+
+
+def asked_plan(words: Words) -> tuple[Plan, bool]:
+    """Returns the plan that the arguments ask for, and whether they have engines or options."""
+    plan = Plan()
+    for option in words.options:
+        if option.name == "--engine":
+            (value,) = option.values
+            name, is_named, command = value.partition("=")
+            if not is_named:
+                raise Mistake(f"--engine needs NAME=CMD, and not '{value}'")
+            plan.add_engine(name, command)
+    plan.gauntlet = words.last("--gauntlet", lambda _, name: name)
+    plan.options = words.after or []
+    plan.seeds, plan.limit = words.last("--seeds", number), words.last("--limit", number)
+    plan.move_limit = words.last("--move-limit", seconds)
+    plan.start_limit = words.last("--start-limit", seconds)
+    plan.is_direct = words.has("--direct")
+    for left_out in TAKEN_BY_DIRECT:
+        if plan.is_direct and words.has(left_out):
+            raise Mistake(f"{left_out} needs what --direct leaves out: give only one of the two")
+    return plan, bool(plan.engines) or words.after is not None
+
+
+def prepare(words: Words) -> Prepared:
+    """Returns what is to be played by the folder and the arguments."""
+    asked, is_given = asked_plan(words)
+    openings = words.last("--openings", read_openings) or []
+    asked.openings = [opening.text() for opening in openings]
+    for name, read in (("--jobs", number), ("--task", share), ("--time-left", time_left)):
+        words.last(name, read)
+    place = words.places[0]
+    before = read_plan(place).same_games() if os.path.exists(f"{place}/plan") else ""
+    folder = plan_for(asked, is_given, place)
+    twogtp = find_twogtp()
+    try_options(twogtp, folder.plan.options)
+    if openings and folder.is_new:
+        from .config.openings import check  # which isn't needed elsewhere
+
+        check(openings, folder.plan.options)
+    warning = folder.plan.same_games()
+    return Prepared(folder, twogtp, "" if warning == before else warning)
+
+
+def write(prepared: Prepared) -> None:
+    """Writes the plan into its folder, and the warning."""
+    write_plan(prepared.folder)
+    if prepared.warning:
+        output.report(prepared.warning)
+
+
+def read_openings(_: str, place: str) -> list[Opening]:
+    """Returns the openings of the file that an option names."""
+    from .config.openings import read  # which isn't needed elsewhere
+
+    return read(place)
+
+
+def do_play(words: Words) -> int:
+    """Plays a tournament, and returns the status."""
+    from .play.run import Run
+    from .play.scheduler import Play
+
+    prepared = prepare(words)
+    plan, folder = prepared.folder.plan, prepared.folder
+    task, left = words.last("--task", share), words.last("--time-left", time_left)
+    jobs = words.last("--jobs", number) or processors()
+    play = Play(Run(plan, folder.place, prepared.twogtp), plan, jobs, task, left)
+    if folder.surplus:
+        output.report(folder.surplus)
+    status = play.try_added(folder)
+    if status is not None:
+        return status
+    write(prepared)
+    return play.all(words.has("--again"))
+
+
+def do_plan(words: Words) -> int:
+    """Makes a plan, or adds to one, and returns the status."""
+    prepared = prepare(words)
+    if prepared.folder.surplus:
+        raise Mistake(
+            prepared.folder.surplus.replace(
+                "all of it is played", "a plan may get more, but not less"
+            )
+        )
+    write(prepared)
+    not_kept = [name for name in OF_PLAY if words.has(name)]
+    if not_kept:
+        them = "them" if len(not_kept) > 1 else "it"
+        output.report(
+            f"a plan doesn't keep {' and '.join(not_kept)}: give {them} to tournament play"
+        )
+    return 0
+
+
+def do_list(words: Words) -> int:
+    """Prints the games of a plan, and returns the status."""
+    (folder,) = words.places
+    plan = read_plan(folder)
+    games = plan.games()
+    names = iter(games)
+    if not words.has("--all"):
+        states = results.states_of(plan, folder)
+        names = (
+            games.name(game)
+            for game, state in enumerate(states)
+            if state in (State.MISSING, State.DAMAGED)
+        )
+    output.write_lines(STDOUT, names)
+    return 0
+
+
+def do_game(words: Words) -> int:
+    """Plays a game, and returns the status."""
+    from .play.scheduler import play_one
+
+    folder, name = words.places
+    plan = read_plan(folder)
+    if plan.games().number(name) is None:
+        raise Mistake(
+            f"{folder}/plan has no game '{name}': a game is named SEED_BLACK_WHITE, and "
+            "tournament list --all prints them"
+        )
+    twogtp = find_twogtp()
+    make_folders(folder)
+    return play_one(plan, folder, twogtp, name)
+
+
+def do_export(words: Words) -> int:
+    """Exports the results, and returns the status."""
+    from .report.export import export  # which isn't needed elsewhere
+
+    return export(words)
+
+
+COMMANDS = {"play": do_play, "plan": do_plan, "list": do_list, "game": do_game, "export": do_export}
+
+
+def main(arguments: Sequence[str]) -> int:
+    """Does what the arguments ask for, and returns the status."""
+    if not arguments or arguments[0] in ("-h", "--help"):
+        output.write(STDOUT if arguments else STDERR, HELP[None])
+        return 0 if arguments else 2
+    name = arguments[0]
+    if name not in COMMANDS:
+        raise Mistake(
+            f"there is no command '{name}': write tournament play, plan, list, game or export"
+        )
+    words = Words(name, arguments[1:])
+    if words.is_help:
+        output.write(STDOUT, HELP[name])
+        return 0
+    return COMMANDS[name](words)
+
+
+def run(name: str, main_of: Callable[[Sequence[str]], int], arguments: Sequence[str]) -> int:
+    """Runs the main function of a command, and returns its status. Errors are reported."""
+    output.hold_streams()
+    output.set_program(name)
+    # whoever started it may ignore the ends of processes
+    signal.signal(signal.SIGCHLD, signal.SIG_DFL)
+    try:
+        return main_of(arguments)
+    except Mistake as mistake:
+        with contextlib.suppress(OSError):
+            output.write(STDERR, mistake.printed)
+        output.report(mistake.text)
+        return 2
+    except BrokenPipeError:
+        return 128 + signal.SIGPIPE
+    except OSError as error:
+        output.report(output.description(error))
+        return 1

@@ -1,0 +1,1 @@
+"""The configuration of a tournament: the arguments, the plan and its file, the openings."""

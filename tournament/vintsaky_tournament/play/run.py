@@ -1,0 +1,215 @@
+"""A run: it begins games, each in a process of its own, waits for their ends, and ends what is left
+of them where it is stopped."""
+from __future__ import annotations
+
+import os
+import signal
+import time
+from typing import TYPE_CHECKING, NamedTuple
+
+from .. import output, processes
+from ..model import Outcome, Result
+from ..store.layout import InTheWay, Places
+from . import process_tree
+from .game import ENDING, SAME, play_here, report
+from .match import Match
+
+if TYPE_CHECKING:
+    from ..config.plan import Plan
+
+
+class Playing(NamedTuple):
+    """A game that is played now."""
+
+    name: str
+    places: Places
+    lock: int
+    old: int | None  # the inode of the result that is to be replaced
+
+
+class Finished(NamedTuple):
+    """A game that has ended."""
+
+    name: str
+    outcome: Outcome
+    result: Result | None
+
+
+class Run:
+    """The games that are played now."""
+
+    def __init__(self, plan: Plan, folder: str, twogtp: str) -> None:
+        self.folder, self.at, self.match = folder, os.path.abspath(folder), Match(plan, twogtp)
+        self.playing: dict[int, Playing] = {}  # by the process of each game
+        self.tree = process_tree.ProcessTree()
+        self.stopped: int | None = None  # the signal that stopped it
+        self.no_space = False  # whether nothing can be written
+        # without those that nohup, for example, ignores
+        self.ending = [number for number in ENDING if signal.getsignal(number) != signal.SIG_IGN]
+        process_tree.leave_children(self.ending)
+        process_tree.adopt_orphans()
+        processes.set_process_name("tournament")
+        signal.pthread_sigmask(signal.SIG_BLOCK, [signal.SIGCHLD, *self.ending])
+
+    # ---- results
+
+    def read(self, places: Places, old: int | None = None) -> Result | None:
+        """Returns a game's result, or None where it is damaged. Raises FileNotFoundError where
+        there is none but the old one, which is to be replaced."""
+        if old is not None and os.stat(places.result).st_ino == old:
+            raise FileNotFoundError
+        return self.match.rule.read(places.result)
+
+    def result(self, places: Places, old: int | None) -> Result | None:
+        """Returns a game's result, if it has one. A damaged one is reported, and so is one that
+        can't be read. Raises InTheWay where another one can't be put in its place."""
+        try:
+            result, reason = self.read(places, old), "is damaged"
+        except FileNotFoundError:
+            return None
+        except OSError as error:
+            if error.errno in output.TOO_MANY_GAMES:
+                raise
+            result, reason = None, f"can't be read: {error.strerror}"
+            if not places.is_replaceable():
+                text = f"{places.result} can't be read, nor be replaced: {error.strerror}"
+                raise InTheWay(text) from None
+        if result is None:
+            output.report(f"{places.name}: its file {reason}, and it is played again")
+        return result
+
+    def whole(self, places: Places, old: int | None = None) -> Result | None:
+        """Returns a game's whole result, if it has one. Nothing is reported."""
+        try:
+            return self.read(places, old)
+        except OSError:
+            return None
+
+    def has_result(self, name: str) -> bool:
+        """Returns whether a game has a whole result."""
+        return self.whole(Places(self.at, name)) is not None
+
+    # ---- the beginning of a game
+
+    def begin(self, name: str, old: int | None = None) -> Result | None:
+        """Begins a game, whose old result stays until there is a new one: its inode is given.
+
+        Returns the game's result where it has one by now. Raises Taken where another process plays
+        it, InTheWay where it can have no result, and OSError where no game can be begun.
+        """
+        places = Places(self.at, name)
+        places.has_old = old is not None
+        # where another process has ended it, and is about to remove its folder, no lock is made
+        if not os.path.lexists(places.lock) and (result := self.whole(places, old)):
+            return result
+        lock, is_passed_on = places.take(), False
+        try:
+            places.follow()
+            result = self.result(places, old)
+            if result:
+                places.remove()
+                return result
+            self.match.prepare()
+            own = os.getpid()
+            process = os.fork()
+            if not process:
+                self.close_locks()
+                play_here(name, places, self.match, own)
+            self.tree.awaited.add(process)
+            self.playing[process] = Playing(name, places, lock, old)
+            is_passed_on = True
+        except InTheWay:
+            places.remove()
+            raise
+        finally:
+            if not is_passed_on:
+                os.close(lock)
+        return None
+
+    def close_locks(self) -> None:
+        """Closes the locks of the other games, in the process of one."""
+        for game in self.playing.values():
+            os.close(game.lock)
+
+    # ---- the end of the run
+
+    def end_without_space(self, cause: OSError | None = None) -> None:
+        """Asks all games to end, since nothing can be written or begun, and says what to do."""
+        if not self.no_space and not self.stopped:
+            error = output.write_error(f"{self.folder}/running")
+            if error is None and cause is not None and cause.errno not in output.FULL:
+                text = f"no other game can be played in {self.folder} either"
+            elif error is None or error.errno in output.FULL:
+                reason = error.strerror if error else "is the disk full?"
+                advice = "make room there, and the same command goes on"
+                text = f"{self.folder} can't be written to: {reason}: {advice}"
+            else:
+                text = f"{self.folder} can't be written to: {error.strerror}"
+            output.report(text)
+        self.no_space = True
+        self.stop()
+
+    def stop(self, number: int | None = None) -> None:
+        """Asks all games to end, because of this signal."""
+        self.stopped = self.stopped or number
+        process_tree.send(signal.SIGTERM, self.playing)
+
+    def is_ending(self, seconds: float = 0) -> bool:
+        """Returns whether all games were asked to end, or are in so many seconds, as where all
+        processes get a signal."""
+        until = time.monotonic() + seconds
+        while not self.stopped and not self.no_space and time.monotonic() < until:
+            self.wait_for_signal(until - time.monotonic())
+        return bool(self.stopped or self.no_space)
+
+    def stop_status(self) -> int:
+        """Returns the status of a run that was stopped."""
+        number = self.stopped if self.stopped in (signal.SIGINT, signal.SIGPIPE) else signal.SIGTERM
+        return 128 + (number or signal.SIGTERM)
+
+    # ---- the ends of games
+
+    def wait_for_signal(self, seconds: float | None = None) -> None:
+        """Waits for a signal, so many seconds at most, and reaps what has ended."""
+        signals = [signal.SIGCHLD, *self.ending]
+        received = (
+            signal.sigwaitinfo(signals)
+            if seconds is None
+            else signal.sigtimedwait(signals, seconds)
+        )
+        if received and received.si_signo != signal.SIGCHLD:
+            self.stop(received.si_signo)
+        self.tree.reap()
+
+    def wait(self, seconds: float | None = None) -> list[Finished]:
+        """Waits for a signal, and returns each game that has ended since."""
+        if not self.tree.ended:
+            self.wait_for_signal(seconds)
+        ended = [process for process in self.playing if process in self.tree.ended]
+        return [self.finish(process) for process in ended]
+
+    def finish(self, process: int) -> Finished:
+        """Returns the game of a process that has ended.
+
+        Where that was killed or broke, what it left is ended. One that was asked to end, and not by
+        this run, is reported: else nobody would know why it has no result.
+        """
+        game = self.playing.pop(process)
+        status = self.tree.ended.pop(process)
+        outcome = Outcome(status) if 0 <= status < len(Outcome) else Outcome.BROKEN
+        is_broken = outcome is Outcome.BROKEN
+        if is_broken:
+            self.tree.end(self.playing)
+        result = self.whole(game.places, game.old)
+        if is_broken or outcome is Outcome.STOPPED:
+            if status < 0 and not result and not self.is_ending():
+                report(game.name, game.places, f"its process was ended by signal {-status}")
+            elif outcome is Outcome.STOPPED and not self.is_ending(SAME):
+                reason = "its process was asked to end, and not by this run"
+                report(game.name, game.places, reason)
+                outcome = Outcome.NO_RESULT
+            game.places.remove()
+        os.close(game.lock)
+        if outcome is Outcome.NO_SPACE:
+            self.end_without_space()
+        return Finished(game.name, Outcome.RESULT if result else outcome, result)

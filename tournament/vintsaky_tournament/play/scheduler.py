@@ -1,0 +1,384 @@
+"""All games of a plan that have no result, or one of them."""
+from __future__ import annotations
+
+import contextlib
+import os
+import signal
+import time
+from array import array
+from collections import Counter
+from typing import TYPE_CHECKING, Iterable, Iterator, Sequence
+
+from .. import output
+from ..config.folder import Folder, make_folders
+from ..model import GameId, Outcome, Result, State
+from ..output import NoStart
+from ..store import results
+from ..store.layout import InTheWay, Places, Taken, clear_running
+from .game import no_result
+from .progress import Progress
+from .run import Run
+from .trials import Tried
+
+if TYPE_CHECKING:
+    from ..config.plan import Plan, Share
+
+AGAIN = 3  # seconds for which games are tried that another process holds, which may be about to end
+PAUSE = 0.2  # seconds between two such tries
+SHORT = 0.6  # seconds for which one game is tried that another process holds, perhaps to look at it
+SPARE = 10  # seconds that a game may take besides its limit, and the end of the run
+NO_START = 69  # the status where an engine can't be started
+IN_A_ROW = 10  # games in which an engine isn't started, after which the run ends
+
+
+class Play:
+    """All games of a plan that have no result, or those of a share. There may be a time at which it
+    ends."""
+
+    def __init__(
+        self,
+        run: Run,
+        plan: Plan,
+        jobs: int,
+        share: Share | None = None,
+        seconds: float | None = None,
+    ) -> None:
+        self.run, self.plan, self.jobs, self.share = run, plan, jobs, share
+        self.until = None if seconds is None else time.monotonic() + seconds
+        self.games = plan.games()
+        self.own = share.of(self.games.count) if share else range(self.games.count)
+        # a damaged file is reported where its game begins
+        self.states = results.states_of(plan, run.folder, share=share, is_quiet=True)
+        self.count, self.total = self.with_result(), len(self.own)
+        self.later = array("Q")  # games that another process plays
+        # of a game that is played again: the inode of its old result, until there is a new one
+        self.old: dict[int, int] = {}
+        self.tried = Tried(run, plan)
+        self.has_played = False  # whether a game was begun
+        self.not_started: Counter[str] = Counter()  # in how many games in a row an engine wasn't
+        # whether these were too many, or an engine can't be started at all
+        self.is_unable = False
+        self.is_written = True  # whether all lines could be written
+        self.progress = Progress(0, 0)  # which begins once it is known how many are to be played
+
+    # ---- states
+
+    def with_result(self) -> int:
+        """Returns how many games have a result."""
+        return self.count_of(State.WHOLE) + self.count_of(State.LOST)
+
+    def count_of(self, state: State) -> int:
+        """Returns how many games have this state."""
+        return self.states[self.own.start :: self.own.step].count(state)
+
+    def missing(self) -> Iterator[int]:
+        """Yields the games that have no result."""
+        missing = (State.MISSING, State.DAMAGED)
+        return (game for game in self.own if self.states[game] in missing)
+
+    def forget_lost(self) -> None:
+        """Takes the results of games in which a side was unfit or abandoned for none. Each stays
+        until there is a new one."""
+        for game in self.own:
+            if self.states[game] == State.LOST:
+                name = self.games.name(game)
+                with contextlib.suppress(FileNotFoundError):
+                    self.old[game] = os.stat(Places(self.run.folder, name).result).st_ino
+                self.states[game] = State.MISSING
+                self.tried.again.update(GameId.parse(name).engines)
+        self.count = self.with_result()
+
+    def add_result(self, game: int, result: Result) -> None:
+        """Counts a game's result."""
+        self.states[game] = results.state_of(result)
+        self.count += 1
+        self.old.pop(game, None)
+
+    def count_again(self) -> None:
+        """Counts the results again: all of them where a game was played, since others may be gone
+        by now, except for a run that is stopped."""
+        counts_all = self.has_played and not self.run.stopped
+        if counts_all or self.count < self.total:
+            known = None if counts_all else self.states
+            self.states = results.states_of(
+                self.plan, self.run.folder, known, self.share, is_quiet=True
+            )
+            self.count = self.with_result()
+
+    # ---- the end
+
+    def is_over(self) -> bool:
+        """Returns whether no other game is to be begun."""
+        is_stopped = self.run.stopped is not None or self.run.no_space
+        return is_stopped or self.is_unable or self.has_no_time()
+
+    def has_no_time(self) -> bool:
+        """Returns whether less time is left than a game may take."""
+        if self.until is None:
+            return False
+        return time.monotonic() + (self.plan.limit or 0) + SPARE > self.until
+
+    def print(self, line: str) -> None:
+        """Writes a line. Where nobody reads it any more the run is stopped, as other programs are.
+        Where it can't be written for another reason, the run ends, too."""
+        try:
+            output.write(output.STDOUT, f"{line}\n")
+        except BrokenPipeError:
+            self.run.stop(signal.SIGPIPE)
+        except OSError as error:
+            if self.is_written:
+                output.report(
+                    f"standard output can't be written to: {error.strerror}: no other game is "
+                    "begun here"
+                )
+            self.is_written, self.run.no_space = False, True
+            self.run.stop()
+
+    # ---- games
+
+    def begin(self, game: int) -> bool:
+        """Begins a game. Returns False where others have to end first."""
+        name = self.games.name(game)
+        try:
+            result = self.run.begin(name, self.old.get(game))
+            self.has_played = self.has_played or not result
+            if result:
+                self.add_result(game, result)
+        except Taken:
+            self.later.append(game)
+        except InTheWay as problem:
+            self.progress.failed += 1
+            output.report(f"{name}: {no_result(game in self.old)}: {problem.text}")
+        except OSError as error:
+            if error.errno in output.TOO_MANY_GAMES and self.run.playing:
+                return False
+            reason = output.description(error)
+            output.report(f"{name}: {no_result(game in self.old)}: {reason}")
+            self.run.end_without_space(error)
+        return True
+
+    def wait(self) -> None:
+        """Waits until a game has ended, and writes its line; or until it is time to say how far the
+        run is."""
+        for name, outcome, result in self.run.wait(self.progress.pause()):
+            game, engines = self.games.number(name), GameId.parse(name).engines
+            assert game is not None
+            if result:
+                self.add_result(game, result)
+                self.print(f"{self.count} of {self.total}: {name}: {result.line}")
+                for engine in engines:
+                    self.not_started[engine] = 0
+                continue
+            side = outcome.not_started
+            if outcome is Outcome.TAKEN:
+                self.later.append(game)
+            elif side is not None:
+                self.add_not_started(engines[side])
+            self.progress.failed += outcome not in (Outcome.TAKEN, Outcome.STOPPED)
+        self.progress.lost = self.count_of(State.LOST)
+        self.progress.show(self.count)
+
+    def add_not_started(self, engine: str) -> None:
+        """Counts that an engine wasn't started in a game. Where these are too many in a row, no
+        other game is begun."""
+        self.not_started[engine] += 1
+        self.tried.note_failed(engine)
+        if self.not_started[engine] >= IN_A_ROW and not self.is_unable:
+            self.is_unable = True
+            output.report(
+                f"{engine} wasn't started in {IN_A_ROW} games in a row: no other game is begun here"
+            )
+            self.advise([engine])
+
+    def play_these(self, games: Iterator[int]) -> None:
+        """Plays these games, so many at once, until all have ended or the run is stopped."""
+        waiting = next(games, None)
+        while waiting is not None and not self.is_over() or self.run.playing:
+            while waiting is not None and not self.is_over():
+                if len(self.run.playing) >= self.jobs or not self.begin(waiting):
+                    break
+                waiting = next(games, None)
+            if self.run.playing:
+                self.wait()
+
+    def play(self) -> None:
+        """Plays all that are missing, once each engine was tried here. Those that another process
+        plays are tried again at the end, for some seconds."""
+        if self.count < self.total and not self.has_no_time():
+            failed = self.try_engines(self.plan.engines)
+            if failed:
+                self.advise(failed)
+        self.progress = Progress(self.count, self.total)
+        self.play_these(self.missing())
+        until = time.monotonic() + AGAIN
+        while self.later and not self.is_over() and time.monotonic() < until:
+            before, self.later = self.later, array("Q")
+            self.play_these(iter(before))
+            if len(self.later) < len(before):
+                until = time.monotonic() + AGAIN
+            elif not self.is_over():
+                self.run.wait(PAUSE)
+        self.run.tree.end()
+        self.count_again()
+
+    def all(self, again: bool) -> int:
+        """Plays all that are missing, and again those in which a side was unfit or abandoned where
+        that is asked. Returns the status."""
+        if again:
+            self.forget_lost()
+        if not self.share:
+            clear_running(self.run.folder)
+        self.play()
+        return self.status()
+
+    # ---- trials
+
+    def try_engines(self, names: Iterable[str]) -> Sequence[str]:
+        """Tries these engines. Where some can't be started no game is begun, and these are
+        returned."""
+        try:
+            self.tried.try_all(names)
+        except NoStart as problem:
+            self.is_unable = True
+            output.report(problem.text)
+            return problem.engines
+        except OSError as error:
+            self.run.end_without_space(error)
+        return ()
+
+    def try_added(self, folder: Folder) -> int | None:
+        """Tries the engines that the plan in the folder doesn't have. Returns the status where that
+        plan is to stay as it is, since one can't be started, or the run is stopped."""
+        if folder.added:
+            make_folders(self.run.folder)
+            self.try_engines(folder.added)
+        if self.is_unable:
+            kept = "is not made" if folder.is_new else "stays as it was"
+            output.report(
+                f"{self.run.folder}/plan {kept}: give the command again with what can be started, "
+                "or make the plan by tournament plan, which tries no engine"
+            )
+            return NO_START
+        return self.status() if self.run.stopped or self.run.no_space else None
+
+    def advise(self, engines: Sequence[str]) -> None:
+        """Says how the games of the others are played, if any are missing, where these engines
+        can't be started."""
+        sides = self.games.sides
+        others = (
+            game
+            for game in self.missing()
+            if not set(engines).intersection(sides[game % len(sides)])
+        )
+        if self.share or next(others, None) is None:
+            return
+        import shlex  # which isn't needed elsewhere
+
+        names = "|".join(engine.replace(".", "\\.").replace("+", "\\+") for engine in engines)
+        folder = shlex.quote(self.run.folder)
+        listed = f"tournament list {folder} | grep -vE '_({names})(_|$)'"
+        played = f"xargs -n 1 -P {self.jobs} tournament game {folder}"
+        output.report(f"to play the games of the others: {listed} | {played}")
+
+    # ---- what is said at the end
+
+    def counted(self, lost: int = 0) -> str:
+        """Returns how many games have a result, in how many of them a side was unfit or abandoned,
+        if that is to be said, and of a share how many are missing."""
+        missing = self.total - self.count
+        share = f" of task {self.share}" if self.share else ""
+        again = ""
+        if lost:
+            them = "these" if lost > 1 else "it"
+            again = f", {lost} of them unfit or abandoned: --again plays {them} again"
+        left = ""
+        if self.share and missing:
+            left = f"{';' if lost else ','} {missing} are missing"
+        return f"{self.count} of {self.total} games{share} have a result{again}{left}"
+
+    def status(self) -> int:
+        """Says how many games have a result, and returns the status."""
+        counted = self.counted()
+        if self.run.stopped:
+            output.report(f"stopped: {counted}; the same command goes on")
+            return self.run.stop_status()
+        if (self.count < self.total or self.old) and self.has_no_time():
+            output.report(
+                f"another game of {self.plan.limit} seconds doesn't fit into the time left; the "
+                "same command goes on"
+            )
+        if self.later and not self.run.no_space:
+            output.report(f"games that another process plays: {len(self.later)}")
+        self.print(self.counted(0 if self.is_unable else self.count_of(State.LOST)))
+        if not self.is_written:
+            output.report(f"{counted}; the same command goes on")
+        if self.is_unable:
+            return NO_START
+        others = len(self.later) if self.share else 0  # of a task that was submitted twice
+        has_all = self.count + others >= self.total and not self.count_of(State.LOST)
+        return 0 if has_all and self.is_written and not self.run.stopped else 1
+
+
+class One:
+    """One game of a plan, by its name."""
+
+    def __init__(self, plan: Plan, folder: str, twogtp: str, name: str) -> None:
+        self.run, self.name = Run(plan, folder, twogtp), name
+        self.tried, self.engines = Tried(self.run, plan), GameId.parse(name).engines
+
+    def begin(self) -> int | None:
+        """Begins it. Returns the status where that is known by then: it has a result, another
+        process plays it, or it can't be begun."""
+        try:
+            if not self.run.has_result(self.name):
+                self.tried.try_all(self.engines)
+            until = time.monotonic() + SHORT
+            while not self.run.stopped:
+                try:
+                    return 0 if self.run.begin(self.name) else None
+                except Taken:
+                    if time.monotonic() > until:
+                        return self.taken()
+                self.run.wait_for_signal(PAUSE)
+        except NoStart as problem:
+            output.report(f"{self.name}: {problem.text}")
+            return NO_START
+        except InTheWay as problem:
+            output.report(f"{self.name}: no result: {problem.text}")
+            return 1
+        except OSError as error:
+            output.report(f"{self.name}: no result: {output.description(error)}")
+            self.run.end_without_space(error)
+            return 1
+        return self.run.stop_status()
+
+    def taken(self) -> int:
+        """Reports that another process plays it, and returns the status."""
+        output.report(f"{self.name}: another process plays it")
+        return 0
+
+    def end(self) -> int:
+        """Waits for its end, and returns the status."""
+        result, outcome = None, Outcome.RESULT
+        while self.run.playing:
+            for _, outcome, result in self.run.wait():
+                if outcome.not_started is not None:
+                    self.tried.note_failed(self.engines[outcome.not_started])
+        self.run.tree.end()
+        if outcome is Outcome.TAKEN:
+            return self.taken()
+        if not result:
+            return self.run.stop_status() if self.run.stopped else 1
+        try:
+            output.write(output.STDOUT, f"{self.name}: {result.line}\n")
+        except OSError:
+            output.report(f"{self.name}: it has a result, but this line was not written")
+            return 1
+        return 1 if result.is_lost() else 0
+
+
+def play_one(plan: Plan, folder: str, twogtp: str, name: str) -> int:
+    """Plays a game, unless it has a result or another process plays it, and returns the status."""
+    one = One(plan, folder, twogtp, name)
+    status = one.begin()
+    return one.end() if status is None else status

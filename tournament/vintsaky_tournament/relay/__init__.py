@@ -1,0 +1,1 @@
+"""What stands between a controller and an engine. No other package imports it."""

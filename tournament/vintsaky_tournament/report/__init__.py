@@ -1,0 +1,1 @@
+"""What is printed of results: text, JSON, CSV, PGN and SGF."""

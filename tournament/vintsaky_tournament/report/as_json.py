@@ -1,0 +1,106 @@
+"""The tally for other programs, as JSON."""
+from __future__ import annotations
+
+import json
+import math
+from typing import Any
+
+from ..model import Side
+from ..stats import scores
+from ..stats.pairs import Found
+from ..stats.sprt import Test
+from ..stats.summary import EngineRow, PairingRow, Row, Summary, without_result
+
+ACCEPTED = {None: "go on", 0: "elo0", 1: "elo1"}
+
+
+def json_of(summary: Summary, test: Test | None = None) -> str:
+    """Returns the tally, and a sequential test, as a text."""
+    counts = summary.counts
+    name = counts.games.name
+    blames: dict[str, dict[str, int]] = {engine: {} for engine in summary.rows}
+    for engine, cause, count in summary.blames():
+        blames[engine][cause] = count
+    found = {
+        "games": counts.games.count,
+        "results": counts.have,
+        "winners": counts.with_winner(),
+        "black_won": counts.won_by(Side.BLACK),
+        "white_won": counts.won_by(Side.WHITE),
+        "ended": dict(sorted(counts.descriptions().items())),
+        "engines": [of_engine(row, blames[row.name]) for row in summary.order],
+        "pairs": [of_pairing(row) for row in summary.played()],
+        "same": [[name(game) for game in group] for group in counts.pairs.same()],
+        "damaged": counts.damaged(),
+        "no_result": dict(without_result(counts)),
+    }
+    if test:
+        found["sprt"] = of_test(test)
+    return f"{json.dumps(found)}\n"
+
+
+def of_engine(row: EngineRow, blames: dict[str, int]) -> dict[str, Any]:
+    """Returns what an engine has against all others."""
+    colours = {
+        side.colour: {"won": games.won, "lost": games.lost}
+        for side, games in zip(Side, row.by_side)
+    }
+    return {
+        "name": row.name,
+        "points": row.games.points,
+        **of_games(row.games),
+        **colours,
+        "to_look_into": blames,
+        **of_pairs(row.pairs),
+    }
+
+
+def of_pairing(row: PairingRow) -> dict[str, Any]:
+    """Returns what two engines have of each other, as the first one sees it."""
+    return {"engines": [row.first, row.second], **of_games(row.games), **of_pairs(row.pairs)}
+
+
+def of_games(games: Row) -> dict[str, int]:
+    """Returns how games ended: won, lost, or without a winner, as drawn ones did."""
+    return {
+        "games": games.all,
+        "won": games.won,
+        "lost": games.lost,
+        "no_winner": games.all - games.decided,
+        "drawn": games.drawn,
+    }
+
+
+def of_pairs(found: Found) -> dict[str, Any]:
+    """Returns the five counts of pairs, their score and the difference in Elo."""
+    score, interval = found.score(), found.interval()
+    return {
+        "pairs": found.every,
+        "pairs_in_interval": sum(found.clusters.values()),
+        "score": score,
+        "interval": interval,
+        "elo": in_elo(score),
+        "elo_interval": interval and [in_elo(end) for end in interval],
+    }
+
+
+def in_elo(score: float | None) -> float | None:
+    """Returns a score as a difference in Elo; None where that is infinite, or there is no score."""
+    if score is None or not math.isfinite(scores.elo(score)):
+        return None
+    return scores.elo(score)
+
+
+def of_test(test: Test) -> dict[str, Any]:
+    """Returns what a sequential test says."""
+    elo0, elo1 = test.differences
+    return {
+        "engines": test.engines,
+        "elo0": elo0,
+        "elo1": elo1,
+        "accepted": ACCEPTED[test.decision],
+        "pairs": test.counts,
+        "ratio": test.ratio,
+        "exact": test.exact,
+        "bound": scores.BOUND,
+    }

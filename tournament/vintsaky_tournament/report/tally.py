@@ -1,0 +1,193 @@
+"""The command `tally`: counts the results of a tournament, and prints them as text."""
+from __future__ import annotations
+
+import gc
+import math
+from functools import lru_cache
+from typing import Iterator, Sequence
+
+from .. import output
+from ..config.arguments import Words
+from ..config.folder import read_plan
+from ..config.help import HELP
+from ..model import Side, Way
+from ..output import Mistake
+from ..stats import scores
+from ..stats.endings import losing_ways
+from ..stats.pairs import Found
+from ..stats.scores import Cluster
+from ..stats.sprt import Test, asked_of
+from ..stats.summary import Counts, EngineRow, PairingRow, Row, Summary, without_result
+
+MOST_GROUPS = 10  # of games that are the same
+NO_PAIRS = "    -  -                 -"
+
+
+class Table:
+    """The lines of a tally."""
+
+    def __init__(self, summary: Summary) -> None:
+        self.summary, self.counts = summary, summary.counts
+        self.width = max(6, *map(len, summary.rows))
+
+    def lines(self) -> Iterator[str]:
+        """Yields all lines. Those of the games without a result are made one after the other."""
+        have, all_games = self.counts.have, self.counts.games.count
+        with_winner = self.counts.with_winner()
+        yield f"{have} of {all_games} games have a result, {with_winner} have a winner"
+        yield ""
+        yield from self.of_engines()
+        yield ""
+        yield from self.of_pairs()
+        yield ""
+        yield from self.of_all()
+        yield from self.of_same()
+        blames = [f"  {engine}: {cause}: {count}" for engine, cause, count in self.summary.blames()]
+        yield from ["to look into:", *blames] if blames else []
+        if have < all_games:
+            yield f"no result: {all_games - have}"
+        yield from (f"  {name}: {reason}" for name, reason in without_result(self.counts))
+
+    def of_engines(self) -> Iterator[str]:
+        """Yields a line for each engine, the best first."""
+        head = "points    won  percent   with Black     with White"
+        yield f"{'engine':{self.width}}  {head}"
+        for row in self.summary.order:
+            games, (black, white) = row.games, row.by_side
+            counts = f"{points(games):>6}  {games.won:5}    {percent(games)}"
+            yield f"{row.name:{self.width}}  {counts}   {won_of(black):13}  {won_of(white)}"
+
+    def of_pairs(self) -> Iterator[str]:
+        """Yields a line for each two engines, and before them one for each engine that has more
+        than one opponent."""
+        rows: list[EngineRow | PairingRow] = [
+            *(row for row in self.summary.order if row.opponents > 1),
+            *self.summary.played(),
+        ]
+        width = 2 * self.width + 3
+        count_width = max(4, *(len(str(max(row.pairs.every))) for row in rows))
+        won_width = max(5, *(len(record(row.games)) for row in rows))
+        outcomes = " ".join(
+            f"{outcome:>{count_width}}" for outcome in ("0", "0.5", "1", "1.5", "2")
+        )
+        columns = f"no winner   {outcomes}  score  95 % interval   Elo  95 % interval"
+        yield f"{'pair':{width}}  {'won':>{won_width}}  {columns}"
+        for row in rows:
+            games, found = row.games, row.pairs
+            counts = " ".join([f"{count:{count_width}}" for count in found.every])
+            score = of_score(tuple(found.every), tuple(sorted(found.clusters.items())))
+            won = f"{record(games):>{won_width}}  {games.all - games.decided:9}"
+            yield f"{names(row):{width}}  {won}   {counts}  {score}"
+
+    def of_all(self) -> Iterator[str]:
+        """Yields what there is of all games together."""
+        counts = self.counts
+        decided = {way: counts.with_winner(way) for way in (Way.ABANDONED, Way.LATE)}
+        lost = "".join(f", {count} {way.value}" for way, count in decided.items() if count)
+        on_time = counts.ended(Way.TIME)
+        lost = (f", {on_time} on time" if on_time else "") + lost
+        resigned, forfeited = counts.ended(Way.RESIGNED), counts.ended(Way.FORFEITED)
+        won = f"Black won {counts.won_by(Side.BLACK)}, White {counts.won_by(Side.WHITE)}"
+        yield f"{won}; {resigned} by resignation, {forfeited} by forfeit{lost}"
+        left = {way: counts.ended(way) - count for way, count in decided.items()}
+        drawn = f"{counts.ended(Way.DRAWN)} drawn, {counts.ended(Way.LIMIT)} at the limit of moves"
+        failed = f"{counts.ended(Way.UNFIT)} unfit, {left[Way.ABANDONED]} abandoned"
+        late = f", {left[Way.LATE]} late" if left[Way.LATE] else ""
+        yield f"no winner: {drawn}, {failed}{late}"
+        if counts.unknown and list(counts.losing) == [Way.LATE]:
+            yield f"abandoned, and perhaps late, since there are no notes: {counts.unknown}"
+        if counts.restarted:
+            yield f"games with a restart: {counts.restarted}"
+
+    def of_same(self) -> Iterator[str]:
+        """Yields the games that are the same, move by move."""
+        groups, name = self.counts.pairs.same(), self.counts.games.name
+        if not groups:
+            return
+        again = sum(len(group) - 1 for group in groups)
+        yield (
+            "the same, move by move, as an earlier game of the same engines, colours and opening, "
+            f"which count once in the intervals: {again}"
+        )
+        for first, second, *others in groups[:MOST_GROUPS]:
+            more = f" and {len(others)} other{'s' if len(others) > 1 else ''}" if others else ""
+            yield f"  {name(first)}: {name(second)}{more}"
+        if len(groups) > MOST_GROUPS:
+            yield f"  and so on: {len(groups)} such games were played again"
+
+
+def names(row: EngineRow | PairingRow) -> str:
+    """Returns the engines of a line."""
+    if isinstance(row, PairingRow):
+        return f"{row.first} - {row.second}"
+    return f"{row.name} - all"
+
+
+def points(games: Row) -> str:
+    """Returns the points of games."""
+    return f"{(2 * games.won + games.drawn) // 2}{'.5' if games.drawn % 2 else ''}"
+
+
+def percent(games: Row) -> str:
+    """Returns the share of games that were won of those that have a winner, in percent."""
+    return f"{100 * games.won / games.decided:5.1f}" if games.decided else "    -"
+
+
+def record(games: Row) -> str:
+    """Returns how many games were won and lost."""
+    return f"{games.won}-{games.lost}"
+
+
+def won_of(games: Row) -> str:
+    """Returns how many games were won of those that have a winner."""
+    return f"{games.won} of {games.decided}"
+
+
+@lru_cache(maxsize=4096)  # of many engines with few seeds most are the same
+def of_score(every: tuple[int, ...], clusters: tuple[tuple[Cluster, int], ...]) -> str:
+    """Returns the score of pairs in percent, and the difference in Elo, each with its interval."""
+    found = Found(every, dict(clusters))
+    score, interval = found.score(), found.interval()
+    if score is None or interval is None:
+        return NO_PAIRS
+    scored = " to ".join(f"{100 * end:.1f}" for end in interval)
+    elo = " to ".join(map(in_elo, interval))
+    return f"{100 * score:5.1f}  {scored:13}  {in_elo(score):>4}  {elo}"
+
+
+def in_elo(score: float) -> str:
+    """Returns a score as a difference in Elo."""
+    elo = scores.elo(score)
+    return f"{elo:+}" if math.isinf(elo) else f"{round(elo):+}"
+
+
+def is_out(name: str, value: str) -> bool:
+    """Returns whether games that nobody won are to be left out, by the value of an option."""
+    if value not in ("half", "out"):
+        raise Mistake(f"{name} needs half or out after it, and not '{value}'")
+    return value == "out"
+
+
+def main(arguments: Sequence[str]) -> int:
+    """Writes the tally of a folder, and returns the status."""
+    words = Words("tally", arguments)
+    if words.is_help:
+        output.write(output.STDOUT, HELP["tally"])
+        return 0
+    gc.disable()  # nothing here has cycles, and with many engines the search takes half the time
+    (folder,) = words.places
+    plan = read_plan(folder)
+    asked, leave_out = asked_of(words, plan), words.last("--no-winner", is_out)
+    counts = Counts(plan, folder, losing_ways(words, plan), bool(leave_out))
+    test = Test(counts.pairs, asked) if asked else None
+    if words.has("--json"):
+        from .as_json import json_of  # which isn't needed elsewhere
+
+        output.write(output.STDOUT, json_of(Summary(counts), test))
+    elif test:
+        output.write(output.STDOUT, f"{test.line()}\n")
+    else:
+        output.write_lines(output.STDOUT, Table(Summary(counts)).lines())
+    if test:
+        return test.status()
+    return 0 if counts.have == counts.games.count else 1

@@ -1,0 +1,1 @@
+"""What results say: endings, pairs, scores and the sequential test."""

@@ -1,0 +1,1 @@
+"""The files of a tournament: results, notes, and where they lie."""

@@ -1,0 +1,150 @@
+"""The notes of a game, which `between` writes: the moves, their times, and how an engine ended.
+
+FOLDER/notes/GAME has a line for the game, and then one for each note, which begins with the number
+of the next move and the colour:
+
+    0 black started 0.021               the seconds to the first answer
+    1 black D4 opening                  a move of the opening
+    2 white E5 0.512                    a move, or `resign`, and the seconds that it took
+    2 white undone                      it was refused, and taken back
+    2 white failed 0.004                the genmove failed, or its answer is `no-vertex`
+    3 black thinks                      the genmove isn't answered yet
+    3 black late 5.001: 12 genmove b    no answer in time; or `ended`, or `waited` if twogtp ended
+    0 black stays ended                 twogtp started it again, but it was late before
+    0 black not started: engine: No such file or directory
+    3 black refuses the opening         a move of the opening, its own or the other side's
+
+At the end are the times of both sides, and the result.
+"""
+from __future__ import annotations
+
+import contextlib
+import re
+from typing import NamedTuple
+
+from ..model import COLOURS, SIDES, Side
+from . import results
+
+UNANSWERED = ("late", "ended", "waited", "not")  # what the notes say where no answer follows
+NOTHING_ASKED = "nothing was asked"
+SECONDS = re.compile(r"([0-9]{1,15}(?:\.[0-9]{1,9})?):?")
+
+
+class Awaited(NamedTuple):
+    """A side whose answer is awaited, and what the notes say of that."""
+
+    side: Side
+    text: str
+
+
+class Notes:
+    """What the notes of a game say of both sides, Black's first."""
+
+    def __init__(self, text: str) -> None:
+        self.started = [False, False]  # whether any command was answered
+        self.late = [False, False]
+        self.ignored = [0, 0]  # restarts that started nothing, since the engine was late before
+        self.thought = [0.0, 0.0]  # seconds
+        self.last_failure = ["", ""]  # how the last start ended of those that ended too early
+        self.awaited: Awaited | None = None  # at the end
+        self.result = ""  # the line of the result, if there was one
+        for line in text.split("\n"):
+            words = line.split(" ")
+            if len(words) > 2 and words[0].isdigit() and words[1] in COLOURS:
+                self.add(SIDES[COLOURS.index(words[1])], words)
+            elif line.startswith("result: "):
+                self.result = line[8:]
+
+    def add(self, side: Side, words: list[str]) -> None:
+        """Takes a note of a side."""
+        event, rest = words[2], " ".join(words[3:])
+        if event in UNANSWERED:
+            self.last_failure[side] = f"{event} {rest}"
+        if len(words) == 4 and event != "started" or " genmove " in rest:
+            self.thought[side] += seconds_of(words[3])
+        self.started[side] = self.started[side] or event == "started"
+        self.late[side] = self.late[side] or event == "late"
+        self.ignored[side] += event == "stays"
+        self.awaited = Awaited(side, rest) if event in ("waited", "thinks") else None
+
+    def times(self) -> str:
+        """Returns how long both sides thought."""
+        return ", ".join(
+            f"{colour} {seconds:.3f}" for colour, seconds in zip(COLOURS, self.thought)
+        )
+
+    def failure(self, side: Side) -> str:
+        """Returns how the last start of a side ended, or how long it was waited for."""
+        event, _, rest = self.last_failure[side].partition(" ")
+        seconds, _, text = rest.partition(": ")
+        command, _, ending = text.partition(": ")
+        if event == "late":
+            return f"no answer to '{command}' in {seconds} seconds"
+        if event != "ended":
+            return text
+        when = "before anything was asked" if command == NOTHING_ASKED else f"at '{command}'"
+        return f"it ended {when}: {ending}"
+
+
+def waited_for(awaited: Awaited) -> str:
+    """Returns how long a side was waited for, and at which command; an empty text where the notes
+    don't have that."""
+    seconds, _, command = awaited.text.partition(": ")
+    return f", {seconds} seconds at '{command}'" if command else ""
+
+
+def seconds_of(word: str) -> float:
+    """Returns the seconds of a word; 0 where it has none."""
+    seconds = SECONDS.fullmatch(word)
+    return float(seconds[1]) if seconds else 0.0
+
+
+class Late:
+    """The same of a game in which a side was abandoned, by the bytes of its notes: who was late,
+    and how many restarts started nothing. This is quick, for tallies of very many games."""
+
+    def __init__(self, data: bytes) -> None:
+        self.late = [count > 0 for count in counts_of(data, b" late ")]
+        self.ignored = counts_of(data, b" stays ")
+
+
+def counts_of(data: bytes, event: bytes) -> list[int]:
+    """Returns how many notes of each side have this event."""
+    counts, at = [0, 0], data.find(event)
+    while at >= 0:
+        head = data[data.rfind(b"\n", 0, at) + 1 : at].decode("latin-1")
+        number, _, colour = head.partition(" ")
+        if number.isdigit() and colour in COLOURS:
+            counts[COLOURS.index(colour)] += 1
+        at = data.find(event, at + 1)
+    return counts
+
+
+def bytes_for(folder: str, name: str, line: str) -> bytes | None:
+    """Returns the notes of a game, if they are of a result with this line.
+
+    For a moment, or where its process was killed in that, those of a game that was played again
+    still lie next to its lock.
+    """
+    place, end = f"{folder}/notes/{name}", f"\nresult: {line}\n".encode()
+    for each in (place, f"{folder}/running/{name}/notes", place):
+        with contextlib.suppress(OSError):
+            data = results.bytes_of(each)
+            if data.endswith(end):
+                return data
+    return None
+
+
+def late_in(folder: str, name: str, line: str) -> Late | None:
+    """Returns who was late in a game; None where its notes aren't of a result with this line."""
+    data = bytes_for(folder, name, line)
+    return None if data is None else Late(data)
+
+
+def read(place: str) -> Notes | None:
+    """Returns the notes of a game; None where they can't be read."""
+    try:
+        with open(place, encoding="latin-1") as file:
+            return Notes(file.read())
+    except OSError:
+        return None

@@ -1,0 +1,227 @@
+"""The results: what is one, and which games have one. All commands use this.
+
+A result is a file of twogtp, or of a server that uses the library: the line of game 1, a line with
+as many moves as the line says, and with `--show` the last board. Each move is `pass` or a point of
+the plan's board, and a score is one that this board and komi can have. A file that has less, more
+or something else is damaged, or of another plan, and its game is to be played.
+"""
+from __future__ import annotations
+
+import os
+import re
+from typing import TYPE_CHECKING, Iterator, NamedTuple
+
+from .. import output
+from ..config.rules import COLUMNS
+from ..config.setup import Setup
+from ..model import FORFEITS, Result, State
+
+if TYPE_CHECKING:
+    from ..config.plan import Plan, Share
+
+OTHER_VERDICTS = (
+    *("limit", "B+R", "W+R"),
+    *(f"{winner}+F({cause})" for winner in "BW" for cause in FORFEITS),
+    *(f"{failure} {side}" for failure in ("unfit", "abandoned") for side in ("black", "white")),
+)
+# verdicts of a server that ended the match: for time, or for a cause of its own
+OF_SERVER = re.compile(r"[BW]\+(?:T|F\([A-Za-z ]{1,20}\))")
+BOARD_END = re.compile(r"captures B [0-9]+ W [0-9]+\n\n\Z")
+LINE = "game 1: (([BWalu0][^\n]*) moves ([0-9]{1,4}) restarts ([0-9]{1,4}) ([0-9]{1,4}))"
+MOST_REPORTED = 10  # files that can't be read, each with a message of its own
+CHUNK = 16384  # bytes, which a result seldom has
+HAVE_RESULT = (State.WHOLE, State.LOST)
+
+
+class Rule:
+    """What a result of a plan is."""
+
+    def __init__(self, plan: Plan) -> None:
+        setup, self.has_board = Setup(plan.options), plan.has_boards()
+        size, komi = setup.rows(), setup.half_points()
+        scores = range(-2 * size**2 - komi, 2 * size**2 - komi + 1, 2)
+        self.verdicts = frozenset([*OTHER_VERDICTS, *map(score, scores)])
+        move = f"(?:[{COLUMNS[:size]}](?:{rows(size)})|pass)"
+        self.whole = re.compile(f"{LINE}\n((?:{move}(?: {move})*)?)\n")
+
+    def allows(self, verdict: str) -> bool:
+        """Returns whether a game of the plan may end so."""
+        return verdict in self.verdicts or OF_SERVER.fullmatch(verdict) is not None
+
+    def parse(self, data: bytes) -> Result | None:
+        """Returns the result that a file has; None where it isn't whole."""
+        text = data.decode("latin-1")
+        parts = self.whole.match(text)
+        if not parts:
+            return None
+        line, verdict, length, black_restarts, white_restarts, vertices = parts.groups()
+        count = int(length)
+        if (vertices.count(" ") + 1 if vertices else 0) != count or not self.allows(verdict):
+            return None
+        is_whole = BOARD_END.search(text, parts.end()) if self.has_board else None
+        if not (is_whole or not self.has_board and parts.end() == len(text)):
+            return None
+        return Result(line, verdict, count, (int(black_restarts), int(white_restarts)), vertices)
+
+    def read(self, place: str, folder: int | None = None) -> Result | None:
+        """Returns the result in a file, or None where that is damaged. Raises FileNotFoundError
+        where there is no file."""
+        return self.parse(bytes_of(place, folder))
+
+
+def score(half_points: int) -> str:
+    """Returns a score as twogtp writes it: so many half points, positive where Black leads."""
+    if not half_points:
+        return "0"
+    points, is_half = divmod(abs(half_points), 2)
+    return f"{'B' if half_points > 0 else 'W'}+{points}{'.5' if is_half else ''}"
+
+
+def rows(size: int) -> str:
+    """Returns a regular expression of the numbers from 1 to a size."""
+    tens, ones = divmod(size, 10)
+    last_ten = [f"{tens}[0-{ones}]"] if tens else []
+    whole_tens = [f"{ten}[0-9]" for ten in range(1, tens)]
+    return "|".join([*last_ten, *whole_tens, f"[1-{9 if tens else ones}]"])
+
+
+def contents(descriptor: int) -> bytes:
+    """Returns all bytes of a file that is open."""
+    data = chunk = os.pread(descriptor, CHUNK, 0)
+    while len(chunk) == CHUNK:
+        chunk = os.pread(descriptor, CHUNK, len(data))
+        data += chunk
+    return data
+
+
+def bytes_of(place: str, folder: int | None = None) -> bytes:
+    """Returns all bytes of the file in this place, also below a folder that is open."""
+    file = os.open(place, os.O_RDONLY, dir_fd=folder)
+    try:
+        return contents(file)
+    finally:
+        os.close(file)
+
+
+def read_error(place: str) -> str | None:
+    """Returns why the file in this place can't be read; None where it can."""
+    try:
+        bytes_of(place)
+    except OSError as error:
+        return error.strerror
+    return None
+
+
+class Unreadable:
+    """The files of a folder that can't be read, of which the first ones are reported."""
+
+    def __init__(self, folder: str, is_quiet: bool) -> None:
+        self.folder, self.count = folder, 0
+        self.most_reported = 0 if is_quiet else MOST_REPORTED
+
+    def add(self, name: str, error: OSError) -> None:
+        """Takes a file that met this error. Raises that where the file isn't its cause."""
+        if error.errno in output.TOO_MANY_GAMES:
+            raise error
+        self.count += 1
+        if self.count <= self.most_reported:
+            place = f"{self.folder}/games/{name}"
+            output.report(f"{place} can't be read, and so is no result: {error.strerror}")
+
+    def end(self) -> None:
+        """Reports how many there are, where not each was reported."""
+        if self.count > self.most_reported > 0:
+            output.report(f"files in {self.folder}/games that can't be read: {self.count}")
+
+
+class Found(NamedTuple):
+    """A game of a plan that has a file: its number, and its result; None where that is damaged or
+    can't be read."""
+
+    game: int
+    result: Result | None
+
+
+def of_all(
+    plan: Plan, folder: str, states: bytearray | None = None, is_quiet: bool = False
+) -> Iterator[Found]:
+    """Yields the games of the plan that have a file, except those with a result by these states."""
+    games, rule, unreadable = plan.games(), Rule(plan), Unreadable(folder, is_quiet)
+    try:
+        directory = os.open(f"{folder}/games", os.O_RDONLY | os.O_DIRECTORY)
+    except FileNotFoundError:  # of a plan that was copied alone
+        return
+    try:
+        with os.scandir(directory) as files:
+            for file in files:
+                number = games.number(file.name)
+                if number is None or states and states[number] in HAVE_RESULT:
+                    continue
+                try:
+                    yield Found(number, rule.read(file.name, directory))
+                except FileNotFoundError:
+                    continue
+                except OSError as error:
+                    unreadable.add(file.name, error)
+                    yield Found(number, None)
+    finally:
+        os.close(directory)
+    unreadable.end()
+
+
+def of_share(
+    plan: Plan, folder: str, share: Share, states: bytearray, is_quiet: bool = False
+) -> Iterator[Found]:
+    """Yields the same of a share of the games, in the plan's order, and looks at no others."""
+    games, rule, unreadable = plan.games(), Rule(plan), Unreadable(folder, is_quiet)
+    for number in share.of(games.count):
+        if states[number] not in HAVE_RESULT:
+            name = games.name(number)
+            try:
+                yield Found(number, rule.read(f"{folder}/games/{name}"))
+            except FileNotFoundError:
+                continue
+            except OSError as error:
+                unreadable.add(name, error)
+                yield Found(number, None)
+    unreadable.end()
+
+
+def states_of(
+    plan: Plan,
+    folder: str,
+    states: bytearray | None = None,
+    share: Share | None = None,
+    is_quiet: bool = False,
+) -> bytearray:
+    """Returns the state of each game of the plan, by its number, or of each game of a share.
+
+    Where states are given, they are brought up to date.
+    """
+    if states is None:
+        states = bytearray(plan.games().count)
+    looked_at = (
+        of_share(plan, folder, share, states, is_quiet)
+        if share
+        else of_all(plan, folder, states, is_quiet)
+    )
+    for number, result in looked_at:
+        states[number] = state_of(result)
+    return states
+
+
+def state_of(result: Result | None) -> State:
+    """Returns the state of a game that has a file."""
+    if result is None:
+        return State.DAMAGED
+    return State.LOST if result.is_lost() else State.WHOLE
+
+
+def last_line(place: str, most: int = 65536) -> str:
+    """Returns the last line of a file; an empty one where it can't be read."""
+    try:
+        with open(place, "rb") as file:
+            file.seek(max(0, os.fstat(file.fileno()).st_size - most))
+            return os.fsdecode(file.read().rstrip(b"\n").rpartition(b"\n")[2])
+    except OSError:
+        return ""
