@@ -145,7 +145,7 @@ def test_archive_has_the_calls_of_the_header(archive: Path) -> None:
 
 def test_archive_asks_for_little(archive: Path) -> None:
     if not is_proved():
-        pytest.skip("cargo has built it, with Rust's library")
+        pytest.skip("it is not known to be proved, and cargo's has Rust's library")
     assert names_of(symbols("-u", archive)) == ASKED
 
 
@@ -184,7 +184,7 @@ def test_shared_library_is_the_same_where_it_is_linked_again(
     archive: Path, shared_library: Path, tmp_path: Path
 ) -> None:
     if not is_proved():
-        pytest.skip("cargo has built it, with another linker")
+        pytest.skip("it is not known to be proved, and cargo has another linker")
     shutil.copy(archive, tmp_path / "again.a")
     command = [TOP / "packaging/shared", tmp_path / "again.a", tmp_path / "again.so"]
     assert said_by(command, cwd=TOP) == ""
