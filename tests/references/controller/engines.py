@@ -23,10 +23,10 @@ class Running(Protocol):
     logs: bool  # whether what is sent next is logged
     status: int  # with which the process ends by itself before it is asked to quit
 
-    def begins(self) -> Act:
+    def begin(self) -> Act:
         """Returns what it does before its first command."""
 
-    def answers(self, line: bytes) -> Act:
+    def answer(self, line: bytes) -> Act:
         """Returns what it does when it is sent this. What it writes is one write."""
 
 
@@ -34,7 +34,7 @@ class Program(NamedTuple):
     """A program that is no engine, or isn't there."""
 
     command: str
-    begins: Act = Act(b"")  # what it does by itself
+    act: Act = Act(b"")  # what it does by itself
     reason: str = ""  # why it can't be started, where it can't
 
     @property
@@ -70,7 +70,7 @@ class Engine:
         """Returns the words of its command, which logs in this file what it is sent."""
         raise NotImplementedError
 
-    def started(self, life: int) -> Running:
+    def start(self, life: int) -> Running:
         """Returns its process of this number, in memory."""
         raise NotImplementedError
 
@@ -89,15 +89,15 @@ class Other(Engine):
     def command(self, log: str) -> list[str]:
         return [self.name]
 
-    def started(self, life: int) -> Running:
+    def start(self, life: int) -> Running:
         return self
 
-    def begins(self) -> Act:
+    def begin(self) -> Act:
         """Returns what it does, whatever it is sent."""
         assert self.program
-        return self.program.begins
+        return self.program.act
 
-    def answers(self, line: bytes) -> Act:
+    def answer(self, line: bytes) -> Act:
         """Returns what it was sent, as the only program that doesn't end by itself does."""
         return Act(line)
 
@@ -114,7 +114,7 @@ class Planned(Engine):
         python = [sys.executable, "-I", "-S", "-B", str(FAULTY)]
         return [*python, log, str(self.seed), str(self.passes), self.style, self.plan]
 
-    def started(self, life: int) -> Running:
+    def start(self, life: int) -> Running:
         return Faulty(self.seed, self.passes, self.style, self.plan, life)
 
 
@@ -158,7 +158,7 @@ class Ours(Engine):
         words += ["--ko", str(rule)] if rule != SIMPLE else []
         return words + (["--fault", self.fault] if self.fault != "none" else [])
 
-    def started(self, life: int) -> Running:
+    def start(self, life: int) -> Running:
         return Remembering(self)
 
 
@@ -175,17 +175,17 @@ class Remembering:
         self.engine: Optional[FaultyReference] = None
         self.fed = 0  # how many of these commands the reference was sent
 
-    def begins(self) -> Act:
+    def begin(self) -> Act:
         return Act(b"")
 
-    def answers(self, line: bytes) -> Act:
+    def answer(self, line: bytes) -> Act:
         self.sent += (line,)
         answered = self.ours.answered
         if self.sent not in answered:
             self.engine = self.engine or FaultyReference(self.ours)
             while self.fed < len(self.sent):
                 self.fed += 1
-                act = self.engine.answers(self.sent[self.fed - 1])
+                act = self.engine.answer(self.sent[self.fed - 1])
                 answered[self.sent[: self.fed]] = act
         return answered[self.sent]
 
@@ -200,7 +200,7 @@ class FaultyReference:
         self.kind, *self.numbers = ours.fault.split(":")
         self.genmoves = 0
 
-    def answers(self, line: bytes) -> Act:
+    def answer(self, line: bytes) -> Act:
         """Returns the reply, or what takes its place at the N-th genmove that succeeds."""
         reply = self.engine.feed(line)
         if b"genmove" in line and reply.startswith(b"="):

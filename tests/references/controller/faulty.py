@@ -75,7 +75,7 @@ def read_plan(text: str) -> list[Fault]:
     return [] if text == "-" else [Fault(fault) for fault in text.split(",")]
 
 
-def mixed(seed: int, number: int) -> int:
+def pseudo_random(seed: int, number: int) -> int:
     """Returns a number that looks random, of these two."""
     word = seed * 1000003 + number * 7919 + 12345
     for _ in range(3):
@@ -87,7 +87,7 @@ def random_order(size: int, seed: int) -> list[bytes]:
     """Returns all points of a board as vertices, in an order that the seed gives."""
     rows = range(1, size + 1)
     points = [b"%c%d" % (COLUMNS[column], row) for row in rows for column in range(size)]
-    numbered = sorted((mixed(seed, place), point) for place, point in enumerate(points))
+    numbered = sorted((pseudo_random(seed, place), point) for place, point in enumerate(points))
     return [point for _, point in numbered]
 
 
@@ -108,21 +108,21 @@ class Faulty:
         # whether the next command is logged, which is not so where each reply may be too long
         self.logs = "*" not in style
 
-    def begins(self) -> Act:
+    def begin(self) -> Act:
         """Returns what it does before its first command."""
         fault = self.fault_at(["0"])
-        return Act(self.written(fault.template, b"", b""), fault.then) if fault else Act(b"")
+        return Act(self.expanded(fault.template, b"", b""), fault.then) if fault else Act(b"")
 
-    def answers(self, line: bytes) -> Act:
+    def answer(self, line: bytes) -> Act:
         """Returns what it does when it is sent this."""
         words = line.split()
         number = words.pop(0) if words[0].isdigit() else b""
         fault = self.fault_at(self.places(words[0].decode()))
         is_done = not fault or fault.then not in (FORGETS, REFUSES)
-        text = self.text_of(words[0], words[1:]) if is_done else b""
+        text = self.reply_text(words[0], words[1:]) if is_done else b""
         if fault:
-            return Act(self.written(fault.template, number, text), fault.then)
-        return Act(self.written(self.style, number, text), ENDS if words[0] == b"quit" else ON)
+            return Act(self.expanded(fault.template, number, text), fault.then)
+        return Act(self.expanded(self.style, number, text), ENDS if words[0] == b"quit" else ON)
 
     def places(self, name: str) -> list[str]:
         """Returns the names in a plan of the place of this command, which is counted."""
@@ -146,7 +146,7 @@ class Faulty:
 
     # ---- what it plays
 
-    def text_of(self, name: bytes, arguments: list[bytes]) -> bytes:
+    def reply_text(self, name: bytes, arguments: list[bytes]) -> bytes:
         """Returns the text of the plain reply to a command."""
         if name == b"boardsize":
             self.size = int(arguments[0])
@@ -159,17 +159,17 @@ class Faulty:
         elif name == b"play":
             self.named.append(arguments[1])
         elif name == b"genmove":
-            self.named.append(self.chosen())
+            self.named.append(self.choose())
             return self.named[-1]
         return b""
 
-    def chosen(self) -> bytes:
+    def choose(self) -> bytes:
         """Returns what it plays."""
-        if self.passes and mixed(self.seed, len(self.named)) % self.passes == 0:
+        if self.passes and pseudo_random(self.seed, len(self.named)) % self.passes == 0:
             return b"pass"
-        return self.fresh() or b"pass"
+        return self.unnamed() or b"pass"
 
-    def fresh(self) -> bytes:
+    def unnamed(self) -> bytes:
         """Returns the next vertex that wasn't named; nothing where all were."""
         if self.points is None:
             self.points = random_order(self.size, self.seed)
@@ -177,7 +177,7 @@ class Faulty:
 
     # ---- what it writes
 
-    def written(self, template: str, number: bytes, text: bytes) -> bytes:
+    def expanded(self, template: str, number: bytes, text: bytes) -> bytes:
         """Returns the bytes of a template, of a command with this id, and of its plain reply."""
         filling = None
         out = b""
@@ -208,7 +208,7 @@ class Faulty:
             old = (vertex for vertex in self.named if vertex not in (b"pass", text))
             return next(old, b"A1")
         if name == "fresh":
-            return self.fresh() or b"pass"
+            return self.unnamed() or b"pass"
         return {
             "text": text,
             "lower": text.lower(),
@@ -252,11 +252,11 @@ def run(log: str, seed: str, passes: str, style: str, plan: str) -> None:
     life = os.pread(file, 1 << 24, 0).count(b"start\n")
     engine = Faulty(int(seed), int(passes), style, plan, life)
     output = Output()
-    output.take(engine.begins())
+    output.take(engine.begin())
     for line in sys.stdin.buffer:
         if engine.logs:
             os.write(file, line)
-        output.take(engine.answers(line))
+        output.take(engine.answer(line))
 
 
 class Output:

@@ -132,7 +132,7 @@ class Process:
         self.writes = 0  # to it
         self.reading = 0  # the write of which it reads, or 0 before the first
         self.last = 0  # the one of which it read when it ended
-        self.do(engine.begins())
+        self.do(engine.begin())
 
     def do(self, act: Act) -> None:
         """Does this."""
@@ -171,7 +171,7 @@ class Process:
         text = b"".join(command for _, command in taken)
         if self.engine.logs:
             self.log.append(text)
-        self.do(self.engine.answers(text))
+        self.do(self.engine.answer(text))
 
     def may_have_broken(self) -> bool:
         """Returns whether a write may have failed, since the process had ended by then."""
@@ -228,7 +228,7 @@ class Starter:
         engine = self.engines[side]
         if engine.keeps_log:
             self.logs[side].append(b"start\n")
-        return Process(engine.started(self.lives[side]), self.logs[side], self.timing)
+        return Process(engine.start(self.lives[side]), self.logs[side], self.timing)
 
 
 def play(match: Match, timing: Timing = TIMINGS[0]) -> Expected:
