@@ -23,21 +23,6 @@ static ASKED: [&[u8]; 13] = [
     b"several games in one process (protocol: Commands)",
     b"games after a new start (protocol: Commands)",
 ];
-13] = [
-    b"the first moves, on the smallest board from 5x5 on",
-    b"each size, its corners, and points that it doesn't have",
-    b"kos, and what looks like one",
-    b"captures of one stone, of several, and of several chains",
-    b"moves that leave their own chain without a liberty",
-    b"chains that are joined, and their capture",
-    b"each number of handicap stones on each size",
-    b"komis, by the score of an empty board",
-    b"drawn games on several sizes, and points of them",
-    b"records of nearly 2000 moves",
-    b"moves of the engine's own, up to a full board",
-    b"several games in one process",
-    b"games after a new start",
-];
 
 /// Returns the lessons, one a line: the name, what is asked, and where the rule is.
 ///
