@@ -32,9 +32,8 @@ class Outcome(NamedTuple):
 
 
 def outcome_of(folder: Path, files: Dict[str, str], *words: str) -> Outcome:
-    """Returns how a copy of ./test ends, which has these files and a single test."""
-    script = (TOP / "test").read_text()
-    script = re.sub(r"^must_fail=\d+", "must_fail=1", script, flags=re.MULTILINE)
+    """Returns how a copy of ./test ends, which has these files."""
+    script = re.sub(r"(?m)^must_fail=\d+", "must_fail=1", (TOP / "test").read_text())
     standard = {
         "test": script,
         "build": NOTHING,
@@ -110,6 +109,12 @@ RUNS = [
         "0 passed, 1 failed",
         [f"FAILED: 'by_pytest' ended with status 137, {ENDED}"],
     ),
+    Run(
+        "pytest fails after its tests",
+        {"tests/conftest.py": "def pytest_sessionfinish(session): session.exitstatus = 3\n"},
+        "1 passed, 1 failed",
+        ["FAILED: 'by_pytest' ended with status 3, with 1 passed and none failed"],
+    ),
 ]
 
 
@@ -151,8 +156,8 @@ def test_edit_has_to_be_refused(said: str, reason: Optional[str], tmp_path: Path
     assert (status, last) == ((1, "3 passed, 1 failed") if reason else (0, "4 passed, 0 failed"))
 
 
-def test_part_that_ends_badly_after_its_checks_is_counted(tmp_path: Path) -> None:
-    proving = saying(f"{REFUSED}\n1 passed, 0 failed", 3)
-    status, failed, _ = outcome_of(tmp_path, {"rt": proving})
-    assert status == 1
-    assert "FAILED: 'gate' ended with status 3, with 2 passed and none failed" in failed
+def test_status_of_the_kit_is_noticed(tmp_path: Path) -> None:
+    rt = saying(f"{REFUSED}: src/lib.rt:1:1: it is not proved\n1 passed, 0 failed", status=2)
+    status, failed, last = outcome_of(tmp_path, {"rt": rt})
+    assert (status, last) == (1, "4 passed, 1 failed")
+    assert failed == ["FAILED: 'gate' ended with status 2, with 2 passed and none failed"]
