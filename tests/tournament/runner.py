@@ -10,7 +10,7 @@ from pathlib import Path
 from types import TracebackType
 from typing import Any, Callable, Dict, List, NamedTuple, Optional, Type
 
-from tests.shared import alone
+from tests.shared import fast_start
 from tests.shared.processes import TIMEOUT, TOP, wait_until
 
 SCRIPTS = TOP / "tournament"
@@ -60,7 +60,7 @@ class Runner:
         self.mark = f"TOURNAMENT_TEST={secrets.token_hex(8)}"
         name, value = self.mark.split("=")
         self.environment: Dict[str, str] = {
-            **alone.environment(alone.compiled(SCRIPTS), programs),
+            **fast_start.environment(fast_start.compiled(SCRIPTS), programs),
             name: value,
             "TWOGTP": str(programs / "twogtp"),
         }
